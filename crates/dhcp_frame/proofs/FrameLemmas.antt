@@ -1,0 +1,160 @@
+-- The plain program `understood` finds the message that a frame carries, where the octets are one.
+use Rattle.std.proofs.Common.{◌≡◌, ℕ, ◌≤◌, Bool, true, false, List, [], ◌∷◌, ◌++◌, length, Option, Some, None, Result, Ok, Err, refl, sym, ap, ◌∙◌, arith}
+use Rattle.std.specs.Prelude.{slice_index, slice_range, IfOk, ok_or}
+use Rattle.std.proofs.lemmas.Bool.Decides.{nat_tests}
+use Rattle.std.proofs.lemmas.List.{drop_more}
+use Rattle.dhcp_frame.specs.Area.{Entry, reading, value_of}
+use Rattle.dhcp_frame.specs.Message.{Message, HasHeader, ReadsIf, IsFrame, message_of, options_area, file_area, sname_area}
+use Rattle.dhcp_frame.specs.Overload.{overload_of}
+use Rattle.dhcp_frame.specs.Understood.{◌>>=◌, header, options_in, options_if, understood}
+use Rattle.dhcp_frame.specs.declared.overload.Overload.{Overload}
+use Rattle.dhcp_frame.specs.declared.fault.FrameFault.{FrameFault}
+use Rattle.dhcp_frame.specs.declared.fault.FrameFault.TheVariants.{BadOverload}
+use Rattle.dhcp_frame.proofs.AreaLemmas.{reading-from_Reads, Reads-from_reading}
+
+-- ---- the header
+
+-- the cookie, octet by octet
+record HasCookie (octets : List ℕ) : Type 0 where
+  first : slice_index octets 236 ≡ 99
+  second : slice_index octets 237 ≡ 130
+  third : slice_index octets 238 ≡ 83
+  fourth : slice_index octets 239 ≡ 99
+
+tests_long : (octets : List ℕ) → header octets ≡ Ok tt → 240 ≤ length octets
+unfolding header
+tests_long octets e = grind (arith, nat_tests)
+
+tests_request : (octets : List ℕ) → header octets ≡ Ok tt → slice_index octets 0 ≡ 1
+unfolding header
+tests_request octets e = grind (arith, nat_tests)
+
+tests_ethernet : (octets : List ℕ) → header octets ≡ Ok tt → slice_index octets 1 ≡ 1
+unfolding header
+tests_ethernet octets e = grind (arith, nat_tests)
+
+tests_six : (octets : List ℕ) → header octets ≡ Ok tt → slice_index octets 2 ≡ 6
+unfolding header
+tests_six octets e = grind (arith, nat_tests)
+
+tests_cookie : (octets : List ℕ) → header octets ≡ Ok tt → HasCookie octets
+unfolding header
+tests_cookie octets e = record {
+  first = grind (arith, nat_tests);
+  second = grind (arith, nat_tests);
+  third = grind (arith, nat_tests);
+  fourth = grind (arith, nat_tests);
+}
+
+tests_ok : (octets : List ℕ) → 240 ≤ length octets → slice_index octets 0 ≡ 1 → slice_index octets 1 ≡ 1 → slice_index octets 2 ≡ 6 → HasCookie octets → header octets ≡ Ok tt
+unfolding header
+tests_ok octets long request ethernet six cookie = grind (arith, nat_tests)
+
+-- the four octets as they stand in the list
+cookie_at : (octets : List ℕ) → 240 ≤ length octets → slice_range octets 236 240 ≡ slice_index octets 236 ∷ slice_index octets 237 ∷ slice_index octets 238 ∷ slice_index octets 239 ∷ []
+cookie_at octets h =
+    let a = drop_more octets 236 0 (omega arith) in
+    let b = drop_more octets 237 0 (omega arith) in
+    let c = drop_more octets 238 0 (omega arith) in
+    let d = drop_more octets 239 0 (omega arith) in
+    rw (a, b, c, d) refl
+
+HasHeader-from_tests : (octets : List ℕ) → header octets ≡ Ok tt → HasHeader octets
+HasHeader-from_tests octets e =
+    let cookie = tests_cookie octets e in
+    let long = tests_long octets e in
+    record {
+      long = long;
+      request = tests_request octets e;
+      ethernet = tests_ethernet octets e;
+      six = tests_six octets e;
+      cookie = cookie_at octets long ∙ rw (cookie.first, cookie.second, cookie.third, cookie.fourth) refl;
+    }
+
+four_same : (a b c d p q r s : ℕ) → a ∷ b ∷ c ∷ d ∷ [] ≡ p ∷ q ∷ r ∷ s ∷ [] → (a ≡ p) × (b ≡ q) × (c ≡ r) × (d ≡ s)
+four_same a b c d p q r s e = (cc, cc, cc, cc)
+
+tests-from_HasHeader : (octets : List ℕ) → HasHeader octets → header octets ≡ Ok tt
+tests-from_HasHeader octets h =
+    let same = four_same _ _ _ _ _ _ _ _ (sym (cookie_at octets h.long) ∙ h.cookie) in
+    tests_ok octets h.long h.request h.ethernet h.six (record { first = same.0; second = same.1; third = same.2; fourth = same.3 })
+
+-- ---- areas
+
+ok_or-ok : {A : Type 0} (o : Option A) (fault : FrameFault) (x : A) → ok_or o fault ≡ Ok x → o ≡ Some x
+ok_or-ok None fault x e = absurd cc
+ok_or-ok (Some y) fault x e = cc
+
+ReadsIf-from_options_if : (used : Bool) (area : List ℕ) (es : List Entry) → options_if used area ≡ Ok es → ReadsIf used area es
+ReadsIf-from_options_if true area es e = Reads-from_reading area es (ok_or-ok (reading area) _ es e)
+ReadsIf-from_options_if false area es e = cc
+
+options_if-from_ReadsIf : (used : Bool) (area : List ℕ) (es : List Entry) → ReadsIf used area es → options_if used area ≡ Ok es
+options_if-from_ReadsIf true area es r = rw (reading-from_Reads r) refl
+options_if-from_ReadsIf false area es r = cc
+
+-- ---- reading, a step at a time
+
+pub understood-header : (octets : List ℕ) (fault : FrameFault) → header octets ≡ Err fault → understood octets ≡ Err fault
+unfolding understood
+understood-header octets fault a = rw a refl
+
+pub understood-options : (octets area : List ℕ) (fault : FrameFault) → header octets ≡ Ok tt → area ≡ options_area octets → options_if true area ≡ Err fault → understood octets ≡ Err fault
+unfolding understood
+understood-options octets area fault a b e = rw (a, ← b, e) refl
+
+pub understood-overload : (octets area : List ℕ) (own : List Entry) → header octets ≡ Ok tt → area ≡ options_area octets → options_if true area ≡ Ok own → overload_of (value_of 52 own) ≡ None → understood octets ≡ Err BadOverload
+unfolding understood
+understood-overload octets area own a b e o = rw (a, ← b, e, o) refl
+
+pub understood-file : (octets area : List ℕ) (own : List Entry) (overload : Overload) (fault : FrameFault) → header octets ≡ Ok tt → area ≡ options_area octets → options_if true area ≡ Ok own → overload_of (value_of 52 own) ≡ Some overload → options_if overload.file (file_area octets) ≡ Err fault → understood octets ≡ Err fault
+unfolding understood
+understood-file octets area own overload fault a b e o f = rw (a, ← b, e, o, f) refl
+
+pub understood-sname : (octets area : List ℕ) (own in_file : List Entry) (overload : Overload) (fault : FrameFault) → header octets ≡ Ok tt → area ≡ options_area octets → options_if true area ≡ Ok own → overload_of (value_of 52 own) ≡ Some overload → options_if overload.file (file_area octets) ≡ Ok in_file → options_if overload.sname (sname_area octets) ≡ Err fault → understood octets ≡ Err fault
+unfolding understood
+understood-sname octets area own in_file overload fault a b e o f s = rw (a, ← b, e, o, f, s) refl
+
+pub understood-whole : (octets area : List ℕ) (own in_file in_sname : List Entry) (overload : Overload) → header octets ≡ Ok tt → area ≡ options_area octets → options_if true area ≡ Ok own → overload_of (value_of 52 own) ≡ Some overload → options_if overload.file (file_area octets) ≡ Ok in_file → options_if overload.sname (sname_area octets) ≡ Ok in_sname → understood octets ≡ Ok (message_of octets (own ++ in_file ++ in_sname))
+unfolding understood
+understood-whole octets area own in_file in_sname overload a b e o f s = rw (a, ← b, e, o, f, s) refl
+
+-- ---- the whole
+
+bind_ok : {A B : Type 0} (r : Result A FrameFault) (f : A → Result B FrameFault) (y : B) → (r >>= f) ≡ Ok y → (x : A) × (r ≡ Ok x) × (f x ≡ Ok y)
+bind_ok (Ok x) f y e = (x, refl, e)
+bind_ok (Err fault) f y e = absurd cc
+
+pub IsFrame-from_understood : (octets : List ℕ) (message : Message) → understood octets ≡ Ok message → IsFrame octets message
+unfolding understood
+IsFrame-from_understood octets message e =
+    let (checked, header, e1) = bind_ok (header octets) _ message e in
+    let (own, reads_own, e2) = bind_ok (options_in (options_area octets)) _ message e1 in
+    let (overload, overloads, e3) = bind_ok _ _ message e2 in
+    let (in_file, reads_file, e4) = bind_ok _ _ message e3 in
+    let (in_sname, reads_sname, e5) = bind_ok _ _ message e4 in
+    record {
+      header = HasHeader-from_tests octets header;
+      own = own;
+      overload = overload;
+      in_file = in_file;
+      in_sname = in_sname;
+      reads_own = Reads-from_reading (options_area octets) own (ok_or-ok _ _ own reads_own);
+      overloads = ok_or-ok _ _ overload overloads;
+      reads_file = ReadsIf-from_options_if overload.file (file_area octets) in_file reads_file;
+      reads_sname = ReadsIf-from_options_if overload.sname (sname_area octets) in_sname reads_sname;
+      whole = cc;
+    }
+
+pub understood-from_IsFrame : (octets : List ℕ) (message : Message) → IsFrame octets message → understood octets ≡ Ok message
+unfolding understood
+understood-from_IsFrame octets message m =
+    let header = tests-from_HasHeader octets m.header in
+    let own = reading-from_Reads m.reads_own in
+    let in_file = options_if-from_ReadsIf m.overload.file (file_area octets) m.in_file m.reads_file in
+    let in_sname = options_if-from_ReadsIf m.overload.sname (sname_area octets) m.in_sname m.reads_sname in
+    rw (header, own, m.overloads, in_file, in_sname) (ap (λ (x : Message). Ok x) (sym m.whole))
+
+pub IfOk-understood : (octets : List ℕ) (r : Result Message FrameFault) → r ≡ understood octets → IfOk r (λ message. IsFrame octets message)
+IfOk-understood octets (Ok message) e = IsFrame-from_understood octets message (sym e)
+IfOk-understood octets (Err fault) e = tt

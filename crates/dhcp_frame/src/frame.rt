@@ -1,0 +1,207 @@
+//! A client's frame, in the octets that it came in.
+ghost use Rattle.std.specs.Prelude.{◌≡◌, ◌≤◌, None, Some, Ok, Err, IsOk, IfOk, MatchResult, option_map, unwrap_or, [], ◌++◌, length, take};
+ghost use Rattle.std.specs.Cow.{cow_slice_items};
+ghost use Rattle.dhcp_frame.specs.Area.{value_of, entries_of, IsWhole};
+ghost use Rattle.dhcp_frame.specs.Message.{Message, IsFrame};
+ghost use Rattle.dhcp_frame.specs.Understood.{header, options_if, understood};
+
+use crate::area::{OptionIter, is_whole};
+use crate::fault::FrameFault;
+use crate::overload::overload_in;
+use byteorder::{BigEndian, ByteOrder};
+use std::alloc::{AllocError, Global};
+use std::borrow::CowSlice;
+use std::marker::Model;
+
+/// A client's DHCP message over Ethernet (RFC 2131 section 2), over the octets that it came in.
+/// Contracts see what it says: its fields, and its options in order.
+#[derive(Drop)]
+pub struct Frame<'a> {
+    octets: &'a [u8],
+    options: &'a [u8],
+    // The file field and the server name field, empty where they hold no options.
+    file: &'a [u8],
+    sname: &'a [u8],
+}
+
+impl<'a> Model for Frame<'a> {
+    ghost use Rattle.std.specs.Prelude.{◌++◌, ◌≤◌, length};
+    ghost use Rattle.dhcp_frame.specs.Area.{entries_of, AreWhole};
+    ghost use Rattle.dhcp_frame.specs.Message.{Message, message_of};
+
+    ghost Value = { Message };
+
+    ghost view = { λ f. message_of f.octets.now (entries_of f.options.now ++ entries_of f.file.now ++ entries_of f.sname.now) };
+
+    ghost invariant = { λ f. (240 ≤ length f.octets.now) × AreWhole f.options.now f.file.now f.sname.now };
+}
+
+/// The octets of the fixed fields and the cookie.
+pub(crate) const HEADER_LEN: usize = 240;
+
+#[tactic(auto, unfolding(crate::specs::Understood::header))]
+fn check_header(octets: &[u8]) -> Result<(), FrameFault>
+    ensures exact { result ≡ header octets.now }
+    ensures long { IsOk result → 240 ≤ length octets.now }
+{
+    if octets.len() < HEADER_LEN {
+        return Err(FrameFault::Short);
+    }
+    if octets[0] != 1 {
+        return Err(FrameFault::NotRequest);
+    }
+    if octets[1] != 1 || octets[2] != 6 {
+        return Err(FrameFault::NotEthernet);
+    }
+    if octets[236] != 99 || octets[237] != 130 || octets[238] != 83 || octets[239] != 99 {
+        return Err(FrameFault::NoCookie);
+    }
+    Ok(())
+}
+
+// An area without its options if it isn't in use.
+#[tactic(auto, using(crate::proofs::AreaLemmas::whole_steps))]
+fn area_if(used: bool, area: &[u8]) -> Result<&[u8], FrameFault>
+    ensures whole { IfOk result (λ area. IsWhole area.now) }
+    ensures options { MatchResult result (λ it. options_if used area.now ≡ Ok (entries_of it.now)) (λ fault. options_if used area.now ≡ Err fault) }
+{
+    if !used {
+        return Ok(&[]);
+    }
+    if !is_whole(area) {
+        return Err(FrameFault::CutOption);
+    }
+    Ok(area)
+}
+
+fn understand(octets: &[u8]) -> Result<Frame<'_>, FrameFault>
+    ensures { result ≡ understood octets.now }
+{
+    check_header(octets)?;
+    let (_, options) = octets.split_at(HEADER_LEN);
+    let options = area_if(true, options)?;
+    let Some(overload) = overload_in(options) else {
+        return Err(FrameFault::BadOverload);
+    };
+    let file = area_if(overload.file, &octets[108..236])?;
+    let sname = area_if(overload.sname, &octets[44..108])?;
+    Ok(Frame {
+        octets,
+        options,
+        file,
+        sname,
+    })
+}
+
+// One more value of a code behind those joined so far.
+fn join<'a>(
+    alloc: Global,
+    joined: Option<CowSlice<'a, u8>>,
+    value: &'a [u8],
+) -> Result<CowSlice<'a, u8>, AllocError>
+    ensures { IfOk result (λ all. cow_slice_items all ≡ unwrap_or (option_map cow_slice_items joined.entry) [] ++ value.now) }
+{
+    let Some(joined) = joined else {
+        return Ok(CowSlice::Borrowed(value));
+    };
+    let mut all = joined.into_owned(alloc)?;
+    all.extend_from_slice(value)?;
+    Ok(CowSlice::Owned(all))
+}
+
+/// Reads a client's frame, a datagram's octets. It takes no memory.
+pub fn read(octets: &[u8]) -> Result<Frame<'_>, FrameFault>
+    // What is read is a frame that carries that message.
+    ensures frame { IfOk result (λ message. IsFrame octets.now message) }
+    // Each frame is read, as the message that it carries.
+    ensures only { (message : Message) → IsFrame octets.now message → result ≡ Ok message }
+    // A fault is the first in the order.
+    ensures exact { result ≡ understood octets.now }
+{
+    understand(octets)
+}
+
+impl<'a> Frame<'a> {
+    /// The options in order, each with its code and its value.
+    pub fn options(&self) -> OptionIter<'a>
+        ensures { result ≡ self.now.entries }
+    {
+        OptionIter::new(self.options, self.file, self.sname)
+    }
+
+    /// The values of a code in order, joined (RFC 3396 section 5), or nothing where the code doesn't
+    /// appear.
+    pub fn value(&self, alloc: Global, code: u8) -> Result<Option<Vec<u8>>, AllocError>
+        ensures { IfOk result (λ found. option_map (λ value. value.items) found ≡ value_of code self.now.entries) }
+    {
+        match self.value_cow(alloc, code)? {
+            Some(value) => Ok(Some(value.into_owned(alloc)?)),
+            None => Ok(None),
+        }
+    }
+
+    /// The same, borrowed from the frame's octets where the code appears once.
+    #[tactic(auto, using(crate::proofs::ValueLemmas::value_steps))]
+    pub fn value_cow(&self, alloc: Global, code: u8) -> Result<Option<CowSlice<'a, u8>>, AllocError>
+        ensures { IfOk result (λ found. option_map cow_slice_items found ≡ value_of code self.now.entries) }
+    {
+        let mut joined = None;
+        for (other, value) in self.options() {
+            if other == code {
+                joined = Some(join(alloc, joined, value)?);
+            }
+        }
+        Ok(joined)
+    }
+
+    /// The transaction's number.
+    pub fn xid(&self) -> u32
+        ensures { result ≡ self.now.xid }
+    {
+        BigEndian::read_u32(&self.octets[4..8])
+    }
+
+    /// The flags, of which the highest bit asks for a broadcast.
+    pub fn flags(&self) -> u16
+        ensures { result ≡ self.now.flags }
+    {
+        BigEndian::read_u16(&self.octets[10..12])
+    }
+
+    /// The client's IP address, zeros where it has none.
+    pub fn ciaddr(&self) -> [u8; 4]
+        ensures { result ≡ self.now.ciaddr }
+    {
+        let mut address = [0; 4];
+        address.copy_from_slice(&self.octets[12..16]);
+        address
+    }
+
+    /// The relay agent's IP address, zeros where there is none.
+    pub fn giaddr(&self) -> [u8; 4]
+        ensures { result ≡ self.now.giaddr }
+    {
+        let mut address = [0; 4];
+        address.copy_from_slice(&self.octets[24..28]);
+        address
+    }
+
+    /// The client's hardware address field.
+    pub fn chaddr(&self) -> [u8; 16]
+        ensures { result ≡ self.now.chaddr }
+    {
+        let mut address = [0; 16];
+        address.copy_from_slice(&self.octets[28..44]);
+        address
+    }
+
+    /// The Ethernet address, the front of `chaddr`.
+    pub fn mac(&self) -> [u8; 6]
+        ensures { result ≡ take 6 self.now.chaddr }
+    {
+        let mut address = [0; 6];
+        let chaddr = self.chaddr();
+        address.copy_from_slice(&chaddr[..6]);
+        address
+    }
+}

@@ -1,0 +1,16 @@
+//! DHCP messages as octets: reading a client's message with its options, and writing a reply.
+#![tactic(auto)]
+
+mod area;
+mod fault;
+mod frame;
+mod overload;
+mod reply;
+
+pub use area::{OptionIter, one_reading};
+pub use fault::{FrameFault, WriteFault};
+pub use frame::{Frame, read};
+pub use reply::{DhcpOption, ReplyFields, write};
+
+#[cfg(test)]
+mod tests;

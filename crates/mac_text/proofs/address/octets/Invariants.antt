@@ -1,0 +1,11 @@
+use Rattle.std.proofs.Common.{◌≡◌, ◌-◌, ◌*◌, take, drop, length}
+use Rattle.mac_text.specs.MacText.{mac_of, more_octets}
+use Rattle.mac_text.proofs.MacLemmas.{read_then}
+use Rattle.mac_text.proofs.address.octets.Given as goal
+
+-- the octets so far, with those left, are the address
+abbrev pub invariant-loop-i : goal.invariant-loop-i
+invariant-loop-i l = record {
+  room : length l.address ≡ 6;
+  read : read_then (take l.i l.address) (more_octets (drop (3 * l.i - 1) l.text)) ≡ mac_of l.text;
+}

@@ -1,0 +1,9 @@
+use Rattle.std.proofs.Common.{◌∙◌}
+use Rattle.mac_text.proofs.MacLemmas.{IfSome-mac_of, mac_of-from_IsMacText}
+use Rattle.mac_text.proofs.address.read.Goals as goal
+
+pub returns-clause-address : goal.returns-clause-address
+returns-clause-address c = IfSome-mac_of _ _ c.octets.ensures
+
+pub returns-clause-only : goal.returns-clause-only
+returns-clause-only c = λ octets is. c.octets.ensures ∙ mac_of-from_IsMacText _ octets is

@@ -1,0 +1,5 @@
+pub mod Arch
+pub mod Client
+pub mod Served
+pub mod Place
+pub mod Answer

@@ -1,0 +1,62 @@
+-- Telling a client from its message, up to the first cause not to serve it: the plain program for `IsClient`.
+use Rattle.std.specs.Prelude.{◌≡◌, ◌⊎◌, ℕ, List, [], ◌∷◌, Option, Some, None, Result, Ok, Err, MatchResult, ok_or, take, ◌==◌, if◌then◌else◌, codes, nat_eq}
+use Rattle.std.specs.List.{starts_with}
+use Rattle.std.specs.Option.{option_map}
+use Rattle.dhcp_frame.specs.Area.{Entry, reading, value_of}
+use Rattle.dhcp_frame.specs.Message.{Message}
+use Rattle.pxe_vendor.specs.Arch.{first_known}
+use Rattle.pxe_vendor.specs.Client.{arch_numbers, uuid_of, is_ipxe, boot_item}
+use Rattle.pxe_vendor.specs.declared.arch.Arch.{Arch}
+use Rattle.pxe_vendor.specs.declared.clients.Kind.{Kind}
+use Rattle.pxe_vendor.specs.declared.clients.Kind.TheVariants.{Discover, Request}
+use Rattle.pxe_vendor.specs.declared.clients.Client.{Client}
+use Rattle.pxe_vendor.specs.declared.serve.NotServed.{NotServed}
+use Rattle.pxe_vendor.specs.declared.serve.NotServed.TheVariants.{NoType, OtherType, NotPxe, NoArch, BadVendor, Memory}
+
+-- the first cause is the answer
+infixl 10 ◌>>=◌
+abbrev pub ◌>>=◌ : {A B : Type 0} → Result A NotServed → (A → Result B NotServed) → Result B NotServed
+(Ok x) >>= f = f x
+(Err cause) >>= f = Err cause
+
+-- what option 53 says
+unfoldable pub kind_of : Option (List ℕ) → Result Kind NotServed
+kind_of (Some (n ∷ [])) = if n == 1 then Ok Discover else if n == 3 then Ok Request else Err OtherType
+kind_of value = Err NoType
+
+-- a vendor class, if it is that of a PXE client
+unfoldable pub class_of : Option (List ℕ) → Result (List ℕ) NotServed
+class_of None = Err NotPxe
+class_of (Some class) = if starts_with nat_eq class (codes "PXEClient") then Ok class else Err NotPxe
+
+-- the architecture that a PXE client's options name
+abbrev pub arch_of_entries : List Entry → Result Arch NotServed
+arch_of_entries es = do
+  class ← class_of (value_of 60 es)
+  ok_or (first_known (arch_numbers es)) NoArch
+
+-- the boot item in option 43
+unfoldable pub item_of : Kind → Option (List ℕ) → Result (Option (List ℕ)) NotServed
+item_of Discover area = Ok None
+item_of Request None = Ok None
+item_of Request (Some area) = ok_or (option_map boot_item (reading area)) BadVendor
+
+-- the client whose message this is, or the first cause not to serve it
+unfoldable pub client_of : Message → Result Client NotServed
+client_of m = do
+  kind ← kind_of (value_of 53 m.entries)
+  arch ← arch_of_entries m.entries
+  item ← item_of kind (value_of 43 m.entries)
+  Ok (record {
+    mac = take 6 m.chaddr;
+    kind = kind;
+    arch = arch;
+    uuid = uuid_of (value_of 97 m.entries);
+    echo97 = value_of 97 m.entries;
+    item = item;
+    ipxe = is_ipxe (value_of 77 m.entries);
+  })
+
+-- what a call answered is this, unless memory ran out
+abbrev pub Answers : {X : Type 0} → Result X NotServed → Result X NotServed → Type 0
+Answers result is = MatchResult result (λ x. is ≡ Ok x) (λ cause. (cause ≡ Memory) ⊎ (is ≡ Err cause))

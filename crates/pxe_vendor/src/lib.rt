@@ -1,0 +1,16 @@
+//! PXE clients: who asks by DHCP to be booted, and what they are answered.
+#![tactic(auto)]
+
+mod answer;
+mod arch;
+mod clients;
+mod octets;
+mod place;
+mod serve;
+
+pub use answer::reply;
+pub use arch::Arch;
+pub use clients::{Client, Kind};
+pub use octets::Octets;
+pub use place::{Place, PlaceFault};
+pub use serve::{NotServed, client, one_client};
