@@ -4,7 +4,7 @@ use Rattle.std.specs.Prelude.{option_map, IfSome, All}
 use Rattle.std.proofs.lemmas.List.Elements.{All-nil, All-cons}
 use Rattle.std.specs.Char.{to_ascii_lowercase}
 use Rattle.std.specs.Str.{str_to_ascii_lowercase}
-use Rattle.std.proofs.lemmas.Bool.{cases_eq, eq-eqb, ne_eqb}
+use Rattle.std.proofs.lemmas.Bool.{cases_eq, eq-eqb, ne_eqb, agree_below_at, eqb-true}
 use Rattle.std.proofs.lemmas.Bool.Decides.{nat_tests}
 use Rattle.std.proofs.lemmas.Option.{same_Some}
 use Rattle.std.proofs.lemmas.List.{append-nil, append_assoc, length-map, length-drop, length-take-le, map-append, take_all, take_more, take_more_set, drop_all, drop_more}
@@ -294,3 +294,37 @@ mac_of-high (a ∷ b ∷ text) octets e =
 
 pub IsMacText-high : (text octets : List ℕ) → IsMacText text octets → All (λ c. 48 ≤ c) text
 IsMacText-high text octets is = mac_of-high text octets (mac_of-from_IsMacText text octets is)
+
+-- ---- what is printed is read again
+
+digit-lower : (value : ℕ) → value < 16 → to_ascii_lowercase (digit value) ≡ digit value
+digit-lower value h =
+    eqb-true (to_ascii_lowercase (digit value)) (digit value) (agree_below_at (λ (v : ℕ). to_ascii_lowercase (digit v) == digit v) (λ (v : ℕ). true) 16 value refl h)
+
+more_text-lower : (octets : List ℕ) → IsBytes octets → str_to_ascii_lowercase (more_text octets) ≡ more_text octets
+more_text-lower [] small = refl
+more_text-lower (octet ∷ octets) small =
+    let high = digit-lower (octet / 16) (let s : octet < 256 = small 0 in omega arith) in
+    let low = digit-lower (octet % 16) (let s : octet < 256 = small 0 in omega arith) in
+    let others = more_text-lower octets (IsBytes-tail octet octets small) in
+    rw (high, low, others) refl
+
+mac_text-lower : (octets : List ℕ) → IsBytes octets → str_to_ascii_lowercase (mac_text octets) ≡ mac_text octets
+mac_text-lower [] small = refl
+mac_text-lower (octet ∷ octets) small =
+    let high = digit-lower (octet / 16) (let s : octet < 256 = small 0 in omega arith) in
+    let low = digit-lower (octet % 16) (let s : octet < 256 = small 0 in omega arith) in
+    let others = more_text-lower octets (IsBytes-tail octet octets small) in
+    rw (mac_text-first octet octets, high, low, others) refl
+
+pub IsMacText-mac_text : (octets : List ℕ) → length octets ≡ 6 → IsBytes octets → IsMacText (mac_text octets) octets
+IsMacText-mac_text octets six small = record { six = six; small = small; written = mac_text-lower octets small }
+
+length-mac_text : (octets : List ℕ) → 0 < length octets → length (mac_text octets) + 1 ≡ 3 * length octets
+length-mac_text [] h = absurd (omega arith)
+length-mac_text (octet ∷ octets) h = omega (arith, ap length (mac_text-first octet octets), length-more_text octets)
+
+pub length-IsMacText : (text octets : List ℕ) → IsMacText text octets → length text ≡ 17
+length-IsMacText text octets is =
+    let six = is.six in
+    omega (arith, ap length is.written, length-map text to_ascii_lowercase, length-mac_text octets (omega arith))

@@ -54,7 +54,9 @@ pub fn read(text: &[u8]) -> Option<[u8; 6]>
 /// Writes an address, with its digits in lower case.
 #[tactic(auto, using(crate::proofs::MacLemmas::print_steps))]
 pub fn print(alloc: Global, address: &[u8; 6]) -> Result<String, AllocError>
-    ensures { IfOk result (λ text. string_bytes text ≡ mac_text address.now) }
+    ensures text { IfOk result (λ text. string_bytes text ≡ mac_text address.now) }
+    // What is written is read as the same address.
+    ensures read { IfOk result (λ text. IsMacText (string_bytes text) address.now) }
 {
     let mut text = String::with_capacity(alloc, TEXT_LEN)?;
     for (i, octet) in address.iter().enumerate() {

@@ -1,3 +1,4 @@
 pub mod AnswerLemmas
 pub mod ArchLemmas
 pub mod ClientLemmas
+pub mod FileLemmas

@@ -3,3 +3,4 @@ pub mod Client
 pub mod Served
 pub mod Place
 pub mod Answer
+pub mod BootFile

@@ -1,0 +1,3 @@
+pub mod LineLemmas
+pub mod InputLemmas
+pub mod RunLemmas

@@ -1,0 +1,26 @@
+//! Why a run ends without an answer.
+ghost use Rattle.std.specs.Prelude.{◌≡◌};
+ghost use Rattle.hallboot.specs.Fault.{name_of};
+
+#[derive(Clone, Copy, Debug, PartialEq, Eq)]
+pub enum Fault {
+    /// The input is too long or isn't what the program reads.
+    BadInput,
+    /// A read or a write failed, or too many reads brought no end.
+    Io,
+    /// There was no memory left.
+    Memory,
+}
+
+impl Fault {
+    /// The name of the variant.
+    pub fn name(self) -> &'static str
+        ensures { result.now ≡ name_of self }
+    {
+        match self {
+            Fault::BadInput => "BadInput",
+            Fault::Io => "Io",
+            Fault::Memory => "Memory",
+        }
+    }
+}

@@ -1,0 +1,142 @@
+use super::*;
+use std::io;
+use std::test::Fail;
+
+const LISTED: &str = "52:54:00:12:34:56\n52:54:00:00:00:09\n\n";
+
+const HEADER: &str = "010106001122334400008000";
+
+const CLASS: &str = "3c20505845436c69656e743a417263683a30303030373a554e44493a303033303136";
+
+// The program's input: addresses, an empty line, and a message from this address with these options.
+fn input(alloc: Global, listed: &str, mac: &str, options: &[&str]) -> Result<String, AllocError> {
+    let mut input = String::from_str(alloc, listed)?;
+    input.push_str(HEADER)?;
+    for _ in 0..16 {
+        input.push_str("00")?;
+    }
+    input.push_str(mac)?;
+    for _ in 0..202 {
+        input.push_str("00")?;
+    }
+    input.push_str("63825363")?;
+    for option in options {
+        input.push_str(option)?;
+    }
+    Ok(input)
+}
+
+fn place(alloc: Global) -> Result<Place, Fail> {
+    Ok(Place::new(alloc, [192, 0, 2, 1], [192, 0, 2, 2], "hall.example")?)
+}
+
+// Takes this many octets, and then fails.
+#[derive(Drop)]
+struct Full {
+    room: usize,
+}
+
+impl Write for Full {
+    fn write(&mut self, buf: &[u8]) -> io::Result<usize> {
+        let count = buf.len().min(self.room);
+        if count == 0 && !buf.is_empty() {
+            return Err(io::Error::from(io::ErrorKind::StorageFull));
+        }
+        self.room -= count;
+        Ok(count)
+    }
+
+    fn flush(&mut self) -> io::Result<()> {
+        Ok(())
+    }
+}
+
+#[test]
+fn answers_listed_discovers_alone(rt: HostRuntime) -> Result<(), Fail> {
+    let alloc = rt.alloc();
+    let place = place(alloc)?;
+    let first = "525400123456";
+    let mut long = String::from_str(alloc, "61ff")?;
+    for _ in 0..255 {
+        long.push_str("aa")?;
+    }
+    let long = long.as_str();
+    let cases = [
+        (LISTED, first, ["350101", CLASS, "", "ff"], Exit::Done),
+        (
+            LISTED,
+            "525400000009",
+            ["350101", CLASS, "", "ff\n"],
+            Exit::Done,
+        ),
+        (LISTED, first, ["350101", CLASS, long, ""], Exit::Done),
+        (
+            LISTED,
+            first,
+            ["350101", CLASS, long, "6101bb"],
+            Exit::Silence,
+        ),
+        (
+            LISTED,
+            "525400000008",
+            ["350101", CLASS, "", ""],
+            Exit::Silence,
+        ),
+        ("\n", first, ["350101", CLASS, "", ""], Exit::Silence),
+        (LISTED, first, ["350103", CLASS, "", ""], Exit::Silence),
+        (LISTED, first, ["350101", "", "", ""], Exit::Silence),
+        (LISTED, first, ["350101", CLASS, "", "0cff"], Exit::Silence),
+        (
+            LISTED,
+            first,
+            ["350101", CLASS, "", "f"],
+            Exit::Fault(Fault::BadInput),
+        ),
+        (
+            "",
+            first,
+            ["350101", CLASS, "", ""],
+            Exit::Fault(Fault::BadInput),
+        ),
+    ];
+    for (listed, mac, options, want) in cases {
+        let input = input(alloc, listed, mac, &options)?;
+        let mut reader = input.as_bytes();
+        let mut writer = Vec::new(alloc);
+        let exit = frame_run(alloc, &mut reader, &mut writer, &place);
+        assert_eq!(rt; exit, want);
+        assert_eq!(rt; writer.is_empty(), exit != Exit::Done);
+    }
+    Ok(())
+}
+
+#[test]
+fn tells_a_write_that_fails(rt: HostRuntime) -> Result<(), Fail> {
+    let alloc = rt.alloc();
+    let place = place(alloc)?;
+    let input = input(alloc, LISTED, "525400123456", &["350101", CLASS])?;
+    // The OFFER and its line feed take 601 octets.
+    for (room, want) in [
+        (0usize, Exit::Fault(Fault::Io)),
+        (600, Exit::Fault(Fault::Io)),
+        (601, Exit::Done),
+    ] {
+        let mut reader = input.as_bytes();
+        let mut writer = Full { room };
+        let exit = frame_run(alloc, &mut reader, &mut writer, &place);
+        assert_eq!(rt; exit, want, "room for {room} octets");
+    }
+    Ok(())
+}
+
+#[test]
+fn has_an_exit_status(rt: HostRuntime) {
+    let cases = [
+        (Exit::Done, 0u8),
+        (Exit::Fault(Fault::Io), 1),
+        (Exit::Silence, 3),
+    ];
+    for (exit, status) in cases {
+        assert_eq!(rt; exit.status(), status);
+    }
+}

@@ -1,0 +1,76 @@
+-- A boot file's name has no zero octet and fits the file field.
+use Rattle.std.proofs.Common.{◌≡◌, ◌≢◌, ℕ, ◌+◌, ◌≤◌, Bool, true, false, List, [], ◌∷◌, ◌++◌, length, refl, sym, ap, subst, ◌∙◌, arith, inl, inr, length-append}
+use Rattle.std.specs.Prelude.{All, codes, nat_le, not, ◌==◌, ◌&&◌}
+use Rattle.std.specs.List.{list_all}
+use Rattle.std.specs.Char.{is_ascii_alphanumeric}
+use Rattle.std.proofs.lemmas.Bool.{and_parts, cases_eq, leb-true}
+use Rattle.std.proofs.lemmas.List.Elements.{All-nil, All-cons, All-append}
+use Rattle.mac_text.specs.MacText.{IsMacText}
+use Rattle.mac_text.proofs.MacLemmas.{IsMacText-high, length-IsMacText}
+use Rattle.pxe_vendor.specs.BootFile.{loader_of}
+use Rattle.pxe_vendor.specs.Place.{is_host, is_host_octet}
+use Rattle.pxe_vendor.specs.declared.arch.Arch.{Arch}
+use Rattle.pxe_vendor.specs.declared.arch.Arch.TheVariants.{Bios, Uefi32, Uefi64, Arm64}
+
+abbrev pub IsNamed : List ℕ → Type 0
+IsNamed file = All (λ octet. octet ≢ 0) file
+
+-- a test that 0 doesn't pass
+IsNamed-from_test : (test : ℕ → Bool) (xs : List ℕ) → test 0 ≡ false → list_all test xs ≡ true → IsNamed xs
+IsNamed-from_test test [] zero_fails e = All-nil (λ (octet : ℕ). octet ≢ 0)
+IsNamed-from_test test (x ∷ xs) zero_fails e =
+    let (here, others) = and_parts (test x) (list_all test xs) e in
+    All-cons (λ (octet : ℕ). octet ≢ 0) x xs (λ is. absurd (let gone = sym here ∙ ap test is ∙ zero_fails in cc)) (IsNamed-from_test test xs zero_fails others)
+
+-- ---- loaders
+
+pub IsNamed-loader_of : (arch : Arch) → IsNamed (loader_of arch)
+unfolding loader_of
+IsNamed-loader_of Bios = IsNamed-from_test (λ (o : ℕ). not (o == 0)) (codes "undionly.kpxe") refl refl
+IsNamed-loader_of Uefi32 = IsNamed-from_test (λ (o : ℕ). not (o == 0)) (codes "ipxe-i386.efi") refl refl
+IsNamed-loader_of Uefi64 = IsNamed-from_test (λ (o : ℕ). not (o == 0)) (codes "ipxe-x86_64.efi") refl refl
+IsNamed-loader_of Arm64 = IsNamed-from_test (λ (o : ℕ). not (o == 0)) (codes "ipxe-arm64.efi") refl refl
+
+pub length-loader_of : (arch : Arch) → length (loader_of arch) ≤ 127
+unfolding loader_of
+length-loader_of Bios = omega arith
+length-loader_of Uefi32 = omega arith
+length-loader_of Uefi64 = omega arith
+length-loader_of Arm64 = omega arith
+
+-- ---- scripts
+
+record IsHost (host : List ℕ) : Type 0 where
+  named : IsNamed host
+  short : length host ≤ 64
+
+IsHost-from_is_host : (host : List ℕ) → is_host host ≡ true → IsHost host
+unfolding is_host
+IsHost-from_is_host [] e = absurd cc
+IsHost-from_is_host (first ∷ others) e =
+    let (front, allowed) = and_parts (is_ascii_alphanumeric first && nat_le (length others) 63) (list_all is_host_octet others) e in
+    let (letter, short) = and_parts (is_ascii_alphanumeric first) (nat_le (length others) 63) front in
+    let few = leb-true (length others) 63 short in
+    record {
+      named = All-cons (λ (octet : ℕ). octet ≢ 0) first others (λ is. absurd (let gone = sym letter ∙ ap is_ascii_alphanumeric is in cc)) (IsNamed-from_test is_host_octet others refl allowed);
+      short = omega arith;
+    }
+
+pub IsNamed-url : (host mac text : List ℕ) → is_host host ≡ true → IsMacText text mac → IsNamed (codes "http://" ++ host ++ codes "/ipxe/" ++ text)
+IsNamed-url host mac text good is =
+    let P = λ (octet : ℕ). octet ≢ 0 in
+    let scheme = IsNamed-from_test (λ (o : ℕ). not (o == 0)) (codes "http://") refl refl in
+    let path = IsNamed-from_test (λ (o : ℕ). not (o == 0)) (codes "/ipxe/") refl refl in
+    let address : IsNamed text = λ k d below e. absurd (let high = IsMacText-high text mac is k d below in omega arith) in
+    let h = IsHost-from_is_host host good in
+    All-append P (codes "http://" ++ host ++ codes "/ipxe/") text (All-append P (codes "http://" ++ host) (codes "/ipxe/") (All-append P (codes "http://") host scheme h.named) path) address
+
+pub length-url : (host mac text : List ℕ) → is_host host ≡ true → IsMacText text mac → length (codes "http://" ++ host ++ codes "/ipxe/" ++ text) ≤ 127
+length-url host mac text good is =
+    let h = IsHost-from_is_host host good in
+    let short = h.short in
+    let a = length-append (codes "http://" ++ host ++ codes "/ipxe/") text in
+    let b = length-append (codes "http://" ++ host) (codes "/ipxe/") in
+    let d = length-append (codes "http://") host in
+    let e = length-IsMacText text mac is in
+    omega arith
