@@ -1,5 +1,5 @@
 -- A reply's fields and options are those of the answer.
-use Rattle.std.proofs.Common.{◌≡◌, ℕ, List, [], refl, ap, ◌∙◌}
+use Rattle.std.proofs.Common.{◌≡◌, List, [], ap, ◌∙◌}
 use Rattle.std.specs.Prelude.{map}
 use Rattle.dhcp_frame.specs.Area.{Entry}
 use Rattle.dhcp_frame.specs.Reply.{Reply, reply_of, entry_of}

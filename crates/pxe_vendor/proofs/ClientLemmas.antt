@@ -1,16 +1,15 @@
 -- The plain program `client_of` finds the client whose message it is.
-use Rattle.std.proofs.Common.{◌≡◌, ◌≢◌, ℕ, Bool, true, false, List, [], ◌∷◌, ◌++◌, length, take, drop, Option, Some, None, Result, Ok, Err, refl, sym, ap, subst, ◌∙◌, inl, inr, arith}
-use Rattle.std.specs.Prelude.{IfOk, ◌⊎◌, ◌==◌, nat_eq, codes, ok_or, unwrap_or, if◌then◌else◌}
-use Rattle.std.specs.List.{starts_with}
+use Rattle.std.proofs.Common.{◌≡◌, ℕ, Bool, true, false, List, [], ◌∷◌, ◌++◌, length, take, drop, Option, Some, None, Result, Ok, Err, refl, sym, ap, subst, ◌∙◌, inl, inr, arith}
+use Rattle.std.specs.Prelude.{IfOk, ◌⊎◌, nat_eq, codes, ok_or, unwrap_or, if◌then◌else◌}
 use Rattle.std.specs.Option.{option_map}
 use Rattle.std.specs.Cmp.Lexicographic.{pointwise}
 use Rattle.std.proofs.lemmas.Bool.{cases_eq, eq-eqb, ne_eqb}
 use Rattle.std.proofs.lemmas.Bool.Decides.{nat_tests}
 use Rattle.std.proofs.lemmas.List.{take-append-drop}
-use Rattle.dhcp_frame.specs.Area.{Entry, Reads, reading, value_of}
+use Rattle.dhcp_frame.specs.Area.{Entry, reading, value_of}
 use Rattle.dhcp_frame.specs.Message.{Message}
 use Rattle.dhcp_frame.proofs.AreaLemmas.{reading-from_Reads, Reads-from_reading}
-use Rattle.pxe_vendor.specs.Arch.{numbers_of, class_numbers, first_known, FirstKnown}
+use Rattle.pxe_vendor.specs.Arch.{numbers_of, class_numbers, first_known}
 use Rattle.pxe_vendor.specs.Client.{IsClient, HasItem, message_type, arch_numbers, uuid_of, is_ipxe, boot_item}
 use Rattle.pxe_vendor.specs.Served.{◌>>=◌, kind_of, class_of, arch_of_entries, item_of, client_of, Answers}
 use Rattle.pxe_vendor.specs.declared.arch.Arch.{Arch}

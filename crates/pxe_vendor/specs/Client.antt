@@ -1,11 +1,10 @@
 -- A PXE client, as its DHCP message tells it (PXE 2.1; RFC 4578; RFC 3004).
-use Rattle.std.specs.Prelude.{◌≡◌, ℕ, Bool, true, false, List, [], ◌∷◌, ◌++◌, Option, Some, None, unwrap_or, take, length, ◌==◌, ◌&&◌, ◌||◌, not, if◌then◌else◌, codes, nat_eq}
+use Rattle.std.specs.Prelude.{◌≡◌, ℕ, Bool, false, List, [], ◌∷◌, ◌++◌, Option, Some, None, unwrap_or, take, length, ◌==◌, ◌&&◌, ◌||◌, not, if◌then◌else◌, codes, nat_eq}
 use Rattle.std.specs.List.{list_all}
 use Rattle.std.specs.Cmp.Lexicographic.{pointwise}
 use Rattle.dhcp_frame.specs.Area.{Entry, Reads, value_of}
 use Rattle.dhcp_frame.specs.Message.{Message}
 use Rattle.pxe_vendor.specs.Arch.{numbers_of, class_numbers, FirstKnown}
-use Rattle.pxe_vendor.specs.declared.arch.Arch.{Arch}
 use Rattle.pxe_vendor.specs.declared.clients.Kind.{Kind}
 use Rattle.pxe_vendor.specs.declared.clients.Kind.TheVariants.{Discover, Request}
 use Rattle.pxe_vendor.specs.declared.clients.Client.{Client}

@@ -40,9 +40,7 @@ pub enum PlaceFault {
 fn are_host_octets(octets: &[u8]) -> bool
     ensures { result ≡ list_all is_host_octet octets.now }
 {
-    octets
-        .iter()
-        .all(|c| c.is_ascii_alphanumeric() || *c == b'-' || *c == b'.' || *c == b':')
+    octets.iter().all(|c| c.is_ascii_alphanumeric() || *c == b'-' || *c == b'.' || *c == b':')
 }
 
 #[tactic(auto, unfolding(crate::specs::Place::is_host))]

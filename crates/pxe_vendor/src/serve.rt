@@ -181,7 +181,11 @@ fn first_item(tags: OptionIter<'_>) -> Option<[u8; 4]>
     None
 }
 
-fn requested_item(alloc: Global, frame: &Frame<'_>, kind: Kind) -> Result<Option<[u8; 4]>, NotServed>
+fn requested_item(
+    alloc: Global,
+    frame: &Frame<'_>,
+    kind: Kind,
+) -> Result<Option<[u8; 4]>, NotServed>
     ensures { Answers result (item_of kind (value_of 43 frame.now.entries)) }
 {
     let area = value(alloc, frame, 43)?;

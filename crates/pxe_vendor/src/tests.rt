@@ -136,11 +136,23 @@ fn gives_ipxe_its_script(rt: HostRuntime) -> Result<(), Fail> {
     for mark in ["4d0469505845", "4d050469505845"] {
         let octets = message(
             alloc,
-            &["350101", CLASS, "5d020007", "5e03010310", IDENTIFIER, mark, "ff"],
+            &[
+                "350101",
+                CLASS,
+                "5d020007",
+                "5e03010310",
+                IDENTIFIER,
+                mark,
+                "ff",
+            ],
         )?;
         let answer = answer(alloc, &octets)?.ok().ok_or("the client is served")?;
         let file = answer.get(108..151).ok_or("a reply has 300 octets")?;
-        assert_eq!(rt; file, b"http://hall.example/ipxe/52:54:00:12:34:56\0".as_slice(), "{mark}");
+        assert_eq!(rt;
+            file,
+            b"http://hall.example/ipxe/52:54:00:12:34:56\0".as_slice(),
+            "{mark}"
+        );
     }
     Ok(())
 }
@@ -172,12 +184,23 @@ fn acknowledges_request_with_its_boot_item(rt: HostRuntime) -> Result<(), Fail> 
         ("2b03060108", "2b04060108ffff"),
         ("", "2b04060108ffff"),
         // The first tag 71 that has four octets counts.
-        ("2b104702aabb470401020304470405060708", "2b0a060108470401020304ffff"),
+        (
+            "2b104702aabb470401020304470405060708",
+            "2b0a060108470401020304ffff",
+        ),
     ];
     for (asked, given) in cases {
         let mut octets = message(
             alloc,
-            &["350103", CLASS, "5d020007", "5e03010310", IDENTIFIER, asked, "ff"],
+            &[
+                "350103",
+                CLASS,
+                "5d020007",
+                "5e03010310",
+                IDENTIFIER,
+                asked,
+                "ff",
+            ],
         )?;
         for (octet, value) in octets.iter_mut().skip(12).zip([192, 0, 2, 10]) {
             *octet = value;
@@ -216,14 +239,37 @@ fn refuses_clients_in_order(rt: HostRuntime) -> Result<(), Fail> {
         (["", "", "", ""], NotServed::NoType),
         (["350101", "350101", CLASS, ""], NotServed::NoType),
         (["350108", "", "", ""], NotServed::OtherType),
-        (["350101", "3c08505845436c69656e", "", ""], NotServed::NotPxe),
-        (["350101", "3c09505845436c69656e74", "5d020008", ""], NotServed::NoArch),
-        (["350101", "3c13505845436c69656e743a417263683a30303030", "", ""], NotServed::NoArch),
-        (["350103", CLASS, "5d020001", "2b024704"], NotServed::BadVendor),
+        (
+            ["350101", "3c08505845436c69656e", "", ""],
+            NotServed::NotPxe,
+        ),
+        (
+            ["350101", "3c09505845436c69656e74", "5d020008", ""],
+            NotServed::NoArch,
+        ),
+        (
+            [
+                "350101",
+                "3c13505845436c69656e743a417263683a30303030",
+                "",
+                "",
+            ],
+            NotServed::NoArch,
+        ),
+        (
+            ["350103", CLASS, "5d020001", "2b024704"],
+            NotServed::BadVendor,
+        ),
     ];
     for (options, want) in cases {
         let octets = message(alloc, &options)?;
-        same(&rt, alloc, &octets, Err(Refused::Client(want)), "a refused client")?;
+        same(
+            &rt,
+            alloc,
+            &octets,
+            Err(Refused::Client(want)),
+            "a refused client",
+        )?;
     }
     Ok(())
 }
@@ -238,11 +284,41 @@ fn tells_architectures_and_identifiers(rt: HostRuntime) -> Result<(), Fail> {
     // Option 93 and option 97, and what they say.
     let cases = [
         ("5d03000007", "", Arch::Bios, None, "undionly.kpxe"),
-        ("5d020006", IDENTIFIER, Arch::Uefi32, Some(uuid), "ipxe-i386.efi"),
-        ("5d0400010009", "610100", Arch::Uefi64, None, "ipxe-x86_64.efi"),
-        ("5d02000b", "61110000000000000000000000000000000000", Arch::Arm64, None, "ipxe-arm64.efi"),
-        ("5d020001", "611100ffffffffffffffffffffffffffffffff", Arch::Uefi64, None, "ipxe-x86_64.efi"),
-        ("", "61110100112233445566778899aabbccddeeff", Arch::Uefi64, None, "ipxe-x86_64.efi"),
+        (
+            "5d020006",
+            IDENTIFIER,
+            Arch::Uefi32,
+            Some(uuid),
+            "ipxe-i386.efi",
+        ),
+        (
+            "5d0400010009",
+            "610100",
+            Arch::Uefi64,
+            None,
+            "ipxe-x86_64.efi",
+        ),
+        (
+            "5d02000b",
+            "61110000000000000000000000000000000000",
+            Arch::Arm64,
+            None,
+            "ipxe-arm64.efi",
+        ),
+        (
+            "5d020001",
+            "611100ffffffffffffffffffffffffffffffff",
+            Arch::Uefi64,
+            None,
+            "ipxe-x86_64.efi",
+        ),
+        (
+            "",
+            "61110100112233445566778899aabbccddeeff",
+            Arch::Uefi64,
+            None,
+            "ipxe-x86_64.efi",
+        ),
     ];
     for (numbers, identifier, arch, uuid, name) in cases {
         // A DISCOVER's option 43 isn't looked at.
@@ -255,7 +331,11 @@ fn tells_architectures_and_identifiers(rt: HostRuntime) -> Result<(), Fail> {
         assert_eq!(rt; client.item, None);
         assert!(rt; !client.ipxe);
         let kept = client.echo97.map_or(0, |octets| octets.into_vec().len());
-        assert_eq!(rt; kept, (identifier.len() / 2).saturating_sub(2), "{identifier}");
+        assert_eq!(rt;
+            kept,
+            (identifier.len() / 2).saturating_sub(2),
+            "{identifier}"
+        );
         assert_eq!(rt; loader(arch), name);
     }
     Ok(())

@@ -1,4 +1,4 @@
-use Rattle.std.proofs.Common.{◌≡◌, ap, ◌∙◌}
+use Rattle.std.proofs.Common.{ap, ◌∙◌}
 use Rattle.std.specs.Prelude.{map}
 use Rattle.dhcp_frame.specs.Reply.{reply_octets, entry_of}
 use Rattle.pxe_vendor.specs.Answer.{answer_to}
