@@ -1,7 +1,7 @@
 pub mod Area
 pub mod Front
 pub mod Overload
-pub mod Joined
+pub mod Start
 pub mod Message
 pub mod Understood
 pub mod Reply

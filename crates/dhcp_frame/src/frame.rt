@@ -1,16 +1,15 @@
 //! A client's frame, in the octets that it came in.
-ghost use Rattle.std.specs.Prelude.{◌≡◌, ◌≤◌, None, Some, Ok, Err, IsOk, IfOk, MatchResult, option_map, unwrap_or, [], ◌++◌, length, take};
-ghost use Rattle.std.specs.Cow.{cow_slice_items};
+ghost use Rattle.std.specs.Prelude.{◌≡◌, ◌≤◌, None, Some, Ok, Err, IsOk, IfOk, MatchResult, option_map, length, take};
 ghost use Rattle.dhcp_frame.specs.Area.{value_of, entries_of, IsWhole};
 ghost use Rattle.dhcp_frame.specs.Message.{Message, IsFrame};
 ghost use Rattle.dhcp_frame.specs.Understood.{header, options_if, understood};
 
 use crate::area::{OptionIter, is_whole};
 use crate::fault::FrameFault;
+use crate::joined::JoinedValue;
 use crate::overload::overload_in;
 use byteorder::{BigEndian, ByteOrder};
 use std::alloc::{AllocError, Global};
-use std::borrow::CowSlice;
 use std::marker::Model;
 
 /// A client's DHCP message over Ethernet (RFC 2131 section 2), over the octets that it came in.
@@ -93,22 +92,6 @@ fn understand(octets: &[u8]) -> Result<Frame<'_>, FrameFault>
     })
 }
 
-// One more value of a code behind those joined so far.
-fn join<'a>(
-    alloc: Global,
-    joined: Option<CowSlice<'a, u8>>,
-    value: &'a [u8],
-) -> Result<CowSlice<'a, u8>, AllocError>
-    ensures { IfOk result (λ all. cow_slice_items all ≡ unwrap_or (option_map cow_slice_items joined.entry) [] ++ value.now) }
-{
-    let Some(joined) = joined else {
-        return Ok(CowSlice::Borrowed(value));
-    };
-    let mut all = joined.into_owned(alloc)?;
-    all.extend_from_slice(value)?;
-    Ok(CowSlice::Owned(all))
-}
-
 /// Reads a client's frame, a datagram's octets. It takes no memory.
 pub fn read(octets: &[u8]) -> Result<Frame<'_>, FrameFault>
     // What is read is a frame that carries that message.
@@ -131,27 +114,17 @@ impl<'a> Frame<'a> {
 
     /// The values of a code in order, joined (RFC 3396 section 5), or nothing where the code doesn't
     /// appear.
-    pub fn value(&self, alloc: Global, code: u8) -> Result<Option<Vec<u8>>, AllocError>
-        ensures { IfOk result (λ found. option_map (λ value. value.items) found ≡ value_of code self.now.entries) }
-    {
-        match self.value_cow(alloc, code)? {
-            Some(value) => Ok(Some(value.into_owned(alloc)?)),
-            None => Ok(None),
-        }
-    }
-
-    /// The same, borrowed from the frame's octets where the code appears once.
     #[tactic(auto, using(crate::proofs::ValueLemmas::value_steps))]
-    pub fn value_cow(&self, alloc: Global, code: u8) -> Result<Option<CowSlice<'a, u8>>, AllocError>
-        ensures { IfOk result (λ found. option_map cow_slice_items found ≡ value_of code self.now.entries) }
+    pub fn value(&self, alloc: Global, code: u8) -> Result<Option<Vec<u8>>, AllocError>
+        ensures { IfOk result (λ found. option_map (λ octets. octets.items) found ≡ value_of code self.now.entries) }
     {
-        let mut joined = None;
+        let mut joined = JoinedValue::new();
         for (other, value) in self.options() {
             if other == code {
-                joined = Some(join(alloc, joined, value)?);
+                joined.push(alloc, value)?;
             }
         }
-        Ok(joined)
+        joined.into_vec(alloc)
     }
 
     /// The transaction's number.

@@ -4,12 +4,14 @@
 mod area;
 mod fault;
 mod frame;
+mod joined;
 mod overload;
 mod reply;
 
 pub use area::{OptionIter, one_reading};
 pub use fault::{FrameFault, WriteFault};
 pub use frame::{Frame, read};
+pub use joined::JoinedValue;
 pub use reply::{DhcpOption, ReplyFields, write};
 
 #[cfg(test)]

@@ -2,7 +2,7 @@
 ghost use Rattle.std.specs.Prelude.{◌≡◌, Option, Some, List, ℕ};
 ghost use Rattle.dhcp_frame.specs.Area.{value_of, entries_of, IsWhole};
 ghost use Rattle.dhcp_frame.specs.Overload.{overload_of};
-ghost use Rattle.dhcp_frame.specs.Joined.{joined_of, joined_with};
+ghost use Rattle.dhcp_frame.specs.Start.{start_of, start_with};
 
 use crate::area::OptionIter;
 
@@ -13,9 +13,9 @@ pub(crate) struct Overload {
     pub(crate) sname: bool,
 }
 
-// The joined values of a code, as far as an overload asks: two octets are like three.
+// The start of a joined value, as far as an overload asks: two octets are like three.
 #[derive(Clone, Copy)]
-enum Joined {
+enum Start {
     Absent,
     Empty,
     One(u8),
@@ -24,46 +24,46 @@ enum Joined {
 
 const OVERLOAD: u8 = 52;
 
-#[tactic(auto, unfolding(crate::specs::Joined::joined_with, crate::specs::Joined::joined_of))]
-fn join(joined: Joined, value: &[u8]) -> Joined
-    ensures { result ≡ joined_with joined (Some value.now) }
+#[tactic(auto, unfolding(crate::specs::Start::start_with, crate::specs::Start::start_of))]
+fn more(start: Start, value: &[u8]) -> Start
+    ensures { result ≡ start_with start (Some value.now) }
 {
-    match (joined, value) {
-        (Joined::Long, _) => Joined::Long,
-        (Joined::One(first), []) => Joined::One(first),
-        (Joined::One(_), _) => Joined::Long,
-        (_, []) => Joined::Empty,
-        (_, [first]) => Joined::One(*first),
-        (_, _) => Joined::Long,
+    match (start, value) {
+        (Start::Long, _) => Start::Long,
+        (Start::One(first), []) => Start::One(first),
+        (Start::One(_), _) => Start::Long,
+        (_, []) => Start::Empty,
+        (_, [first]) => Start::One(*first),
+        (_, _) => Start::Long,
     }
 }
 
-#[tactic(auto, unfolding(crate::specs::Overload::overload_of, crate::specs::Joined::joined_of))]
-fn overload_from(joined: Joined) -> Option<Overload>
-    ensures { (value : Option (List ℕ)) → joined_of value ≡ joined → result ≡ overload_of value }
+#[tactic(auto, unfolding(crate::specs::Overload::overload_of, crate::specs::Start::start_of))]
+fn overload_from(start: Start) -> Option<Overload>
+    ensures { (value : Option (List ℕ)) → start_of value ≡ start → result ≡ overload_of value }
 {
-    let (file, sname) = match joined {
-        Joined::Absent => (false, false),
-        Joined::One(1) => (true, false),
-        Joined::One(2) => (false, true),
-        Joined::One(3) => (true, true),
+    let (file, sname) = match start {
+        Start::Absent => (false, false),
+        Start::One(1) => (true, false),
+        Start::One(2) => (false, true),
+        Start::One(3) => (true, true),
         _ => return None,
     };
     Some(Overload { file, sname })
 }
 
 #[tactic(auto, using(crate::proofs::OverloadLemmas::overload_steps))]
-fn joined_overload(options: &[u8]) -> Joined
+fn overload_start(options: &[u8]) -> Start
     requires { IsWhole options.now }
-    ensures { result ≡ joined_of (value_of OVERLOAD (entries_of options.now)) }
+    ensures { result ≡ start_of (value_of OVERLOAD (entries_of options.now)) }
 {
-    let mut joined = Joined::Absent;
+    let mut start = Start::Absent;
     for (code, value) in OptionIter::new(options, &[], &[]) {
         if code == OVERLOAD {
-            joined = join(joined, value);
+            start = more(start, value);
         }
     }
-    joined
+    start
 }
 
 /// What option 52 of an options field says, or nothing where it is bad.
@@ -71,5 +71,5 @@ pub(crate) fn overload_in(options: &[u8]) -> Option<Overload>
     requires { IsWhole options.now }
     ensures { result ≡ overload_of (value_of OVERLOAD (entries_of options.now)) }
 {
-    overload_from(joined_overload(options))
+    overload_from(overload_start(options))
 }

@@ -2,7 +2,6 @@ ghost use Rattle.std.specs.Prelude.{◌≡◌};
 
 use super::*;
 use std::alloc::{AllocError, Global};
-use std::borrow::CowSlice;
 use std::test::Fail;
 
 // A client's message from 52:54:00:12:34:56 with these areas, the fixed ones filled up with zeros.

@@ -11,7 +11,9 @@ use Rattle.dhcp_frame.specs.Message.{Message}
 use Rattle.dhcp_frame.proofs.AreaLemmas.{reading-from_Reads, Reads-from_reading}
 use Rattle.pxe_vendor.specs.Arch.{numbers_of, class_numbers, first_known}
 use Rattle.pxe_vendor.specs.Client.{IsClient, HasItem, message_type, arch_numbers, uuid_of, is_ipxe, boot_item}
-use Rattle.pxe_vendor.specs.Served.{◌>>=◌, kind_of, class_of, arch_of_entries, item_of, client_of, Answers}
+use Rattle.pxe_vendor.specs.Served.{◌>>=◌, kind_of, class_of, arch_of_entries, item_of, decided, client_of, Answers}
+use Rattle.pxe_vendor.specs.Values.{values_of}
+use Rattle.pxe_vendor.specs.declared.values.Values.{Values}
 use Rattle.pxe_vendor.specs.declared.arch.Arch.{Arch}
 use Rattle.pxe_vendor.specs.declared.clients.Kind.{Kind}
 use Rattle.pxe_vendor.specs.declared.clients.Kind.TheVariants.{Discover, Request}
@@ -175,41 +177,6 @@ pub Answers-same : {X : Type 0} (r is : Result X NotServed) → r ≡ is → Ans
 Answers-same (Ok x) is e = sym e
 Answers-same (Err cause) is e = inr (sym e)
 
-pub Answers-arch : (es : List Entry) (list value : Option (List ℕ)) (class : List ℕ) (r : Result Arch NotServed)
-    → list ≡ value_of 93 es → value ≡ value_of 60 es → class_of value ≡ Ok class
-    → r ≡ ok_or (first_known (numbers_of (unwrap_or list []) ++ class_numbers class)) NoArch → Answers r (arch_of_entries es)
-Answers-arch es list value class r listed valued classed e =
-    let same : arch_of_entries es ≡ r =
-    rw (← valued, classed) (sym (e ∙ rw (listed, ← value-from_class_of value class classed, valued) refl)) in
-    Answers-same r (arch_of_entries es) (sym same)
-
-client_of-no_kind : (m : Message) (cause : NotServed) → kind_of (value_of 53 m.entries) ≡ Err cause → client_of m ≡ Err cause
-unfolding client_of
-client_of-no_kind m cause a = rw a refl
-
-client_of-no_arch : (m : Message) (kind : Kind) (cause : NotServed) → kind_of (value_of 53 m.entries) ≡ Ok kind → arch_of_entries m.entries ≡ Err cause → client_of m ≡ Err cause
-unfolding client_of
-client_of-no_arch m kind cause a b = rw (a, b) refl
-
-client_of-no_item : (m : Message) (kind : Kind) (arch : Arch) (cause : NotServed) → kind_of (value_of 53 m.entries) ≡ Ok kind → arch_of_entries m.entries ≡ Ok arch → item_of kind (value_of 43 m.entries) ≡ Err cause → client_of m ≡ Err cause
-unfolding client_of
-client_of-no_item m kind arch cause a b d = rw (a, b, d) refl
-
-answered : {X Y : Type 0} (r : Result X NotServed) (cause other : NotServed) (part : Result Y NotServed) (whole : Result X NotServed) → r ≡ Err other → other ≡ cause → (cause ≡ Memory) ⊎ (part ≡ Err cause) → (part ≡ Err cause → whole ≡ Err cause) → Answers r whole
-answered r cause other part whole e same told more =
-    let both : (other ≡ Memory) ⊎ (whole ≡ Err other) =
-    rw same (elim told [ inl memory ↦ inl memory | inr is ↦ inr (more is) ]) in
-    rw e both
-
-pub Answers-no_kind : (m : Message) (r : Result Client NotServed) (cause other : NotServed) → r ≡ Err other → other ≡ cause → (cause ≡ Memory) ⊎ (kind_of (value_of 53 m.entries) ≡ Err cause) → Answers r (client_of m)
-Answers-no_kind m r cause other e same told = answered r cause other _ (client_of m) e same told (client_of-no_kind m cause)
-
-pub Answers-no_arch : (m : Message) (kind : Kind) (r : Result Client NotServed) (cause other : NotServed) → r ≡ Err other → other ≡ cause → kind_of (value_of 53 m.entries) ≡ Ok kind → (cause ≡ Memory) ⊎ (arch_of_entries m.entries ≡ Err cause) → Answers r (client_of m)
-Answers-no_arch m kind r cause other e same a told = answered r cause other _ (client_of m) e same told (client_of-no_arch m kind cause a)
-
-pub Answers-no_item : (m : Message) (kind : Kind) (arch : Arch) (r : Result Client NotServed) (cause other : NotServed) → r ≡ Err other → other ≡ cause → kind_of (value_of 53 m.entries) ≡ Ok kind → arch_of_entries m.entries ≡ Ok arch → (cause ≡ Memory) ⊎ (item_of kind (value_of 43 m.entries) ≡ Err cause) → Answers r (client_of m)
-Answers-no_item m kind arch r cause other e same a b told = answered r cause other _ (client_of m) e same told (client_of-no_item m kind arch cause a b)
-
 pub IfOk-Answers : (m : Message) (r : Result Client NotServed) → Answers r (client_of m) → IfOk r (λ client. IsClient m client)
 IfOk-Answers m (Ok client) told = IsClient-from_client_of m client told
 IfOk-Answers m (Err cause) told = tt
@@ -222,10 +189,58 @@ Answers-only m (Err cause) client told h =
       | inr is ↦ absurd (let no = sym is ∙ client_of-from_IsClient m client h in cc)
     ]
 
-pub Answers-client : (m : Message) (kind : Kind) (arch : Arch) (item uuid echo97 identifier user : Option (List ℕ)) (mac : List ℕ) (ipxe : Bool)
-    → kind_of (value_of 53 m.entries) ≡ Ok kind → arch_of_entries m.entries ≡ Ok arch → item_of kind (value_of 43 m.entries) ≡ Ok item
-    → mac ≡ take 6 m.chaddr → identifier ≡ value_of 97 m.entries → uuid ≡ uuid_of identifier → echo97 ≡ identifier
-    → user ≡ value_of 77 m.entries → ipxe ≡ is_ipxe user
+-- ---- from joined values
+
+abbrev Decision : Type 0
+Decision = Result (Kind × Arch × Option (List ℕ)) NotServed
+
+-- the client with what joined values tell
+abbrev client_told : Message → Kind × Arch × Option (List ℕ) → Client
+client_told m told = client_with m told.0 told.1 told.2
+
+same-item : (m : Message) (kind : Kind) (arch : Arch) (item : Result (Option (List ℕ)) NotServed)
+    → (item >>= (λ i. Ok (client_with m kind arch i))) ≡ ((item >>= (λ i. Ok (kind, arch, i))) >>= (λ told. Ok (client_told m told)))
+same-item m kind arch (Ok item) = refl
+same-item m kind arch (Err cause) = refl
+
+same-arch : (m : Message) (kind : Kind) (area : Option (List ℕ)) (arch : Result Arch NotServed)
+    → (arch >>= (λ a. (item_of kind area) >>= (λ i. Ok (client_with m kind a i)))) ≡ ((arch >>= (λ a. (item_of kind area) >>= (λ i. Ok (kind, a, i)))) >>= (λ told. Ok (client_told m told)))
+same-arch m kind area (Ok arch) = same-item m kind arch (item_of kind area)
+same-arch m kind area (Err cause) = refl
+
+abbrev known : Option (List ℕ) → List ℕ → Result Arch NotServed
+known list class = ok_or (first_known (numbers_of (unwrap_or list []) ++ class_numbers class)) NoArch
+
+same-class : (m : Message) (kind : Kind) (list value area : Option (List ℕ)) (class : Result (List ℕ) NotServed) → class_of value ≡ class
+    → ((class >>= (λ c. known list (unwrap_or value []))) >>= (λ a. (item_of kind area) >>= (λ i. Ok (client_with m kind a i))))
+    ≡ ((class >>= (λ c. (known list c) >>= (λ a. (item_of kind area) >>= (λ i. Ok (kind, a, i))))) >>= (λ told. Ok (client_told m told)))
+same-class m kind list value area (Ok class) e = rw (value-from_class_of value class e) (same-arch m kind area (known list class))
+same-class m kind list value area (Err cause) e = refl
+
+same-kind : (m : Message) (list value area : Option (List ℕ)) (kind : Result Kind NotServed)
+    → (kind >>= (λ k. ((class_of value) >>= (λ c. known list (unwrap_or value []))) >>= (λ a. (item_of k area) >>= (λ i. Ok (client_with m k a i)))))
+    ≡ ((kind >>= (λ k. (class_of value) >>= (λ c. (known list c) >>= (λ a. (item_of k area) >>= (λ i. Ok (k, a, i)))))) >>= (λ told. Ok (client_told m told)))
+same-kind m list value area (Ok kind) = same-class m kind list value area (class_of value) refl
+same-kind m list value area (Err cause) = refl
+
+client_of-decided : (m : Message) → client_of m ≡ ((decided (values_of m.entries)) >>= (λ told. Ok (client_told m told)))
+unfolding client_of
+client_of-decided m =
+    same-kind m (value_of 93 m.entries) (value_of 60 m.entries) (value_of 43 m.entries) (kind_of (value_of 53 m.entries))
+
+pub Answers-refused : (m : Message) (v : Values) (r : Result Client NotServed) (cause other : NotServed)
+    → r ≡ Err other → other ≡ cause → v ≡ values_of m.entries → Err cause ≡ decided v → Answers r (client_of m)
+Answers-refused m v r cause other e same is refused =
+    let decision : decided (values_of m.entries) ≡ Err other = ap (λ (x : Values). decided x) (sym is) ∙ sym refused ∙ ap (λ (x : NotServed). Err x) (sym same) in
+    let no : client_of m ≡ Err other = client_of-decided m ∙ ap (λ (d : Decision). d >>= (λ told. Ok (client_told m told))) decision in
+    rw e (inr no)
+
+pub Answers-client : (m : Message) (v : Values) (kind : Kind) (arch : Arch) (item uuid echo97 kept user : Option (List ℕ)) (mac : List ℕ) (ipxe : Bool)
+    → v ≡ values_of m.entries → Ok (kind, arch, item) ≡ decided v → mac ≡ take 6 m.chaddr
+    → kept ≡ v.identifier → uuid ≡ uuid_of kept → echo97 ≡ kept → user ≡ v.user_class → ipxe ≡ is_ipxe user
     → client_of m ≡ Ok (record { mac = mac; kind = kind; arch = arch; uuid = uuid; echo97 = echo97; item = item; ipxe = ipxe })
-Answers-client m kind arch item uuid echo97 identifier user mac ipxe a b d e f g h i j =
-    client_of-whole m kind arch item a b d ∙ rw (e, g, h, f, j, i) refl
+Answers-client m v kind arch item uuid echo97 kept user mac ipxe is told d f g h i j =
+    let identifier : kept ≡ value_of 97 m.entries = f ∙ ap (λ (x : Values). x.identifier) is in
+    let class : user ≡ value_of 77 m.entries = i ∙ ap (λ (x : Values). x.user_class) is in
+    let decision : decided (values_of m.entries) ≡ Ok (kind, arch, item) = ap (λ (x : Values). decided x) (sym is) ∙ sym told in
+    client_of-decided m ∙ ap (λ (d : Decision). d >>= (λ told. Ok (client_told m told))) decision ∙ rw (d, g, h, identifier, j, class) refl

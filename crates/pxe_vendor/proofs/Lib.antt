@@ -2,3 +2,4 @@ pub mod AnswerLemmas
 pub mod ArchLemmas
 pub mod ClientLemmas
 pub mod FileLemmas
+pub mod ValuesLemmas

@@ -1,5 +1,6 @@
 pub mod Arch
 pub mod Client
+pub mod Values
 pub mod Served
 pub mod Place
 pub mod Answer

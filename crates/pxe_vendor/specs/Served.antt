@@ -1,13 +1,14 @@
 -- Telling a client from its message, up to the first cause not to serve it: the plain program for `IsClient`.
-use Rattle.std.specs.Prelude.{◌≡◌, ◌⊎◌, ℕ, List, [], ◌∷◌, Option, Some, None, Result, Ok, Err, MatchResult, ok_or, take, ◌==◌, if◌then◌else◌, codes, nat_eq}
+use Rattle.std.specs.Prelude.{◌≡◌, ◌⊎◌, ℕ, List, [], ◌∷◌, Option, Some, None, Result, Ok, Err, MatchResult, ok_or, unwrap_or, ◌++◌, take, ◌==◌, if◌then◌else◌, codes, nat_eq}
 use Rattle.std.specs.List.{starts_with}
 use Rattle.std.specs.Option.{option_map}
 use Rattle.dhcp_frame.specs.Area.{Entry, reading, value_of}
 use Rattle.dhcp_frame.specs.Message.{Message}
-use Rattle.pxe_vendor.specs.Arch.{first_known}
+use Rattle.pxe_vendor.specs.Arch.{numbers_of, class_numbers, first_known}
 use Rattle.pxe_vendor.specs.Client.{arch_numbers, uuid_of, is_ipxe, boot_item}
 use Rattle.pxe_vendor.specs.declared.arch.Arch.{Arch}
 use Rattle.pxe_vendor.specs.declared.clients.Kind.{Kind}
+use Rattle.pxe_vendor.specs.declared.values.Values.{Values}
 use Rattle.pxe_vendor.specs.declared.clients.Kind.TheVariants.{Discover, Request}
 use Rattle.pxe_vendor.specs.declared.clients.Client.{Client}
 use Rattle.pxe_vendor.specs.declared.serve.NotServed.{NotServed}
@@ -40,6 +41,15 @@ unfoldable pub item_of : Kind → Option (List ℕ) → Result (Option (List ℕ
 item_of Discover area = Ok None
 item_of Request None = Ok None
 item_of Request (Some area) = ok_or (option_map boot_item (reading area)) BadVendor
+
+-- the kind, the architecture and the boot item that joined values tell
+abbrev pub decided : Values → Result (Kind × Arch × Option (List ℕ)) NotServed
+decided v = do
+  kind ← kind_of v.message_type
+  class ← class_of v.class
+  arch ← ok_or (first_known (numbers_of (unwrap_or v.architectures []) ++ class_numbers class)) NoArch
+  item ← item_of kind v.vendor
+  Ok (kind, arch, item)
 
 -- the client whose message this is, or the first cause not to serve it
 unfoldable pub client_of : Message → Result Client NotServed

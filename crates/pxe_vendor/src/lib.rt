@@ -8,6 +8,7 @@ mod file;
 mod octets;
 mod place;
 mod serve;
+mod values;
 
 pub use answer::reply;
 pub use arch::Arch;

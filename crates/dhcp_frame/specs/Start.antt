@@ -1,0 +1,17 @@
+-- The start of a joined value: its first octet, and whether there is another one.
+use Rattle.std.specs.Prelude.{ℕ, List, [], ◌∷◌, Option, Some, None, unwrap_or}
+use Rattle.dhcp_frame.specs.declared.overload.Start.{Start}
+use Rattle.dhcp_frame.specs.declared.overload.Start.TheVariants.{Absent, Empty, One, Long}
+
+unfoldable pub start_of : Option (List ℕ) → Start
+start_of None = Absent
+start_of (Some []) = Empty
+start_of (Some (b ∷ [])) = One b
+start_of (Some (b ∷ c ∷ octets)) = Long
+
+-- the same with more values behind it
+unfoldable pub start_with : Start → Option (List ℕ) → Start
+start_with Absent more = start_of more
+start_with Empty more = start_of (Some (unwrap_or more []))
+start_with (One b) more = start_of (Some (b ∷ unwrap_or more []))
+start_with Long more = Long

@@ -1,0 +1,69 @@
+//! The values of one code, joined.
+ghost use Rattle.std.specs.Prelude.{◌≡◌, ◌++◌, [], None, Some, OnOk, OnErr, IfOk, option_map, option_copied, unwrap_or};
+
+use std::alloc::{AllocError, Global};
+use std::borrow::CowSlice;
+use std::marker::Model;
+
+/// The values of one code in order, joined (RFC 3396 section 5). It takes memory for a second value
+/// alone; one value is borrowed from the octets that it came in. Contracts see the joined octets, or
+/// none where there was no value.
+#[derive(Debug, Drop)]
+pub struct JoinedValue<'a> {
+    octets: Option<CowSlice<'a, u8>>,
+}
+
+impl<'a> Model for JoinedValue<'a> {
+    ghost use Rattle.std.specs.Prelude.{List, ℕ, Option, option_map};
+    ghost use Rattle.std.specs.Cow.{cow_slice_items};
+
+    ghost Value = { Option (List ℕ) };
+
+    ghost view = { λ joined. option_map cow_slice_items joined.octets };
+}
+
+impl<'a> JoinedValue<'a> {
+    /// No value yet.
+    pub fn new() -> JoinedValue<'a>
+        ensures { result ≡ None }
+    {
+        JoinedValue { octets: None }
+    }
+
+    /// Joins one more value to its end. After an error there is none left.
+    pub fn push(&mut self, alloc: Global, value: &'a [u8]) -> Result<(), AllocError>
+        ensures ok { OnOk result (self.new ≡ Some (unwrap_or self.old [] ++ value.now)) }
+        ensures err { OnErr result (self.new ≡ None) }
+    {
+        let octets = match self.octets.take() {
+            None => CowSlice::Borrowed(value),
+            Some(octets) => {
+                let mut octets = octets.into_owned(alloc)?;
+                octets.extend_from_slice(value)?;
+                CowSlice::Owned(octets)
+            }
+        };
+        self.octets = Some(octets);
+        Ok(())
+    }
+
+    /// The joined octets, or nothing where there was no value.
+    pub fn as_slice(&self) -> Option<&[u8]>
+        ensures { option_copied result ≡ self.now }
+    {
+        match &self.octets {
+            Some(octets) => Some(octets.as_slice()),
+            None => None,
+        }
+    }
+
+    /// The same, in memory of their own.
+    pub fn into_vec(self, alloc: Global) -> Result<Option<Vec<u8>>, AllocError>
+        ensures { IfOk result (λ octets. option_map (λ octets. octets.items) octets ≡ self.entry) }
+    {
+        match self.octets {
+            Some(octets) => Ok(Some(octets.into_owned(alloc)?)),
+            None => Ok(None),
+        }
+    }
+}

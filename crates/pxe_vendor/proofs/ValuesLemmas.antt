@@ -1,0 +1,78 @@
+-- Joining the values of several codes in one walk.
+use Rattle.std.proofs.Common.{◌≡◌, ℕ, List, [], ◌∷◌, ◌++◌, Option, Some, None, refl, inl, inr}
+use Rattle.std.specs.Prelude.{unwrap_or, ◌==◌}
+use Rattle.std.proofs.lemmas.Bool.{cases_eq, eq-eqb, ne_eqb}
+use Rattle.dhcp_frame.specs.Area.{Entry, value_of}
+use Rattle.dhcp_frame.proofs.ValueLemmas.{joined_then, joined_then-nothing, joined_then-more}
+use Rattle.pxe_vendor.specs.Values.{values_of, push_if, pushed}
+use Rattle.pxe_vendor.specs.declared.values.Values.{Values}
+
+-- ---- one more value
+
+pub pushed-message_type : (v : Values) (code : ℕ) (value : List ℕ) → code ≡ 53 → pushed v code value ≡ record v { message_type = Some (unwrap_or v.message_type [] ++ value) }
+unfolding pushed push_if
+pushed-message_type v code value is = rw is refl
+
+pub pushed-class : (v : Values) (code : ℕ) (value : List ℕ) → code ≡ 60 → pushed v code value ≡ record v { class = Some (unwrap_or v.class [] ++ value) }
+unfolding pushed push_if
+pushed-class v code value is = rw is refl
+
+pub pushed-architectures : (v : Values) (code : ℕ) (value : List ℕ) → code ≡ 93 → pushed v code value ≡ record v { architectures = Some (unwrap_or v.architectures [] ++ value) }
+unfolding pushed push_if
+pushed-architectures v code value is = rw is refl
+
+pub pushed-vendor : (v : Values) (code : ℕ) (value : List ℕ) → code ≡ 43 → pushed v code value ≡ record v { vendor = Some (unwrap_or v.vendor [] ++ value) }
+unfolding pushed push_if
+pushed-vendor v code value is = rw is refl
+
+pub pushed-identifier : (v : Values) (code : ℕ) (value : List ℕ) → code ≡ 97 → pushed v code value ≡ record v { identifier = Some (unwrap_or v.identifier [] ++ value) }
+unfolding pushed push_if
+pushed-identifier v code value is = rw is refl
+
+pub pushed-user_class : (v : Values) (code : ℕ) (value : List ℕ) → code ≡ 77 → pushed v code value ≡ record v { user_class = Some (unwrap_or v.user_class [] ++ value) }
+unfolding pushed push_if
+pushed-user_class v code value is = rw is refl
+
+pub pushed-other : (v : Values) (code : ℕ) (value : List ℕ) → (code ≡ 53 → ⊥) → (code ≡ 60 → ⊥) → (code ≡ 93 → ⊥) → (code ≡ 43 → ⊥) → (code ≡ 97 → ⊥) → (code ≡ 77 → ⊥) → pushed v code value ≡ v
+unfolding pushed push_if
+pushed-other v code value a b c d e f =
+    rw (ne_eqb code 53 a, ne_eqb code 60 b, ne_eqb code 93 c, ne_eqb code 43 d, ne_eqb code 97 e, ne_eqb code 77 f) refl
+
+pub ruleset push_steps = (pushed-message_type, pushed-class, pushed-architectures, pushed-vendor, pushed-identifier, pushed-user_class, pushed-other)
+
+-- ---- the walk
+
+-- the values so far, with those of the rest behind them
+unfoldable pub values_then : Values → Values → Values
+values_then v rest = record {
+  message_type = joined_then v.message_type rest.message_type;
+  class = joined_then v.class rest.class;
+  architectures = joined_then v.architectures rest.architectures;
+  vendor = joined_then v.vendor rest.vendor;
+  identifier = joined_then v.identifier rest.identifier;
+  user_class = joined_then v.user_class rest.user_class;
+}
+
+joined_then-push_if : (wanted code : ℕ) (joined : Option (List ℕ)) (value : List ℕ) (es : List Entry) → joined_then (push_if (code == wanted) joined value) (value_of wanted es) ≡ joined_then joined (value_of wanted ((code, value) ∷ es))
+unfolding push_if
+joined_then-push_if wanted code joined value es =
+    elim (cases_eq code wanted) [
+      | inl is ↦ rw (eq-eqb code wanted is) (joined_then-more joined value (value_of wanted es))
+      | inr other ↦ rw (ne_eqb code wanted other) refl
+    ]
+
+pub values_then-start : (v rest : Values) → v ≡ record { message_type = None; class = None; architectures = None; vendor = None; identifier = None; user_class = None } → values_then v rest ≡ rest
+unfolding values_then joined_then
+values_then-start v rest is = rw is refl
+
+pub values_then-pushed : (v : Values) (code : ℕ) (value : List ℕ) (es : List Entry) → values_then (pushed v code value) (values_of es) ≡ values_then v (values_of ((code, value) ∷ es))
+unfolding values_then pushed
+values_then-pushed v code value es =
+    rw (joined_then-push_if 53 code v.message_type value es, joined_then-push_if 60 code v.class value es, joined_then-push_if 93 code v.architectures value es, joined_then-push_if 43 code v.vendor value es, joined_then-push_if 97 code v.identifier value es, joined_then-push_if 77 code v.user_class value es) refl
+
+pub values_then-end : (v : Values) → values_then v (values_of []) ≡ v
+unfolding values_then
+values_then-end v =
+    rw (joined_then-nothing v.message_type, joined_then-nothing v.class, joined_then-nothing v.architectures, joined_then-nothing v.vendor, joined_then-nothing v.identifier, joined_then-nothing v.user_class) refl
+
+pub ruleset values_steps = (values_then-start, values_then-pushed, values_then-end)
