@@ -57,12 +57,19 @@ fn reads_fields_and_options(rt: HostRuntime) -> Result<(), Fail> {
         b"PXEClient:Arch:00007:UNDI:003016".as_slice()
     );
     assert!(rt; frame.value(rt.alloc(), 43)?.is_none());
-    assert!(rt;
-        matches!(
-            frame.value_cow(rt.alloc(), 93)?,
-            Some(CowSlice::Borrowed(_))
-        )
-    );
+    Ok(())
+}
+
+#[test]
+fn joins_values_one_by_one(rt: HostRuntime) -> Result<(), Fail> {
+    let mut joined = JoinedValue::new();
+    assert!(rt; joined.as_slice().is_none());
+    joined.push(rt.alloc(), &[])?;
+    joined.push(rt.alloc(), &[1])?;
+    joined.push(rt.alloc(), &[2, 3])?;
+    assert_eq!(rt; joined.as_slice(), Some([1u8, 2, 3].as_slice()));
+    let octets = joined.into_vec(rt.alloc())?.ok_or("values were joined")?;
+    assert_eq!(rt; octets.as_slice(), [1, 2, 3].as_slice());
     Ok(())
 }
 
