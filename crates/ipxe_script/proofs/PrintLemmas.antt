@@ -1,0 +1,10 @@
+-- A line's words, each but the first behind a space.
+use Rattle.std.proofs.Common.{◌≡◌, ℕ, List, [], ◌∷◌, ◌++◌, refl, sym, ap, ◌∙◌, append_assoc}
+use Rattle.std.proofs.lemmas.List.{append-nil}
+use Rattle.std.specs.List.{flat_map, join_with_byte}
+
+pub join_with_byte-cons : (first : List ℕ) (words : List (List ℕ)) → join_with_byte 32 (first ∷ words) ≡ first ++ flat_map (λ word. 32 ∷ word) words
+join_with_byte-cons first [] = sym (append-nil first)
+join_with_byte-cons first (next ∷ words) = ap (λ (x : List ℕ). first ++ (32 ∷ x)) (join_with_byte-cons next words)
+
+pub ruleset print_steps = (join_with_byte-cons, append_assoc)

@@ -1,0 +1,134 @@
+-- Reading a script, a step at a time.
+use Rattle.std.proofs.Common.{◌≡◌, ℕ, ◌<◌, ◌≤◌, ◌+◌, List, [], ◌∷◌, ◌++◌, length, get_or, drop, map, Result, Ok, Err, Bor, refl, sym, ap, ◌∙◌, inl, inr, ◌⊎◌, true, arith, add-one, drop-cons, append_assoc, length-append}
+use Rattle.std.proofs.lemmas.Bool.{eq-eqb, ne_eqb}
+use Rattle.std.proofs.lemmas.List.{map_push, drop_all, append-nil}
+use Rattle.std.specs.Prelude.{if◌then◌else◌, count_by, ◌==◌}
+use Rattle.std.proofs.lemmas.List.Splits.{length-slice_split}
+use Rattle.ipxe_script.specs.declared.command.Command.{Command}
+use Rattle.ipxe_script.specs.declared.command.Command.TheVariants.{Sanboot}
+use Rattle.ipxe_script.specs.declared.fault.ScriptFault.{ScriptFault}
+use Rattle.ipxe_script.specs.declared.fault.ScriptFault.TheVariants.{BadWord, NoFinalNewline, Memory}
+use Rattle.ipxe_script.specs.Text.{words_in}
+use Rattle.ipxe_script.specs.Understood.{◌>>=◌, are_sanboot_words, sanboot_of, command_of, commands_of, ended_pieces}
+
+-- three words, read by their places
+pub sanboot_of-three : (words : List (Bor (List ℕ))) (d : Bor (List ℕ)) → 3 ≤ length words → length words < 4
+    → sanboot_of (map (λ word. word.now) words) ≡ (if are_sanboot_words (get_or words 0 d).now (get_or words 1 d).now (get_or words 2 d).now then Ok Sanboot else Err BadWord)
+unfolding sanboot_of
+sanboot_of-three [] d low high = absurd (omega arith)
+sanboot_of-three (a ∷ []) d low high = absurd (omega arith)
+sanboot_of-three (a ∷ b ∷ []) d low high = absurd (omega arith)
+sanboot_of-three (a ∷ b ∷ e ∷ []) d low high = refl
+sanboot_of-three (a ∷ b ∷ e ∷ f ∷ words) d low high = absurd (omega arith)
+
+pub sanboot_of-yes : (words : List (Bor (List ℕ))) (d : Bor (List ℕ)) → 3 ≤ length words → length words < 4
+    → true ≡ are_sanboot_words (get_or words 0 d).now (get_or words 1 d).now (get_or words 2 d).now → Ok Sanboot ≡ sanboot_of (map (λ word. word.now) words)
+sanboot_of-yes words d low high passed = sym (rw (sanboot_of-three words d low high, ← passed) refl)
+
+-- another number of words
+pub sanboot_of-fewer : (words : List (Bor (List ℕ))) → length words < 3 → sanboot_of (map (λ word. word.now) words) ≡ Err BadWord
+unfolding sanboot_of
+sanboot_of-fewer [] h = refl
+sanboot_of-fewer (a ∷ []) h = refl
+sanboot_of-fewer (a ∷ b ∷ []) h = refl
+sanboot_of-fewer (a ∷ b ∷ e ∷ words) h = absurd (omega arith)
+
+pub sanboot_of-more : (words : List (Bor (List ℕ))) → 4 ≤ length words → sanboot_of (map (λ word. word.now) words) ≡ Err BadWord
+unfolding sanboot_of
+sanboot_of-more [] h = absurd (omega arith)
+sanboot_of-more (a ∷ []) h = absurd (omega arith)
+sanboot_of-more (a ∷ b ∷ []) h = absurd (omega arith)
+sanboot_of-more (a ∷ b ∷ e ∷ []) h = absurd (omega arith)
+sanboot_of-more (a ∷ b ∷ e ∷ f ∷ words) h = refl
+
+-- a space more is a word more
+pub length-words_in : (line : List ℕ) → length (words_in line) ≡ count_by (λ octet. octet == 32) line + 1
+length-words_in line = length-slice_split (λ octet. octet == 32) line
+
+pub ruleset space_steps = (length-words_in)
+
+pub ruleset sanboot_steps = (sanboot_of-three, sanboot_of-fewer, sanboot_of-more)
+
+-- ---- lines
+
+ended_pieces-cons : (piece : List ℕ) (pieces : List (List ℕ)) → 0 < length pieces → ended_pieces (piece ∷ pieces) ≡ (ended_pieces pieces >>= λ lines. Ok (piece ∷ lines))
+unfolding ended_pieces
+ended_pieces-cons piece [] h = absurd (omega arith)
+ended_pieces-cons piece (next ∷ pieces) h = refl
+
+pub ended_pieces-whole : (pieces : List (List ℕ)) (last : List ℕ) → length last ≡ 0 → ended_pieces (pieces ++ last ∷ []) ≡ Ok pieces
+unfolding ended_pieces
+ended_pieces-whole [] last h = rw (eq-eqb (length last) 0 h) refl
+ended_pieces-whole (piece ∷ pieces) last h =
+    ended_pieces-cons piece (pieces ++ last ∷ []) (omega (arith, length-append pieces (last ∷ []))) ∙ rw (ended_pieces-whole pieces last h) refl
+
+pub ended_pieces-cut : (pieces : List (List ℕ)) (last : List ℕ) → (length last ≡ 0 → ⊥) → ended_pieces (pieces ++ last ∷ []) ≡ Err NoFinalNewline
+unfolding ended_pieces
+ended_pieces-cut [] last h = rw (ne_eqb (length last) 0 h) refl
+ended_pieces-cut (piece ∷ pieces) last h =
+    ended_pieces-cons piece (pieces ++ last ∷ []) (omega (arith, length-append pieces (last ∷ []))) ∙ rw (ended_pieces-cut pieces last h) refl
+
+-- pieces of which the last was taken away
+pieces_pushed : (pieces before : List (Bor (List ℕ))) (last : Bor (List ℕ)) → pieces ≡ before ++ last ∷ [] → map (λ piece. piece.now) pieces ≡ map (λ piece. piece.now) before ++ last.now ∷ []
+pieces_pushed pieces before last e = rw e (map_push (λ piece. piece.now) before last)
+
+pub popped-whole : (pieces before : List (Bor (List ℕ))) (last : Bor (List ℕ)) → pieces ≡ before ++ last ∷ [] → length last.now ≡ 0
+    → ended_pieces (map (λ piece. piece.now) pieces) ≡ Ok (map (λ piece. piece.now) before)
+popped-whole pieces before last parts h = ap ended_pieces (pieces_pushed pieces before last parts) ∙ ended_pieces-whole (map (λ piece. piece.now) before) last.now h
+
+pub popped-cut : (pieces before : List (Bor (List ℕ))) (last : Bor (List ℕ)) → pieces ≡ before ++ last ∷ [] → (length last.now ≡ 0 → ⊥)
+    → ended_pieces (map (λ piece. piece.now) pieces) ≡ Err NoFinalNewline
+popped-cut pieces before last parts h = ap ended_pieces (pieces_pushed pieces before last parts) ∙ ended_pieces-cut (map (λ piece. piece.now) before) last.now h
+
+pub popped-none : (pieces : List (Bor (List ℕ))) → length pieces ≡ 0 → ended_pieces (map (λ piece. piece.now) pieces) ≡ Err NoFinalNewline
+unfolding ended_pieces
+popped-none [] h = refl
+popped-none (piece ∷ pieces) h = absurd (omega arith)
+
+pub ruleset piece_steps = (popped-whole, popped-cut, popped-none)
+
+-- ---- commands in order
+
+-- what was read before, and what is still read
+abbrev pub with_front : List Command → Result (List Command) ScriptFault → Result (List Command) ScriptFault
+with_front front reading = reading >>= λ commands. Ok (front ++ commands)
+
+regroup : (front : List Command) (command : Command) (reading : Result (List Command) ScriptFault) → with_front front (reading >>= λ commands. Ok (command ∷ commands)) ≡ with_front (front ++ command ∷ []) reading
+regroup front command (Ok commands) = ap (λ (x : List Command). Ok x) (simp append_assoc)
+regroup front command (Err fault) = refl
+
+-- the next line, and those after it
+line_front : (lines : List (Bor (List ℕ))) (i : ℕ) (d : Bor (List ℕ)) → i < length lines → map (λ line. line.now) (drop i lines) ≡ (get_or lines i d).now ∷ map (λ line. line.now) (drop (i + 1) lines)
+line_front lines i d h = rw (add-one, drop-cons lines i d) refl
+
+pub commands_of-more : (front : List Command) (lines : List (Bor (List ℕ))) (i : ℕ) (d : Bor (List ℕ)) (command : Command) (total : Result (List Command) ScriptFault) → i < length lines
+    → command_of (words_in (get_or lines i d).now) ≡ Ok command → with_front front (commands_of (map (λ line. line.now) (drop i lines))) ≡ total
+    → with_front (front ++ command ∷ []) (commands_of (map (λ line. line.now) (drop (i + 1) lines))) ≡ total
+unfolding commands_of
+commands_of-more front lines i d command total lt given so_far =
+    let one : with_front front (commands_of (map (λ line. line.now) (drop i lines))) ≡ with_front (front ++ command ∷ []) (commands_of (map (λ line. line.now) (drop (i + 1) lines))) =
+    ap (λ x. with_front front (commands_of x)) (line_front lines i d lt) ∙ rw given (regroup front command (commands_of (map (λ line. line.now) (drop (i + 1) lines)))) in
+    sym one ∙ so_far
+
+commands_of-fault : (front : List Command) (lines : List (Bor (List ℕ))) (i : ℕ) (d : Bor (List ℕ)) (fault : ScriptFault) (total : Result (List Command) ScriptFault) → i < length lines
+    → command_of (words_in (get_or lines i d).now) ≡ Err fault → with_front front (commands_of (map (λ line. line.now) (drop i lines))) ≡ total → total ≡ Err fault
+unfolding commands_of
+commands_of-fault front lines i d fault total lt given so_far =
+    let one : with_front front (commands_of (map (λ line. line.now) (drop i lines))) ≡ Err fault =
+    ap (λ x. with_front front (commands_of x)) (line_front lines i d lt) ∙ rw given refl in
+    sym so_far ∙ one
+
+pub commands_of-ends : (front : List Command) (lines : List (Bor (List ℕ))) (i : ℕ) (d : Bor (List ℕ)) (fault : ScriptFault) (total : Result (List Command) ScriptFault) → i < length lines
+    → (fault ≡ Memory) ⊎ (command_of (words_in (get_or lines i d).now) ≡ Err fault) → with_front front (commands_of (map (λ line. line.now) (drop i lines))) ≡ total
+    → (fault ≡ Memory) ⊎ (total ≡ Err fault)
+commands_of-ends front lines i d fault total lt (inl out_of_memory) so_far = inl out_of_memory
+commands_of-ends front lines i d fault total lt (inr given) so_far = inr (commands_of-fault front lines i d fault total lt given so_far)
+
+pub commands_of-done : (front : List Command) (lines : List (Bor (List ℕ))) (i : ℕ) (total : Result (List Command) ScriptFault) → length lines ≤ i
+    → with_front front (commands_of (map (λ line. line.now) (drop i lines))) ≡ total → total ≡ Ok front
+unfolding commands_of
+commands_of-done front lines i total le so_far =
+    let nothing : drop i lines ≡ [] = drop_all i lines le in
+    let one : with_front front (commands_of (map (λ line. line.now) (drop i lines))) ≡ Ok front =
+    ap (λ (x : List (Bor (List ℕ))). with_front front (commands_of (map (λ line. line.now) x))) nothing ∙ ap (λ (x : List Command). Ok x) (append-nil front) in
+    sym so_far ∙ one

@@ -1,0 +1,5 @@
+use Rattle.ipxe_script.proofs.PurposeLemmas.{words_inside}
+use Rattle.ipxe_script.proofs.law.words_stand_apart.Goals as goal
+
+pub returns : goal.returns
+returns c = words_inside
