@@ -1,0 +1,3 @@
+pub mod Kinds
+pub mod Refusal
+pub mod Status
