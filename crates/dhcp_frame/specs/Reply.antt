@@ -1,5 +1,5 @@
 -- A server's reply (RFC 2131 section 2): its fields and options, and the one spelling of them in octets.
-use Rattle.std.specs.Prelude.{◌≢◌, ℕ, ◌-◌, ◌==◌, List, [], ◌∷◌, ◌++◌, length, map, replicate, string_bytes}
+use Rattle.std.specs.Prelude.{◌≢◌, ℕ, ◌-◌, ◌==◌, List, [], ◌∷◌, ◌++◌, length, map, replicate}
 use Rattle.std.specs.List.{flat_map, before_first, AllByRecursion}
 use Rattle.byteorder.specs.Endian.{big_bytes}
 use Rattle.dhcp_frame.specs.Area.{Entry}
@@ -9,7 +9,7 @@ use Rattle.dhcp_frame.specs.declared.reply.DhcpOption.{DhcpOption}
 
 -- an option without where its value lies in memory
 abbrev pub entry_of : DhcpOption → Entry
-entry_of o = (o.code, o.value.items)
+entry_of o = (o.code, o.value.now)
 
 abbrev pub zeros : ℕ → List ℕ
 zeros n = replicate n 0
@@ -33,7 +33,7 @@ reply_of f os = record {
   siaddr = f.siaddr;
   giaddr = f.giaddr;
   chaddr = f.chaddr;
-  file = string_bytes f.file;
+  file = f.file.now;
   options = map entry_of os;
 }
 

@@ -1,5 +1,6 @@
 //! The values of one code, joined.
 ghost use Rattle.std.specs.Prelude.{◌≡◌, ◌++◌, [], None, Some, OnOk, OnErr, IfOk, option_map, option_copied, unwrap_or};
+ghost use Rattle.std.specs.Cow.{cow_slice_items};
 
 use std::alloc::{AllocError, Global};
 use std::borrow::CowSlice;
@@ -22,6 +23,16 @@ impl<'a> Model for JoinedValue<'a> {
     ghost view = { λ joined. option_map cow_slice_items joined.octets };
 }
 
+// Most codes have one value.
+#[cold]
+fn joined(alloc: Global, octets: CowSlice<'_, u8>, value: &[u8]) -> Result<Vec<u8>, AllocError>
+    ensures { IfOk result (λ joined. joined.items ≡ cow_slice_items octets.entry ++ value.now) }
+{
+    let mut octets = octets.into_owned(alloc)?;
+    octets.extend_from_slice(value)?;
+    Ok(octets)
+}
+
 impl<'a> JoinedValue<'a> {
     /// No value yet.
     pub fn new() -> JoinedValue<'a>
@@ -37,11 +48,7 @@ impl<'a> JoinedValue<'a> {
     {
         let octets = match self.octets.take() {
             None => CowSlice::Borrowed(value),
-            Some(octets) => {
-                let mut octets = octets.into_owned(alloc)?;
-                octets.extend_from_slice(value)?;
-                CowSlice::Owned(octets)
-            }
+            Some(octets) => CowSlice::Owned(joined(alloc, octets, value)?),
         };
         self.octets = Some(octets);
         Ok(())

@@ -1,5 +1,5 @@
 //! A server's reply, and how it is written.
-ghost use Rattle.std.specs.Prelude.{◌≡◌, ◌≢◌, ◌≤◌, ◌<◌, ◌+◌, ◌↔◌, ◌++◌, ℕ, List, map, length, drop, OnOk, IfOk, IsErrOf, MatchBool, All, Any, string_bytes, vec_len};
+ghost use Rattle.std.specs.Prelude.{◌≡◌, ◌≢◌, ◌≤◌, ◌<◌, ◌+◌, ◌↔◌, ◌++◌, ℕ, List, map, length, drop, OnOk, IfOk, IsErrOf, MatchBool, All, Any};
 ghost use Rattle.dhcp_frame.specs.Area.{Reads};
 ghost use Rattle.dhcp_frame.specs.Reply.{reply_of, entry_of, option_octets, start_octets, address_octets, name_octets, header_octets, reply_octets, AreOptions, padded, area_octets, zeros, file_name};
 
@@ -10,8 +10,8 @@ use std::alloc::{AllocError, Global};
 
 /// The fields of a reply that a server chooses (RFC 2131 section 2). Of the others, op is 2, htype 1,
 /// hlen 6, and hops, secs, yiaddr and sname are zeros.
-#[derive(Debug, Drop)]
-pub struct ReplyFields {
+#[derive(Clone, Copy, Debug)]
+pub struct ReplyFields<'a> {
     pub xid: u32,
     pub flags: u16,
     pub ciaddr: [u8; 4],
@@ -19,15 +19,15 @@ pub struct ReplyFields {
     pub giaddr: [u8; 4],
     pub chaddr: [u8; 16],
     /// The boot file's name, which the reply ends by zeros.
-    pub file: String,
+    pub file: &'a str,
 }
 
 /// An option of a reply (RFC 2132 section 2).
-#[derive(Debug, Drop)]
-pub struct DhcpOption {
+#[derive(Clone, Copy, Debug)]
+pub struct DhcpOption<'a> {
     /// 1 to 254.
     pub code: u8,
-    pub value: Vec<u8>,
+    pub value: &'a [u8],
 }
 
 const MAGIC_COOKIE: [u8; 4] = [99, 130, 83, 99];
@@ -43,7 +43,7 @@ fn push_zeros(out: &mut Vec<u8>, count: usize) -> Result<(), AllocError>
     out.extend_from_slice(&ZEROS[..count])
 }
 
-fn push_numbers(out: &mut Vec<u8>, fields: &ReplyFields) -> Result<(), AllocError>
+fn push_numbers(out: &mut Vec<u8>, fields: &ReplyFields<'_>) -> Result<(), AllocError>
     ensures { OnOk result (out.new.items ≡ out.old.items ++ start_octets fields.now.xid fields.now.flags) }
 {
     let mut start = [2, 1, 6, 0, 0, 0, 0, 0, 0, 0, 0, 0];
@@ -53,7 +53,7 @@ fn push_numbers(out: &mut Vec<u8>, fields: &ReplyFields) -> Result<(), AllocErro
     Ok(())
 }
 
-fn push_addresses(out: &mut Vec<u8>, fields: &ReplyFields) -> Result<(), AllocError>
+fn push_addresses(out: &mut Vec<u8>, fields: &ReplyFields<'_>) -> Result<(), AllocError>
     ensures length { OnOk result (length (address_octets fields.now.ciaddr fields.now.siaddr fields.now.giaddr fields.now.chaddr) ≡ 32) }
     ensures octets { OnOk result (out.new.items ≡ out.old.items ++ address_octets fields.now.ciaddr fields.now.siaddr fields.now.giaddr fields.now.chaddr) }
 {
@@ -76,18 +76,18 @@ fn push_names(out: &mut Vec<u8>, file: &str) -> Result<(), AllocError>
     Ok(())
 }
 
-fn push_option(out: &mut Vec<u8>, option: &DhcpOption) -> Result<(), AllocError>
-    requires { vec_len option.now.value ≤ 255 }
+fn push_option(out: &mut Vec<u8>, option: &DhcpOption<'_>) -> Result<(), AllocError>
+    requires { length option.now.value.now ≤ 255 }
     ensures { OnOk result (out.new.items ≡ out.old.items ++ option_octets (entry_of option.now)) }
 {
     out.push(option.code)?;
     out.push(option.value.len() as u8)?;
-    out.extend_from_slice(&option.value)?;
+    out.extend_from_slice(option.value)?;
     Ok(())
 }
 
-fn push_area(out: &mut Vec<u8>, options: &[DhcpOption]) -> Result<(), AllocError>
-    requires { All (λ o. vec_len o.value ≤ 255) options.now }
+fn push_area(out: &mut Vec<u8>, options: &[DhcpOption<'_>]) -> Result<(), AllocError>
+    requires { All (λ o. length o.value.now ≤ 255) options.now }
     ensures { OnOk result (out.new.items ≡ out.old.items ++ area_octets (map entry_of options.now)) }
 {
     for option in options {
@@ -98,7 +98,7 @@ fn push_area(out: &mut Vec<u8>, options: &[DhcpOption]) -> Result<(), AllocError
 }
 
 // Room for a reply with these options, unless there can be no such room.
-fn room_for(options: &[DhcpOption]) -> usize
+fn room_for(options: &[DhcpOption<'_>]) -> usize
     ensures { result < usize.MAX → LEAST_LEN ≤ result × HEADER_LEN + length (area_octets (map entry_of options.now)) ≤ result }
 {
     let mut room = HEADER_LEN + 1;
@@ -109,19 +109,23 @@ fn room_for(options: &[DhcpOption]) -> usize
 }
 
 #[tactic(auto, unfolding(crate::specs::Reply::reply_octets))]
-fn reply(alloc: Global, fields: &ReplyFields, options: &[DhcpOption]) -> Result<Vec<u8>, AllocError>
+fn reply(
+    alloc: Global,
+    fields: &ReplyFields<'_>,
+    options: &[DhcpOption<'_>],
+) -> Result<Vec<u8>, AllocError>
     requires codes { AreOptions (map entry_of options.now) }
-    requires file { All (λ octet. octet ≢ 0) (string_bytes fields.now.file) }
-    requires room { length (string_bytes fields.now.file) ≤ 127 }
-    requires lengths { All (λ o. vec_len o.value ≤ 255) options.now }
+    requires file { All (λ octet. octet ≢ 0) fields.now.file.now }
+    requires room { length fields.now.file.now ≤ 127 }
+    requires lengths { All (λ o. length o.value.now ≤ 255) options.now }
     ensures octets { IfOk result (λ out. out.items ≡ reply_octets (reply_of fields.now options.now)) }
     ensures options { IfOk result (λ out. Reads (drop 240 out.items) (map entry_of options.now)) }
-    ensures file { IfOk result (λ out. file_name out.items ≡ string_bytes fields.now.file) }
+    ensures file { IfOk result (λ out. file_name out.items ≡ fields.now.file.now) }
 {
     let mut out = Vec::with_capacity(alloc, room_for(options))?;
     push_numbers(&mut out, fields)?;
     push_addresses(&mut out, fields)?;
-    push_names(&mut out, fields.file.as_str())?;
+    push_names(&mut out, fields.file)?;
     push_area(&mut out, options)?;
     let missing = LEAST_LEN.saturating_sub(out.len());
     push_zeros(&mut out, missing)?;
@@ -129,8 +133,8 @@ fn reply(alloc: Global, fields: &ReplyFields, options: &[DhcpOption]) -> Result<
 }
 
 // Whether a length octet can't hold the length of a value.
-fn has_long(options: &[DhcpOption]) -> bool
-    ensures { MatchBool result (Any (λ o. 255 < vec_len o.value) options.now) (All (λ o. vec_len o.value ≤ 255) options.now) }
+fn has_long(options: &[DhcpOption<'_>]) -> bool
+    ensures { MatchBool result (Any (λ o. 255 < length o.value.now) options.now) (All (λ o. length o.value.now ≤ 255) options.now) }
 {
     for option in options {
         if option.value.len() > 255 {
@@ -147,18 +151,18 @@ fn has_long(options: &[DhcpOption]) -> bool
 /// list of options or another name.
 pub fn write(
     alloc: Global,
-    fields: &ReplyFields,
-    options: &[DhcpOption],
+    fields: &ReplyFields<'_>,
+    options: &[DhcpOption<'_>],
 ) -> Result<Vec<u8>, WriteFault>
     requires codes { AreOptions (map entry_of options.now) }
-    requires file { All (λ octet. octet ≢ 0) (string_bytes fields.now.file) }
+    requires file { All (λ octet. octet ≢ 0) fields.now.file.now }
     ensures octets { IfOk result (λ out. out.items ≡ reply_octets (reply_of fields.now options.now)) }
     // Whoever reads the options field finds these options and no others, and in the file field this name.
     ensures options { IfOk result (λ out. Reads (drop 240 out.items) (map entry_of options.now)) }
-    ensures file { IfOk result (λ out. file_name out.items ≡ string_bytes fields.now.file) }
-    ensures too_long { IsErrOf result WriteFault.TooLong ↔ Any (λ o. 255 < vec_len o.value) options.now }
+    ensures file { IfOk result (λ out. file_name out.items ≡ fields.now.file.now) }
+    ensures too_long { IsErrOf result WriteFault.TooLong ↔ Any (λ o. 255 < length o.value.now) options.now }
     ensures file_too_long { IsErrOf result WriteFault.FileTooLong
-        ↔ (All (λ o. vec_len o.value ≤ 255) options.now × (127 < length (string_bytes fields.now.file))) }
+        ↔ (All (λ o. length o.value.now ≤ 255) options.now × (127 < length fields.now.file.now)) }
 {
     if has_long(options) {
         return Err(WriteFault::TooLong);

@@ -143,8 +143,8 @@ fn goes_over_one_area(rt: HostRuntime) -> Result<(), Fail> {
     Ok(())
 }
 
-fn fields(file: String) -> ReplyFields
-    ensures { result.file ≡ file }
+fn fields(file: &str) -> ReplyFields<'_>
+    ensures { result.file.now ≡ file.now }
 {
     ReplyFields {
         xid: 0x11223344,
@@ -175,8 +175,11 @@ fn writes_what_fits(rt: HostRuntime) -> Result<(), Fail> {
         }
         assert!(rt; name.as_bytes().iter().all(|octet| *octet != 0));
         let value = vec![in rt.alloc(); 7u8; length]?;
-        let options = vec![in rt.alloc(); DhcpOption { code: 60, value }]?;
-        let written = match write(rt.alloc(), &fields(name), &options) {
+        let options = [DhcpOption {
+            code: 60,
+            value: &value,
+        }];
+        let written = match write(rt.alloc(), &fields(name.as_str()), &options) {
             Ok(octets) => Ok(octets.len()),
             Err(fault) => Err(fault),
         };

@@ -1,5 +1,4 @@
 use Rattle.std.proofs.Common.{arith, ◌≡◌, ◌≤◌, ℕ, List, length, drop, subst, sym, ap, ◌∙◌}
-use Rattle.std.specs.Prelude.{string_bytes}
 use Rattle.std.proofs.lemmas.Grind.{common_steps}
 use Rattle.dhcp_frame.specs.Area.{Reads}
 use Rattle.dhcp_frame.specs.Reply.{reply_of, reply_octets, file_name}
@@ -10,7 +9,7 @@ pub returns-clause-options : goal.returns-clause-options
 unfolding reply_octets
 returns-clause-options c =
     let r = reply_of c.args.fields.now c.args.options.now in
-    let room : length (string_bytes c.args.fields.now.file) ≤ 128 = omega arith in
+    let room : length c.args.fields.now.file.now ≤ 128 = omega arith in
     let long = length-header_octets r c.in_ok-push_addresses.ensures.length room in
     let octets : c.push_zeros.new.out.items ≡ reply_octets r = grind (arith, common_steps) in
     subst (λ (x : List ℕ). Reads (drop 240 x) r.options) (sym octets) (Reads-reply_octets r long c.requires.codes)
