@@ -11,6 +11,8 @@ use Rattle.hall_types.specs.declared.kinds.OrderKind.TheVariants as orderkind
 use Rattle.hall_types.specs.declared.kinds.OrderStage.{OrderStage}
 use Rattle.hall_types.specs.declared.kinds.OrderStage.TheVariants as orderstage
 use Rattle.hall_types.specs.declared.kinds.Erase.{Erase}
+use Rattle.hall_types.specs.declared.event.Progress.{Progress}
+use Rattle.hall_types.specs.declared.event.Progress.TheVariants as progress
 use Rattle.hall_types.specs.declared.kinds.Erase.TheVariants as erase
 
 unfoldable pub role_text : Role → List ℕ
@@ -76,3 +78,9 @@ erase_text erase.Full = codes "full"
 unfoldable pub erase_number : Erase → ℕ
 erase_number erase.Quick = 0
 erase_number erase.Full = 1
+
+-- the stage of a boot that this was reported of
+abbrev pub stage_after : Progress → Stage
+stage_after progress.Started = stage.Started
+stage_after progress.Done = stage.Done
+stage_after progress.Failed = stage.Failed

@@ -1,3 +1,11 @@
+pub mod Command
+pub mod Hall
+pub mod Image
 pub mod Kinds
+pub mod Name
+pub mod Number
 pub mod Refusal
+pub mod Reply
+pub mod RowLaws
+pub mod Rows
 pub mod Status

@@ -6,6 +6,20 @@ use Rattle.std.specs.Char.{is_ascii_digit}
 use Rattle.pxe_vendor.specs.declared.arch.Arch.{Arch}
 use Rattle.pxe_vendor.specs.declared.arch.Arch.TheVariants.{Bios, Uefi32, Uefi64, Arm64}
 
+-- the word for an architecture in texts
+unfoldable pub arch_text : Arch → List ℕ
+arch_text Bios = codes "bios"
+arch_text Uefi32 = codes "uefi32"
+arch_text Uefi64 = codes "uefi64"
+arch_text Arm64 = codes "arm64"
+
+-- its number in tables
+unfoldable pub arch_number : Arch → ℕ
+arch_number Bios = 0
+arch_number Uefi32 = 1
+arch_number Uefi64 = 2
+arch_number Arm64 = 3
+
 -- what a number of an architecture stands for; other numbers are unknown here
 abbrev pub arch_of : ℕ → Option Arch
 arch_of n =

@@ -1,9 +1,9 @@
 //! Processor architectures.
-ghost use Rattle.std.specs.Prelude.{◌≡◌, ◌≤◌, Option, Some, None, true, length};
+ghost use Rattle.std.specs.Prelude.{◌≡◌, ◌≤◌, ◌<◌, Option, Some, None, true, length};
 ghost use Rattle.std.specs.List.{list_all};
 ghost use Rattle.std.specs.Char.{is_ascii_digit};
 ghost use Rattle.std.specs.Option.{option_or};
-ghost use Rattle.pxe_vendor.specs.Arch.{arch_of, numbers_of, decimal, class_numbers, first_known};
+ghost use Rattle.pxe_vendor.specs.Arch.{arch_of, arch_text, arch_number, numbers_of, decimal, class_numbers, first_known};
 
 /// A client's processor architecture with its firmware (RFC 4578 section 2.1).
 #[derive(Clone, Copy, Debug, PartialEq, Eq)]
@@ -12,6 +12,30 @@ pub enum Arch {
     Uefi32,
     Uefi64,
     Arm64,
+}
+
+impl Arch {
+    /// The word for it in texts.
+    #[tactic(auto, unfolding(crate::specs::Arch::arch_text))]
+    pub fn text(self) -> &'static str
+        ensures { result.now ≡ arch_text self }
+    {
+        match self {
+            Arch::Bios => "bios",
+            Arch::Uefi32 => "uefi32",
+            Arch::Uefi64 => "uefi64",
+            Arch::Arm64 => "arm64",
+        }
+    }
+
+    /// The number in tables, 0 to 3.
+    #[tactic(auto, unfolding(crate::specs::Arch::arch_number))]
+    pub fn number(self) -> u8
+        ensures number { result ≡ arch_number self }
+        ensures small { result < 4 }
+    {
+        self as u8
+    }
 }
 
 fn from_number(number: u32) -> Option<Arch>

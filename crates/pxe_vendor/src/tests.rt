@@ -404,3 +404,17 @@ fn places_have_hosts(rt: HostRuntime) -> Result<(), Fail> {
     }
     Ok(())
 }
+
+#[test]
+fn architectures_have_words_and_numbers(rt: HostRuntime) {
+    let cases = [
+        (Arch::Bios, "bios", 0u8),
+        (Arch::Uefi32, "uefi32", 1),
+        (Arch::Uefi64, "uefi64", 2),
+        (Arch::Arm64, "arm64", 3),
+    ];
+    for (arch, word, number) in cases {
+        assert_eq!(rt; arch.text(), word);
+        assert_eq!(rt; arch.number(), number, "{word}");
+    }
+}

@@ -1,0 +1,7 @@
+use Rattle.std.proofs.Common.{ℕ, refl}
+use Rattle.std.proofs.lemmas.List.{drop-replicate}
+use Rattle.std.specs.Prelude.{length}
+use Rattle.hall_types.proofs.name.filled.Goals as goal
+
+pub returns : goal.returns
+returns c = rw (c.copy_from_slice.ensures.after, drop-replicate {X = ℕ} (length c.args.text.now) 32 0) refl

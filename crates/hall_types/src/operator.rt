@@ -1,0 +1,26 @@
+//! Operators, and the pools of machines that they are members of.
+use crate::kinds::Role;
+use crate::name::Name;
+
+/// Who gives commands.
+#[derive(Clone, Copy, Debug, PartialEq, Eq)]
+pub struct Operator {
+    pub name: Name,
+    pub role: Role,
+    /// The SHA-256 of the operator's bearer token.
+    pub digest: [u8; 32],
+    pub enabled: bool,
+}
+
+/// A pool of machines.
+#[derive(Clone, Copy, Debug, PartialEq, Eq)]
+pub struct Pool {
+    pub name: Name,
+}
+
+/// An operator's membership of a pool.
+#[derive(Clone, Copy, Debug, PartialEq, Eq)]
+pub struct Member {
+    pub pool: Name,
+    pub operator: Name,
+}
