@@ -31,6 +31,7 @@ pub use name::{BadName, Name};
 pub use number::{BadNumber, LAST_NUMBER, LastNumber, Number, Numbers};
 pub use operator::{Member, Operator, Pool};
 pub use order::{Order, Outcome};
+pub use pxe_vendor::{Arch, Client};
 pub use receipt::Receipt;
 pub use refusal::Refusal;
 pub use reply::{BodyKind, Reply};

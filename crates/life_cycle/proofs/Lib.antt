@@ -1,0 +1,3 @@
+pub mod LawLemmas
+pub mod RememberedLemmas
+pub mod TableLemmas

@@ -1,0 +1,4 @@
+pub mod Entering
+pub mod Laws
+pub mod Permission
+pub mod Table

@@ -1,0 +1,149 @@
+//! Entering a status.
+ghost use Rattle.std.specs.Prelude.{◌≡◌, ◌↔◌, ◌≤◌, IsSome, IsErr, IfSome};
+ghost use Rattle.std.specs.Result.{result_ok};
+ghost use Rattle.hall_types.specs.Number.{last_number};
+ghost use Rattle.life_cycle.specs.Entering.{entered, limit_of, keeps_owner, keeps_erase, boot_after, back_after, machine_in};
+
+use crate::step::Step;
+use hall_types::{
+    BootCount, LastNumber, Machine, Moment, Number, Numbers, Order, OrderStage, Status,
+};
+use thiserror::Error;
+
+/// A machine in its new status, the last numbers after it, and the order that was queued with it.
+#[derive(Clone, Copy, Debug, PartialEq, Eq)]
+pub struct Entered {
+    pub machine: Machine,
+    pub numbers: Numbers,
+    pub order: Option<Order>,
+}
+
+/// All numbers of orders were given out.
+#[derive(Clone, Copy, Debug, PartialEq, Eq, Error)]
+#[error("Exhausted")]
+pub struct Exhausted;
+
+/// How many seconds a machine may stay in a status.
+#[tactic(auto, unfolding(crate::specs::Entering::limit_of))]
+fn limit_of(status: Status) -> Option<u64>
+    ensures limit { result ≡ limit_of status }
+    ensures small { IfSome result (λ limit. limit ≤ 7200) }
+{
+    match status {
+        Status::Releasing | Status::ExitingRescue => Some(600),
+        Status::EnteringRescue => Some(1200),
+        Status::Commissioning => Some(1800),
+        Status::Deploying => Some(2400),
+        Status::Testing => Some(3600),
+        Status::DiskErasing => Some(7200),
+        _ => None,
+    }
+}
+
+#[tactic(auto, unfolding(crate::specs::Entering::keeps_owner))]
+fn keeps_owner(status: Status) -> bool
+    ensures { result ≡ keeps_owner status }
+{
+    !matches!(status, Status::Ready | Status::Broken)
+}
+
+#[tactic(auto, unfolding(crate::specs::Entering::keeps_erase))]
+fn keeps_erase(status: Status) -> bool
+    ensures { result ≡ keeps_erase status }
+{
+    matches!(status, Status::DiskErasing | Status::FailedDiskErasing)
+}
+
+/// The current boot of a machine that enters a status.
+#[tactic(auto, unfolding(crate::specs::Entering::boot_after))]
+fn boot_after(machine: &Machine, status: Status) -> Option<Number>
+    ensures { result ≡ boot_after machine.now.status status machine.now.boot }
+{
+    match (machine.status, status) {
+        (Status::EnteringRescue, Status::Rescue) => machine.boot,
+        _ => None,
+    }
+}
+
+/// The status that a machine came to rescue from, once it enters a status.
+#[tactic(auto, unfolding(crate::specs::Entering::back_after))]
+fn back_after(machine: &Machine, status: Status) -> Option<Status>
+    ensures { result ≡ back_after machine.now.status status machine.now.back }
+{
+    match (machine.status, status) {
+        (Status::Deployed | Status::Broken, Status::EnteringRescue) => Some(machine.status),
+        (
+            _,
+            Status::EnteringRescue
+            | Status::FailedToEnterRescue
+            | Status::Rescue
+            | Status::ExitingRescue
+            | Status::FailedToExitRescue,
+        ) => machine.back,
+        _ => None,
+    }
+}
+
+/// The machine in its new status.
+fn machine_in(machine: &Machine, status: Status, moment: Moment, waiting: Option<Number>) -> Machine
+    ensures { result ≡ machine_in machine.now status moment waiting }
+{
+    let is_kept = keeps_owner(status);
+    Machine {
+        status,
+        owner: if is_kept { machine.owner } else { None },
+        image: if is_kept { machine.image } else { None },
+        back: back_after(machine, status),
+        erase: if keeps_erase(status) {
+            machine.erase
+        } else {
+            None
+        },
+        version: machine.version.next().unwrap_or(machine.version),
+        deadline: limit_of(status).map(|limit| moment.get() + limit),
+        boot: boot_after(machine, status),
+        boots: BootCount::NONE,
+        waiting,
+        ..*machine
+    }
+}
+
+/// What becomes of a machine that takes a step. The caller sets what a command gives (owner, image,
+/// tests, the kind of erasing), and withdraws the order that waited.
+pub fn enter(
+    machine: &Machine,
+    step: Step,
+    moment: Moment,
+    numbers: Numbers,
+) -> Result<Entered, Exhausted>
+    ensures entered { result_ok result ≡ entered machine.now step moment numbers }
+    ensures exhausted { IsErr result ↔ (IsSome step.order × (numbers.order ≡ last_number)) }
+{
+    let Some(kind) = step.order else {
+        let machine = machine_in(machine, step.status, moment, None);
+        return Ok(Entered {
+            machine,
+            numbers,
+            order: None,
+        });
+    };
+    let Some(number) = numbers.order.next() else {
+        return Err(Exhausted);
+    };
+    let order = Order {
+        number,
+        machine: machine.id,
+        kind,
+        stage: OrderStage::Waiting,
+    };
+    let machine = machine_in(machine, step.status, moment, Some(number));
+    let numbers = Numbers {
+        order: LastNumber::from(number),
+        ..numbers
+    };
+    Ok(Entered {
+        machine,
+        numbers,
+        order: Some(order),
+    })
+}
