@@ -24,7 +24,7 @@ pub struct Machine {
     pub back: Option<Status>,
     /// How its disks are being erased, or couldn't be.
     pub erase: Option<Erase>,
-    /// Whether its owner locked it.
+    /// Whether it's locked, so that commands on it are refused.
     pub locked: bool,
     pub version: Number,
     /// The second at which its status expires. It may be past the last moment.

@@ -2,13 +2,17 @@
 ghost use Rattle.std.specs.Prelude.{◌≡◌};
 ghost use Rattle.hallboot.specs.Fault.{name_of};
 
-#[derive(Clone, Copy, Debug, PartialEq, Eq)]
+use thiserror::Error;
+
+#[derive(Clone, Copy, Debug, PartialEq, Eq, Error)]
 pub enum Fault {
     /// The input is too long or isn't what the program reads.
+    #[error("the input isn't addresses, an empty line and a frame")]
     BadInput,
     /// A read or a write failed, or too many reads brought no end.
+    #[error("a read or a write failed")]
     Io,
-    /// There was no memory left.
+    #[error("out of memory")]
     Memory,
 }
 
