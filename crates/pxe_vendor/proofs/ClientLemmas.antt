@@ -10,8 +10,8 @@ use Rattle.dhcp_frame.specs.Area.{Entry, reading, value_of}
 use Rattle.dhcp_frame.specs.Message.{Message}
 use Rattle.dhcp_frame.proofs.AreaLemmas.{reading-from_Reads, Reads-from_reading}
 use Rattle.pxe_vendor.specs.Arch.{numbers_of, class_numbers, first_known}
-use Rattle.pxe_vendor.specs.Client.{IsClient, HasItem, message_type, arch_numbers, uuid_of, is_ipxe, boot_item}
-use Rattle.pxe_vendor.specs.Served.{◌>>=◌, kind_of, class_of, arch_of_entries, item_of, decided, client_of, Answers}
+use Rattle.pxe_vendor.specs.Client.{IsClient, HasItem, message_type, uuid_of, is_ipxe, boot_item}
+use Rattle.pxe_vendor.specs.Served.{◌>>=◌, kind_of, class_of, item_of, decided, client_of, Answers}
 use Rattle.pxe_vendor.specs.Values.{values_of}
 use Rattle.pxe_vendor.specs.declared.values.Values.{Values}
 use Rattle.pxe_vendor.specs.declared.arch.Arch.{Arch}
@@ -35,7 +35,7 @@ boot_item-other_length tag value tags a b = rw (eq-eqb tag 71 a, ne_eqb (length 
 
 pub ruleset item_steps = (boot_item-here, boot_item-other_tag, boot_item-other_length)
 
--- ---- telling a client, a step at a time
+-- ---- one step and the rest
 
 bind_ok : {A B : Type 0} (r : Result A NotServed) (f : A → Result B NotServed) (y : B) → (r >>= f) ≡ Ok y → (x : A) × (r ≡ Ok x) × (f x ≡ Ok y)
 bind_ok (Ok x) f y e = (x, refl, e)
@@ -45,23 +45,7 @@ ok_or-ok : {A : Type 0} (o : Option A) (cause : NotServed) (x : A) → ok_or o c
 ok_or-ok None cause x e = absurd cc
 ok_or-ok (Some y) cause x e = cc
 
--- the client with what the steps give
-abbrev pub client_with : Message → Kind → Arch → Option (List ℕ) → Client
-client_with m kind arch item = record {
-  mac = take 6 m.chaddr;
-  kind = kind;
-  arch = arch;
-  uuid = uuid_of (value_of 97 m.entries);
-  echo97 = value_of 97 m.entries;
-  item = item;
-  ipxe = is_ipxe (value_of 77 m.entries);
-}
-
-pub client_of-whole : (m : Message) (kind : Kind) (arch : Arch) (item : Option (List ℕ)) → kind_of (value_of 53 m.entries) ≡ Ok kind → arch_of_entries m.entries ≡ Ok arch → item_of kind (value_of 43 m.entries) ≡ Ok item → client_of m ≡ Ok (client_with m kind arch item)
-unfolding client_of
-client_of-whole m kind arch item a b d = rw (a, b, d) refl
-
--- ---- the relation and the program
+-- ---- each step and its part of the relation
 
 kind_of-message_type : (kind : Kind) → kind_of (Some (message_type kind ∷ [])) ≡ Ok kind
 unfolding kind_of
@@ -132,33 +116,73 @@ HasItem-from_item_of Request (Some area) item e =
     let (tags, reads, is) = item_read (reading area) item e in
     (tags, Reads-from_reading area tags reads, is)
 
-arch_of_entries-ok : (es : List Entry) (class : List ℕ) (arch : Arch) → class_of (value_of 60 es) ≡ Ok class → first_known (arch_numbers es) ≡ Some arch → arch_of_entries es ≡ Ok arch
-arch_of_entries-ok es class arch a b = rw (a, b) refl
+-- ---- what joined values tell
 
-client_with-fields : (m : Message) (client : Client) → IsClient m client → client_with m client.kind client.arch client.item ≡ client
-client_with-fields m client h = rw (← h.mac, ← h.uuid, ← h.echo97, ← h.ipxe) refl
+-- joined values tell this kind, architecture and boot item
+record Tells (v : Values) (told : Kind × Arch × Option (List ℕ)) : Type 0 where
+  kind : kind_of v.message_type ≡ Ok told.0
+  class : class_of v.class ≡ Ok (unwrap_or v.class [])
+  arch : first_known (numbers_of (unwrap_or v.architectures []) ++ class_numbers (unwrap_or v.class [])) ≡ Some told.1
+  item : item_of told.0 v.vendor ≡ Ok told.2
+
+decided-from_Tells : (v : Values) (told : Kind × Arch × Option (List ℕ)) → Tells v told → decided v ≡ Ok told
+unfolding decided
+decided-from_Tells v told h = rw (h.kind, h.class, h.arch, h.item) refl
+
+Tells-from_decided : (v : Values) (told : Kind × Arch × Option (List ℕ)) → decided v ≡ Ok told → Tells v told
+unfolding decided
+Tells-from_decided v told e =
+    let (kind, is_kind, e1) = bind_ok (kind_of v.message_type) _ told e in
+    let (class, is_class, e2) = bind_ok (class_of v.class) _ told e1 in
+    let known = first_known (numbers_of (unwrap_or v.architectures []) ++ class_numbers class) in
+    let (arch, is_arch, e3) = bind_ok (ok_or known NoArch) _ told e2 in
+    let (item, is_item, e4) = bind_ok (item_of kind v.vendor) _ told e3 in
+    let whole : (kind, arch, item) ≡ told = cc in
+    let value = value-from_class_of v.class class is_class in
+    subst (λ (x : Kind × Arch × Option (List ℕ)). Tells v x) whole (record {
+      kind = is_kind;
+      class = rw value is_class;
+      arch = rw value (ok_or-ok known NoArch arch is_arch);
+      item = is_item;
+    })
+
+-- ---- the relation and the program
 
 pub client_of-from_IsClient : (m : Message) (client : Client) → IsClient m client → client_of m ≡ Ok client
+unfolding client_of
 client_of-from_IsClient m client h =
-    let kind = ap kind_of h.type ∙ kind_of-message_type client.kind in
-    let class = ap class_of h.class.1 ∙ class_of-pxe h.class.0 in
-    let arch = arch_of_entries-ok m.entries _ client.arch class (first_known-from_FirstKnown _ client.arch h.arch) in
-    let item = item_of-from_HasItem client.kind _ client.item h.item in
-    client_of-whole m client.kind client.arch client.item kind arch item ∙ ap (λ (x : Client). Ok x) (client_with-fields m client h)
+    let (more, is_class) = h.class in
+    let told = decided-from_Tells (values_of m.entries) (client.kind, client.arch, client.item) (record {
+      kind = ap kind_of h.type ∙ kind_of-message_type client.kind;
+      class = rw is_class (class_of-pxe more);
+      arch = first_known-from_FirstKnown _ client.arch h.arch;
+      item = item_of-from_HasItem client.kind _ client.item h.item;
+    }) in
+    rw (told, ← h.mac, ← h.uuid, ← h.echo97, ← h.ipxe) refl
+
+-- the client of a message with this kind, architecture and boot item
+abbrev client_with : Message → Kind → Arch → Option (List ℕ) → Client
+client_with m kind arch item = record {
+  mac = take 6 m.chaddr;
+  kind = kind;
+  arch = arch;
+  uuid = uuid_of (value_of 97 m.entries);
+  echo97 = value_of 97 m.entries;
+  item = item;
+  ipxe = is_ipxe (value_of 77 m.entries);
+}
 
 pub IsClient-from_client_of : (m : Message) (client : Client) → client_of m ≡ Ok client → IsClient m client
 unfolding client_of
 IsClient-from_client_of m client e =
-    let (kind, is_kind, e1) = bind_ok (kind_of (value_of 53 m.entries)) _ client e in
-    let (arch, is_arch, e2) = bind_ok _ _ client e1 in
-    let (item, is_item, e3) = bind_ok _ _ client e2 in
-    let (class, is_class, known) = bind_ok _ _ arch is_arch in
-    let whole : client_with m kind arch item ≡ client = cc in
+    let (told, is_told, is_client) = bind_ok (decided (values_of m.entries)) _ client e in
+    let h = Tells-from_decided (values_of m.entries) told is_told in
+    let whole : client_with m told.0 told.1 told.2 ≡ client = cc in
     subst (λ (x : Client). IsClient m x) whole (record {
-      type = message_type-from_kind_of _ kind is_kind;
-      class = pxe-from_class_of _ class is_class;
-      arch = FirstKnown-from_first_known _ arch (ok_or-ok _ _ arch known);
-      item = HasItem-from_item_of kind _ item is_item;
+      type = message_type-from_kind_of _ told.0 h.kind;
+      class = pxe-from_class_of _ _ h.class;
+      arch = FirstKnown-from_first_known _ told.1 h.arch;
+      item = HasItem-from_item_of told.0 _ told.2 h.item;
       mac = refl;
       uuid = refl;
       echo97 = refl;
@@ -173,10 +197,6 @@ IsClient-one m client other h k =
 
 -- ---- what a call answered
 
-pub Answers-same : {X : Type 0} (r is : Result X NotServed) → r ≡ is → Answers r is
-Answers-same (Ok x) is e = sym e
-Answers-same (Err cause) is e = inr (sym e)
-
 pub IfOk-Answers : (m : Message) (r : Result Client NotServed) → Answers r (client_of m) → IfOk r (λ client. IsClient m client)
 IfOk-Answers m (Ok client) told = IsClient-from_client_of m client told
 IfOk-Answers m (Err cause) told = tt
@@ -188,59 +208,3 @@ Answers-only m (Err cause) client told h =
       | inl memory ↦ inr (ap (λ (x : NotServed). Err x) memory)
       | inr is ↦ absurd (let no = sym is ∙ client_of-from_IsClient m client h in cc)
     ]
-
--- ---- from joined values
-
-abbrev Decision : Type 0
-Decision = Result (Kind × Arch × Option (List ℕ)) NotServed
-
--- the client with what joined values tell
-abbrev client_told : Message → Kind × Arch × Option (List ℕ) → Client
-client_told m told = client_with m told.0 told.1 told.2
-
-same-item : (m : Message) (kind : Kind) (arch : Arch) (item : Result (Option (List ℕ)) NotServed)
-    → (item >>= (λ i. Ok (client_with m kind arch i))) ≡ ((item >>= (λ i. Ok (kind, arch, i))) >>= (λ told. Ok (client_told m told)))
-same-item m kind arch (Ok item) = refl
-same-item m kind arch (Err cause) = refl
-
-same-arch : (m : Message) (kind : Kind) (area : Option (List ℕ)) (arch : Result Arch NotServed)
-    → (arch >>= (λ a. (item_of kind area) >>= (λ i. Ok (client_with m kind a i)))) ≡ ((arch >>= (λ a. (item_of kind area) >>= (λ i. Ok (kind, a, i)))) >>= (λ told. Ok (client_told m told)))
-same-arch m kind area (Ok arch) = same-item m kind arch (item_of kind area)
-same-arch m kind area (Err cause) = refl
-
-abbrev known : Option (List ℕ) → List ℕ → Result Arch NotServed
-known list class = ok_or (first_known (numbers_of (unwrap_or list []) ++ class_numbers class)) NoArch
-
-same-class : (m : Message) (kind : Kind) (list value area : Option (List ℕ)) (class : Result (List ℕ) NotServed) → class_of value ≡ class
-    → ((class >>= (λ c. known list (unwrap_or value []))) >>= (λ a. (item_of kind area) >>= (λ i. Ok (client_with m kind a i))))
-    ≡ ((class >>= (λ c. (known list c) >>= (λ a. (item_of kind area) >>= (λ i. Ok (kind, a, i))))) >>= (λ told. Ok (client_told m told)))
-same-class m kind list value area (Ok class) e = rw (value-from_class_of value class e) (same-arch m kind area (known list class))
-same-class m kind list value area (Err cause) e = refl
-
-same-kind : (m : Message) (list value area : Option (List ℕ)) (kind : Result Kind NotServed)
-    → (kind >>= (λ k. ((class_of value) >>= (λ c. known list (unwrap_or value []))) >>= (λ a. (item_of k area) >>= (λ i. Ok (client_with m k a i)))))
-    ≡ ((kind >>= (λ k. (class_of value) >>= (λ c. (known list c) >>= (λ a. (item_of k area) >>= (λ i. Ok (k, a, i)))))) >>= (λ told. Ok (client_told m told)))
-same-kind m list value area (Ok kind) = same-class m kind list value area (class_of value) refl
-same-kind m list value area (Err cause) = refl
-
-client_of-decided : (m : Message) → client_of m ≡ ((decided (values_of m.entries)) >>= (λ told. Ok (client_told m told)))
-unfolding client_of
-client_of-decided m =
-    same-kind m (value_of 93 m.entries) (value_of 60 m.entries) (value_of 43 m.entries) (kind_of (value_of 53 m.entries))
-
-pub Answers-refused : (m : Message) (v : Values) (r : Result Client NotServed) (cause other : NotServed)
-    → r ≡ Err other → other ≡ cause → v ≡ values_of m.entries → Err cause ≡ decided v → Answers r (client_of m)
-Answers-refused m v r cause other e same is refused =
-    let decision : decided (values_of m.entries) ≡ Err other = ap (λ (x : Values). decided x) (sym is) ∙ sym refused ∙ ap (λ (x : NotServed). Err x) (sym same) in
-    let no : client_of m ≡ Err other = client_of-decided m ∙ ap (λ (d : Decision). d >>= (λ told. Ok (client_told m told))) decision in
-    rw e (inr no)
-
-pub Answers-client : (m : Message) (v : Values) (kind : Kind) (arch : Arch) (item uuid echo97 kept user : Option (List ℕ)) (mac : List ℕ) (ipxe : Bool)
-    → v ≡ values_of m.entries → Ok (kind, arch, item) ≡ decided v → mac ≡ take 6 m.chaddr
-    → kept ≡ v.identifier → uuid ≡ uuid_of kept → echo97 ≡ kept → user ≡ v.user_class → ipxe ≡ is_ipxe user
-    → client_of m ≡ Ok (record { mac = mac; kind = kind; arch = arch; uuid = uuid; echo97 = echo97; item = item; ipxe = ipxe })
-Answers-client m v kind arch item uuid echo97 kept user mac ipxe is told d f g h i j =
-    let identifier : kept ≡ value_of 97 m.entries = f ∙ ap (λ (x : Values). x.identifier) is in
-    let class : user ≡ value_of 77 m.entries = i ∙ ap (λ (x : Values). x.user_class) is in
-    let decision : decided (values_of m.entries) ≡ Ok (kind, arch, item) = ap (λ (x : Values). decided x) (sym is) ∙ sym told in
-    client_of-decided m ∙ ap (λ (d : Decision). d >>= (λ told. Ok (client_told m told))) decision ∙ rw (d, g, h, identifier, j, class) refl

@@ -2,10 +2,11 @@
 use Rattle.std.specs.Prelude.{◌≡◌, ◌⊎◌, ℕ, List, [], ◌∷◌, Option, Some, None, Result, Ok, Err, MatchResult, ok_or, unwrap_or, ◌++◌, take, ◌==◌, if◌then◌else◌, codes, nat_eq}
 use Rattle.std.specs.List.{starts_with}
 use Rattle.std.specs.Option.{option_map}
-use Rattle.dhcp_frame.specs.Area.{Entry, reading, value_of}
+use Rattle.dhcp_frame.specs.Area.{reading, value_of}
 use Rattle.dhcp_frame.specs.Message.{Message}
 use Rattle.pxe_vendor.specs.Arch.{numbers_of, class_numbers, first_known}
-use Rattle.pxe_vendor.specs.Client.{arch_numbers, uuid_of, is_ipxe, boot_item}
+use Rattle.pxe_vendor.specs.Client.{uuid_of, is_ipxe, boot_item}
+use Rattle.pxe_vendor.specs.Values.{values_of}
 use Rattle.pxe_vendor.specs.declared.arch.Arch.{Arch}
 use Rattle.pxe_vendor.specs.declared.clients.Kind.{Kind}
 use Rattle.pxe_vendor.specs.declared.values.Values.{Values}
@@ -30,20 +31,14 @@ unfoldable pub class_of : Option (List ℕ) → Result (List ℕ) NotServed
 class_of None = Err NotPxe
 class_of (Some class) = if starts_with nat_eq class (codes "PXEClient") then Ok class else Err NotPxe
 
--- the architecture that a PXE client's options name
-abbrev pub arch_of_entries : List Entry → Result Arch NotServed
-arch_of_entries es = do
-  class ← class_of (value_of 60 es)
-  ok_or (first_known (arch_numbers es)) NoArch
-
 -- the boot item in option 43
 unfoldable pub item_of : Kind → Option (List ℕ) → Result (Option (List ℕ)) NotServed
 item_of Discover area = Ok None
 item_of Request None = Ok None
 item_of Request (Some area) = ok_or (option_map boot_item (reading area)) BadVendor
 
--- the kind, the architecture and the boot item that joined values tell
-abbrev pub decided : Values → Result (Kind × Arch × Option (List ℕ)) NotServed
+-- the kind, the architecture and the boot item that joined values tell, or the first cause not to serve
+unfoldable pub decided : Values → Result (Kind × Arch × Option (List ℕ)) NotServed
 decided v = do
   kind ← kind_of v.message_type
   class ← class_of v.class
@@ -54,9 +49,7 @@ decided v = do
 -- the client whose message this is, or the first cause not to serve it
 unfoldable pub client_of : Message → Result Client NotServed
 client_of m = do
-  kind ← kind_of (value_of 53 m.entries)
-  arch ← arch_of_entries m.entries
-  item ← item_of kind (value_of 43 m.entries)
+  (kind, arch, item) ← decided (values_of m.entries)
   Ok (record {
     mac = take 6 m.chaddr;
     kind = kind;

@@ -141,6 +141,7 @@ fn first_item(tags: OptionIter<'_>) -> Option<[u8; 4]>
 }
 
 // The kind, the architecture and the boot item, or the first cause not to serve.
+#[tactic(auto, unfolding(crate::specs::Served::decided))]
 fn decide(values: &Values<'_>) -> Result<(Kind, Arch, Option<[u8; 4]>), NotServed>
     ensures { result ≡ decided values.now }
 {
@@ -160,6 +161,7 @@ fn kept(alloc: Global, value: Option<&[u8]>) -> Result<Option<Octets>, AllocErro
     }
 }
 
+#[tactic(auto, unfolding(crate::specs::Served::client_of))]
 fn serve(alloc: Global, frame: &Frame<'_>) -> Result<Client, NotServed>
     ensures { Answers result (client_of frame.now) }
 {
