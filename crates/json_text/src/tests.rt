@@ -27,8 +27,3 @@ fn writes_the_empty_object(rt: HostRuntime) -> Result<(), Fail> {
     assert_eq!(rt; Object::new(rt.alloc())?.finish()?.as_str(), "{}");
     Ok(())
 }
-
-#[test]
-fn has_its_law() {
-    one_text();
-}
