@@ -1,4 +1,4 @@
--- A line's words, each but the first behind a space.
+-- A line's words, each but the first after a space.
 use Rattle.std.proofs.Common.{◌≡◌, ℕ, List, [], ◌∷◌, ◌++◌, refl, sym, ap, ◌∙◌, append_assoc}
 use Rattle.std.proofs.lemmas.List.{append-nil}
 use Rattle.std.specs.List.{flat_map, join_with_byte}

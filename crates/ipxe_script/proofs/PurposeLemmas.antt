@@ -1,4 +1,4 @@
--- What a script is for stands on its kernel lines, and its words hold no octet that would part them.
+-- The purpose of a script is on its kernel lines, and its words contain no separators.
 use Rattle.std.proofs.Common.{◌≡◌, ◌≢◌, ℕ, zero, suc, ◌⊎◌, true, false, List, [], ◌∷◌, ◌++◌, map, refl, sym, ap, subst, ◌∙◌, inl, inr, arith}
 use Rattle.std.specs.Prelude.{◌↔◌, All, Any, Contains, bytes_eq, codes}
 use Rattle.std.specs.List.{AllByRecursion, flat_map}
@@ -60,7 +60,7 @@ Contains-cases x xs y (suc k, lt, e) = inr (k, omega arith, e)
 
 -- ---- kernel lines
 
--- a word that is no name and no URI, so that it stands on a kernel line as an argument alone
+-- a word that is neither `kernel` nor a URI, so that on a kernel line it is an argument
 record IsArgument (word : List ℕ) : Type 0 where
   no_name : bytes_eq (codes "kernel") word ≡ false
   no_uri : is_uri word ≡ false
@@ -96,7 +96,7 @@ line_of-kernel word Sanboot whole h = absurd h
 line_of-kernel word (Echo words) whole h = absurd h
 line_of-kernel word Poweroff whole h = absurd h
 
--- behind the last line stands nothing
+-- nothing follows the last line feed
 kernel_lines : (word : List ℕ) (commands : List Command) → IsArgument word → AllByRecursion IsLine commands → Any (IsKernelLine word) (map text_of commands ++ [] ∷ []) → Any (IsKernelWith word) commands
 kernel_lines word [] is lines h =
     elim (Any-cases (IsKernelLine word) [] [] h) [

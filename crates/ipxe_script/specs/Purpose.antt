@@ -1,27 +1,27 @@
--- What a script's kernel is started for, as any text says it that iPXE is given.
+-- The purpose that a text gives the kernel which it starts, by a word of the kernel's line.
 use Rattle.std.specs.Prelude.{ℕ, List, nat_eq, IsTrue, Any, Contains, codes}
 use Rattle.std.specs.List.{starts_with}
 use Rattle.ipxe_script.specs.Text.{lines_in, words_in}
 use Rattle.ipxe_script.specs.declared.command.Command.{Command}
 use Rattle.ipxe_script.specs.declared.command.Command.TheVariants.{Kernel}
 
--- a line that begins so, and on which this word stands
+-- a line that begins `kernel ` and has this word
 abbrev pub IsKernelLine : List ℕ → List ℕ → Type 0
 IsKernelLine word line = IsTrue (starts_with nat_eq line (codes "kernel ")) × Contains (words_in line) word
 
--- one of the text's lines is such
+-- a text with such a line
 abbrev pub HasKernelWord : List ℕ → List ℕ → Type 0
 HasKernelWord word text = Any (IsKernelLine word) (lines_in text)
 
--- the kernel is told to erase the machine's disks
+-- the kernel has to erase the machine's disks
 abbrev pub IsErasing : List ℕ → Type 0
 IsErasing text = HasKernelWord (codes "hall.purpose=erase") text
 
--- the kernel is told to write an image to the machine's disk
+-- the kernel has to write an image to the machine's disk
 abbrev pub IsDeploying : List ℕ → Type 0
 IsDeploying text = HasKernelWord (codes "hall.purpose=deploy") text
 
--- a kernel that is given this argument
+-- a command `kernel` with this argument
 abbrev pub IsKernelWith : List ℕ → Command → Type 0
 IsKernelWith word (Kernel uri args) = Contains args word
 IsKernelWith word _ = ⊥

@@ -1,8 +1,9 @@
--- Reading a script up to its first fault: the plain program for `spelling`.
+-- Reading a script up to its first fault: the inverse of `spelling` as a plain program.
 use Rattle.std.specs.Prelude.{ℕ, Bool, ◌&&◌, ◌||◌, List, [], ◌∷◌, length, drop, Result, Ok, Err, MatchResult, ◌≡◌, ◌⊎◌, nat_eq, nat_lt, ◌==◌, if◌then◌else◌, bytes_eq, codes}
 use Rattle.std.specs.List.{list_any, list_all, starts_with}
 use Rattle.ipxe_script.specs.Word.{is_word, is_uri}
 use Rattle.ipxe_script.specs.Text.{lines_in, words_in}
+use Rattle.ipxe_script.specs.declared.command.TheConstants.{MAX_COMMANDS, MAX_WORDS}
 use Rattle.ipxe_script.specs.declared.command.Command.{Command}
 use Rattle.ipxe_script.specs.declared.command.Command.TheVariants.{Kernel, Initrd, Boot, Exit, Sanboot, Echo, Poweroff}
 use Rattle.ipxe_script.specs.declared.fault.WordFault.{WordFault}
@@ -10,17 +11,17 @@ use Rattle.ipxe_script.specs.declared.fault.WordFault.TheVariants as words
 use Rattle.ipxe_script.specs.declared.fault.ScriptFault.{ScriptFault}
 use Rattle.ipxe_script.specs.declared.fault.ScriptFault.TheVariants.{NoHead, UnknownCommand, BadWord, NoFinalNewline, TooMany, Memory}
 
--- the first fault is the answer
+-- the first fault is the result
 infixl 10 ◌>>=◌
 abbrev pub ◌>>=◌ : {A B : Type 0} → Result A ScriptFault → (A → Result B ScriptFault) → Result B ScriptFault
 (Ok x) >>= f = f x
 (Err fault) >>= f = Err fault
 
--- an answer, seen by view, is what reading gives, unless memory ran out
+-- a result holds the value or the fault that reading gives, or memory ran out
 abbrev pub Gives : {X Y : Type 0} → (X → Y) → Result X ScriptFault → Result Y ScriptFault → Type 0
 Gives view answer reading = MatchResult answer (λ x. reading ≡ Ok (view x)) (λ fault. (fault ≡ Memory) ⊎ (reading ≡ Err fault))
 
--- the fault of a script whose word has this fault
+-- the fault of a script that has a word with this fault
 abbrev pub fault_of : WordFault → ScriptFault
 fault_of words.BadWord = BadWord
 fault_of words.Memory = Memory
@@ -35,7 +36,7 @@ args_of texts = if list_all is_word texts then Ok texts else Err BadWord
 
 -- ---- commands
 
--- a command that no words follow
+-- a command without arguments
 unfoldable pub lone_command : Command → List (List ℕ) → Result Command ScriptFault
 lone_command command [] = Ok command
 lone_command command (word ∷ words) = Err BadWord
@@ -53,7 +54,7 @@ initrd_of (uri ∷ []) = do
   Ok (Initrd uri)
 initrd_of words = Err BadWord
 
--- the first disk, which isn't described to what is started from it
+-- the arguments of `sanboot` for the first disk, which it does not describe to the operating system
 abbrev pub are_sanboot_words : List ℕ → List ℕ → List ℕ → Bool
 are_sanboot_words first second third =
     bytes_eq first (codes "--no-describe") && bytes_eq second (codes "--drive") && bytes_eq third (codes "0x80")
@@ -69,7 +70,7 @@ echo_of (word ∷ words) = do
   words ← args_of (word ∷ words)
   Ok (Echo words)
 
--- the command that a line's words give, by the first of them
+-- the command of a line's words, of which the first is its name
 unfoldable pub command_of : List (List ℕ) → Result Command ScriptFault
 command_of [] = Err UnknownCommand
 command_of (name ∷ words) =
@@ -93,13 +94,13 @@ commands_of (line ∷ lines) = do
 
 -- a line of more than 32 words
 unfoldable pub is_long_line : List ℕ → Bool
-is_long_line line = nat_lt 32 (length (words_in line))
+is_long_line line = nat_lt MAX_WORDS (length (words_in line))
 
 -- more than 32 lines, or more than 32 words on one of them
 unfoldable pub are_too_many : List (List ℕ) → Bool
-are_too_many lines = nat_lt 32 (length lines) || list_any is_long_line lines
+are_too_many lines = nat_lt MAX_COMMANDS (length lines) || list_any is_long_line lines
 
--- the pieces before the last, behind which nothing stands
+-- all parts but the last, which has to be empty
 unfoldable pub ended_pieces : List (List ℕ) → Result (List (List ℕ)) ScriptFault
 ended_pieces [] = Err NoFinalNewline
 ended_pieces (piece ∷ []) = if length piece == 0 then Ok [] else Err NoFinalNewline
@@ -107,15 +108,15 @@ ended_pieces (piece ∷ next ∷ pieces) = do
   lines ← ended_pieces (next ∷ pieces)
   Ok (piece ∷ lines)
 
--- the lines of a text, each of which a line feed ends
+-- the lines of a text, each of which ends with a line feed
 abbrev pub lines_of : List ℕ → Result (List (List ℕ)) ScriptFault
 lines_of text = ended_pieces (lines_in text)
 
--- what follows the first line
+-- the text after the first line
 unfoldable pub body_of : List ℕ → Result (List ℕ) ScriptFault
 body_of text = if starts_with nat_eq text (codes "#!ipxe\n") then Ok (drop 7 text) else Err NoHead
 
--- the commands that a text gives, or its first fault
+-- the commands of a text, or its first fault
 unfoldable pub understood : List ℕ → Result (List Command) ScriptFault
 understood text = do
   body ← body_of text

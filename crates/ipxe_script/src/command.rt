@@ -1,6 +1,6 @@
 //! Commands of a script.
-ghost use Rattle.std.specs.Prelude.{◌≡◌, ◌<◌, ◌↔◌, IsTrue, IfOk, MatchBool, length};
-ghost use Rattle.ipxe_script.specs.Script.{words_of, IsWhole, IsBareEcho};
+ghost use Rattle.std.specs.Prelude.{◌≡◌, ◌↔◌, IsTrue, IfOk, MatchBool};
+ghost use Rattle.ipxe_script.specs.Script.{IsWhole, IsBareEcho, HasTooManyWords};
 
 use crate::word::Uri;
 use crate::words::Words;
@@ -9,31 +9,31 @@ use std::alloc::{AllocError, Global};
 /// A command, which takes one line of a script (<https://ipxe.org/cmd>).
 #[derive(Debug, Drop)]
 pub enum Command {
-    /// Fetches a kernel, and starts it later with these arguments.
+    /// Fetches a kernel, which `Boot` starts with these arguments.
     Kernel { uri: Uri, args: Words },
     /// Fetches an initial ramdisk.
     Initrd { uri: Uri },
-    /// Starts what was fetched.
+    /// Starts the kernel that was fetched.
     Boot,
     /// Ends the script.
     Exit,
-    /// Starts what stands on the first disk: `sanboot --no-describe --drive 0x80`.
+    /// Boots from the first disk: `sanboot --no-describe --drive 0x80`.
     Sanboot,
-    /// Shows a line, which has a word at least.
+    /// Prints a line, which has at least one word.
     Echo { words: Words },
     /// Turns the machine off.
     Poweroff,
 }
 
-/// The most commands of a script.
-pub(crate) const MOST_LINES: usize = 32;
+/// The maximum number of commands of a script.
+pub const MAX_COMMANDS: usize = 32;
 
-/// The most words of a line, with the command's name.
-pub(crate) const MOST_WORDS: usize = 32;
+/// The maximum number of words of a line, the command's name among them.
+pub const MAX_WORDS: usize = 32;
 
 impl Command {
-    // A command's words are words by their types, as reading them tells the proof: only an echo can
-    // lack one.
+    // The types ensure all but that an echo has a word. Reading the fields makes what they ensure
+    // known to the proof.
     pub(crate) fn is_whole(&self) -> bool
         ensures { MatchBool result (IsWhole self.now) (IsBareEcho self.now) }
     {
@@ -53,16 +53,16 @@ impl Command {
     }
 
     pub(crate) fn has_too_many_words(&self) -> bool
-        ensures { IsTrue result ↔ (MOST_WORDS < length (words_of self.now)) }
+        ensures { IsTrue result ↔ HasTooManyWords self.now }
     {
         match self {
-            Command::Kernel { args, .. } => args.as_slice().len() > MOST_WORDS - 2,
-            Command::Echo { words } => words.as_slice().len() > MOST_WORDS - 1,
+            Command::Kernel { args, .. } => args.as_slice().len() > MAX_WORDS - 2,
+            Command::Echo { words } => words.as_slice().len() > MAX_WORDS - 1,
             _ => false,
         }
     }
 
-    /// An equal command.
+    /// Copies the command.
     pub fn copy(&self, alloc: Global) -> Result<Command, AllocError>
         ensures { IfOk result (λ copy. copy ≡ self.now) }
     {

@@ -1,10 +1,10 @@
-//! Why texts are no words and no scripts.
+//! Why a text is no word, and why it is no script.
 ghost use Rattle.std.specs.Prelude.{◌≡◌};
 
 use std::alloc::{AllocError, AllocFailed};
 use thiserror::Error;
 
-/// Why a text can't be made a word or a URI.
+/// Why no word or URI can be made of a text.
 #[derive(Clone, Copy, Debug, PartialEq, Eq, Error)]
 pub enum WordFault {
     #[error("the text is no word of a script")]
@@ -13,20 +13,20 @@ pub enum WordFault {
     Memory = 2,
 }
 
-/// The first fault of what is no script, in the order in which each function looks for them.
+/// Why a text or a list of commands is no script. Each function says in which order it looks for these.
 #[derive(Clone, Copy, Debug, PartialEq, Eq, Error)]
 pub enum ScriptFault {
     /// The first line isn't `#!ipxe`.
     #[error("the text does not begin with the line #!ipxe")]
     NoHead = 1,
-    #[error("a line begins with no command")]
+    #[error("a line does not begin with a command")]
     UnknownCommand = 2,
-    /// A command has a word too many, a word too few, or one that can't stand there.
+    /// A command has a word too many or too few, or one that it doesn't accept.
     #[error("a command has a bad word, or a wrong number of words")]
     BadWord = 3,
-    #[error("the last line is not ended")]
+    #[error("the last line does not end with a line feed")]
     NoFinalNewline = 4,
-    /// More than 32 lines after the first, or more than 32 words on one of them.
+    /// There are more than 32 commands, or more than 32 words on one line.
     #[error("the script has too many lines, or a line has too many words")]
     TooMany = 5,
     #[error("out of memory")]

@@ -1,4 +1,5 @@
-//! The scripts that a boot server gives to iPXE: a small grammar of them, with one spelling.
+//! Scripts for iPXE (<https://ipxe.org/scripting>): the few commands that a boot server needs, printed in
+//! one spelling and read from that spelling alone.
 #![tactic(auto)]
 
 mod command;
@@ -10,12 +11,12 @@ mod script;
 mod word;
 mod words;
 
-pub use command::Command;
+pub use command::{Command, MAX_COMMANDS, MAX_WORDS};
 pub use fault::{ScriptFault, WordFault};
-pub use law::{one_spelling, purpose_is_argument, words_stand_apart};
+pub use law::{one_spelling, purpose_is_argument, words_have_no_separators};
 pub use reading::read;
 pub use script::Script;
-pub use word::{Uri, Word};
+pub use word::{Uri, Word, MAX_WORD_LEN};
 pub use words::Words;
 
 #[cfg(test)]

@@ -1,16 +1,17 @@
-//! How the lines of a script are printed.
+//! Printing the lines of a script.
 ghost use Rattle.std.specs.Prelude.{◌≡◌, ◌++◌, ◌∷◌, string_bytes, OnOk};
 ghost use Rattle.std.specs.List.{flat_map, join_with_byte};
+ghost use Rattle.ipxe_script.specs.Text.{space};
 ghost use Rattle.ipxe_script.specs.Script.{words_of, line_of};
 
 use crate::command::Command;
 use crate::word::Word;
 use std::alloc::AllocError;
 
-// Each word, behind a space.
+// Each word after a space.
 fn push_words(out: &mut String, words: &[Word]) -> Result<(), AllocError>
     ensures { OnOk result (string_bytes out.new
-        ≡ string_bytes out.old ++ flat_map (λ word. 32 ∷ word) words.now) }
+        ≡ string_bytes out.old ++ flat_map (λ word. space ∷ word) words.now) }
 {
     for word in words {
         out.push_str(" ")?;
@@ -22,7 +23,7 @@ fn push_words(out: &mut String, words: &[Word]) -> Result<(), AllocError>
 #[tactic(auto, using(crate::proofs::PrintLemmas::print_steps))]
 fn push_command(out: &mut String, command: &Command) -> Result<(), AllocError>
     ensures { OnOk result (string_bytes out.new
-        ≡ string_bytes out.old ++ join_with_byte 32 (words_of command.now)) }
+        ≡ string_bytes out.old ++ join_with_byte space (words_of command.now)) }
 {
     match command {
         Command::Kernel { uri, args } => {

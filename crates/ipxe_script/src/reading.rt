@@ -6,7 +6,7 @@ ghost use Rattle.ipxe_script.specs.Understood.{Gives, uri_of, args_of, lone_comm
 ghost use Rattle.ipxe_script.specs.Script.{spelling, IsScript};
 ghost use Rattle.ipxe_script.specs.declared.command.Command.{Command};
 
-use crate::command::{Command, MOST_LINES, MOST_WORDS};
+use crate::command::{Command, MAX_COMMANDS, MAX_WORDS};
 use crate::fault::ScriptFault;
 use crate::script::Script;
 use crate::word::{Uri, Word};
@@ -110,13 +110,13 @@ fn command_of(alloc: Global, words: &[&str]) -> Result<Command, ScriptFault>
     }
 }
 
-// What stands between the places of a character of one octet.
-fn pieces_of(alloc: Global, text: &str, at: char) -> Result<Vec<&str>, AllocError>
-    requires { at < 128 }
+// The parts of a text that an ASCII character separates.
+fn pieces_of(alloc: Global, text: &str, separator: char) -> Result<Vec<&str>, AllocError>
+    requires { separator < 128 }
     ensures { IfOk result (λ pieces. map (λ piece. piece.now) pieces.items
-        ≡ slice_split (λ octet. octet == at) text.now) }
+        ≡ slice_split (λ octet. octet == separator) text.now) }
 {
-    text.split(at).collect(alloc)
+    text.split(separator).collect(alloc)
 }
 
 fn command_in(alloc: Global, line: &str) -> Result<Command, ScriptFault>
@@ -141,13 +141,13 @@ fn commands_of(alloc: Global, lines: &[&str]) -> Result<Vec<Command>, ScriptFaul
 fn is_long_line(line: &str) -> bool
     ensures { result ≡ is_long_line line.now }
 {
-    // A space more is a word more.
+    // A line has one word more than spaces.
     let spaces = line
         .as_bytes()
         .iter()
         .filter(|octet| **octet == b' ')
         .count();
-    spaces >= MOST_WORDS
+    spaces >= MAX_WORDS
 }
 
 fn has_long_line(lines: &[&str]) -> bool
@@ -165,10 +165,10 @@ fn has_long_line(lines: &[&str]) -> bool
 fn are_too_many(lines: &[&str]) -> bool
     ensures { result ≡ are_too_many (map (λ line. line.now) lines.now) }
 {
-    lines.len() > MOST_LINES || has_long_line(lines)
+    lines.len() > MAX_COMMANDS || has_long_line(lines)
 }
 
-// The pieces before the last, behind which nothing stands.
+// All pieces but the last, which has to be empty.
 #[tactic(auto, using(crate::proofs::ReadingLemmas::piece_steps))]
 fn ended_pieces(mut pieces: Vec<&str>) -> Result<Vec<&str>, ScriptFault>
     ensures { Gives (λ ended. map (λ piece. piece.now) ended.items) result
@@ -183,7 +183,7 @@ fn ended_pieces(mut pieces: Vec<&str>) -> Result<Vec<&str>, ScriptFault>
     Ok(pieces)
 }
 
-// The lines of a text, each of which a line feed ends.
+// The lines of a text, each of which ends with a line feed.
 fn lines_of(alloc: Global, text: &str) -> Result<Vec<&str>, ScriptFault>
     ensures { Gives (λ lines. map (λ line. line.now) lines.items) result (lines_of text.now) }
 {
@@ -191,7 +191,7 @@ fn lines_of(alloc: Global, text: &str) -> Result<Vec<&str>, ScriptFault>
     ended_pieces(pieces)
 }
 
-// What follows the first line.
+// The text after the first line.
 #[tactic(auto, unfolding(crate::specs::Understood::body_of))]
 fn body_of(text: &str) -> Result<&str, ScriptFault>
     ensures { Gives (λ body. body.now) result (body_of text.now) }
@@ -203,7 +203,7 @@ fn body_of(text: &str) -> Result<&str, ScriptFault>
 }
 
 #[tactic(auto, unfolding(crate::specs::Understood::understood))]
-fn understand(alloc: Global, text: &str) -> Result<Script, ScriptFault>
+fn read_inner(alloc: Global, text: &str) -> Result<Script, ScriptFault>
     ensures { Gives (λ script. script) result (understood text.now) }
 {
     let body = body_of(text)?;
@@ -215,20 +215,23 @@ fn understand(alloc: Global, text: &str) -> Result<Script, ScriptFault>
     Script::new(commands)
 }
 
-/// Reads a script from the text that an iPXE client is given. The text is that of [`Script::print`], or
-/// it is refused: each line ends in a line feed alone, and words stand one space apart.
+/// Reads a script from the text that [`Script::print`] gives for it, and refuses every other text: each
+/// line ends with a line feed alone, and one space separates words.
 ///
-/// The first of these faults is the answer: `NoHead`, `NoFinalNewline`, `TooMany`, and then the fault of
-/// the first bad line, `UnknownCommand` or else `BadWord`. Memory can run out at any place.
+/// # Errors
+///
+/// The first of these: `NoHead`, `NoFinalNewline`, `TooMany`, and then the fault of the first bad line,
+/// which is `UnknownCommand` if its first word is no command, and else `BadWord`. `Memory` can come in
+/// place of any of them.
 pub fn read(alloc: Global, text: &str) -> Result<Script, ScriptFault>
-    // What is read is a script, and this text is its spelling.
+    // The result is a script, and the text is its spelling.
     ensures script { IfOk result (λ script. IsScript script × (text.now ≡ spelling script)) }
-    // Each script that is spelled so is what is read, unless memory runs out.
+    // A script with this spelling is the result, unless memory runs out.
     ensures only { (commands : List Command) → IsScript commands → text.now ≡ spelling commands
         → (result ≡ Ok commands) ⊎ (result ≡ Err ScriptFault.Memory) }
-    // A fault is the first in the order.
+    // A fault is the first one in the order.
     ensures exact { MatchResult result (λ script. understood text.now ≡ Ok script)
         (λ fault. (fault ≡ ScriptFault.Memory) ⊎ (understood text.now ≡ Err fault)) }
 {
-    understand(alloc, text)
+    read_inner(alloc, text)
 }

@@ -1,19 +1,19 @@
-//! Scripts, and how they are printed.
+//! Scripts, made of commands and printed.
 ghost use Rattle.std.specs.Prelude.{◌≡◌, ◌<◌, ◌≤◌, ◌↔◌, ◌++◌, ◌∷◌, length, string_bytes, All, Any, MatchBool, IsOk, OnOk, IfOk, IsErrOf};
 ghost use Rattle.std.specs.List.{flat_map};
-ghost use Rattle.ipxe_script.specs.Script.{words_of, line_of, spelling, IsWhole, IsBareEcho, IsScript};
+ghost use Rattle.ipxe_script.specs.Script.{words_of, line_of, spelling, IsWhole, IsBareEcho, IsScript, HasTooManyWords, HasTooMany};
 
-use crate::command::{Command, MOST_LINES, MOST_WORDS};
+use crate::command::{Command, MAX_COMMANDS, MAX_WORDS};
 use crate::fault::ScriptFault;
 use crate::print::push_line;
 use std::alloc::{AllocError, Global};
 use std::marker::Model;
 
-// Room for a line, which a longer one makes grow.
+// Octets to reserve for a line. A longer line makes the text grow.
 const LINE_ROOM: usize = 128;
 
-/// A script of iPXE (<https://ipxe.org/scripting>): at most 32 commands, each of at most 32 words with
-/// its name. Contracts see its commands.
+/// A script for iPXE (<https://ipxe.org/scripting>): at most [`MAX_COMMANDS`] commands, each of at most
+/// [`MAX_WORDS`] words, its name among them. Contracts see its commands.
 #[derive(Debug, Drop)]
 pub struct Script {
     commands: Vec<Command>,
@@ -43,8 +43,8 @@ fn are_whole(commands: &[Command]) -> bool
 }
 
 fn has_long_line(commands: &[Command]) -> bool
-    ensures { MatchBool result (Any (λ c. MOST_WORDS < length (words_of c)) commands.now)
-        (All (λ c. length (words_of c) ≤ MOST_WORDS) commands.now) }
+    ensures { MatchBool result (Any HasTooManyWords commands.now)
+        (All (λ c. length (words_of c) ≤ MAX_WORDS) commands.now) }
 {
     for command in commands {
         if command.has_too_many_words() {
@@ -55,25 +55,29 @@ fn has_long_line(commands: &[Command]) -> bool
 }
 
 impl Script {
-    /// The script of these commands. It takes no memory, and drops what it refuses.
+    /// Makes a script of these commands. It takes no memory, and drops commands that it refuses.
+    ///
+    /// # Errors
+    ///
+    /// `BadWord` if an `echo` has no words, and else `TooMany` for more than [`MAX_COMMANDS`] commands or
+    /// more than [`MAX_WORDS`] words on a line.
     pub fn new(commands: Vec<Command>) -> Result<Script, ScriptFault>
         ensures commands { IfOk result (λ script. script ≡ commands.items) }
         ensures ok { IsOk result ↔ IsScript commands.items }
         ensures bad_word { IsErrOf result ScriptFault.BadWord ↔ Any IsBareEcho commands.items }
-        // Each other refusal is for the number of lines or of a line's words.
         ensures too_many { IsErrOf result ScriptFault.TooMany
-            ↔ (¬ (Any IsBareEcho commands.items) × ¬ (IsScript commands.items)) }
+            ↔ (¬ (Any IsBareEcho commands.items) × HasTooMany commands.items) }
     {
         if !are_whole(&commands) {
             return Err(ScriptFault::BadWord);
         }
-        if commands.len() > MOST_LINES || has_long_line(&commands) {
+        if commands.len() > MAX_COMMANDS || has_long_line(&commands) {
             return Err(ScriptFault::TooMany);
         }
         Ok(Script { commands })
     }
 
-    /// The commands in order.
+    /// The commands, in order.
     pub fn commands(&self) -> &[Command]
         ensures commands { result.now ≡ self.now }
         ensures script { IsScript self.now }
@@ -81,7 +85,8 @@ impl Script {
         self.commands.as_slice()
     }
 
-    /// The one spelling of the script, which each line ends by a line feed.
+    /// Prints the script in its one spelling: `#!ipxe`, and a line for each command, with a line feed at
+    /// the end of each.
     pub fn print(&self, alloc: Global) -> Result<String, AllocError>
         ensures { IfOk result (λ text. string_bytes text ≡ spelling self.now) }
     {

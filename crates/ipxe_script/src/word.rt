@@ -1,4 +1,4 @@
-//! Words, and the URIs among them.
+//! Words of a script, and the URIs among them.
 ghost use Rattle.std.specs.Prelude.{◌≡◌, ◌↔◌, IsTrue, IfOk, OnOk, IsErrOf};
 ghost use Rattle.std.specs.List.{list_all};
 ghost use Rattle.ipxe_script.specs.Word.{is_first_octet, is_word_octet, is_word, is_uri, IsWord, IsUri};
@@ -7,8 +7,11 @@ use crate::fault::WordFault;
 use std::alloc::{AllocError, Global};
 use std::marker::Model;
 
-/// A word of a script: 1 to 128 characters, each a letter, a digit or one of `-_./:=,+@%?;`, of which
-/// the first is none of `:=,+@%?;`. Contracts see its text.
+/// The maximum number of characters of a word.
+pub const MAX_WORD_LEN: usize = 128;
+
+/// A word of a script: 1 to [`MAX_WORD_LEN`] characters. The first is a letter, a digit or one of `-_./`,
+/// each other one a letter, a digit or one of `-_./:=,+@%?;`. Contracts see its text.
 #[derive(Debug, Drop)]
 pub struct Word {
     text: String,
@@ -52,11 +55,12 @@ pub(crate) fn is_word(text: &str) -> bool
     let Some((first, others)) = text.as_bytes().split_first() else {
         return false;
     };
-    is_first_octet(*first) && are_word_octets(others) && others.len() < 128
+    is_first_octet(*first) && are_word_octets(others) && others.len() < MAX_WORD_LEN
 }
 
 impl Word {
-    /// The word with this text. A text that is no word is refused before memory is asked for.
+    /// Makes a word of a text, with `BadWord` for a text that is no word. It is looked for before memory
+    /// is taken.
     pub fn new(alloc: Global, text: &str) -> Result<Word, WordFault>
         ensures text { IfOk result (λ word. word ≡ text.now) }
         ensures word { OnOk result (IsWord text.now) }
@@ -69,7 +73,7 @@ impl Word {
         Ok(Word { text })
     }
 
-    /// Its characters.
+    /// The text of it.
     pub fn text(&self) -> &str
         ensures text { result.now ≡ self.now }
         ensures word { IsWord self.now }
@@ -77,7 +81,7 @@ impl Word {
         self.text.as_str()
     }
 
-    /// An equal word.
+    /// Copies the word.
     pub fn copy(&self, alloc: Global) -> Result<Word, AllocError>
         ensures { IfOk result (λ copy. copy ≡ self.now) }
     {
@@ -86,7 +90,7 @@ impl Word {
     }
 }
 
-/// A word that begins `http://`. Contracts see its text.
+/// A word that begins with `http://`. Contracts see its text.
 #[derive(Debug, Drop)]
 pub struct Uri {
     word: Word,
@@ -112,7 +116,8 @@ pub(crate) fn is_uri(text: &str) -> bool
 }
 
 impl Uri {
-    /// The URI with this text. A text that is no URI is refused before memory is asked for.
+    /// Makes a URI of a text, with `BadWord` for a text that is no URI. It is looked for before memory
+    /// is taken.
     pub fn new(alloc: Global, text: &str) -> Result<Uri, WordFault>
         ensures text { IfOk result (λ uri. uri ≡ text.now) }
         ensures uri { OnOk result (IsUri text.now) }
@@ -125,7 +130,7 @@ impl Uri {
         Ok(Uri { word })
     }
 
-    /// Its characters.
+    /// The text of it.
     pub fn text(&self) -> &str
         ensures text { result.now ≡ self.now }
         ensures uri { IsUri self.now }
@@ -133,7 +138,7 @@ impl Uri {
         self.word.text()
     }
 
-    /// An equal URI.
+    /// Copies the URI.
     pub fn copy(&self, alloc: Global) -> Result<Uri, AllocError>
         ensures { IfOk result (λ copy. copy ≡ self.now) }
     {

@@ -1,4 +1,4 @@
-//! Words in a row.
+//! Lists of words.
 ghost use Rattle.std.specs.Prelude.{◌≡◌, All, IfOk};
 ghost use Rattle.ipxe_script.specs.Word.{IsWord};
 
@@ -6,7 +6,7 @@ use crate::word::Word;
 use std::alloc::{AllocError, Global};
 use std::marker::Model;
 
-/// The words behind a command's name, in order. Contracts see the texts of the words.
+/// Words of a command after its name, in order. Contracts see their texts.
 #[derive(Debug, Drop)]
 pub struct Words {
     items: Vec<Word>,
@@ -27,7 +27,7 @@ impl From<Vec<Word>> for Words {
     ghost from_gives = { λ items words. words ≡ items.items };
 
     fn from(items: Vec<Word>) -> Words {
-        // Going over the words tells the proof that each is one.
+        // Reading each word makes it known to the proof that its text is a word.
         for word in &items {
             let _ = word.text();
         }
@@ -44,7 +44,7 @@ impl Words {
         self.items.as_slice()
     }
 
-    /// The words, as what they were made from.
+    /// The words as the `Vec` that they were made of.
     pub fn into_vec(self) -> Vec<Word>
         ensures { result.items ≡ self }
     {
@@ -52,7 +52,7 @@ impl Words {
         items
     }
 
-    /// Equal words.
+    /// Copies the words.
     pub fn copy(&self, alloc: Global) -> Result<Words, AllocError>
         ensures { IfOk result (λ copy. copy ≡ self.now) }
     {

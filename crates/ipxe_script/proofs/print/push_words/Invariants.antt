@@ -2,7 +2,7 @@ use Rattle.std.proofs.Common.{◌≡◌, ◌++◌, ◌∷◌, string_bytes, drop
 use Rattle.std.specs.List.{flat_map}
 use Rattle.ipxe_script.proofs.print.push_words.Given as goal
 
--- what is written, with the words that are left behind it, is the whole
+-- the octets written so far and the remaining words are the whole text
 abbrev pub invariant-loop-word : goal.invariant-loop-word
 invariant-loop-word l =
     string_bytes l.out ++ flat_map (λ word. 32 ∷ word) (drop l.word-index l.words)

@@ -1,5 +1,5 @@
 use Rattle.ipxe_script.proofs.UnderstoodLemmas.{understood-commands, understood-made}
-use Rattle.ipxe_script.proofs.reading.understand.Goals as goal
+use Rattle.ipxe_script.proofs.reading.read_inner.Goals as goal
 
 pub returns : goal.returns
 returns c =
