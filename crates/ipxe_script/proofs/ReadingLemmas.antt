@@ -8,7 +8,7 @@ use Rattle.ipxe_script.specs.declared.command.Command.{Command}
 use Rattle.ipxe_script.specs.declared.command.Command.TheVariants.{Sanboot}
 use Rattle.ipxe_script.specs.declared.fault.ScriptFault.{ScriptFault}
 use Rattle.ipxe_script.specs.declared.fault.ScriptFault.TheVariants.{BadWord, NoFinalNewline, Memory}
-use Rattle.ipxe_script.specs.Text.{words_in}
+use Rattle.ipxe_script.specs.Text.{space, words_in}
 use Rattle.ipxe_script.specs.Understood.{◌>>=◌, are_sanboot_words, sanboot_of, command_of, commands_of, ended_pieces}
 
 -- three words, read by their places
@@ -41,9 +41,9 @@ sanboot_of-more (a ∷ b ∷ []) h = absurd (omega arith)
 sanboot_of-more (a ∷ b ∷ e ∷ []) h = absurd (omega arith)
 sanboot_of-more (a ∷ b ∷ e ∷ f ∷ words) h = refl
 
--- a space more is a word more
-pub length-words_in : (line : List ℕ) → length (words_in line) ≡ count_by (λ octet. octet == 32) line + 1
-length-words_in line = length-slice_split (λ octet. octet == 32) line
+-- a line has one word more than spaces
+pub length-words_in : (line : List ℕ) → length (words_in line) ≡ count_by (λ octet. octet == space) line + 1
+length-words_in line = length-slice_split (λ octet. octet == space) line
 
 pub ruleset space_steps = (length-words_in)
 

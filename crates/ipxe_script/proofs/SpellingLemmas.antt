@@ -10,40 +10,12 @@ use Rattle.ipxe_script.specs.Word.{IsWord}
 use Rattle.ipxe_script.specs.Script.{words_of, line_of, spelling, IsWhole, IsLine, IsScript}
 use Rattle.ipxe_script.specs.Text.{words_in}
 use Rattle.ipxe_script.specs.Understood.{lone_command, kernel_of, initrd_of, sanboot_of, echo_of, command_of, commands_of, is_long_line, are_too_many, lines_of, body_of, understood}
+use Rattle.ipxe_script.specs.declared.command.TheConstants.{MAX_COMMANDS, MAX_WORDS}
 use Rattle.ipxe_script.specs.declared.command.Command.{Command}
 use Rattle.ipxe_script.specs.declared.command.Command.TheVariants.{Kernel, Initrd, Boot, Exit, Sanboot, Echo, Poweroff}
-use Rattle.ipxe_script.proofs.WordLemmas.{IsApart, space, line_feed, each_apart, words_are_words, list_all-from_IsWord, slice_split-join, IsApart-join}
+use Rattle.ipxe_script.specs.LineLaws.{text_of, words_in-text_of, slice_split-lines}
+use Rattle.ipxe_script.proofs.WordLemmas.{list_all-from_IsWord}
 use Rattle.ipxe_script.proofs.ReadingLemmas.{ended_pieces-whole}
-
--- a line without its line feed
-abbrev pub text_of : Command → List ℕ
-text_of command = join_with_byte 32 (words_of command)
-
--- ---- a line
-
--- where no word is cut, each word is found again
-joined : (words : List (List ℕ)) → AllByRecursion IsWord words → 0 < length words → words_in (join_with_byte 32 words) ≡ words
-joined [] h some = absurd (omega arith)
-joined (first ∷ words) h some = let apart = each_apart 32 space (first ∷ words) h in slice_split-join 32 first words apart.0 apart.1
-
-no_line_feed : (words : List (List ℕ)) → AllByRecursion IsWord words → 0 < length words → IsApart 10 (join_with_byte 32 words)
-no_line_feed [] h some = absurd (omega arith)
-no_line_feed (first ∷ words) h some = let apart = each_apart 10 line_feed (first ∷ words) h in IsApart-join first words apart.0 apart.1
-
-words_nonempty : (command : Command) → 0 < length (words_of command)
-words_nonempty (Kernel uri args) = omega arith
-words_nonempty (Initrd uri) = omega arith
-words_nonempty Boot = omega arith
-words_nonempty Exit = omega arith
-words_nonempty Sanboot = omega arith
-words_nonempty (Echo words) = omega arith
-words_nonempty Poweroff = omega arith
-
-pub words_in-text_of : (command : Command) → IsWhole command → words_in (text_of command) ≡ words_of command
-words_in-text_of command h = joined (words_of command) (words_are_words command h) (words_nonempty command)
-
-pub text_of-apart : (command : Command) → IsWhole command → IsApart 10 (text_of command)
-text_of-apart command h = no_line_feed (words_of command) (words_are_words command h) (words_nonempty command)
 
 pub command_of-words_of : (command : Command) → IsWhole command → command_of (words_of command) ≡ Ok command
 unfolding command_of lone_command kernel_of initrd_of sanboot_of echo_of
@@ -58,28 +30,21 @@ command_of-words_of Poweroff h = refl
 
 -- ---- the lines
 
-pub slice_split-lines : (commands : List Command) → AllByRecursion IsLine commands → slice_split (λ octet. octet == 10) (flat_map line_of commands) ≡ map text_of commands ++ [] ∷ []
-slice_split-lines [] h = refl
-slice_split-lines (command ∷ commands) h =
-    ap (λ (x : List ℕ). slice_split (λ octet. octet == 10) x) (append_assoc (text_of command) (10 ∷ []) (flat_map line_of commands))
-    ∙ slice_split_at (λ octet. octet == 10) (text_of command) 10 (flat_map line_of commands) (text_of-apart command h.0.whole) refl
-    ∙ ap (λ (x : List (List ℕ)). text_of command ∷ x) (slice_split-lines commands h.1)
-
 lines_of-lines : (commands : List Command) → AllByRecursion IsLine commands → lines_of (flat_map line_of commands) ≡ Ok (map text_of commands)
 lines_of-lines commands h = rw (slice_split-lines commands h) (ended_pieces-whole (map text_of commands) [] refl)
 
 is_long_line-text_of : (command : Command) → IsLine command → is_long_line (text_of command) ≡ false
 unfolding is_long_line
-is_long_line-text_of command h = rw (words_in-text_of command h.whole) (le-ltb 32 (length (words_of command)) h.few)
+is_long_line-text_of command h = rw (words_in-text_of command h.whole) (le-ltb MAX_WORDS (length (words_of command)) h.few)
 
 no_long_line : (commands : List Command) → AllByRecursion IsLine commands → list_any is_long_line (map text_of commands) ≡ false
 no_long_line [] h = refl
 no_long_line (command ∷ commands) h = rw (is_long_line-text_of command h.0, no_long_line commands h.1) refl
 
-are_too_many-lines : (commands : List Command) → length commands ≤ 32 → AllByRecursion IsLine commands → are_too_many (map text_of commands) ≡ false
+are_too_many-lines : (commands : List Command) → length commands ≤ MAX_COMMANDS → AllByRecursion IsLine commands → are_too_many (map text_of commands) ≡ false
 unfolding are_too_many
 are_too_many-lines commands few h =
-    or_from _ _ (le-ltb 32 (length (map text_of commands)) (omega (arith, length-map commands text_of))) (no_long_line commands h)
+    or_from _ _ (le-ltb MAX_COMMANDS (length (map text_of commands)) (omega (arith, length-map commands text_of))) (no_long_line commands h)
 
 commands_of-lines : (commands : List Command) → AllByRecursion IsLine commands → commands_of (map text_of commands) ≡ Ok commands
 unfolding commands_of

@@ -10,14 +10,16 @@ use Rattle.std.proofs.lemmas.List.Splits.{join_with_byte-slice_split}
 use Rattle.std.proofs.lemmas.Slice.Eq.{bytes_eq-Decides, starts_is}
 use Rattle.ipxe_script.specs.Word.{is_word, is_uri}
 use Rattle.ipxe_script.specs.Script.{words_of, line_of, spelling, IsWhole, IsLine, IsScript}
-use Rattle.ipxe_script.specs.Text.{words_in}
+use Rattle.ipxe_script.specs.Text.{line_feed, space, words_in}
 use Rattle.ipxe_script.specs.Understood.{◌>>=◌, Gives, uri_of, args_of, lone_command, kernel_of, initrd_of, sanboot_of, are_sanboot_words, echo_of, command_of, commands_of, is_long_line, are_too_many, ended_pieces, lines_of, body_of, understood}
+use Rattle.ipxe_script.specs.declared.command.TheConstants.{MAX_COMMANDS, MAX_WORDS}
 use Rattle.ipxe_script.specs.declared.command.Command.{Command}
 use Rattle.ipxe_script.specs.declared.command.Command.TheVariants.{Kernel, Initrd, Boot, Exit, Sanboot, Echo, Poweroff}
 use Rattle.ipxe_script.specs.declared.fault.ScriptFault.{ScriptFault}
 use Rattle.ipxe_script.specs.declared.fault.ScriptFault.TheVariants.{NoHead, UnknownCommand, BadWord, NoFinalNewline, TooMany, Memory}
 use Rattle.ipxe_script.proofs.WordLemmas.{IsWord-from_list_all}
-use Rattle.ipxe_script.proofs.SpellingLemmas.{text_of, understood-spelling}
+use Rattle.ipxe_script.specs.LineLaws.{text_of}
+use Rattle.ipxe_script.proofs.SpellingLemmas.{understood-spelling}
 
 -- ---- steps that did not fail
 
@@ -141,11 +143,11 @@ record AreLines (lines : List (List ℕ)) (commands : List Command) : Type 0 whe
   each : AllByRecursion IsLine commands
 
 line_spelt : (line : List ℕ) (command : Command) → IsCommand (words_in line) command → line ≡ text_of command
-line_spelt line command h = sym (join_with_byte-slice_split 32 line) ∙ ap (λ (x : List (List ℕ)). join_with_byte 32 x) h.spelt
+line_spelt line command h = sym (join_with_byte-slice_split space line) ∙ ap (λ (x : List (List ℕ)). join_with_byte space x) h.spelt
 
-few_words : (line : List ℕ) (command : Command) → is_long_line line ≡ false → words_in line ≡ words_of command → length (words_of command) ≤ 32
+few_words : (line : List ℕ) (command : Command) → is_long_line line ≡ false → words_in line ≡ words_of command → length (words_of command) ≤ MAX_WORDS
 unfolding is_long_line
-few_words line command h e = subst (λ (x : List (List ℕ)). length x ≤ 32) e (ltb-false 32 (length (words_in line)) h)
+few_words line command h e = subst (λ (x : List (List ℕ)). length x ≤ MAX_WORDS) e (ltb-false MAX_WORDS (length (words_in line)) h)
 
 commands_of-ok : (lines : List (List ℕ)) (commands : List Command) → list_any is_long_line lines ≡ false → commands_of lines ≡ Ok commands → AreLines lines commands
 unfolding commands_of
@@ -171,17 +173,17 @@ ended_pieces-ok (piece ∷ next ∷ pieces) lines e =
     ap (λ (x : List (List ℕ)). piece ∷ x) (ended_pieces-ok (next ∷ pieces) a.0 a.1) ∙ ap (λ (x : List (List ℕ)). x ++ [] ∷ []) (same_ok (piece ∷ a.0) lines a.2)
 
 -- pieces of which the last is empty, joined by line feeds
-join-lines : (commands : List Command) → join_with_byte 10 (map text_of commands ++ [] ∷ []) ≡ flat_map line_of commands
+join-lines : (commands : List Command) → join_with_byte line_feed (map text_of commands ++ [] ∷ []) ≡ flat_map line_of commands
 join-lines [] = refl
-join-lines (command ∷ []) = sym (append_assoc (text_of command) (10 ∷ []) [])
+join-lines (command ∷ []) = sym (append_assoc (text_of command) (line_feed ∷ []) [])
 join-lines (command ∷ next ∷ commands) =
-    ap (λ (x : List ℕ). text_of command ++ (10 ∷ x)) (join-lines (next ∷ commands))
-    ∙ sym (append_assoc (text_of command) (10 ∷ []) (flat_map line_of (next ∷ commands)))
+    ap (λ (x : List ℕ). text_of command ++ (line_feed ∷ x)) (join-lines (next ∷ commands))
+    ∙ sym (append_assoc (text_of command) (line_feed ∷ []) (flat_map line_of (next ∷ commands)))
 
 lines_of-ok : (body : List ℕ) (lines : List (List ℕ)) (commands : List Command) → lines_of body ≡ Ok lines → lines ≡ map text_of commands → body ≡ flat_map line_of commands
 lines_of-ok body lines commands e spelt =
-    sym (join_with_byte-slice_split 10 body)
-    ∙ ap (λ (x : List (List ℕ)). join_with_byte 10 x) (ended_pieces-ok (slice_split (λ octet. octet == 10) body) lines e ∙ ap (λ (x : List (List ℕ)). x ++ [] ∷ []) spelt)
+    sym (join_with_byte-slice_split line_feed body)
+    ∙ ap (λ (x : List (List ℕ)). join_with_byte line_feed x) (ended_pieces-ok (slice_split (λ octet. octet == line_feed) body) lines e ∙ ap (λ (x : List (List ℕ)). x ++ [] ∷ []) spelt)
     ∙ join-lines commands
 
 -- ---- the script
@@ -193,11 +195,11 @@ body_of-ok text body e =
     (starts_is Decides-eqb text (codes "#!ipxe\n") (starts_with nat_eq text (codes "#!ipxe\n")) refl).0 p.0
     ∙ ap (λ (x : List ℕ). codes "#!ipxe\n" ++ x) p.1
 
-few_lines : (lines : List (List ℕ)) → are_too_many lines ≡ false → (length lines ≤ 32) × (list_any is_long_line lines ≡ false)
+few_lines : (lines : List (List ℕ)) → are_too_many lines ≡ false → (length lines ≤ MAX_COMMANDS) × (list_any is_long_line lines ≡ false)
 unfolding are_too_many
 few_lines lines h =
-    let parts = or_parts (nat_lt 32 (length lines)) (list_any is_long_line lines) h in
-    (ltb-false 32 (length lines) parts.0, parts.1)
+    let parts = or_parts (nat_lt MAX_COMMANDS (length lines)) (list_any is_long_line lines) h in
+    (ltb-false MAX_COMMANDS (length lines) parts.0, parts.1)
 
 -- lines that are not too many
 counted : (lines : List (List ℕ)) (r : Result (List Command) ScriptFault) (commands : List Command) → cond (are_too_many lines) (Err TooMany) r ≡ Ok commands → (are_too_many lines ≡ false) × (r ≡ Ok commands)
@@ -215,7 +217,7 @@ spelling-understood text commands e =
     let c = counted b.0 (commands_of b.0) commands b.2 in
     let few = few_lines b.0 c.0 in
     let given = commands_of-ok b.0 commands few.1 c.1 in
-    let count : length commands ≤ 32 = omega (arith, few.0, ap (λ (x : List (List ℕ)). length x) given.spelt, length-map commands text_of) in (
+    let count : length commands ≤ MAX_COMMANDS = omega (arith, few.0, ap (λ (x : List (List ℕ)). length x) given.spelt, length-map commands text_of) in (
       record { few = count; lines = All-from_recursion IsLine commands given.each },
       body_of-ok text a.0 a.1 ∙ ap (λ (x : List ℕ). codes "#!ipxe\n" ++ x) (lines_of-ok a.0 b.0 commands b.1 given.spelt),
     )

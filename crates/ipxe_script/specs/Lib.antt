@@ -1,5 +1,9 @@
 pub mod Word
-pub mod Script
+pub mod WordLaws
 pub mod Text
+pub mod Script
+pub mod ScriptLaws
+pub mod LineLaws
 pub mod Understood
 pub mod Purpose
+pub mod PurposeLaws

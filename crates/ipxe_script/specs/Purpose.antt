@@ -1,6 +1,7 @@
 -- The purpose that a text gives the kernel which it starts, by a word of the kernel's line.
-use Rattle.std.specs.Prelude.{ℕ, List, nat_eq, IsTrue, Any, Contains, codes}
+use Rattle.std.specs.Prelude.{◌≡◌, ℕ, Bool, true, false, List, nat_eq, bytes_eq, IsTrue, Any, Contains, codes}
 use Rattle.std.specs.List.{starts_with}
+use Rattle.ipxe_script.specs.Word.{is_uri}
 use Rattle.ipxe_script.specs.Text.{lines_in, words_in}
 use Rattle.ipxe_script.specs.declared.command.Command.{Command}
 use Rattle.ipxe_script.specs.declared.command.Command.TheVariants.{Kernel}
@@ -20,6 +21,16 @@ IsErasing text = HasKernelWord (codes "hall.purpose=erase") text
 -- the kernel has to write an image to the machine's disk
 abbrev pub IsDeploying : List ℕ → Type 0
 IsDeploying text = HasKernelWord (codes "hall.purpose=deploy") text
+
+-- a word that is neither `kernel` nor a URI, so that on a kernel line it is an argument
+pub record IsArgument (word : List ℕ) : Type 0 where
+  pub no_name : bytes_eq (codes "kernel") word ≡ false
+  pub no_uri : is_uri word ≡ false
+
+-- a command `kernel`
+abbrev pub is_kernel : Command → Bool
+is_kernel (Kernel uri args) = true
+is_kernel _ = false
 
 -- a command `kernel` with this argument
 abbrev pub IsKernelWith : List ℕ → Command → Type 0

@@ -16,7 +16,7 @@ pub use fault::{ScriptFault, WordFault};
 pub use law::{one_spelling, purpose_is_argument, words_have_no_separators};
 pub use reading::read;
 pub use script::Script;
-pub use word::{Uri, Word, MAX_WORD_LEN};
+pub use word::{MAX_WORD_LEN, Uri, Word};
 pub use words::Words;
 
 #[cfg(test)]

@@ -1,8 +1,9 @@
 use Rattle.std.proofs.Common.{ℕ, ◌<◌, ◌≤◌, length, get_or}
 use Rattle.ipxe_script.specs.Script.{words_of}
+use Rattle.ipxe_script.specs.declared.command.TheConstants.{MAX_WORDS}
 use Rattle.ipxe_script.specs.declared.command.Command.{Command}
 use Rattle.ipxe_script.proofs.script.has_long_line.Given as goal
 
 -- none so far is long
 abbrev pub invariant-loop-command : goal.invariant-loop-command
-invariant-loop-command l = (k : ℕ) (d : Command) → k < l.command-index → length (words_of (get_or l.commands k d)) ≤ 32
+invariant-loop-command l = (k : ℕ) (d : Command) → k < l.command-index → length (words_of (get_or l.commands k d)) ≤ MAX_WORDS
