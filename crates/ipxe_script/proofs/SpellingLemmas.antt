@@ -1,14 +1,11 @@
 -- What is spelled is understood.
-use Rattle.std.proofs.Common.{◌≡◌, ℕ, ◌<◌, ◌≤◌, false, List, [], ◌∷◌, ◌++◌, length, map, Ok, refl, ap, ◌∙◌, arith, append_assoc}
+use Rattle.std.proofs.Common.{◌≡◌, ℕ, ◌≤◌, false, List, [], ◌∷◌, ◌++◌, length, map, Ok, refl, arith}
 use Rattle.std.proofs.lemmas.List.{length-map}
-use Rattle.std.specs.Prelude.{◌==◌, codes}
-use Rattle.std.specs.List.{AllByRecursion, list_any, flat_map, join_with_byte, slice_split}
+use Rattle.std.specs.Prelude.{codes}
+use Rattle.std.specs.List.{AllByRecursion, list_any, flat_map}
 use Rattle.std.proofs.lemmas.Bool.{le-ltb, or_from}
 use Rattle.std.proofs.lemmas.List.Elements.{recursion_from_All}
-use Rattle.std.proofs.lemmas.List.Splits.{slice_split_at}
-use Rattle.ipxe_script.specs.Word.{IsWord}
 use Rattle.ipxe_script.specs.Script.{words_of, line_of, spelling, IsWhole, IsLine, IsScript}
-use Rattle.ipxe_script.specs.Text.{words_in}
 use Rattle.ipxe_script.specs.Understood.{lone_command, kernel_of, initrd_of, sanboot_of, echo_of, command_of, commands_of, is_long_line, are_too_many, lines_of, body_of, understood}
 use Rattle.ipxe_script.specs.declared.command.TheConstants.{MAX_COMMANDS, MAX_WORDS}
 use Rattle.ipxe_script.specs.declared.command.Command.{Command}

@@ -1,5 +1,5 @@
 -- Laws of lines, for the proofs of callers: the words of a printed line and the lines of a printed script are found again.
-use Rattle.std.proofs.Common.{◌≡◌, ℕ, ◌<◌, ◌&&◌, true, false, List, [], ◌∷◌, ◌++◌, length, map, All, refl, sym, ap, ◌∙◌, arith, append_assoc}
+use Rattle.std.proofs.Common.{◌≡◌, ℕ, ◌<◌, true, false, List, [], ◌∷◌, ◌++◌, length, map, All, refl, sym, ap, ◌∙◌, arith, append_assoc}
 use Rattle.std.specs.Prelude.{◌==◌, codes}
 use Rattle.std.specs.List.{AllByRecursion, list_all, flat_map, join_with_byte, slice_split}
 use Rattle.std.proofs.lemmas.Bool.{both_ways, and_parts, ne_eqb, eq-eqb}

@@ -1,12 +1,11 @@
 -- Laws of words, for the proofs of callers: which texts are words.
-use Rattle.std.specs.Prelude.{◌≡◌, ℕ, ◌+◌, ◌^◌, ◌<◌, ◌≤◌, ◌==◌, ◌&&◌, ◌||◌, not, Bool, true, false, List, [], ◌∷◌, ◌++◌, length, nat_lt, decimal}
+use Rattle.std.specs.Prelude.{◌≡◌, ℕ, ◌+◌, ◌^◌, ◌<◌, ◌≤◌, ◌==◌, ◌&&◌, ◌||◌, not, Bool, true, false, List, [], ◌∷◌, ◌++◌, length, nat_lt, nat_le, decimal}
 use Rattle.std.specs.List.{list_all}
-use Rattle.std.specs.Int.{IsInRange}
+use Rattle.std.specs.Int.{IsInRange, is_in_range}
 use Rattle.std.specs.Char.{is_ascii_hexdigit, is_ascii_alphanumeric}
 use Rattle.std.specs.Str.Parse.{AllDigits}
 use Rattle.std.proofs.Common.{refl, ◌∙◌, inl, inr, arith, length-append}
-use Rattle.std.proofs.lemmas.Bool.{false≢true, and_parts, and_from, or_left, lt-ltb, cases_lt, agree_below_at}
-use Rattle.std.proofs.lemmas.Bool.Decides.{nat_tests}
+use Rattle.std.proofs.lemmas.Bool.{false≢true, and_parts, and_from, and_right, or_left, or_from, lt-ltb, lt-leb, le-leb, ne_eqb, cases_lt, agree_below_at}
 use Rattle.std.proofs.lemmas.List.Folds.{list_all-append}
 use Rattle.std.proofs.lemmas.Fmt.{decimal_is_IsNumeral, length-decimal-le}
 use Rattle.std.proofs.lemmas.Str.Parse.{digit_from_value}
@@ -33,26 +32,48 @@ by_test test high low octet is =
       | inr over ↦ absurd (let no = high octet over in cc)
     ]
 
+above : (low high octet : ℕ) → high < octet → is_in_range low high octet ≡ false
+above low high octet over = and_right (nat_le low octet) (nat_le octet high) (lt-leb octet high over)
+
+above_letters : (octet : ℕ) → 123 ≤ octet → is_ascii_alphanumeric octet ≡ false
+above_letters octet over =
+    or_from (is_in_range 48 57 octet || is_in_range 65 90 octet) (is_in_range 97 122 octet)
+    (or_from (is_in_range 48 57 octet) (is_in_range 65 90 octet) (above 48 57 octet (omega arith)) (above 65 90 octet (omega arith)))
+    (above 97 122 octet (omega arith))
+
+above_hexdigits : (octet : ℕ) → 123 ≤ octet → is_ascii_hexdigit octet ≡ false
+above_hexdigits octet over =
+    or_from (is_in_range 48 57 octet || is_in_range 65 70 octet) (is_in_range 97 102 octet)
+    (or_from (is_in_range 48 57 octet) (is_in_range 65 70 octet) (above 48 57 octet (omega arith)) (above 65 70 octet (omega arith)))
+    (above 97 102 octet (omega arith))
+
+hexdigit : (octet : ℕ) → is_ascii_hexdigit octet ≡ true → is_word_octet octet ≡ true
+unfolding is_word_octet is_first_octet
+hexdigit = by_test is_ascii_hexdigit above_hexdigits (λ octet under. agree_below_at (λ (o : ℕ). is_ascii_hexdigit o && not (is_word_octet o)) (λ (o : ℕ). false) 123 octet refl under)
+
+digit : (octet : ℕ) → IsInRange 48 57 octet → is_word_octet octet ≡ true
+digit octet h =
+    hexdigit octet (or_left (is_in_range 48 57 octet || is_in_range 65 70 octet) (is_in_range 97 102 octet)
+    (or_left (is_in_range 48 57 octet) (is_in_range 65 70 octet) (and_from (nat_le 48 octet) (nat_le octet 57) (le-leb 48 octet h.0) (le-leb octet 57 h.1))))
+
 is_host_octet : ℕ → Bool
 is_host_octet octet = is_ascii_alphanumeric octet || (octet == 45) || (octet == 46) || (octet == 58)
 
-high_hex : (octet : ℕ) → 123 ≤ octet → is_ascii_hexdigit octet ≡ false
-high_hex octet over = grind (arith, nat_tests)
+not_equal : (octet other : ℕ) → other < octet → (octet == other) ≡ false
+not_equal octet other over = ne_eqb octet other (λ e. omega (arith, e))
 
-hex_octet : (octet : ℕ) → is_ascii_hexdigit octet ≡ true → is_word_octet octet ≡ true
-unfolding is_word_octet is_first_octet
-hex_octet = by_test is_ascii_hexdigit high_hex (λ octet under. agree_below_at (λ (o : ℕ). is_ascii_hexdigit o && not (is_word_octet o)) (λ (o : ℕ). false) 123 octet refl under)
-
-high_host : (octet : ℕ) → 123 ≤ octet → (is_ascii_alphanumeric octet || (octet == 45) || (octet == 46) || (octet == 58)) ≡ false
-high_host octet over = grind (arith, nat_tests)
+above_host : (octet : ℕ) → 123 ≤ octet → is_host_octet octet ≡ false
+unfolding is_host_octet
+above_host octet over =
+    or_from (is_ascii_alphanumeric octet || (octet == 45) || (octet == 46)) (octet == 58)
+    (or_from (is_ascii_alphanumeric octet || (octet == 45)) (octet == 46)
+    (or_from (is_ascii_alphanumeric octet) (octet == 45) (above_letters octet over) (not_equal octet 45 (omega arith)))
+    (not_equal octet 46 (omega arith)))
+    (not_equal octet 58 (omega arith))
 
 host_octet : (octet : ℕ) → (is_ascii_alphanumeric octet || (octet == 45) || (octet == 46) || (octet == 58)) ≡ true → is_word_octet octet ≡ true
 unfolding is_word_octet is_first_octet is_host_octet
-host_octet = by_test is_host_octet high_host (λ octet under. agree_below_at (λ (o : ℕ). is_host_octet o && not (is_word_octet o)) (λ (o : ℕ). false) 123 octet refl under)
-
-digit_of_number : (octet : ℕ) → IsInRange 48 57 octet → is_word_octet octet ≡ true
-unfolding is_word_octet is_first_octet
-digit_of_number octet h = hex_octet octet (grind (arith, nat_tests))
+host_octet = by_test is_host_octet above_host (λ octet under. agree_below_at (λ (o : ℕ). is_host_octet o && not (is_word_octet o)) (λ (o : ℕ). false) 123 octet refl under)
 
 -- ---- characters of words
 
@@ -83,7 +104,7 @@ AreWordOctets-alphanumeric = AreWordOctets-from_test is_ascii_alphanumeric (λ o
 
 -- hexadecimal digits
 pub AreWordOctets-hexdigit : (text : List ℕ) → list_all is_ascii_hexdigit text ≡ true → AreWordOctets text
-AreWordOctets-hexdigit = AreWordOctets-from_test is_ascii_hexdigit hex_octet
+AreWordOctets-hexdigit = AreWordOctets-from_test is_ascii_hexdigit hexdigit
 
 -- letters, digits, `-`, `.` and `:`, as in a host with a port
 pub AreWordOctets-host : (text : List ℕ) → list_all (λ octet. is_ascii_alphanumeric octet || (octet == 45) || (octet == 46) || (octet == 58)) text ≡ true → AreWordOctets text
@@ -91,7 +112,7 @@ AreWordOctets-host = AreWordOctets-from_test (λ octet. is_ascii_alphanumeric oc
 
 AreWordOctets-digits : (text : List ℕ) → AllDigits 10 text → AreWordOctets text
 AreWordOctets-digits [] h = refl
-AreWordOctets-digits (octet ∷ text) h = and_from (is_word_octet octet) (list_all is_word_octet text) (digit_of_number octet (digit_from_value octet h.0)) (AreWordOctets-digits text h.1)
+AreWordOctets-digits (octet ∷ text) h = and_from (is_word_octet octet) (list_all is_word_octet text) (digit octet (digit_from_value octet h.0)) (AreWordOctets-digits text h.1)
 
 -- a number in decimal
 pub AreWordOctets-decimal : (n : ℕ) → n < 2 ^ 64 → AreWordOctets (decimal n)
