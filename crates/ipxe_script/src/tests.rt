@@ -160,18 +160,30 @@ fn copied_words(alloc: Global) -> Result<Words, Fail> {
     Ok(Words::from(items))
 }
 
+fn copied_uri(alloc: Global) -> Result<Uri, Fail> {
+    Ok(Uri::new(alloc, "http://a/k")?.copy(alloc)?)
+}
+
+fn copied_kernel(alloc: Global) -> Result<Command, Fail> {
+    let uri = copied_uri(alloc)?;
+    let args = copied_words(alloc)?;
+    Ok(Command::Kernel { uri, args }.copy(alloc)?)
+}
+
+fn kernel_script(alloc: Global) -> Result<Script, Fail> {
+    let mut commands = Vec::new(alloc);
+    commands.push(copied_kernel(alloc)?)?;
+    commands.push(Command::Boot)?;
+    Ok(Script::new(commands)?)
+}
+
 #[test]
 fn makes_and_prints(rt: HostRuntime) -> Result<(), Fail> {
-    let alloc = rt.alloc();
-    let uri = Uri::new(alloc, "http://a/k")?.copy(alloc)?;
-    let args = copied_words(alloc)?;
-    let mut commands = Vec::new(alloc);
-    commands.push(Command::Kernel { uri, args }.copy(alloc)?)?;
-    commands.push(Command::Boot)?;
-    let script = Script::new(commands)?;
+    let script = kernel_script(rt.alloc())?;
     assert_eq!(rt; script.commands().len(), 2);
+    let text = script.print(rt.alloc())?;
     assert_eq!(rt;
-        script.print(alloc)?.as_str(),
+        text.as_str(),
         "#!ipxe\nkernel http://a/k x quiet y=1\nboot\n"
     );
     Ok(())
