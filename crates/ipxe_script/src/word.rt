@@ -59,8 +59,11 @@ pub(crate) fn is_word(text: &str) -> bool
 }
 
 impl Word {
-    /// Makes a word of a text, with `BadWord` for a text that is no word. It is looked for before memory
-    /// is taken.
+    /// Makes a word of a text. The text is tested before memory is taken.
+    ///
+    /// # Errors
+    ///
+    /// `BadWord` if and only if the text is no word, and `Memory`.
     pub fn new(alloc: Global, text: &str) -> Result<Word, WordFault>
         ensures text { IfOk result (λ word. word ≡ text.now) }
         ensures word { OnOk result (IsWord text.now) }
@@ -73,7 +76,7 @@ impl Word {
         Ok(Word { text })
     }
 
-    /// The text of it.
+    /// The word as text.
     pub fn text(&self) -> &str
         ensures text { result.now ≡ self.now }
         ensures word { IsWord self.now }
@@ -116,8 +119,11 @@ pub(crate) fn is_uri(text: &str) -> bool
 }
 
 impl Uri {
-    /// Makes a URI of a text, with `BadWord` for a text that is no URI. It is looked for before memory
-    /// is taken.
+    /// Makes a URI of a text. The text is tested before memory is taken.
+    ///
+    /// # Errors
+    ///
+    /// `BadWord` if and only if the text is no URI, and `Memory`.
     pub fn new(alloc: Global, text: &str) -> Result<Uri, WordFault>
         ensures text { IfOk result (λ uri. uri ≡ text.now) }
         ensures uri { OnOk result (IsUri text.now) }
@@ -130,7 +136,7 @@ impl Uri {
         Ok(Uri { word })
     }
 
-    /// The text of it.
+    /// The URI as text.
     pub fn text(&self) -> &str
         ensures text { result.now ≡ self.now }
         ensures uri { IsUri self.now }
