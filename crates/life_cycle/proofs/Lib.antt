@@ -1,3 +1,1 @@
 pub mod LawLemmas
-pub mod RememberedLemmas
-pub mod TableLemmas

@@ -1,5 +1,5 @@
--- Entering a status.
-use Rattle.std.specs.Prelude.{ℕ, ◌+◌, Bool, true, false, Option, Some, None, option_map, unwrap_or}
+-- Entering a status: what it makes of a machine.
+use Rattle.std.specs.Prelude.{ℕ, ◌+◌, Bool, true, false, Option, Some, None, option_map, unwrap_or, if◌then◌else◌}
 use Rattle.hall_types.specs.Number.{next_number}
 use Rattle.hall_types.specs.declared.status.Status.{Status}
 use Rattle.hall_types.specs.declared.status.Status.TheVariants.{Commissioning, Testing, Ready, Deploying, Deployed, Releasing, DiskErasing, FailedDiskErasing, EnteringRescue, FailedToEnterRescue, Rescue, ExitingRescue, FailedToExitRescue, Broken}
@@ -10,7 +10,7 @@ use Rattle.hall_types.specs.declared.number.Numbers.{Numbers}
 use Rattle.life_cycle.specs.declared.step.Step.{Step}
 use Rattle.life_cycle.specs.declared.entering.Entered.{Entered}
 
--- how many seconds a machine may stay in a status
+-- the maximum number of seconds in a status, nothing where there is no limit
 unfoldable pub limit_of : Status → Option ℕ
 limit_of Commissioning = Some 1800
 limit_of Testing = Some 3600
@@ -21,45 +21,53 @@ limit_of EnteringRescue = Some 1200
 limit_of ExitingRescue = Some 600
 limit_of other = None
 
--- a change of a machine's row adds one to its version, which stays at the last one
+-- a change of a machine's row adds one to its version, and the last version stays as it is
 abbrev pub next_version : ℕ → ℕ
 next_version version = unwrap_or (next_number version) version
 
--- this if it's kept, else nothing
+-- the value if it is kept, else nothing
 abbrev pub kept : {X : Type 0} → Bool → Option X → Option X
 kept true x = x
 kept false x = None
 
--- a machine that is Ready or Broken is nobody's, and has no image
+-- a machine that is Ready or Broken has no owner and no image
 unfoldable pub keeps_owner : Status → Bool
 keeps_owner Ready = false
 keeps_owner Broken = false
 keeps_owner other = true
 
--- the current boot is kept from Entering rescue to Rescue alone
+-- the current boot is kept only from Entering rescue to Rescue
 unfoldable pub boot_after : Status → Status → Option ℕ → Option ℕ
 boot_after EnteringRescue Rescue boot = boot
 boot_after from status boot = None
 
--- Whoever goes to rescue from Deployed or Broken remembers that status, until it leaves the five statuses of
--- rescue.
-unfoldable pub back_after : Status → Status → Option Status → Option Status
-back_after Deployed EnteringRescue back = Some Deployed
-back_after Broken EnteringRescue back = Some Broken
-back_after from EnteringRescue back = back
-back_after from FailedToEnterRescue back = back
-back_after from Rescue back = back
-back_after from ExitingRescue back = back
-back_after from FailedToExitRescue back = back
-back_after from status back = None
+-- the five statuses of a rescue
+unfoldable pub is_rescue : Status → Bool
+is_rescue EnteringRescue = true
+is_rescue FailedToEnterRescue = true
+is_rescue Rescue = true
+is_rescue ExitingRescue = true
+is_rescue FailedToExitRescue = true
+is_rescue other = false
 
--- how the disks are erased is kept while they are being erased, and where they couldn't be
+-- a rescue begins from Deployed or from Broken
+unfoldable pub is_origin : Status → Bool
+is_origin Deployed = true
+is_origin Broken = true
+is_origin other = false
+
+-- a machine remembers the status that its rescue began from, only while it is in the statuses of the rescue
+unfoldable pub back_after : Status → Status → Option Status → Option Status
+back_after from status back =
+    if is_rescue status then (if is_origin from then Some from else back) else None
+
+-- how the disks are erased is kept while they are being erased, and after that failed
 unfoldable pub keeps_erase : Status → Bool
 keeps_erase DiskErasing = true
 keeps_erase FailedDiskErasing = true
 keeps_erase other = false
 
--- the machine in its new status: no boot is counted, and the new order alone waits
+-- the machine in its new status: no boot is counted, and only the new order waits
 abbrev pub machine_in : Machine → Status → ℕ → Option ℕ → Machine
 machine_in m status moment waiting = record m {
   status = status;
@@ -74,22 +82,30 @@ machine_in m status moment waiting = record m {
   waiting = waiting;
 }
 
--- with an order of this number queued
-abbrev pub entered_with : Machine → Status → ℕ → Numbers → OrderKind → Option ℕ → Option Entered
-entered_with m status moment numbers kind None = None
-entered_with m status moment numbers kind (Some n) = Some (record {
+-- where no order is queued: the order that waited is withdrawn
+abbrev pub entered_plain : Machine → Status → ℕ → Numbers → Entered
+entered_plain m status moment numbers = record {
+  machine = machine_in m status moment None;
+  numbers = numbers;
+  order = None;
+  withdrawn = m.waiting;
+}
+
+-- where an order of this kind and number is queued: the order that waited is withdrawn
+abbrev pub entered_queued : Machine → Status → ℕ → Numbers → OrderKind → ℕ → Entered
+entered_queued m status moment numbers kind n = record {
   machine = machine_in m status moment (Some n);
   numbers = record numbers { order = n };
   order = Some (record { number = n; machine = m.id; kind = kind; stage = Waiting });
-})
+  withdrawn = m.waiting;
+}
 
 abbrev pub entered_by : Machine → Status → ℕ → Numbers → Option OrderKind → Option Entered
-entered_by m status moment numbers None =
-    Some (record { machine = machine_in m status moment None; numbers = numbers; order = None })
+entered_by m status moment numbers None = Some (entered_plain m status moment numbers)
 entered_by m status moment numbers (Some kind) =
-    entered_with m status moment numbers kind (next_number numbers.order)
+    option_map (entered_queued m status moment numbers kind) (next_number numbers.order)
 
--- what becomes of a machine that takes a step, and nothing where an order is to be queued and all numbers
--- of orders were given out
+-- what becomes of a machine that takes a step, nothing if an order is to be queued and all numbers of orders
+-- were given out
 abbrev pub entered : Machine → Step → ℕ → Numbers → Option Entered
 entered m s moment numbers = entered_by m s.status moment numbers s.order

@@ -1,21 +1,24 @@
 -- What the laws of the life cycle speak of.
-use Rattle.std.specs.Prelude.{List, [], ◌∷◌, Option, Some, None}
+use Rattle.std.specs.Prelude.{List, [], ◌∷◌, Option, Some, None, Bool, true, IsTrue}
 use Rattle.hall_types.specs.declared.status.Status.{Status}
-use Rattle.hall_types.specs.declared.status.Status.TheVariants.{Commissioning, Testing, Deploying, Deployed, Releasing, DiskErasing, EnteringRescue, ExitingRescue, Broken}
+use Rattle.hall_types.specs.declared.status.Status.TheVariants.{Commissioning, Testing, Deploying, Releasing, DiskErasing, EnteringRescue, ExitingRescue}
 use Rattle.hall_types.specs.declared.kinds.OrderKind.{OrderKind}
 use Rattle.hall_types.specs.declared.kinds.OrderKind.TheVariants.{Cycle, Off}
+use Rattle.life_cycle.specs.declared.action.Action.TheVariants as act
 use Rattle.life_cycle.specs.declared.signal.Signal.{Signal}
-use Rattle.life_cycle.specs.declared.signal.Signal.TheVariants as on
+use Rattle.life_cycle.specs.declared.signal.Signal.TheVariants.{By}
+use Rattle.life_cycle.specs.Entering.{is_origin}
 
--- a machine comes to rescue from Deployed or from Broken
+abbrev pub is_remembered : Option Status → Bool
+is_remembered None = true
+is_remembered (Some status) = is_origin status
+
+-- the status that a machine remembers, if any, is Deployed or Broken
 abbrev pub IsRemembered : Option Status → Type 0
-IsRemembered None = Unit {0}
-IsRemembered (Some Deployed) = Unit {0}
-IsRemembered (Some Broken) = Unit {0}
-IsRemembered (Some other) = ⊥
+IsRemembered back = IsTrue (is_remembered back)
 
--- A machine is switched off on its way to be released. It is switched off and on on its way to what it boots
--- for, and out of rescue.
+-- a machine is switched off when it is to be released; it is switched off and on again to boot for its work, and
+-- to leave rescue
 unfoldable pub order_into : Status → Option OrderKind
 order_into Commissioning = Some Cycle
 order_into Testing = Some Cycle
@@ -26,12 +29,16 @@ order_into ExitingRescue = Some Cycle
 order_into Releasing = Some Off
 order_into other = None
 
--- whatever is aborted is switched off
+-- after an abort the machine is switched off
 abbrev pub order_with : Signal → Status → Option OrderKind
-order_with on.Abort status = Some Off
+order_with (By act.Abort) status = Some Off
 order_with other status = order_into status
 
--- the statuses that a machine may stay in for some time alone
+-- the statuses that have a limit
 abbrev pub limited : List Status
 limited =
     Commissioning ∷ Testing ∷ Deploying ∷ Releasing ∷ DiskErasing ∷ EnteringRescue ∷ ExitingRescue ∷ []
+
+-- the statuses that end after their work: a machine boots for it
+abbrev pub working : List Status
+working = Commissioning ∷ Testing ∷ Deploying ∷ DiskErasing ∷ EnteringRescue ∷ []

@@ -1,18 +1,23 @@
 -- The life cycle of machines as a table (after the node statuses and actions of MAAS): which signal leads from
 -- which statuses where, who may give it, and which order goes to the power operator with it.
 use Rattle.std.specs.Prelude.{ℕ, Bool, true, not, ◌==◌, ◌&&◌, List, [], ◌∷◌, map, Option, Some, None, if◌then◌else◌}
-use Rattle.std.specs.List.{flat_map}
+use Rattle.std.specs.List.{flat_map, list_any}
 use Rattle.hall_types.specs.Status.{status_number}
 use Rattle.hall_types.specs.declared.status.Status.{Status}
 use Rattle.hall_types.specs.declared.status.Status.TheVariants.{New, Commissioning, FailedCommissioning, Testing, FailedTesting, Ready, Allocated, Deploying, FailedDeployment, Deployed, Releasing, FailedReleasing, DiskErasing, FailedDiskErasing, EnteringRescue, FailedToEnterRescue, Rescue, ExitingRescue, FailedToExitRescue, Broken}
 use Rattle.hall_types.specs.declared.kinds.OrderKind.{OrderKind}
 use Rattle.hall_types.specs.declared.kinds.OrderKind.TheVariants.{Cycle, Off}
+use Rattle.hall_types.specs.declared.event.Progress.TheVariants as progress
+use Rattle.hall_types.specs.declared.order.Outcome.TheVariants as outcome
 use Rattle.hall_types.specs.declared.machine.Machine.{Machine}
+use Rattle.life_cycle.specs.declared.action.Action.{Action}
+use Rattle.life_cycle.specs.declared.action.Action.TheVariants as act
 use Rattle.life_cycle.specs.declared.signal.Signal.{Signal}
-use Rattle.life_cycle.specs.declared.signal.Signal.TheVariants as on
+use Rattle.life_cycle.specs.declared.signal.Signal.TheVariants.{By, Report, Answer, Expired, FourthBoot}
 use Rattle.life_cycle.specs.declared.step.Step.{Step}
 
--- who may give a signal
+-- who may give a signal: an admin, a member of the machine's pool or an admin, only its owner, its owner or an
+-- admin, no operator
 pub data Who : Type 0 where
   admin : Who
   member_or_admin : Who
@@ -20,17 +25,18 @@ pub data Who : Type 0 where
   owner_or_admin : Who
   nobody : Who
 
--- where a row leads: to a status, or to the one that the machine came to rescue from
+-- where a row leads: to a status, or back to the status that the rescue began from
 pub data Target : Type 0 where
   to : Status → Target
   back : Target
 
--- when a row holds: always, or where tests were asked for, or where they weren't
+-- when a row holds: always, or only if tests were asked for, or only if they were not
 pub data Condition : Type 0 where
   always : Condition
   tests_asked : Condition
   no_tests : Condition
 
+-- a row: its signals, where each status leads, when it holds, who may give its signals, and the order it queues
 pub record Row : Type 0 where
   pub signals : List Signal
   pub leads : List (Status × Target)
@@ -42,71 +48,85 @@ abbrev pub row : List Signal → List (Status × Target) → Condition → Who �
 row signals leads condition who order =
     record { signals = signals; leads = leads; condition = condition; who = who; order = order }
 
--- each of these statuses leads there
+-- each of these statuses leads to the target
 abbrev pub each : List Status → Target → List (Status × Target)
 each froms target = map (λ from. (from, target)) froms
 
+-- whether a status is one of these
+abbrev pub is_among : List Status → Status → Bool
+is_among statuses status = list_any (λ one. status_number one == status_number status) statuses
+
+-- from these a machine can be commissioned
 abbrev pub commissionable : List Status
 commissionable = New ∷ Ready ∷ FailedCommissioning ∷ FailedTesting ∷ Broken ∷ []
 
+-- from these a machine can be released
 abbrev pub releasable : List Status
 releasable = Allocated ∷ Deployed ∷ FailedDeployment ∷ FailedReleasing ∷ FailedDiskErasing ∷ []
 
+-- from these a machine can be marked broken
 abbrev pub breakable : List Status
 breakable = Ready ∷ Allocated ∷ FailedTesting ∷ FailedDeployment ∷ FailedReleasing ∷ FailedDiskErasing ∷ []
 
+-- the table
 abbrev pub table : List Row
 table =
-    row (on.Commission ∷ []) (each commissionable (to Commissioning)) always admin (Some Cycle)
-    ∷ row (on.Test ∷ []) (each (Ready ∷ FailedTesting ∷ []) (to Testing)) always admin (Some Cycle)
-    ∷ row (on.Override ∷ []) ((FailedTesting, to Ready) ∷ []) always admin None
-    ∷ row (on.Allocate ∷ []) ((Ready, to Allocated) ∷ []) always member_or_admin None
-    ∷ row (on.Deploy ∷ []) (each (Allocated ∷ FailedDeployment ∷ []) (to Deploying)) always owner (Some Cycle)
-    ∷ row (on.Release ∷ []) (each releasable (to Releasing)) always owner_or_admin (Some Off)
-    ∷ row (on.ReleaseErasing ∷ []) (each releasable (to DiskErasing)) always owner (Some Cycle)
-    ∷ row (on.Abort ∷ [])
+    row (By act.Commission ∷ []) (each commissionable (to Commissioning)) always admin (Some Cycle)
+    ∷ row (By act.Test ∷ []) (each (Ready ∷ FailedTesting ∷ []) (to Testing)) always admin (Some Cycle)
+    ∷ row (By act.Override ∷ []) ((FailedTesting, to Ready) ∷ []) always admin None
+    ∷ row (By act.Allocate ∷ []) ((Ready, to Allocated) ∷ []) always member_or_admin None
+    ∷ row (By act.Deploy ∷ []) (each (Allocated ∷ FailedDeployment ∷ []) (to Deploying)) always owner (Some Cycle)
+    ∷ row (By act.Release ∷ []) (each releasable (to Releasing)) always owner_or_admin (Some Off)
+    ∷ row (By act.ReleaseErasing ∷ []) (each releasable (to DiskErasing)) always owner (Some Cycle)
+    ∷ row (By act.Abort ∷ [])
     ((Commissioning, to New) ∷ (Testing, to FailedTesting) ∷ (Deploying, to Allocated) ∷ (DiskErasing, to FailedDiskErasing) ∷ [])
     always owner_or_admin (Some Off)
-    ∷ row (on.Rescue ∷ []) (each (Deployed ∷ Broken ∷ FailedToEnterRescue ∷ []) (to EnteringRescue)) always owner_or_admin (Some Cycle)
-    ∷ row (on.ExitRescue ∷ []) (each (Rescue ∷ FailedToEnterRescue ∷ FailedToExitRescue ∷ []) (to ExitingRescue)) always owner_or_admin (Some Cycle)
-    ∷ row (on.Break ∷ []) (each breakable (to Broken)) always owner_or_admin None
-    ∷ row (on.Fix ∷ []) ((Broken, to Ready) ∷ []) always admin None
-    ∷ row (on.Started ∷ []) ((EnteringRescue, to Rescue) ∷ []) always nobody None
-    ∷ row (on.Done ∷ []) ((Commissioning, to Testing) ∷ []) tests_asked nobody (Some Cycle)
-    ∷ row (on.Done ∷ []) ((Commissioning, to Ready) ∷ []) no_tests nobody None
-    ∷ row (on.Done ∷ []) ((Testing, to Ready) ∷ (Deploying, to Deployed) ∷ []) always nobody None
-    ∷ row (on.Done ∷ []) ((DiskErasing, to Releasing) ∷ []) always nobody (Some Off)
-    ∷ row (on.OrderDone ∷ []) ((Releasing, to Ready) ∷ (ExitingRescue, back) ∷ []) always nobody None
-    ∷ row (on.Failed ∷ on.OrderFailed ∷ on.Expired ∷ on.FourthBoot ∷ [])
+    ∷ row (By act.Rescue ∷ []) (each (Deployed ∷ Broken ∷ FailedToEnterRescue ∷ []) (to EnteringRescue)) always owner_or_admin (Some Cycle)
+    ∷ row (By act.ExitRescue ∷ []) (each (Rescue ∷ FailedToEnterRescue ∷ FailedToExitRescue ∷ []) (to ExitingRescue)) always owner_or_admin (Some Cycle)
+    ∷ row (By act.Break ∷ []) (each breakable (to Broken)) always owner_or_admin None
+    ∷ row (By act.Fix ∷ []) ((Broken, to Ready) ∷ []) always admin None
+    ∷ row (Report progress.Started ∷ []) ((EnteringRescue, to Rescue) ∷ []) always nobody None
+    ∷ row (Report progress.Done ∷ []) ((Commissioning, to Testing) ∷ []) tests_asked nobody (Some Cycle)
+    ∷ row (Report progress.Done ∷ []) ((Commissioning, to Ready) ∷ []) no_tests nobody None
+    ∷ row (Report progress.Done ∷ []) ((Testing, to Ready) ∷ (Deploying, to Deployed) ∷ []) always nobody None
+    ∷ row (Report progress.Done ∷ []) ((DiskErasing, to Releasing) ∷ []) always nobody (Some Off)
+    ∷ row (Answer outcome.Done ∷ []) ((Releasing, to Ready) ∷ (ExitingRescue, back) ∷ []) always nobody None
+    ∷ row (Report progress.Failed ∷ Answer outcome.Failed ∷ Expired ∷ FourthBoot ∷ [])
     ((Commissioning, to FailedCommissioning) ∷ (Testing, to FailedTesting) ∷ (Deploying, to FailedDeployment) ∷ (DiskErasing, to FailedDiskErasing) ∷ (EnteringRescue, to FailedToEnterRescue) ∷ [])
     always nobody None
-    ∷ row (on.OrderFailed ∷ on.Expired ∷ []) ((Releasing, to FailedReleasing) ∷ (ExitingRescue, to FailedToExitRescue) ∷ []) always nobody None
+    ∷ row (Answer outcome.Failed ∷ Expired ∷ []) ((Releasing, to FailedReleasing) ∷ (ExitingRescue, to FailedToExitRescue) ∷ []) always nobody None
     ∷ []
 
 -- ---- what the table says
 
-abbrev pub signal_number : Signal → ℕ
-signal_number on.Commission = 0
-signal_number on.Test = 1
-signal_number on.Override = 2
-signal_number on.Allocate = 3
-signal_number on.Deploy = 4
-signal_number on.Release = 5
-signal_number on.ReleaseErasing = 6
-signal_number on.Abort = 7
-signal_number on.Rescue = 8
-signal_number on.ExitRescue = 9
-signal_number on.Break = 10
-signal_number on.Fix = 11
-signal_number on.Started = 12
-signal_number on.Done = 13
-signal_number on.Failed = 14
-signal_number on.OrderDone = 15
-signal_number on.OrderFailed = 16
-signal_number on.Expired = 17
-signal_number on.FourthBoot = 18
+abbrev pub action_number : Action → ℕ
+action_number act.Commission = 0
+action_number act.Test = 1
+action_number act.Override = 2
+action_number act.Allocate = 3
+action_number act.Deploy = 4
+action_number act.Release = 5
+action_number act.ReleaseErasing = 6
+action_number act.Abort = 7
+action_number act.Rescue = 8
+action_number act.ExitRescue = 9
+action_number act.Break = 10
+action_number act.Fix = 11
+action_number act.Lock = 12
+action_number act.Unlock = 13
 
--- one line of a row: a signal, the status that it leads from, and where to
+-- each signal has a number of its own
+abbrev pub signal_number : Signal → ℕ
+signal_number (By action) = action_number action
+signal_number (Report progress.Started) = 14
+signal_number (Report progress.Done) = 15
+signal_number (Report progress.Failed) = 16
+signal_number (Answer outcome.Done) = 17
+signal_number (Answer outcome.Failed) = 18
+signal_number Expired = 19
+signal_number FourthBoot = 20
+
+-- one line of a row: one signal, one status, and where it leads
 pub record Transition : Type 0 where
   pub signal : Signal
   pub from : Status
@@ -119,15 +139,17 @@ abbrev pub transitions_of : Row → List Transition
 transitions_of r =
     flat_map (λ signal. map (λ lead. record { signal = signal; from = lead.0; target = lead.1; condition = r.condition; who = r.who; order = r.order }) r.leads) r.signals
 
+-- all lines of all rows
 abbrev pub transitions : List Transition
 transitions = flat_map transitions_of table
 
+-- whether a row holds, given whether tests were asked for
 abbrev pub holds : Condition → Bool → Bool
 holds always tests = true
 holds tests_asked tests = tests
 holds no_tests tests = not tests
 
--- whether a transition leads on from a status, where tests were asked for or not
+-- whether a line is for this status and signal, and its row holds, given whether tests were asked for
 abbrev pub leads : Status → Bool → Signal → Transition → Bool
 leads status tests signal t =
     (signal_number t.signal == signal_number signal) && (status_number t.from == status_number status) && holds t.condition tests
@@ -145,7 +167,7 @@ step_in [] m signal = None
 step_in (t ∷ ts) m signal =
     if leads m.status m.tests signal t then step_to (status_at t.target m.back) t.order else step_in ts m signal
 
--- the step that a signal leads a machine to, and none where no row of the table stands
+-- the step that a signal leads a machine to, nothing where the table has no row for it
 unfoldable pub step_of : Machine → Signal → Option Step
 step_of m signal = step_in transitions m signal
 

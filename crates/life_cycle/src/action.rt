@@ -1,15 +1,16 @@
 //! Actions of operators on machines, and who may take them.
 ghost use Rattle.std.specs.Prelude.{◌≡◌, None, Some, if◌then◌else◌};
-ghost use Rattle.life_cycle.specs.Permission.{is_admin, is_owner, permission_for, refused_if, signal_of, who_acts};
+ghost use Rattle.life_cycle.specs.Permission.{is_admin, is_owner, permission_for, refused_if, who_acts};
 
-use crate::signal::Signal;
 use hall_types::{Machine, Operator, Refusal, Role};
 
-/// What an operator may do with a machine that moves it, locks it or unlocks it.
-#[derive(Clone, Copy, Debug, PartialEq, Eq)]
+/// What an operator can do with a machine. Twelve of these have rows in the table of the life cycle;
+/// locking and unlocking have none, since they leave the status as it is.
+#[derive(Clone, Copy, PartialEq, Eq)]
 pub enum Action {
     Commission,
     Test,
+    /// Take a machine whose tests failed as ready.
     Override,
     Allocate,
     Deploy,
@@ -17,36 +18,18 @@ pub enum Action {
     Release,
     /// Release with the disks erased, quickly or fully.
     ReleaseErasing,
+    /// End what the machine is doing, before it is done.
     Abort,
+    /// Boot the machine into rescue.
     Rescue,
     ExitRescue,
+    /// Mark the machine as broken.
     Break,
+    /// Mark a broken machine as ready.
     Fix,
+    /// Refuse other actions on the machine until it is unlocked.
     Lock,
     Unlock,
-}
-
-impl Action {
-    /// The signal that it gives; locking and unlocking give none.
-    pub fn signal(self) -> Option<Signal>
-        ensures { result ≡ signal_of self }
-    {
-        match self {
-            Action::Commission => Some(Signal::Commission),
-            Action::Test => Some(Signal::Test),
-            Action::Override => Some(Signal::Override),
-            Action::Allocate => Some(Signal::Allocate),
-            Action::Deploy => Some(Signal::Deploy),
-            Action::Release => Some(Signal::Release),
-            Action::ReleaseErasing => Some(Signal::ReleaseErasing),
-            Action::Abort => Some(Signal::Abort),
-            Action::Rescue => Some(Signal::Rescue),
-            Action::ExitRescue => Some(Signal::ExitRescue),
-            Action::Break => Some(Signal::Break),
-            Action::Fix => Some(Signal::Fix),
-            Action::Lock | Action::Unlock => None,
-        }
-    }
 }
 
 fn is_admin(operator: &Operator) -> bool
@@ -73,8 +56,14 @@ fn allowed_if(is_allowed: bool, refusal: Refusal) -> Result<(), Refusal>
     Err(refusal)
 }
 
-/// Whether an operator may act on a machine; `member` says whether the operator is a member of its pool.
-/// NotOwner and NotMember say why not. That an action is an admin's is asked for with the role before.
+/// Not the whole permission: an action that the table gives to admins is never refused here, since the
+/// caller asks for the role first. For the other actions it answers whether this operator may act on this
+/// machine; `member` says whether the operator is a member of the machine's pool.
+///
+/// # Errors
+///
+/// `NotMember` if the action needs a member of the pool or an admin, `NotOwner` if it needs the owner, or
+/// the owner or an admin, and the operator is none of these.
 #[tactic(auto, unfolding(crate::specs::Table::who_gives))]
 pub fn may(
     operator: &Operator,

@@ -2,7 +2,7 @@
 ghost use Rattle.std.specs.Prelude.{◌≡◌, ◌↔◌, ◌≤◌, IsSome, IsErr, IfSome};
 ghost use Rattle.std.specs.Result.{result_ok};
 ghost use Rattle.hall_types.specs.Number.{last_number};
-ghost use Rattle.life_cycle.specs.Entering.{entered, limit_of, keeps_owner, keeps_erase, boot_after, back_after, machine_in};
+ghost use Rattle.life_cycle.specs.Entering.{back_after, boot_after, entered, is_rescue, keeps_erase, keeps_owner, limit_of, machine_in};
 
 use crate::step::Step;
 use hall_types::{
@@ -10,20 +10,25 @@ use hall_types::{
 };
 use thiserror::Error;
 
-/// A machine in its new status, the last numbers after it, and the order that was queued with it.
-#[derive(Clone, Copy, Debug, PartialEq, Eq)]
+/// What entering a status makes of a machine.
+#[derive(Clone, Copy, PartialEq, Eq)]
 pub struct Entered {
+    /// The machine in its new status.
     pub machine: Machine,
+    /// The last numbers that were given out, with the new order's.
     pub numbers: Numbers,
+    /// The order that is queued with the step.
     pub order: Option<Order>,
+    /// The number of the order that waited until now and is withdrawn.
+    pub withdrawn: Option<Number>,
 }
 
-/// All numbers of orders were given out.
+/// All numbers of orders were given out, so no order can be queued.
 #[derive(Clone, Copy, Debug, PartialEq, Eq, Error)]
 #[error("Exhausted")]
 pub struct Exhausted;
 
-/// How many seconds a machine may stay in a status.
+/// The maximum number of seconds in a status, `None` where there is no limit.
 #[tactic(auto, unfolding(crate::specs::Entering::limit_of))]
 fn limit_of(status: Status) -> Option<u64>
     ensures limit { result ≡ limit_of status }
@@ -65,22 +70,31 @@ fn boot_after(machine: &Machine, status: Status) -> Option<Number>
     }
 }
 
-/// The status that a machine came to rescue from, once it enters a status.
-#[tactic(auto, unfolding(crate::specs::Entering::back_after))]
-fn back_after(machine: &Machine, status: Status) -> Option<Status>
-    ensures { result ≡ back_after machine.now.status status machine.now.back }
+#[tactic(auto, unfolding(crate::specs::Entering::is_rescue))]
+fn is_rescue(status: Status) -> bool
+    ensures { result ≡ is_rescue status }
 {
-    match (machine.status, status) {
-        (Status::Deployed | Status::Broken, Status::EnteringRescue) => Some(machine.status),
-        (
-            _,
-            Status::EnteringRescue
+    matches!(
+        status,
+        Status::EnteringRescue
             | Status::FailedToEnterRescue
             | Status::Rescue
             | Status::ExitingRescue
-            | Status::FailedToExitRescue,
-        ) => machine.back,
-        _ => None,
+            | Status::FailedToExitRescue
+    )
+}
+
+/// The status that the rescue began from, after a machine enters a status.
+#[tactic(auto, unfolding(crate::specs::Entering::back_after, crate::specs::Entering::is_origin))]
+fn back_after(machine: &Machine, status: Status) -> Option<Status>
+    ensures { result ≡ back_after machine.now.status status machine.now.back }
+{
+    if !is_rescue(status) {
+        return None;
+    }
+    match machine.status {
+        Status::Deployed | Status::Broken => Some(machine.status),
+        _ => machine.back,
     }
 }
 
@@ -108,8 +122,16 @@ fn machine_in(machine: &Machine, status: Status, moment: Moment, waiting: Option
     }
 }
 
-/// What becomes of a machine that takes a step. The caller sets what a command gives (owner, image,
-/// tests, the kind of erasing), and withdraws the order that waited.
+/// Enters the status of a step at a moment: the machine afterwards, with a new version and deadline, and
+/// the order that is queued with the step.
+///
+/// The caller sets what a command gives (owner, image, tests, the kind of erasing) in the machine that it
+/// passes. `withdrawn` is that machine's waiting order. An order that was just answered is not withdrawn:
+/// its caller passes a machine whose `waiting` is `None` already.
+///
+/// # Errors
+///
+/// `Exhausted` if the step queues an order and all numbers of orders were given out.
 pub fn enter(
     machine: &Machine,
     step: Step,
@@ -119,12 +141,14 @@ pub fn enter(
     ensures entered { result_ok result ≡ entered machine.now step moment numbers }
     ensures exhausted { IsErr result ↔ (IsSome step.order × (numbers.order ≡ last_number)) }
 {
+    let withdrawn = machine.waiting;
     let Some(kind) = step.order else {
         let machine = machine_in(machine, step.status, moment, None);
         return Ok(Entered {
             machine,
             numbers,
             order: None,
+            withdrawn,
         });
     };
     let Some(number) = numbers.order.next() else {
@@ -145,5 +169,6 @@ pub fn enter(
         machine,
         numbers,
         order: Some(order),
+        withdrawn,
     })
 }

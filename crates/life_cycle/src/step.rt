@@ -1,17 +1,19 @@
 //! Steps from one status to the next.
 #![tactic(auto, unfolding(crate::specs::Table::step_of, hall_types::specs::Status::status_number))]
 
-ghost use Rattle.std.specs.Prelude.{◌≡◌, ◌==◌};
-ghost use Rattle.std.specs.List.{list_any};
-ghost use Rattle.hall_types.specs.Status.{status_number};
-ghost use Rattle.life_cycle.specs.Table.{breakable, commissionable, releasable, step_of};
-ghost use Rattle.life_cycle.specs.declared.signal.Signal.TheVariants.{Abort, Done, Failed, FourthBoot, OrderDone, OrderFailed, Expired};
+ghost use Rattle.std.specs.Prelude.{◌≡◌};
+ghost use Rattle.hall_types.specs.declared.event.Progress.TheVariants as progress;
+ghost use Rattle.hall_types.specs.declared.order.Outcome.TheVariants as outcome;
+ghost use Rattle.life_cycle.specs.Table.{breakable, commissionable, is_among, releasable, step_of};
+ghost use Rattle.life_cycle.specs.declared.action.Action.TheVariants as act;
+ghost use Rattle.life_cycle.specs.declared.signal.Signal.TheVariants.{Answer, By, Expired, FourthBoot, Report};
 
+use crate::action::Action;
 use crate::signal::Signal;
-use hall_types::{Machine, OrderKind, Status};
+use hall_types::{Machine, OrderKind, Outcome, Progress, Status};
 
 /// The status to enter, and the kind of the order that is queued with it.
-#[derive(Clone, Copy, Debug, PartialEq, Eq)]
+#[derive(Clone, Copy, PartialEq, Eq)]
 pub struct Step {
     pub status: Status,
     pub order: Option<OrderKind>,
@@ -21,45 +23,55 @@ const CYCLE: Option<OrderKind> = Some(OrderKind::Cycle);
 
 const OFF: Option<OrderKind> = Some(OrderKind::Off);
 
-/// The step that a signal leads a machine to, none where no row of the table stands.
+/// The step that a signal leads a machine to, `None` where the table has no row for the signal in the
+/// machine's status.
 pub fn next(machine: &Machine, signal: Signal) -> Option<Step>
     ensures { result ≡ step_of machine.now signal }
 {
-    let (status, order) = match (signal, machine.status) {
-        (Signal::Commission, status) if is_commissionable(status) => (Status::Commissioning, CYCLE),
-        (Signal::Test, Status::Ready | Status::FailedTesting) => (Status::Testing, CYCLE),
-        (Signal::Override, Status::FailedTesting) => (Status::Ready, None),
-        (Signal::Allocate, Status::Ready) => (Status::Allocated, None),
-        (Signal::Deploy, Status::Allocated | Status::FailedDeployment) => (
+    match signal {
+        Signal::By(action) => acted(machine, action),
+        Signal::Report(Progress::Started) => started(machine),
+        Signal::Report(Progress::Done) => done(machine),
+        Signal::Report(Progress::Failed) | Signal::FourthBoot => boot_failed(machine),
+        Signal::Answer(Outcome::Done) => order_done(machine),
+        Signal::Answer(Outcome::Failed) | Signal::Expired => order_failed(machine),
+    }
+}
+
+/// The step after an operator's action.
+fn acted(machine: &Machine, action: Action) -> Option<Step>
+    ensures { result ≡ step_of machine.now (By action) }
+{
+    let (status, order) = match (action, machine.status) {
+        (Action::Commission, status) if is_commissionable(status) => (Status::Commissioning, CYCLE),
+        (Action::Test, Status::Ready | Status::FailedTesting) => (Status::Testing, CYCLE),
+        (Action::Override, Status::FailedTesting) => (Status::Ready, None),
+        (Action::Allocate, Status::Ready) => (Status::Allocated, None),
+        (Action::Deploy, Status::Allocated | Status::FailedDeployment) => (
             Status::Deploying,
             CYCLE,
         ),
-        (Signal::Release, status) if is_releasable(status) => (Status::Releasing, OFF),
-        (Signal::ReleaseErasing, status) if is_releasable(status) => (Status::DiskErasing, CYCLE),
-        (Signal::Abort, _) => return aborted(machine),
-        (Signal::Rescue, Status::Deployed | Status::Broken | Status::FailedToEnterRescue) => (
+        (Action::Release, status) if is_releasable(status) => (Status::Releasing, OFF),
+        (Action::ReleaseErasing, status) if is_releasable(status) => (Status::DiskErasing, CYCLE),
+        (Action::Abort, _) => return aborted(machine),
+        (Action::Rescue, Status::Deployed | Status::Broken | Status::FailedToEnterRescue) => (
             Status::EnteringRescue,
             CYCLE,
         ),
         (
-            Signal::ExitRescue,
+            Action::ExitRescue,
             Status::Rescue | Status::FailedToEnterRescue | Status::FailedToExitRescue,
         ) => (Status::ExitingRescue, CYCLE),
-        (Signal::Break, status) if is_breakable(status) => (Status::Broken, None),
-        (Signal::Fix, Status::Broken) => (Status::Ready, None),
-        (Signal::Started, Status::EnteringRescue) => (Status::Rescue, None),
-        (Signal::Done, _) => return done(machine),
-        (Signal::OrderDone, _) => return order_done(machine),
-        (Signal::Failed | Signal::FourthBoot, _) => return boot_failed(machine),
-        (Signal::OrderFailed | Signal::Expired, _) => return order_failed(machine),
+        (Action::Break, status) if is_breakable(status) => (Status::Broken, None),
+        (Action::Fix, Status::Broken) => (Status::Ready, None),
         _ => return None,
     };
     Some(Step { status, order })
 }
 
-/// Whether a machine can be commissioned.
+/// Whether a machine in this status can be commissioned.
 fn is_commissionable(status: Status) -> bool
-    ensures { result ≡ list_any (λ from. status_number from == status_number status) commissionable }
+    ensures { result ≡ is_among commissionable status }
 {
     matches!(
         status,
@@ -71,9 +83,9 @@ fn is_commissionable(status: Status) -> bool
     )
 }
 
-/// Whether a machine can be released.
+/// Whether a machine in this status can be released.
 fn is_releasable(status: Status) -> bool
-    ensures { result ≡ list_any (λ from. status_number from == status_number status) releasable }
+    ensures { result ≡ is_among releasable status }
 {
     matches!(
         status,
@@ -85,9 +97,9 @@ fn is_releasable(status: Status) -> bool
     )
 }
 
-/// Whether a machine can be marked broken.
+/// Whether a machine in this status can be marked broken.
 fn is_breakable(status: Status) -> bool
-    ensures { result ≡ list_any (λ from. status_number from == status_number status) breakable }
+    ensures { result ≡ is_among breakable status }
 {
     matches!(
         status,
@@ -102,7 +114,7 @@ fn is_breakable(status: Status) -> bool
 
 /// The step after an abort.
 fn aborted(machine: &Machine) -> Option<Step>
-    ensures { result ≡ step_of machine.now Abort }
+    ensures { result ≡ step_of machine.now (By act.Abort) }
 {
     let status = match machine.status {
         Status::Commissioning => Status::New,
@@ -114,9 +126,22 @@ fn aborted(machine: &Machine) -> Option<Step>
     Some(Step { status, order: OFF })
 }
 
-/// The step after the report that the current boot is done.
+/// The step after the current boot reports that it started.
+fn started(machine: &Machine) -> Option<Step>
+    ensures { result ≡ step_of machine.now (Report progress.Started) }
+{
+    match machine.status {
+        Status::EnteringRescue => Some(Step {
+            status: Status::Rescue,
+            order: None,
+        }),
+        _ => None,
+    }
+}
+
+/// The step after the current boot reports that it is done.
 fn done(machine: &Machine) -> Option<Step>
-    ensures { result ≡ step_of machine.now Done }
+    ensures { result ≡ step_of machine.now (Report progress.Done) }
 {
     let (status, order) = match machine.status {
         Status::Commissioning if machine.tests => (Status::Testing, CYCLE),
@@ -130,7 +155,7 @@ fn done(machine: &Machine) -> Option<Step>
 
 /// The step after the waiting order was carried out.
 fn order_done(machine: &Machine) -> Option<Step>
-    ensures { result ≡ step_of machine.now OrderDone }
+    ensures { result ≡ step_of machine.now (Answer outcome.Done) }
 {
     let status = match machine.status {
         Status::Releasing => Status::Ready,
@@ -143,9 +168,9 @@ fn order_done(machine: &Machine) -> Option<Step>
     })
 }
 
-/// The step after a failed boot, or where a fourth boot would be wanted.
+/// The step after the current boot reports that it failed, or after a fourth boot is asked for.
 fn boot_failed(machine: &Machine) -> Option<Step>
-    ensures failed { result ≡ step_of machine.now Failed }
+    ensures failed { result ≡ step_of machine.now (Report progress.Failed) }
     ensures fourth_boot { result ≡ step_of machine.now FourthBoot }
 {
     let status = match machine.status {
@@ -162,9 +187,9 @@ fn boot_failed(machine: &Machine) -> Option<Step>
     })
 }
 
-/// The step after a failed order, or where the deadline has come.
+/// The step after the waiting order failed, or after the deadline has come.
 fn order_failed(machine: &Machine) -> Option<Step>
-    ensures failed { result ≡ step_of machine.now OrderFailed }
+    ensures failed { result ≡ step_of machine.now (Answer outcome.Failed) }
     ensures expired { result ≡ step_of machine.now Expired }
 {
     let status = match machine.status {

@@ -1,300 +1,209 @@
 use super::machine_in;
-use crate::{Signal, next};
-use hall_types::{OrderKind, Status};
-
-const SIGNALS: [Signal; 19] = [
-    Signal::Commission,
-    Signal::Test,
-    Signal::Override,
-    Signal::Allocate,
-    Signal::Deploy,
-    Signal::Release,
-    Signal::ReleaseErasing,
-    Signal::Abort,
-    Signal::Rescue,
-    Signal::ExitRescue,
-    Signal::Break,
-    Signal::Fix,
-    Signal::Started,
-    Signal::Done,
-    Signal::Failed,
-    Signal::OrderDone,
-    Signal::OrderFailed,
-    Signal::Expired,
-    Signal::FourthBoot,
-];
+use crate::Signal::{self, *};
+use crate::{Action, Step, next};
+use hall_types::OrderKind::{self, *};
+use hall_types::Status::{self, *};
+use hall_types::{Machine, Outcome, Progress};
 
 const STATUSES: [Status; 20] = [
-    Status::New,
-    Status::Commissioning,
-    Status::FailedCommissioning,
-    Status::Testing,
-    Status::FailedTesting,
-    Status::Ready,
-    Status::Allocated,
-    Status::Deploying,
-    Status::FailedDeployment,
-    Status::Deployed,
-    Status::Releasing,
-    Status::FailedReleasing,
-    Status::DiskErasing,
-    Status::FailedDiskErasing,
-    Status::EnteringRescue,
-    Status::FailedToEnterRescue,
-    Status::Rescue,
-    Status::ExitingRescue,
-    Status::FailedToExitRescue,
-    Status::Broken,
+    New,
+    Commissioning,
+    FailedCommissioning,
+    Testing,
+    FailedTesting,
+    Ready,
+    Allocated,
+    Deploying,
+    FailedDeployment,
+    Deployed,
+    Releasing,
+    FailedReleasing,
+    DiskErasing,
+    FailedDiskErasing,
+    EnteringRescue,
+    FailedToEnterRescue,
+    Rescue,
+    ExitingRescue,
+    FailedToExitRescue,
+    Broken,
 ];
 
-/// Rows with an order to switch off and on: signal, from and to.
-const CYCLES: [(Signal, Status, Status); 20] = [
-    (Signal::Commission, Status::New, Status::Commissioning),
-    (Signal::Commission, Status::Ready, Status::Commissioning),
-    (
-        Signal::Commission,
-        Status::FailedCommissioning,
-        Status::Commissioning,
-    ),
-    (
-        Signal::Commission,
-        Status::FailedTesting,
-        Status::Commissioning,
-    ),
-    (Signal::Commission, Status::Broken, Status::Commissioning),
-    (Signal::Test, Status::Ready, Status::Testing),
-    (Signal::Test, Status::FailedTesting, Status::Testing),
-    (Signal::Deploy, Status::Allocated, Status::Deploying),
-    (Signal::Deploy, Status::FailedDeployment, Status::Deploying),
-    (
-        Signal::ReleaseErasing,
-        Status::Allocated,
-        Status::DiskErasing,
-    ),
-    (
-        Signal::ReleaseErasing,
-        Status::Deployed,
-        Status::DiskErasing,
-    ),
-    (
-        Signal::ReleaseErasing,
-        Status::FailedDeployment,
-        Status::DiskErasing,
-    ),
-    (
-        Signal::ReleaseErasing,
-        Status::FailedReleasing,
-        Status::DiskErasing,
-    ),
-    (
-        Signal::ReleaseErasing,
-        Status::FailedDiskErasing,
-        Status::DiskErasing,
-    ),
-    (Signal::Rescue, Status::Deployed, Status::EnteringRescue),
-    (Signal::Rescue, Status::Broken, Status::EnteringRescue),
-    (
-        Signal::Rescue,
-        Status::FailedToEnterRescue,
-        Status::EnteringRescue,
-    ),
-    (Signal::ExitRescue, Status::Rescue, Status::ExitingRescue),
-    (
-        Signal::ExitRescue,
-        Status::FailedToEnterRescue,
-        Status::ExitingRescue,
-    ),
-    (
-        Signal::ExitRescue,
-        Status::FailedToExitRescue,
-        Status::ExitingRescue,
-    ),
+const SIGNALS: [Signal; 21] = [
+    By(Action::Commission),
+    By(Action::Test),
+    By(Action::Override),
+    By(Action::Allocate),
+    By(Action::Deploy),
+    By(Action::Release),
+    By(Action::ReleaseErasing),
+    By(Action::Abort),
+    By(Action::Rescue),
+    By(Action::ExitRescue),
+    By(Action::Break),
+    By(Action::Fix),
+    By(Action::Lock),
+    By(Action::Unlock),
+    Report(Progress::Started),
+    Report(Progress::Done),
+    Report(Progress::Failed),
+    Answer(Outcome::Done),
+    Answer(Outcome::Failed),
+    Expired,
+    FourthBoot,
 ];
 
-/// Rows with an order to switch off.
-const OFFS: [(Signal, Status, Status); 10] = [
-    (Signal::Release, Status::Allocated, Status::Releasing),
-    (Signal::Release, Status::Deployed, Status::Releasing),
-    (Signal::Release, Status::FailedDeployment, Status::Releasing),
-    (Signal::Release, Status::FailedReleasing, Status::Releasing),
-    (
-        Signal::Release,
-        Status::FailedDiskErasing,
-        Status::Releasing,
-    ),
-    (Signal::Abort, Status::Commissioning, Status::New),
-    (Signal::Abort, Status::Testing, Status::FailedTesting),
-    (Signal::Abort, Status::Deploying, Status::Allocated),
-    (
-        Signal::Abort,
-        Status::DiskErasing,
-        Status::FailedDiskErasing,
-    ),
-    (Signal::Done, Status::DiskErasing, Status::Releasing),
+const RELEASABLE: &[Status] = &[
+    Allocated,
+    Deployed,
+    FailedDeployment,
+    FailedReleasing,
+    FailedDiskErasing,
 ];
 
-/// Rows without an order, save for the ends of commissioning and of a rescue.
-const PLAIN: [(Signal, Status, Status); 37] = [
-    (Signal::Override, Status::FailedTesting, Status::Ready),
-    (Signal::Allocate, Status::Ready, Status::Allocated),
-    (Signal::Break, Status::Ready, Status::Broken),
-    (Signal::Break, Status::Allocated, Status::Broken),
-    (Signal::Break, Status::FailedTesting, Status::Broken),
-    (Signal::Break, Status::FailedDeployment, Status::Broken),
-    (Signal::Break, Status::FailedReleasing, Status::Broken),
-    (Signal::Break, Status::FailedDiskErasing, Status::Broken),
-    (Signal::Fix, Status::Broken, Status::Ready),
-    (Signal::Started, Status::EnteringRescue, Status::Rescue),
-    (Signal::Done, Status::Testing, Status::Ready),
-    (Signal::Done, Status::Deploying, Status::Deployed),
-    (Signal::OrderDone, Status::Releasing, Status::Ready),
-    (
-        Signal::Failed,
-        Status::Commissioning,
-        Status::FailedCommissioning,
-    ),
-    (Signal::Failed, Status::Testing, Status::FailedTesting),
-    (Signal::Failed, Status::Deploying, Status::FailedDeployment),
-    (
-        Signal::Failed,
-        Status::DiskErasing,
-        Status::FailedDiskErasing,
-    ),
-    (
-        Signal::Failed,
-        Status::EnteringRescue,
-        Status::FailedToEnterRescue,
-    ),
-    (
-        Signal::OrderFailed,
-        Status::Commissioning,
-        Status::FailedCommissioning,
-    ),
-    (Signal::OrderFailed, Status::Testing, Status::FailedTesting),
-    (
-        Signal::OrderFailed,
-        Status::Deploying,
-        Status::FailedDeployment,
-    ),
-    (
-        Signal::OrderFailed,
-        Status::DiskErasing,
-        Status::FailedDiskErasing,
-    ),
-    (
-        Signal::OrderFailed,
-        Status::EnteringRescue,
-        Status::FailedToEnterRescue,
-    ),
-    (
-        Signal::OrderFailed,
-        Status::Releasing,
-        Status::FailedReleasing,
-    ),
-    (
-        Signal::OrderFailed,
-        Status::ExitingRescue,
-        Status::FailedToExitRescue,
-    ),
-    (
-        Signal::Expired,
-        Status::Commissioning,
-        Status::FailedCommissioning,
-    ),
-    (Signal::Expired, Status::Testing, Status::FailedTesting),
-    (Signal::Expired, Status::Deploying, Status::FailedDeployment),
-    (
-        Signal::Expired,
-        Status::DiskErasing,
-        Status::FailedDiskErasing,
-    ),
-    (
-        Signal::Expired,
-        Status::EnteringRescue,
-        Status::FailedToEnterRescue,
-    ),
-    (Signal::Expired, Status::Releasing, Status::FailedReleasing),
-    (
-        Signal::Expired,
-        Status::ExitingRescue,
-        Status::FailedToExitRescue,
-    ),
-    (
-        Signal::FourthBoot,
-        Status::Commissioning,
-        Status::FailedCommissioning,
-    ),
-    (Signal::FourthBoot, Status::Testing, Status::FailedTesting),
-    (
-        Signal::FourthBoot,
-        Status::Deploying,
-        Status::FailedDeployment,
-    ),
-    (
-        Signal::FourthBoot,
-        Status::DiskErasing,
-        Status::FailedDiskErasing,
-    ),
-    (
-        Signal::FourthBoot,
-        Status::EnteringRescue,
-        Status::FailedToEnterRescue,
-    ),
+const BREAKABLE: &[Status] = &[
+    Ready,
+    Allocated,
+    FailedTesting,
+    FailedDeployment,
+    FailedReleasing,
+    FailedDiskErasing,
 ];
 
-/// Where one of these rows leads to.
-fn led_by(rows: &[(Signal, Status, Status)], signal: Signal, from: Status) -> Option<Status> {
-    rows.iter()
-        .find(|row| row.0 == signal && row.1 == from)
-        .map(|row| row.2)
+/// Signals that end a boot's work without success.
+const FAILURES: &[Signal] = &[
+    Report(Progress::Failed),
+    Answer(Outcome::Failed),
+    Expired,
+    FourthBoot,
+];
+
+/// Signals that end an order's work without success.
+const LATE: &[Signal] = &[Answer(Outcome::Failed), Expired];
+
+/// Signals, the statuses that each of them leads from, the status that it leads to, and the order. The ends
+/// of commissioning and of a rescue are not in it.
+const TABLE: [(&[Signal], &[Status], Status, Option<OrderKind>); 27] = [
+    (
+        &[By(Action::Commission)],
+        &[New, Ready, FailedCommissioning, FailedTesting, Broken],
+        Commissioning,
+        Some(Cycle),
+    ),
+    (
+        &[By(Action::Test)],
+        &[Ready, FailedTesting],
+        Testing,
+        Some(Cycle),
+    ),
+    (&[By(Action::Override)], &[FailedTesting], Ready, None),
+    (&[By(Action::Allocate)], &[Ready], Allocated, None),
+    (
+        &[By(Action::Deploy)],
+        &[Allocated, FailedDeployment],
+        Deploying,
+        Some(Cycle),
+    ),
+    (&[By(Action::Release)], RELEASABLE, Releasing, Some(Off)),
+    (
+        &[By(Action::ReleaseErasing)],
+        RELEASABLE,
+        DiskErasing,
+        Some(Cycle),
+    ),
+    (&[By(Action::Abort)], &[Commissioning], New, Some(Off)),
+    (&[By(Action::Abort)], &[Testing], FailedTesting, Some(Off)),
+    (&[By(Action::Abort)], &[Deploying], Allocated, Some(Off)),
+    (
+        &[By(Action::Abort)],
+        &[DiskErasing],
+        FailedDiskErasing,
+        Some(Off),
+    ),
+    (
+        &[By(Action::Rescue)],
+        &[Deployed, Broken, FailedToEnterRescue],
+        EnteringRescue,
+        Some(Cycle),
+    ),
+    (
+        &[By(Action::ExitRescue)],
+        &[Rescue, FailedToEnterRescue, FailedToExitRescue],
+        ExitingRescue,
+        Some(Cycle),
+    ),
+    (&[By(Action::Break)], BREAKABLE, Broken, None),
+    (&[By(Action::Fix)], &[Broken], Ready, None),
+    (
+        &[Report(Progress::Started)],
+        &[EnteringRescue],
+        Rescue,
+        None,
+    ),
+    (&[Report(Progress::Done)], &[Testing], Ready, None),
+    (&[Report(Progress::Done)], &[Deploying], Deployed, None),
+    (
+        &[Report(Progress::Done)],
+        &[DiskErasing],
+        Releasing,
+        Some(Off),
+    ),
+    (&[Answer(Outcome::Done)], &[Releasing], Ready, None),
+    (FAILURES, &[Commissioning], FailedCommissioning, None),
+    (FAILURES, &[Testing], FailedTesting, None),
+    (FAILURES, &[Deploying], FailedDeployment, None),
+    (FAILURES, &[DiskErasing], FailedDiskErasing, None),
+    (FAILURES, &[EnteringRescue], FailedToEnterRescue, None),
+    (LATE, &[Releasing], FailedReleasing, None),
+    (LATE, &[ExitingRescue], FailedToExitRescue, None),
+];
+
+/// The step that the table gives.
+fn listed(signal: Signal, from: Status) -> Option<Step> {
+    TABLE
+        .iter()
+        .find(|(signals, statuses, _, _)| signals.contains(&signal) && statuses.contains(&from))
+        .map(|&(_, _, status, order)| Step { status, order })
 }
 
-/// What the table says of a machine for which tests were asked for or not, and that came to rescue from there.
-fn wanted(
-    signal: Signal,
-    from: Status,
-    tests: bool,
-    back: Option<Status>,
-) -> Option<(Status, Option<OrderKind>)> {
-    match (signal, from, tests) {
-        (Signal::Done, Status::Commissioning, true) => return Some((
-            Status::Testing,
-            Some(OrderKind::Cycle),
-        )),
-        (Signal::Done, Status::Commissioning, false) => return Some((Status::Ready, None)),
-        (Signal::OrderDone, Status::ExitingRescue, _) => return back.map(|status| (status, None)),
-        _ => {}
+/// The step of a machine for which tests were asked for or not, and that came to rescue from a status.
+fn wanted(signal: Signal, from: Status, tests: bool, back: Option<Status>) -> Option<Step> {
+    match (signal, from) {
+        (Report(Progress::Done), Commissioning) if tests => Some(Step {
+            status: Testing,
+            order: Some(Cycle),
+        }),
+        (Report(Progress::Done), Commissioning) => Some(Step {
+            status: Ready,
+            order: None,
+        }),
+        (Answer(Outcome::Done), ExitingRescue) => Some(Step {
+            status: back?,
+            order: None,
+        }),
+        _ => listed(signal, from),
     }
-    if let Some(to) = led_by(&CYCLES, signal, from) {
-        return Some((to, Some(OrderKind::Cycle)));
-    }
-    if let Some(to) = led_by(&OFFS, signal, from) {
-        return Some((to, Some(OrderKind::Off)));
-    }
-    led_by(&PLAIN, signal, from).map(|to| (to, None))
+}
+
+/// The place of the first signal that leads elsewhere.
+fn wrong_signal(machine: &Machine) -> Option<usize> {
+    SIGNALS.iter().position(|&signal| {
+        next(machine, signal) != wanted(signal, machine.status, machine.tests, machine.back)
+    })
 }
 
 #[test]
 fn signals_lead_where_the_table_says(rt: HostRuntime) {
-    let cases = [
-        (false, None),
-        (false, Some(Status::Deployed)),
-        (true, None),
-        (true, Some(Status::Broken)),
-    ];
-    for from in STATUSES {
-        for signal in SIGNALS {
-            for (tests, back) in cases {
-                let mut machine = machine_in(&rt, from);
-                machine.tests = tests;
-                machine.back = back;
-                let step = next(&machine, signal).map(|step| (step.status, step.order));
-                assert_eq!(rt;
-                    step,
-                    wanted(signal, from, tests, back),
-                    "{signal:?} in {from:?}"
-                );
-            }
+    for status in STATUSES {
+        for (tests, back) in [
+            (false, None),
+            (false, Some(Deployed)),
+            (true, None),
+            (true, Some(Broken)),
+        ] {
+            let mut machine = machine_in(&rt, status);
+            machine.tests = tests;
+            machine.back = back;
+            assert_eq!(rt; wrong_signal(&machine), None, "in {status:?}");
         }
     }
 }
