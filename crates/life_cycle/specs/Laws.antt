@@ -39,6 +39,6 @@ abbrev pub limited : List Status
 limited =
     Commissioning ∷ Testing ∷ Deploying ∷ Releasing ∷ DiskErasing ∷ EnteringRescue ∷ ExitingRescue ∷ []
 
--- the statuses that end after their work: a machine boots for it
+-- the statuses in which a machine boots for work that ends: all that it boots for except Rescue
 abbrev pub working : List Status
 working = Commissioning ∷ Testing ∷ Deploying ∷ DiskErasing ∷ EnteringRescue ∷ []

@@ -1,9 +1,9 @@
 -- The laws of steps: which signals lead to a status and out of it, and where a step leads.
-use Rattle.std.specs.Prelude.{◌≡◌, ◌≢◌, ◌⊎◌, ◌↔◌, ℕ, ◌==◌, ◌&&◌, ◌||◌, not, Bool, true, false, List, [], ◌∷◌, All, Option, Some, None, get_or, is_some, IsSome}
+use Rattle.std.specs.Prelude.{◌≡◌, ◌≢◌, ◌⊎◌, ℕ, ◌==◌, ◌&&◌, ◌||◌, not, Bool, true, false, List, [], ◌∷◌, All, Option, Some, None, get_or, is_some}
 use Rattle.std.specs.List.{list_all}
 use Rattle.std.proofs.Common.{refl, sym, ap, subst, ◌∙◌, inl, inr}
 use Rattle.std.proofs.Math.Bool.{beq}
-use Rattle.std.proofs.lemmas.Bool.{and_parts, or_cases, both_ways, eqb-true, false≢true, true≢false, not-true}
+use Rattle.std.proofs.lemmas.Bool.{and_parts, or_cases, both_ways, eqb-true, false≢true, not-true}
 use Rattle.std.proofs.lemmas.List.Elements.{All-weaker}
 use Rattle.std.proofs.lemmas.List.Sums.{AllPass-from_list_all}
 use Rattle.hall_types.specs.Status.{status_number}
@@ -21,7 +21,7 @@ use Rattle.life_cycle.specs.declared.step.Step.{Step}
 use Rattle.life_cycle.specs.Table.{Who, admin, member_or_admin, owner, owner_or_admin, nobody, Target, to, back, Transition, transitions, is_among, status_at, step_to, step_of, who_gives}
 use Rattle.life_cycle.specs.Entering.{is_origin, is_rescue, limit_of}
 use Rattle.life_cycle.specs.Laws.{IsRemembered, limited, order_into, order_with, working}
-use Rattle.life_cycle.specs.TableLaws.{statuses, is_status, is_signal, is_status-same, is_signal-same, same_status, same_signal, each_status, led, same_step, same_back, StepTest, passes, only_if, only_if_true, each_step, each_start}
+use Rattle.life_cycle.specs.TableLaws.{statuses, is_status, is_signal, is_status-same, same_status, same_signal, each_status, led, same_step, same_back, StepTest, passes, only_if, only_if_true, each_step, each_start}
 
 -- ---- statuses that one signal leads to
 
@@ -33,7 +33,7 @@ way_by status by m signal step all r e is =
     same_signal signal by (only_if_true (is_status step.status status) (is_signal signal by) (each_step (only_way status by) m signal step all r e) (is_status-same step.status status is))
 
 deploy_alone : list_all (passes (only_way Deploying (By act.Deploy))) transitions ≡ true
-unfolding status_number is_origin
+unfolding status_number
 deploy_alone = refl
 
 -- only `deploy` leads to Deploying
@@ -193,7 +193,7 @@ all_expire : (m : Machine) → list_all (expiry_fits m) statuses ≡ true
 unfolding step_of status_number limit_of
 all_expire m = refl
 
--- a status is left after its deadline exactly if it has a limit
+-- a status is left when its deadline has come exactly if it has a limit
 pub is_some-expired : (m : Machine) → is_some (step_of m Expired) ≡ is_some (limit_of m.status)
 is_some-expired m =
     same_test (is_some (step_of m Expired)) (is_some (limit_of m.status)) (each_status (expiry_fits m) (all_expire m) m.status)
@@ -205,7 +205,7 @@ all_fourth_boots : (m : Machine) → list_all (fourth_boot_fits m) statuses ≡ 
 unfolding step_of status_number
 all_fourth_boots m = refl
 
--- a fourth boot leads on exactly in the statuses that end after their work
+-- a fourth boot leads to another status exactly in the statuses in which a machine boots for work that ends
 pub is_some-fourth_boot : (m : Machine) → is_some (step_of m FourthBoot) ≡ is_among working m.status
 is_some-fourth_boot m =
     same_test (is_some (step_of m FourthBoot)) (is_among working m.status) (each_status (fourth_boot_fits m) (all_fourth_boots m) m.status)

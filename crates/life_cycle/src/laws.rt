@@ -89,8 +89,8 @@ pub fn limits_expire()
     ensures expiry { (m : Machine) → is_some (step_of m Expired) ≡ is_some (limit_of m.status) }
 {}
 
-/// A fourth boot ends exactly the statuses whose work needs a boot: Commissioning, Testing, Deploying, Disk
-/// erasing and Entering rescue.
+/// A fourth boot leads to another status exactly from Commissioning, Testing, Deploying, Disk erasing and
+/// Entering rescue.
 #[tactic(auto, using(crate::proofs::LawLemmas::fourth_boots))]
 pub fn fourth_boots()
     ensures { (m : Machine) → is_some (step_of m FourthBoot) ≡ is_among working m.status }

@@ -53,51 +53,58 @@ fn taken<R: Abort>(
     enter(machine, step, moment, numbers).expect(rt, "a number is left")
 }
 
-/// Signals and their moments, and after each the status, the kind of the order and the deadline.
-const WAY: [(Signal, u64, Status, Option<OrderKind>, Option<u64>); 7] = [
-    (
-        By(Action::Commission),
-        1000,
-        Status::Commissioning,
-        Some(OrderKind::Cycle),
-        Some(2800),
-    ),
-    (Report(Progress::Done), 1100, Status::Ready, None, None),
-    (By(Action::Allocate), 1200, Status::Allocated, None, None),
-    (
-        By(Action::Deploy),
-        2000,
-        Status::Deploying,
-        Some(OrderKind::Cycle),
-        Some(4400),
-    ),
-    (Report(Progress::Done), 2300, Status::Deployed, None, None),
-    (
-        By(Action::Release),
-        5000,
-        Status::Releasing,
-        Some(OrderKind::Off),
-        Some(5600),
-    ),
-    (Answer(Outcome::Done), 5100, Status::Ready, None, None),
-];
+/// Takes a step from what was entered before, and asserts the status, the kind of the order and the
+/// deadline.
+fn stepped<R: Abort>(
+    rt: &R,
+    before: &Entered,
+    signal: Signal,
+    moment: u64,
+    wanted: (Status, Option<OrderKind>, Option<u64>),
+) -> Entered {
+    let entered = taken(rt, &before.machine, signal, moment, before.numbers);
+    let kind = entered.order.map(|order| order.kind);
+    assert_eq!(rt;
+        (entered.machine.status, kind, entered.machine.deadline),
+        wanted
+    );
+    entered
+}
 
 #[test]
 fn a_machine_is_commissioned_deployed_and_released(rt: HostRuntime) {
-    let mut machine = machine_in(&rt, Status::New);
-    let mut numbers = NO_NUMBERS;
-    for (signal, moment, status, kind, deadline) in WAY {
-        let entered = taken(&rt, &machine, signal, moment, numbers);
-        machine = entered.machine;
-        numbers = entered.numbers;
-        let seen = (
-            machine.status,
-            entered.order.map(|order| order.kind),
-            machine.deadline,
-        );
-        assert_eq!(rt; seen, (status, kind, deadline));
-    }
-    assert_eq!(rt; (machine.version.get(), numbers.order.get()), (8, 3));
+    let cycle = Some(OrderKind::Cycle);
+    let off = Some(OrderKind::Off);
+    let commissioning = (Status::Commissioning, cycle, Some(2800));
+    let deploying = (Status::Deploying, cycle, Some(4400));
+    let releasing = (Status::Releasing, off, Some(5600));
+    let ready = (Status::Ready, None, None);
+    let new = Entered {
+        machine: machine_in(&rt, Status::New),
+        numbers: NO_NUMBERS,
+        order: None,
+        withdrawn: None,
+    };
+    let at = stepped(&rt, &new, By(Action::Commission), 1000, commissioning);
+    let at = stepped(&rt, &at, Report(Progress::Done), 1100, ready);
+    let at = stepped(
+        &rt,
+        &at,
+        By(Action::Allocate),
+        1200,
+        (Status::Allocated, None, None),
+    );
+    let at = stepped(&rt, &at, By(Action::Deploy), 2000, deploying);
+    let at = stepped(
+        &rt,
+        &at,
+        Report(Progress::Done),
+        2300,
+        (Status::Deployed, None, None),
+    );
+    let at = stepped(&rt, &at, By(Action::Release), 5000, releasing);
+    let at = stepped(&rt, &at, Answer(Outcome::Done), 5100, ready);
+    assert_eq!(rt; (at.machine.version.get(), at.numbers.order.get()), (8, 3));
 }
 
 #[test]
@@ -160,64 +167,7 @@ fn seven_statuses_have_a_limit(rt: HostRuntime) {
     assert_eq!(rt; wrong_limit(&machine, moment), None);
 }
 
-/// Steps by a status and a signal, and whether the owner, the kind of erasing and the boot are kept.
-const KEPT: [(Status, Signal, (bool, bool, bool)); 13] = [
-    (
-        Status::EnteringRescue,
-        Report(Progress::Started),
-        (true, false, true),
-    ),
-    (
-        Status::EnteringRescue,
-        Report(Progress::Failed),
-        (true, false, false),
-    ),
-    (Status::Rescue, By(Action::ExitRescue), (true, false, false)),
-    (
-        Status::Deploying,
-        Report(Progress::Done),
-        (true, false, false),
-    ),
-    (Status::Allocated, By(Action::Break), (false, false, false)),
-    (
-        Status::Releasing,
-        Answer(Outcome::Done),
-        (false, false, false),
-    ),
-    (
-        Status::Releasing,
-        Answer(Outcome::Failed),
-        (true, false, false),
-    ),
-    (
-        Status::Deployed,
-        By(Action::ReleaseErasing),
-        (true, true, false),
-    ),
-    (
-        Status::DiskErasing,
-        Report(Progress::Failed),
-        (true, true, false),
-    ),
-    (Status::DiskErasing, By(Action::Abort), (true, true, false)),
-    (
-        Status::DiskErasing,
-        Report(Progress::Done),
-        (true, false, false),
-    ),
-    (
-        Status::FailedDiskErasing,
-        By(Action::Release),
-        (true, false, false),
-    ),
-    (
-        Status::FailedDiskErasing,
-        By(Action::Break),
-        (false, false, false),
-    ),
-];
-
-/// Which of the three columns a step keeps.
+/// Whether a step keeps the owner, the kind of erasing and the boot.
 fn kept<R: Abort>(rt: &R, status: Status, signal: Signal) -> (bool, bool, bool) {
     let mut machine = machine_in(rt, status);
     machine.owner = Some(machine.pool);
@@ -231,11 +181,37 @@ fn kept<R: Abort>(rt: &R, status: Status, signal: Signal) -> (bool, bool, bool) 
     )
 }
 
+fn assert_kept<R: Abort>(rt: &R, steps: &[(Status, Signal)], wanted: (bool, bool, bool)) {
+    for (status, signal) in steps {
+        assert_eq!(rt; kept(rt, *status, *signal), wanted, "from {status:?}");
+    }
+}
+
 #[test]
 fn columns_are_kept_or_forgotten(rt: HostRuntime) {
-    for (status, signal, wanted) in KEPT {
-        assert_eq!(rt; kept(&rt, status, signal), wanted, "from {status:?}");
-    }
+    let none = [
+        (Status::Allocated, By(Action::Break)),
+        (Status::Releasing, Answer(Outcome::Done)),
+        (Status::FailedDiskErasing, By(Action::Break)),
+    ];
+    let owner = [
+        (Status::EnteringRescue, Report(Progress::Failed)),
+        (Status::Rescue, By(Action::ExitRescue)),
+        (Status::Deploying, Report(Progress::Done)),
+        (Status::Releasing, Answer(Outcome::Failed)),
+        (Status::DiskErasing, Report(Progress::Done)),
+        (Status::FailedDiskErasing, By(Action::Release)),
+    ];
+    let owner_and_erase = [
+        (Status::Deployed, By(Action::ReleaseErasing)),
+        (Status::DiskErasing, Report(Progress::Failed)),
+        (Status::DiskErasing, By(Action::Abort)),
+    ];
+    let owner_and_boot = [(Status::EnteringRescue, Report(Progress::Started))];
+    assert_kept(&rt, &none, (false, false, false));
+    assert_kept(&rt, &owner, (true, false, false));
+    assert_kept(&rt, &owner_and_erase, (true, true, false));
+    assert_kept(&rt, &owner_and_boot, (true, false, true));
 }
 
 const YES: Result<(), Refusal> = Ok(());
@@ -255,23 +231,6 @@ const OWNER: Answers = [NOT_OWNER, NOT_OWNER, YES, YES, NOT_OWNER, NOT_OWNER];
 
 const OWNER_OR_ADMIN: Answers = [NOT_OWNER, NOT_OWNER, YES, YES, YES, YES];
 
-const PERMISSIONS: [(Action, Answers); 14] = [
-    (Action::Commission, ANYBODY),
-    (Action::Test, ANYBODY),
-    (Action::Override, ANYBODY),
-    (Action::Allocate, MEMBER_OR_ADMIN),
-    (Action::Deploy, OWNER),
-    (Action::Release, OWNER_OR_ADMIN),
-    (Action::ReleaseErasing, OWNER),
-    (Action::Abort, OWNER_OR_ADMIN),
-    (Action::Rescue, OWNER_OR_ADMIN),
-    (Action::ExitRescue, OWNER_OR_ADMIN),
-    (Action::Break, OWNER_OR_ADMIN),
-    (Action::Fix, ANYBODY),
-    (Action::Lock, OWNER_OR_ADMIN),
-    (Action::Unlock, OWNER_OR_ADMIN),
-];
-
 fn operator<R: Abort>(rt: &R, text: &str, role: Role) -> Operator {
     Operator {
         name: name(rt, text),
@@ -281,29 +240,49 @@ fn operator<R: Abort>(rt: &R, text: &str, role: Role) -> Operator {
     }
 }
 
-/// The place of the first action with another answer than the one at a place of its answers.
-fn wrong_answer(
-    operator: &Operator,
-    machine: &Machine,
-    member: bool,
-    place: usize,
-) -> Option<usize> {
-    PERMISSIONS.iter().position(|(action, answers)| {
-        answers.get(place) != Some(&may(operator, machine, *action, member))
-    })
+/// The answers on a machine of alice's.
+fn given<R: Abort>(rt: &R, action: Action) -> Answers {
+    let mut machine = machine_in(rt, Status::Allocated);
+    machine.owner = Some(name(rt, "alice"));
+    let stranger = operator(rt, "mallory", Role::User);
+    let owner = operator(rt, "alice", Role::User);
+    let admin = operator(rt, "root", Role::Admin);
+    [
+        may(&stranger, &machine, action, false),
+        may(&stranger, &machine, action, true),
+        may(&owner, &machine, action, false),
+        may(&owner, &machine, action, true),
+        may(&admin, &machine, action, false),
+        may(&admin, &machine, action, true),
+    ]
+}
+
+fn assert_given<R: Abort>(rt: &R, actions: &[Action], wanted: Answers) {
+    for action in actions {
+        assert_eq!(rt; given(rt, *action), wanted);
+    }
 }
 
 #[test]
 fn actions_are_allowed_by_who_acts(rt: HostRuntime) {
-    let mut machine = machine_in(&rt, Status::Allocated);
-    machine.owner = Some(name(&rt, "alice"));
-    let asked = [
-        operator(&rt, "mallory", Role::User),
-        operator(&rt, "alice", Role::User),
-        operator(&rt, "root", Role::Admin),
+    let anybody = [
+        Action::Commission,
+        Action::Test,
+        Action::Override,
+        Action::Fix,
     ];
-    for place in 0..6 {
-        let wrong = wrong_answer(&asked[place / 2], &machine, place % 2 == 1, place);
-        assert_eq!(rt; wrong, None, "at {place}");
-    }
+    let owner = [Action::Deploy, Action::ReleaseErasing];
+    let owner_or_admin = [
+        Action::Release,
+        Action::Abort,
+        Action::Rescue,
+        Action::ExitRescue,
+        Action::Break,
+        Action::Lock,
+        Action::Unlock,
+    ];
+    assert_given(&rt, &anybody, ANYBODY);
+    assert_given(&rt, &[Action::Allocate], MEMBER_OR_ADMIN);
+    assert_given(&rt, &owner, OWNER);
+    assert_given(&rt, &owner_or_admin, OWNER_OR_ADMIN);
 }
