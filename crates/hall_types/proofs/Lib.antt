@@ -1,6 +1,3 @@
-pub mod CommandLemmas
-pub mod DecodedLemmas
 pub mod HallLemmas
 pub mod NameLemmas
-pub mod PlainLemmas
-pub mod ReplyRows
+pub mod WriteLemmas

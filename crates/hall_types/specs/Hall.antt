@@ -1,6 +1,6 @@
 -- A hall: what the desk knows.
 use Rattle.std.specs.Prelude.{ℕ, ◌==◌, not, List, [], ◌∷◌, true, codes}
-use Rattle.pxe_vendor.specs.Arch.{arch_number}
+use Rattle.hall_types.specs.Kinds.{arch_number}
 use Rattle.hall_types.specs.Rows.{Rows, numbers, texts, pairs, put, gone, no_rows, rows_where}
 use Rattle.hall_types.specs.Image.{BootImage}
 use Rattle.hall_types.specs.declared.kinds.Role.TheVariants.{Admin}

@@ -1,5 +1,8 @@
--- The words and numbers of kinds, as texts and tables have them.
-use Rattle.std.specs.Prelude.{ℕ, List, codes}
+-- The words and numbers of kinds, in texts and in tables.
+use Rattle.std.specs.Prelude.{ℕ, ◌==◌, List, [], ◌∷◌, Option, find, codes}
+use Rattle.std.specs.Str.{bytes_eq}
+use Rattle.pxe_vendor.specs.declared.arch.Arch.{Arch}
+use Rattle.pxe_vendor.specs.declared.arch.Arch.TheVariants as arch
 use Rattle.hall_types.specs.declared.kinds.Role.{Role}
 use Rattle.hall_types.specs.declared.kinds.Role.TheVariants as role
 use Rattle.hall_types.specs.declared.kinds.Purpose.{Purpose}
@@ -11,9 +14,19 @@ use Rattle.hall_types.specs.declared.kinds.OrderKind.TheVariants as orderkind
 use Rattle.hall_types.specs.declared.kinds.OrderStage.{OrderStage}
 use Rattle.hall_types.specs.declared.kinds.OrderStage.TheVariants as orderstage
 use Rattle.hall_types.specs.declared.kinds.Erase.{Erase}
-use Rattle.hall_types.specs.declared.event.Progress.{Progress}
-use Rattle.hall_types.specs.declared.event.Progress.TheVariants as progress
 use Rattle.hall_types.specs.declared.kinds.Erase.TheVariants as erase
+use Rattle.hall_types.specs.declared.kinds.Progress.{Progress}
+use Rattle.hall_types.specs.declared.kinds.Progress.TheVariants as progress
+use Rattle.hall_types.specs.declared.kinds.Outcome.{Outcome}
+use Rattle.hall_types.specs.declared.kinds.Outcome.TheVariants as outcome
+
+-- the one of these kinds that has this word
+abbrev pub with_text : {K : Type 0} → (K → List ℕ) → List ℕ → List K → Option K
+with_text text_of text kinds = find (λ kind. bytes_eq (text_of kind) text) kinds
+
+-- the one of these kinds that has this number
+abbrev pub with_number : {K : Type 0} → (K → ℕ) → ℕ → List K → Option K
+with_number number_of number kinds = find (λ kind. number_of kind == number) kinds
 
 unfoldable pub role_text : Role → List ℕ
 role_text role.Admin = codes "admin"
@@ -24,6 +37,15 @@ unfoldable pub role_number : Role → ℕ
 role_number role.Admin = 0
 role_number role.User = 1
 role_number role.Power = 2
+
+abbrev pub roles : List Role
+roles = role.Admin ∷ role.User ∷ role.Power ∷ []
+
+abbrev pub role_of_text : List ℕ → Option Role
+role_of_text text = with_text role_text text roles
+
+abbrev pub role_of_number : ℕ → Option Role
+role_of_number number = with_number role_number number roles
 
 unfoldable pub purpose_text : Purpose → List ℕ
 purpose_text purpose.Commission = codes "commission"
@@ -39,17 +61,23 @@ purpose_number purpose.Deploy = 2
 purpose_number purpose.Erase = 3
 purpose_number purpose.Rescue = 4
 
-unfoldable pub stage_text : Stage → List ℕ
-stage_text stage.Offered = codes "offered"
-stage_text stage.Started = codes "started"
-stage_text stage.Done = codes "done"
-stage_text stage.Failed = codes "failed"
+abbrev pub purposes : List Purpose
+purposes = purpose.Commission ∷ purpose.Test ∷ purpose.Deploy ∷ purpose.Erase ∷ purpose.Rescue ∷ []
+
+abbrev pub purpose_of_number : ℕ → Option Purpose
+purpose_of_number number = with_number purpose_number number purposes
 
 unfoldable pub stage_number : Stage → ℕ
 stage_number stage.Offered = 0
 stage_number stage.Started = 1
 stage_number stage.Done = 2
 stage_number stage.Failed = 3
+
+abbrev pub stages : List Stage
+stages = stage.Offered ∷ stage.Started ∷ stage.Done ∷ stage.Failed ∷ []
+
+abbrev pub stage_of_number : ℕ → Option Stage
+stage_of_number number = with_number stage_number number stages
 
 unfoldable pub order_kind_text : OrderKind → List ℕ
 order_kind_text orderkind.Cycle = codes "cycle"
@@ -59,17 +87,23 @@ unfoldable pub order_kind_number : OrderKind → ℕ
 order_kind_number orderkind.Cycle = 0
 order_kind_number orderkind.Off = 1
 
-unfoldable pub order_stage_text : OrderStage → List ℕ
-order_stage_text orderstage.Waiting = codes "waiting"
-order_stage_text orderstage.Done = codes "done"
-order_stage_text orderstage.Failed = codes "failed"
-order_stage_text orderstage.Withdrawn = codes "withdrawn"
+abbrev pub order_kinds : List OrderKind
+order_kinds = orderkind.Cycle ∷ orderkind.Off ∷ []
+
+abbrev pub order_kind_of_number : ℕ → Option OrderKind
+order_kind_of_number number = with_number order_kind_number number order_kinds
 
 unfoldable pub order_stage_number : OrderStage → ℕ
 order_stage_number orderstage.Waiting = 0
 order_stage_number orderstage.Done = 1
 order_stage_number orderstage.Failed = 2
 order_stage_number orderstage.Withdrawn = 3
+
+abbrev pub order_stages : List OrderStage
+order_stages = orderstage.Waiting ∷ orderstage.Done ∷ orderstage.Failed ∷ orderstage.Withdrawn ∷ []
+
+abbrev pub order_stage_of_number : ℕ → Option OrderStage
+order_stage_of_number number = with_number order_stage_number number order_stages
 
 unfoldable pub erase_text : Erase → List ℕ
 erase_text erase.Quick = codes "quick"
@@ -79,7 +113,50 @@ unfoldable pub erase_number : Erase → ℕ
 erase_number erase.Quick = 0
 erase_number erase.Full = 1
 
--- the stage of a boot that this was reported of
+abbrev pub erases : List Erase
+erases = erase.Quick ∷ erase.Full ∷ []
+
+abbrev pub erase_of_text : List ℕ → Option Erase
+erase_of_text text = with_text erase_text text erases
+
+abbrev pub erase_of_number : ℕ → Option Erase
+erase_of_number number = with_number erase_number number erases
+
+unfoldable pub progress_text : Progress → List ℕ
+progress_text progress.Started = codes "started"
+progress_text progress.Done = codes "done"
+progress_text progress.Failed = codes "failed"
+
+abbrev pub progresses : List Progress
+progresses = progress.Started ∷ progress.Done ∷ progress.Failed ∷ []
+
+abbrev pub progress_of_text : List ℕ → Option Progress
+progress_of_text text = with_text progress_text text progresses
+
+unfoldable pub outcome_text : Outcome → List ℕ
+outcome_text outcome.Done = codes "done"
+outcome_text outcome.Failed = codes "failed"
+
+abbrev pub outcomes : List Outcome
+outcomes = outcome.Done ∷ outcome.Failed ∷ []
+
+abbrev pub outcome_of_text : List ℕ → Option Outcome
+outcome_of_text text = with_text outcome_text text outcomes
+
+-- an architecture's number in tables
+unfoldable pub arch_number : Arch → ℕ
+arch_number arch.Bios = 0
+arch_number arch.Uefi32 = 1
+arch_number arch.Uefi64 = 2
+arch_number arch.Arm64 = 3
+
+abbrev pub archs : List Arch
+archs = arch.Bios ∷ arch.Uefi32 ∷ arch.Uefi64 ∷ arch.Arm64 ∷ []
+
+abbrev pub arch_of_number : ℕ → Option Arch
+arch_of_number number = with_number arch_number number archs
+
+-- the stage of a boot after a report
 abbrev pub stage_after : Progress → Stage
 stage_after progress.Started = stage.Started
 stage_after progress.Done = stage.Done

@@ -1,11 +1,15 @@
-pub mod Command
+pub mod CountLaws
 pub mod Hall
 pub mod Image
+pub mod Keyed
+pub mod ListLaws
+pub mod KindLaws
 pub mod Kinds
 pub mod Name
 pub mod Number
+pub mod Octets
 pub mod Refusal
-pub mod Reply
 pub mod RowLaws
 pub mod Rows
 pub mod Status
+pub mod Tables

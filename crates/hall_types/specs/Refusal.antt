@@ -3,6 +3,42 @@ use Rattle.std.specs.Prelude.{ℕ, List, codes}
 use Rattle.hall_types.specs.declared.refusal.Refusal.{Refusal}
 use Rattle.hall_types.specs.declared.refusal.Refusal.TheVariants.{BadRequest, NoRoute, WrongMethod, NeedLength, TooLarge, UnknownToken, KeyReused, RoleNeeded, NoMachine, NoInterface, NoPool, NoImage, NoOperator, NotOwner, NotMember, StaleVersion, Locked, WrongStatus, Taken, NoLiveImage, WrongArch, InUse, LastInterface, SelfDisable, Full, Exhausted, NoBoot, NoOrder, Spent, Stale, Withdrawn, WrongStage, Unavailable}
 
+-- the number, which is its place in the order in which causes are looked for
+unfoldable pub refusal_number : Refusal → ℕ
+refusal_number BadRequest = 1
+refusal_number NoRoute = 2
+refusal_number WrongMethod = 3
+refusal_number NeedLength = 4
+refusal_number TooLarge = 5
+refusal_number UnknownToken = 6
+refusal_number KeyReused = 7
+refusal_number RoleNeeded = 8
+refusal_number NoMachine = 9
+refusal_number NoInterface = 10
+refusal_number NoPool = 11
+refusal_number NoImage = 12
+refusal_number NoOperator = 13
+refusal_number NotOwner = 14
+refusal_number NotMember = 15
+refusal_number StaleVersion = 16
+refusal_number Locked = 17
+refusal_number WrongStatus = 18
+refusal_number Taken = 19
+refusal_number NoLiveImage = 20
+refusal_number WrongArch = 21
+refusal_number InUse = 22
+refusal_number LastInterface = 23
+refusal_number SelfDisable = 24
+refusal_number Full = 25
+refusal_number Exhausted = 26
+refusal_number NoBoot = 27
+refusal_number NoOrder = 28
+refusal_number Spent = 29
+refusal_number Stale = 30
+refusal_number Withdrawn = 31
+refusal_number WrongStage = 32
+refusal_number Unavailable = 33
+
 -- the name in answers
 unfoldable pub refusal_name : Refusal → List ℕ
 refusal_name BadRequest = codes "BadRequest"

@@ -164,7 +164,7 @@ module _ {K X : Type 0} {keys : Keys K} where
       by true t = let e = len-remove keys.total rows.map n in let ne = some t in rw (e, t) (omega arith)
       by false t = let e = len-remove keys.total rows.map n in rw (e, t) (omega arith)
 
-  where_stands : (p : X → Bool) (rows : Rows keys X) (n : K) → is_some (at (rows_where p rows) n) ≡ passes p (at rows n)
+  pub where_stands : (p : X → Bool) (rows : Rows keys X) (n : K) → is_some (at (rows_where p rows) n) ≡ passes p (at rows n)
   where_stands p rows n = ap is_some (at-rows_where p rows n) ∙ by_row (at rows n)
     where
       by_pass : (b : Bool) (x : X) → is_some (if b then Some x else None) ≡ b
@@ -184,3 +184,21 @@ module _ {K X : Type 0} {keys : Keys K} where
           rw (rows_where-put p rows n x, t, ← where_stands p rows n) (size-put (rows_where p rows) n x)
       by false t =
           rw (rows_where-put p rows n x, t, ← where_stands p rows n) (size-gone (rows_where p rows) n ∙ omega arith)
+
+  pub rows_where-gone : (p : X → Bool) (rows : Rows keys X) (n : K) → rows_where p (gone n rows) ≡ gone n (rows_where p rows)
+  rows_where-gone p rows n = same_rows (rows_where p (gone n rows)) (gone n (rows_where p rows)) (λ q. split q (same_key keys q n) refl)
+    where
+      split : (q : K) (b : Bool) → same_key keys q n ≡ b → at (rows_where p (gone n rows)) q ≡ at (gone n (rows_where p rows)) q
+      split q true t =
+          at-rows_where p (gone n rows) q
+          ∙ (ap (λ o. if passes p o then o else None) (at-gone rows n q ∙ ap (λ b. if b then None else at rows q) t)
+          ∙ sym (at-gone (rows_where p rows) n q ∙ ap (λ b. if b then None else at (rows_where p rows) q) t))
+      split q false t =
+          at-rows_where p (gone n rows) q
+          ∙ (ap (λ o. if passes p o then o else None) (at-gone rows n q ∙ ap (λ b. if b then None else at rows q) t)
+          ∙ (sym (at-rows_where p rows q)
+          ∙ sym (at-gone (rows_where p rows) n q ∙ ap (λ b. if b then None else at (rows_where p rows) q) t)))
+
+  -- a row that goes is counted no more
+  pub how_many-gone : (p : X → Bool) (rows : Rows keys X) (n : K) → how_many p (gone n rows) + one_if (passes p (at rows n)) ≡ how_many p rows
+  how_many-gone p rows n = rw (rows_where-gone p rows n, ← where_stands p rows n) (size-gone (rows_where p rows) n)

@@ -3,22 +3,23 @@ ghost use Rattle.std.specs.Prelude.{◌≡◌, ◌≤◌, ◌+◌, ◌==◌, ◌
 
 use crate::kinds::{Purpose, Stage};
 use crate::number::Number;
+use crate::token::Token;
 use std::marker::Model;
 use thiserror::Error;
 
-/// A boot that was issued to a machine by a script.
+/// A boot that a script issued to a machine.
 #[derive(Clone, Copy, Debug, PartialEq, Eq)]
 pub struct Boot {
     pub number: Number,
     pub machine: Number,
     pub purpose: Purpose,
     /// What a report of this boot has to name.
-    pub token: [u8; 16],
+    pub token: Token,
     pub stage: Stage,
 }
 
-/// How many boots a status issues at most.
-pub const MOST_BOOTS: u8 = 3;
+/// The maximum of boots that a machine is issued in one status, Rescue mode apart.
+pub const MAX_BOOTS: u8 = 3;
 
 /// A count of boots, 0 to 3. Contracts see the number.
 #[derive(Clone, Copy, Debug, PartialEq, Eq)]
@@ -38,9 +39,9 @@ impl Model for BootCount {
     ghost inverse = { λ n. record { count = n } };
 }
 
-/// A status doesn't issue so many boots.
+/// The count is over its maximum.
 #[derive(Clone, Copy, Debug, PartialEq, Eq, Error)]
-#[error("a status issues at most 3 boots")]
+#[error("a count of boots is at most 3")]
 pub struct BadBootCount;
 
 impl BootCount {
@@ -51,7 +52,7 @@ impl BootCount {
         ensures count { IfOk result (λ boots. boots ≡ count) }
         ensures good { IsOk result ↔ (count ≤ 3) }
     {
-        if count > MOST_BOOTS {
+        if count > MAX_BOOTS {
             return Err(BadBootCount);
         }
         Ok(BootCount { count })
@@ -64,11 +65,11 @@ impl BootCount {
         self.count
     }
 
-    /// The count with one boot more, none after the last.
+    /// The count after one more boot, none after the maximum.
     pub fn next(self) -> Option<BootCount>
         ensures { result ≡ (if self == 3 then None else Some (self + 1)) }
     {
-        if self.count == MOST_BOOTS {
+        if self.count == MAX_BOOTS {
             return None;
         }
         Some(BootCount {

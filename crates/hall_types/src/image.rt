@@ -11,9 +11,9 @@ use std::alloc::{AllocError, Global};
 use std::marker::Model;
 use thiserror::Error;
 
-/// What a machine boots: a kernel with its arguments, and an initrd. Of its arguments there are at most
-/// 24, and none begins `hall.`.
-#[derive(Debug, Drop)]
+/// What a machine boots: a kernel with at most 24 arguments, none of which begins `hall.`, and an initrd.
+/// Contracts see its parts.
+#[derive(Drop)]
 pub struct Image {
     name: Name,
     arch: Arch,
@@ -33,15 +33,15 @@ impl Model for Image {
     ghost invariant = { λ image. (length image.args ≤ 24) × (has_hall_word image.args ≡ false) };
 }
 
-/// The most arguments of an image.
-pub const MOST_ARGS: usize = 24;
+/// The maximum of an image's arguments.
+pub const MAX_ARGS: usize = 24;
 
-/// Why there is no such image.
+/// Why an image is refused. TooMany comes before HallWord.
 #[derive(Clone, Copy, Debug, PartialEq, Eq, Error)]
 pub enum ImageFault {
     #[error("an image has at most 24 arguments")]
     TooMany = 1,
-    /// Words that begin `hall.` are the desk's own.
+    /// Words that begin `hall.` are written by the desk alone.
     #[error("an argument of an image doesn't begin with hall.")]
     HallWord = 2,
 }
@@ -60,7 +60,7 @@ fn has_hall_word(words: &[Word]) -> bool
 }
 
 impl Image {
-    /// The image of these. It takes no memory.
+    /// The image with these parts. It takes no memory.
     pub fn new(
         name: Name,
         arch: Arch,
@@ -73,7 +73,7 @@ impl Image {
         ensures too_many { IsErrOf result ImageFault.TooMany ↔ (24 < length args.items) }
         ensures hall_word { IsErrOf result ImageFault.HallWord ↔ ((length args.items ≤ 24) × (has_hall_word args.items ≡ true)) }
     {
-        if args.len() > MOST_ARGS {
+        if args.len() > MAX_ARGS {
             return Err(ImageFault::TooMany);
         }
         if has_hall_word(&args) {
@@ -100,14 +100,14 @@ impl Image {
         self.arch
     }
 
-    /// Where its kernel is.
+    /// The URI of its kernel.
     pub fn kernel(&self) -> &Uri
         ensures { result.now ≡ self.now.kernel }
     {
         &self.kernel
     }
 
-    /// Where its initrd is.
+    /// The URI of its initrd.
     pub fn initrd(&self) -> &Uri
         ensures { result.now ≡ self.now.initrd }
     {

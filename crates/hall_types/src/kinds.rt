@@ -1,5 +1,19 @@
 //! Kinds that texts name by a word and tables by a number.
 ghost use Rattle.std.specs.Prelude.{◌≡◌};
+ghost use Rattle.hall_types.specs.Kinds.{order_stage_number, purpose_number, stage_number, with_number};
+
+use std::str::FromStr;
+use thiserror::Error;
+
+/// No kind has this word.
+#[derive(Clone, Copy, Debug, PartialEq, Eq, Error)]
+#[error("unknown word")]
+pub struct UnknownWord;
+
+/// No kind has this number.
+#[derive(Clone, Copy, Debug, PartialEq, Eq, Error)]
+#[error("unknown number")]
+pub struct UnknownNumber;
 
 /// What an operator may do.
 #[derive(Clone, Copy, Debug, PartialEq, Eq)]
@@ -11,6 +25,8 @@ pub enum Role {
 
 impl Role {
     ghost use Rattle.hall_types.specs.Kinds.{role_text, role_number};
+
+    const ALL: [Role; 3] = [Role::Admin, Role::User, Role::Power];
 
     /// The word in texts.
     #[tactic(auto, unfolding(crate::specs::Kinds::role_text))]
@@ -33,6 +49,38 @@ impl Role {
     }
 }
 
+impl FromStr for Role {
+    ghost use Rattle.std.specs.Result.{result_ok};
+    ghost use Rattle.hall_types.specs.Kinds.{role_of_text};
+
+    type Err = UnknownWord;
+
+    ghost from_str_gives = { λ text result. result_ok result ≡ role_of_text text };
+
+    fn from_str(text: &str) -> Result<Role, UnknownWord> {
+        Role::ALL
+            .into_iter()
+            .find(|role| role.text() == text)
+            .ok_or(UnknownWord)
+    }
+}
+
+impl TryFrom<u8> for Role {
+    ghost use Rattle.std.specs.Result.{result_ok};
+    ghost use Rattle.hall_types.specs.Kinds.{role_of_number};
+
+    type Error = UnknownNumber;
+
+    ghost try_from_gives = { λ number result. result_ok result ≡ role_of_number number };
+
+    fn try_from(number: u8) -> Result<Role, UnknownNumber> {
+        Role::ALL
+            .into_iter()
+            .find(|role| role.number() == number)
+            .ok_or(UnknownNumber)
+    }
+}
+
 /// What a machine boots for.
 #[derive(Clone, Copy, Debug, PartialEq, Eq)]
 pub enum Purpose {
@@ -45,6 +93,14 @@ pub enum Purpose {
 
 impl Purpose {
     ghost use Rattle.hall_types.specs.Kinds.{purpose_text, purpose_number};
+
+    const ALL: [Purpose; 5] = [
+        Purpose::Commission,
+        Purpose::Test,
+        Purpose::Deploy,
+        Purpose::Erase,
+        Purpose::Rescue,
+    ];
 
     /// The word in texts.
     #[tactic(auto, unfolding(crate::specs::Kinds::purpose_text))]
@@ -69,9 +125,29 @@ impl Purpose {
     }
 }
 
+fn purpose_in(kinds: &[Purpose], number: u8) -> Option<Purpose>
+    ensures { result ≡ with_number purpose_number number kinds.now }
+{
+    kinds.iter().copied().find(|kind| kind.number() == number)
+}
+
+impl TryFrom<u8> for Purpose {
+    ghost use Rattle.std.specs.Result.{result_ok};
+    ghost use Rattle.hall_types.specs.Kinds.{purpose_of_number};
+
+    type Error = UnknownNumber;
+
+    ghost try_from_gives = { λ number result. result_ok result ≡ purpose_of_number number };
+
+    fn try_from(number: u8) -> Result<Purpose, UnknownNumber> {
+        purpose_in(&Purpose::ALL, number).ok_or(UnknownNumber)
+    }
+}
+
 /// How far a boot has come.
 #[derive(Clone, Copy, Debug, PartialEq, Eq)]
 pub enum Stage {
+    /// The script that boots it was given.
     Offered,
     Started,
     Done,
@@ -79,20 +155,9 @@ pub enum Stage {
 }
 
 impl Stage {
-    ghost use Rattle.hall_types.specs.Kinds.{stage_text, stage_number};
+    ghost use Rattle.hall_types.specs.Kinds.{stage_number};
 
-    /// The word in texts.
-    #[tactic(auto, unfolding(crate::specs::Kinds::stage_text))]
-    pub fn text(self) -> &'static str
-        ensures { result.now ≡ stage_text self }
-    {
-        match self {
-            Stage::Offered => "offered",
-            Stage::Started => "started",
-            Stage::Done => "done",
-            Stage::Failed => "failed",
-        }
-    }
+    const ALL: [Stage; 4] = [Stage::Offered, Stage::Started, Stage::Done, Stage::Failed];
 
     /// The number in tables.
     #[tactic(auto, unfolding(crate::specs::Kinds::stage_number))]
@@ -103,15 +168,37 @@ impl Stage {
     }
 }
 
+fn stage_in(kinds: &[Stage], number: u8) -> Option<Stage>
+    ensures { result ≡ with_number stage_number number kinds.now }
+{
+    kinds.iter().copied().find(|kind| kind.number() == number)
+}
+
+impl TryFrom<u8> for Stage {
+    ghost use Rattle.std.specs.Result.{result_ok};
+    ghost use Rattle.hall_types.specs.Kinds.{stage_of_number};
+
+    type Error = UnknownNumber;
+
+    ghost try_from_gives = { λ number result. result_ok result ≡ stage_of_number number };
+
+    fn try_from(number: u8) -> Result<Stage, UnknownNumber> {
+        stage_in(&Stage::ALL, number).ok_or(UnknownNumber)
+    }
+}
+
 /// What a power order asks for.
 #[derive(Clone, Copy, Debug, PartialEq, Eq)]
 pub enum OrderKind {
+    /// Off and on again.
     Cycle,
     Off,
 }
 
 impl OrderKind {
     ghost use Rattle.hall_types.specs.Kinds.{order_kind_text, order_kind_number};
+
+    const ALL: [OrderKind; 2] = [OrderKind::Cycle, OrderKind::Off];
 
     /// The word in texts.
     #[tactic(auto, unfolding(crate::specs::Kinds::order_kind_text))]
@@ -133,30 +220,41 @@ impl OrderKind {
     }
 }
 
+impl TryFrom<u8> for OrderKind {
+    ghost use Rattle.std.specs.Result.{result_ok};
+    ghost use Rattle.hall_types.specs.Kinds.{order_kind_of_number};
+
+    type Error = UnknownNumber;
+
+    ghost try_from_gives = { λ number result. result_ok result ≡ order_kind_of_number number };
+
+    fn try_from(number: u8) -> Result<OrderKind, UnknownNumber> {
+        OrderKind::ALL
+            .into_iter()
+            .find(|order_kind| order_kind.number() == number)
+            .ok_or(UnknownNumber)
+    }
+}
+
 /// What became of a power order.
 #[derive(Clone, Copy, Debug, PartialEq, Eq)]
 pub enum OrderStage {
     Waiting,
     Done,
     Failed,
+    /// Its machine no longer needs it.
     Withdrawn,
 }
 
 impl OrderStage {
-    ghost use Rattle.hall_types.specs.Kinds.{order_stage_text, order_stage_number};
+    ghost use Rattle.hall_types.specs.Kinds.{order_stage_number};
 
-    /// The word in texts.
-    #[tactic(auto, unfolding(crate::specs::Kinds::order_stage_text))]
-    pub fn text(self) -> &'static str
-        ensures { result.now ≡ order_stage_text self }
-    {
-        match self {
-            OrderStage::Waiting => "waiting",
-            OrderStage::Done => "done",
-            OrderStage::Failed => "failed",
-            OrderStage::Withdrawn => "withdrawn",
-        }
-    }
+    const ALL: [OrderStage; 4] = [
+        OrderStage::Waiting,
+        OrderStage::Done,
+        OrderStage::Failed,
+        OrderStage::Withdrawn,
+    ];
 
     /// The number in tables.
     #[tactic(auto, unfolding(crate::specs::Kinds::order_stage_number))]
@@ -167,7 +265,26 @@ impl OrderStage {
     }
 }
 
-/// How a disk is erased.
+fn order_stage_in(kinds: &[OrderStage], number: u8) -> Option<OrderStage>
+    ensures { result ≡ with_number order_stage_number number kinds.now }
+{
+    kinds.iter().copied().find(|kind| kind.number() == number)
+}
+
+impl TryFrom<u8> for OrderStage {
+    ghost use Rattle.std.specs.Result.{result_ok};
+    ghost use Rattle.hall_types.specs.Kinds.{order_stage_of_number};
+
+    type Error = UnknownNumber;
+
+    ghost try_from_gives = { λ number result. result_ok result ≡ order_stage_of_number number };
+
+    fn try_from(number: u8) -> Result<OrderStage, UnknownNumber> {
+        order_stage_in(&OrderStage::ALL, number).ok_or(UnknownNumber)
+    }
+}
+
+/// How disks are erased.
 #[derive(Clone, Copy, Debug, PartialEq, Eq)]
 pub enum Erase {
     Quick,
@@ -176,6 +293,8 @@ pub enum Erase {
 
 impl Erase {
     ghost use Rattle.hall_types.specs.Kinds.{erase_text, erase_number};
+
+    const ALL: [Erase; 2] = [Erase::Quick, Erase::Full];
 
     /// The word in texts.
     #[tactic(auto, unfolding(crate::specs::Kinds::erase_text))]
@@ -194,5 +313,134 @@ impl Erase {
         ensures { result ≡ erase_number self }
     {
         self as u8
+    }
+}
+
+impl FromStr for Erase {
+    ghost use Rattle.std.specs.Result.{result_ok};
+    ghost use Rattle.hall_types.specs.Kinds.{erase_of_text};
+
+    type Err = UnknownWord;
+
+    ghost from_str_gives = { λ text result. result_ok result ≡ erase_of_text text };
+
+    fn from_str(text: &str) -> Result<Erase, UnknownWord> {
+        Erase::ALL
+            .into_iter()
+            .find(|erase| erase.text() == text)
+            .ok_or(UnknownWord)
+    }
+}
+
+impl TryFrom<u8> for Erase {
+    ghost use Rattle.std.specs.Result.{result_ok};
+    ghost use Rattle.hall_types.specs.Kinds.{erase_of_number};
+
+    type Error = UnknownNumber;
+
+    ghost try_from_gives = { λ number result. result_ok result ≡ erase_of_number number };
+
+    fn try_from(number: u8) -> Result<Erase, UnknownNumber> {
+        Erase::ALL
+            .into_iter()
+            .find(|erase| erase.number() == number)
+            .ok_or(UnknownNumber)
+    }
+}
+
+/// What a machine may report of its boot.
+#[derive(Clone, Copy, Debug, PartialEq, Eq)]
+pub enum Progress {
+    Started,
+    Done,
+    Failed,
+}
+
+impl Progress {
+    ghost use Rattle.hall_types.specs.Kinds.{progress_text};
+
+    const ALL: [Progress; 3] = [Progress::Started, Progress::Done, Progress::Failed];
+
+    /// The word in texts.
+    #[tactic(auto, unfolding(crate::specs::Kinds::progress_text))]
+    pub fn text(self) -> &'static str
+        ensures { result.now ≡ progress_text self }
+    {
+        match self {
+            Progress::Started => "started",
+            Progress::Done => "done",
+            Progress::Failed => "failed",
+        }
+    }
+}
+
+impl FromStr for Progress {
+    ghost use Rattle.std.specs.Result.{result_ok};
+    ghost use Rattle.hall_types.specs.Kinds.{progress_of_text};
+
+    type Err = UnknownWord;
+
+    ghost from_str_gives = { λ text result. result_ok result ≡ progress_of_text text };
+
+    fn from_str(text: &str) -> Result<Progress, UnknownWord> {
+        Progress::ALL
+            .into_iter()
+            .find(|progress| progress.text() == text)
+            .ok_or(UnknownWord)
+    }
+}
+
+/// What the power program may answer to an order.
+#[derive(Clone, Copy, Debug, PartialEq, Eq)]
+pub enum Outcome {
+    Done,
+    Failed,
+}
+
+impl Outcome {
+    ghost use Rattle.hall_types.specs.Kinds.{outcome_text};
+
+    const ALL: [Outcome; 2] = [Outcome::Done, Outcome::Failed];
+
+    /// The word in texts.
+    #[tactic(auto, unfolding(crate::specs::Kinds::outcome_text))]
+    pub fn text(self) -> &'static str
+        ensures { result.now ≡ outcome_text self }
+    {
+        match self {
+            Outcome::Done => "done",
+            Outcome::Failed => "failed",
+        }
+    }
+}
+
+impl FromStr for Outcome {
+    ghost use Rattle.std.specs.Result.{result_ok};
+    ghost use Rattle.hall_types.specs.Kinds.{outcome_of_text};
+
+    type Err = UnknownWord;
+
+    ghost from_str_gives = { λ text result. result_ok result ≡ outcome_of_text text };
+
+    fn from_str(text: &str) -> Result<Outcome, UnknownWord> {
+        Outcome::ALL
+            .into_iter()
+            .find(|outcome| outcome.text() == text)
+            .ok_or(UnknownWord)
+    }
+}
+
+impl Progress {
+    ghost use Rattle.hall_types.specs.Kinds.{stage_after};
+
+    /// The stage of a boot after this report.
+    pub fn stage(self) -> Stage
+        ensures { result ≡ stage_after self }
+    {
+        match self {
+            Progress::Started => Stage::Started,
+            Progress::Done => Stage::Done,
+            Progress::Failed => Stage::Failed,
+        }
     }
 }

@@ -1,42 +1,62 @@
-//! The records that everything speaks of: machines, boots, orders, operators, pools, images.
+//! The records of a hall: machines, boots, orders, operators, pools, images, receipts, and the changes
+//! to their rows.
 #![tactic(auto)]
 
+mod address;
+mod arch;
 mod boot;
 mod change;
-mod command;
-mod event;
+mod digest;
 mod image;
 mod kinds;
+mod laws;
 mod machine;
+mod machine_uuid;
 mod moment;
 mod name;
 mod number;
 mod operator;
 mod order;
+mod port;
 mod receipt;
 mod refusal;
-mod reply;
+mod request_key;
 mod status;
 mod text;
+mod token;
+mod version;
 
-pub use boot::{BadBootCount, Boot, BootCount, MOST_BOOTS};
-pub use change::{Change, RowWrite, changes_in_turn};
-pub use command::{HallCommand, MachineCommand, one_text};
-pub use event::{Digest, Event, Port, Progress};
-pub use image::{Image, ImageFault, Live, MOST_ARGS};
-pub use kinds::{Erase, OrderKind, OrderStage, Purpose, Role, Stage};
-pub use machine::{Interface, Machine};
-pub use moment::{BadMoment, LAST_MOMENT, Moment};
+pub use address::MacAddress;
+pub use arch::{arch_number, arch_with_number};
+pub use boot::{BadBootCount, Boot, BootCount, MAX_BOOTS};
+pub use change::{Change, RowWrite};
+pub use digest::Digest;
+pub use image::{Image, ImageFault, Live, MAX_ARGS};
+pub use kinds::{
+    Erase, OrderKind, OrderStage, Outcome, Progress, Purpose, Role, Stage, UnknownNumber,
+    UnknownWord,
+};
+pub use laws::{
+    changes_in_turn, machine_goes_alone, new_hall_is_bare, numbers_are_of_one_kind,
+    rows_stand_under_their_keys, words_are_of_one_kind, writes_leave_other_rows,
+    writes_leave_other_tables,
+};
+pub use machine::{Interface, MAX_INTERFACES, MAX_MACHINES, Machine};
+pub use machine_uuid::MachineUuid;
+pub use moment::{BadMoment, MAX_MOMENT, Moment};
 pub use name::{BadName, Name};
-pub use number::{BadNumber, LAST_NUMBER, LastNumber, Number, Numbers};
+pub use number::{BadNumber, LastIssued, MAX_NUMBER, Number, Numbers};
 pub use operator::{Member, Operator, Pool};
-pub use order::{Order, Outcome};
+pub use order::Order;
+pub use port::Port;
 pub use pxe_vendor::{Arch, Client};
 pub use receipt::Receipt;
 pub use refusal::Refusal;
-pub use reply::{BodyKind, Reply};
+pub use request_key::RequestKey;
 pub use status::Status;
 pub use text::Text;
+pub use token::Token;
+pub use version::Version;
 
 #[cfg(test)]
 mod tests;

@@ -1,45 +1,53 @@
 //! Machines and their network interfaces.
+use crate::address::MacAddress;
 use crate::boot::BootCount;
 use crate::kinds::Erase;
+use crate::machine_uuid::MachineUuid;
 use crate::name::Name;
 use crate::number::Number;
 use crate::status::Status;
+use crate::version::Version;
 use pxe_vendor::Arch;
+
+/// The maximum of machines in a hall.
+pub const MAX_MACHINES: u64 = 10_000;
+
+/// The maximum of interfaces of one machine.
+pub const MAX_INTERFACES: usize = 8;
 
 /// A machine of the hall.
 #[derive(Clone, Copy, Debug, PartialEq, Eq)]
 pub struct Machine {
     pub id: Number,
     pub arch: Arch,
-    /// The UUID of its system, in the order in which its octets come (RFC 4578 section 2.3).
-    pub uuid: Option<[u8; 16]>,
+    pub uuid: Option<MachineUuid>,
     pub pool: Name,
     pub status: Status,
     pub owner: Option<Name>,
-    /// The image of its last deploy.
+    /// The image that it was last deployed with, none once it is Ready or Broken.
     pub image: Option<Name>,
     /// Whether its last commissioning asked for tests.
     pub tests: bool,
-    /// The status that it came to rescue from.
+    /// The status that a rescue began from, Deployed or Broken, kept in the five statuses of rescue.
     pub back: Option<Status>,
-    /// How its disks are being erased, or couldn't be.
+    /// How its disks are erased, kept in Disk erasing and Failed disk erasing.
     pub erase: Option<Erase>,
-    /// Whether it's locked, so that commands on it are refused.
+    /// Whether it is locked: every command on it but unlock is then refused.
     pub locked: bool,
-    pub version: Number,
-    /// The second at which its status expires. It may be past the last moment.
+    pub version: Version,
+    /// When its status expires, in seconds since 1970-01-01 00:00:00 UTC. It may be after the last moment.
     pub deadline: Option<u64>,
     /// The number of its current boot.
     pub boot: Option<Number>,
-    /// How many boots were issued since it entered its status.
+    /// How many boots it was issued since it entered its status, always 0 in Rescue mode.
     pub boots: BootCount,
     /// The number of its waiting order.
     pub waiting: Option<Number>,
 }
 
-/// A network interface by its Ethernet address.
+/// A network interface of a machine.
 #[derive(Clone, Copy, Debug, PartialEq, Eq)]
 pub struct Interface {
-    pub mac: [u8; 6],
+    pub mac: MacAddress,
     pub machine: Number,
 }

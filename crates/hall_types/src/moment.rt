@@ -4,11 +4,11 @@ ghost use Rattle.std.specs.Prelude.{◌≡◌, ◌≤◌, ◌<◌, ◌↔◌, If
 use std::marker::Model;
 use thiserror::Error;
 
-/// The last moment there is, in seconds.
-pub const LAST_MOMENT: u64 = 1_000_000_000_000;
+/// The last moment, in seconds since 1970-01-01 00:00:00 UTC.
+pub const MAX_MOMENT: u64 = 1_000_000_000_000;
 
-/// A moment in seconds, at most 10^12. Contracts see the number.
-#[derive(Clone, Copy, Debug, PartialEq, Eq)]
+/// A moment in seconds since 1970-01-01 00:00:00 UTC, at most 10^12. Contracts see the number.
+#[derive(Clone, Copy, Debug, PartialEq, Eq, PartialOrd, Ord)]
 pub struct Moment {
     seconds: u64,
 }
@@ -25,17 +25,17 @@ impl Model for Moment {
     ghost inverse = { λ n. record { seconds = n } };
 }
 
-/// The number of seconds is past the last moment.
+/// The number of seconds is after the last moment.
 #[derive(Clone, Copy, Debug, PartialEq, Eq, Error)]
-#[error("the moment is past 1000000000000")]
+#[error("a moment is at most 1000000000000 seconds")]
 pub struct BadMoment;
 
 impl Moment {
     pub fn new(seconds: u64) -> Result<Moment, BadMoment>
         ensures moment { IfOk result (λ moment. moment ≡ seconds) }
-        ensures bad { IsErr result ↔ (LAST_MOMENT < seconds) }
+        ensures bad { IsErr result ↔ (MAX_MOMENT < seconds) }
     {
-        if seconds > LAST_MOMENT {
+        if seconds > MAX_MOMENT {
             return Err(BadMoment);
         }
         Ok(Moment { seconds })
@@ -44,7 +44,7 @@ impl Moment {
     /// The seconds.
     pub fn get(self) -> u64
         ensures seconds { result ≡ self }
-        ensures range { self ≤ LAST_MOMENT }
+        ensures range { self ≤ MAX_MOMENT }
     {
         self.seconds
     }

@@ -1,15 +1,15 @@
-//! Numbers of machines, boots and orders, and versions.
+//! Numbers of machines, boots and orders.
 ghost use Rattle.std.specs.Prelude.{◌≡◌, ◌≤◌, ◌↔◌, IfOk, IsErr, IsOk};
-ghost use Rattle.hall_types.specs.Number.{IsNumber, last_number, next_number};
+ghost use Rattle.hall_types.specs.Number.{IsNumber, max_number, next_number};
 
 use std::marker::Model;
 use thiserror::Error;
 
-/// The last number, and the last version, that there is.
-pub const LAST_NUMBER: u64 = 1_000_000_000_000_000;
+/// The highest number of a machine, a boot or an order, and the highest version.
+pub const MAX_NUMBER: u64 = 1_000_000_000_000_000;
 
-/// A number of a machine, a boot or an order, or a version: 1 to 10^15. Contracts see the number.
-#[derive(Clone, Copy, Debug, PartialEq, Eq)]
+/// A number of a machine, a boot or an order: 1 to 10^15. Contracts see the number.
+#[derive(Clone, Copy, Debug, PartialEq, Eq, PartialOrd, Ord)]
 pub struct Number {
     number: u64,
 }
@@ -27,17 +27,17 @@ impl Model for Number {
     ghost inverse = { λ n. record { number = n } };
 }
 
-/// There is no such number.
+/// The number is outside its range.
 #[derive(Clone, Copy, Debug, PartialEq, Eq, Error)]
 #[error("a number is 1 to 1000000000000000")]
 pub struct BadNumber;
 
 // The number after this one, none after the last.
 fn after(number: u64) -> Option<Number>
-    requires { number ≤ last_number }
+    requires { number ≤ max_number }
     ensures { result ≡ next_number number }
 {
-    if number == LAST_NUMBER {
+    if number == MAX_NUMBER {
         return None;
     }
     Some(Number { number: number + 1 })
@@ -51,7 +51,7 @@ impl Number {
         ensures number { IfOk result (λ made. made ≡ number) }
         ensures bad { IsErr result ↔ ¬ (IsNumber number) }
     {
-        if number == 0 || number > LAST_NUMBER {
+        if number == 0 || number > MAX_NUMBER {
             return Err(BadNumber);
         }
         Ok(Number { number })
@@ -72,47 +72,47 @@ impl Number {
     }
 }
 
-/// The last number that was given out, 0 where none was: 0 to 10^15. Contracts see the number.
-#[derive(Clone, Copy, Debug, PartialEq, Eq)]
-pub struct LastNumber {
+/// The last number that was issued, 0 if none was: 0 to 10^15. Contracts see the number.
+#[derive(Clone, Copy, Debug, PartialEq, Eq, PartialOrd, Ord)]
+pub struct LastIssued {
     number: u64,
 }
 
-impl Model for LastNumber {
+impl Model for LastIssued {
     ghost use Rattle.std.specs.Prelude.{ℕ, ◌≤◌};
-    ghost use Rattle.hall_types.specs.Number.{last_number};
+    ghost use Rattle.hall_types.specs.Number.{max_number};
 
     ghost Value = { ℕ };
 
     ghost view = { λ last. last.number };
 
-    ghost invariant = { λ last. last.number ≤ last_number };
+    ghost invariant = { λ last. last.number ≤ max_number };
 
     ghost inverse = { λ n. record { number = n } };
 }
 
-impl LastNumber {
-    /// No number was given out.
-    pub const NONE: LastNumber = LastNumber { number: 0 };
+impl LastIssued {
+    /// No number was issued.
+    pub const NONE: LastIssued = LastIssued { number: 0 };
 
-    pub fn new(number: u64) -> Result<LastNumber, BadNumber>
+    pub fn new(number: u64) -> Result<LastIssued, BadNumber>
         ensures number { IfOk result (λ made. made ≡ number) }
-        ensures good { IsOk result ↔ (number ≤ last_number) }
+        ensures good { IsOk result ↔ (number ≤ max_number) }
     {
-        if number > LAST_NUMBER {
+        if number > MAX_NUMBER {
             return Err(BadNumber);
         }
-        Ok(LastNumber { number })
+        Ok(LastIssued { number })
     }
 
     pub fn get(self) -> u64
         ensures number { result ≡ self }
-        ensures range { self ≤ last_number }
+        ensures range { self ≤ max_number }
     {
         self.number
     }
 
-    /// The number to give out next, none where all were given out.
+    /// The number to issue next, none if all were issued.
     pub fn next(self) -> Option<Number>
         ensures { result ≡ next_number self }
     {
@@ -120,20 +120,20 @@ impl LastNumber {
     }
 }
 
-impl From<Number> for LastNumber {
+impl From<Number> for LastIssued {
     ghost from_gives = { λ number last. last ≡ number };
 
-    fn from(number: Number) -> LastNumber {
-        LastNumber {
+    fn from(number: Number) -> LastIssued {
+        LastIssued {
             number: number.get(),
         }
     }
 }
 
-/// The last numbers that were given out.
+/// The last numbers that were issued.
 #[derive(Clone, Copy, Debug, PartialEq, Eq)]
 pub struct Numbers {
-    pub machine: LastNumber,
-    pub boot: LastNumber,
-    pub order: LastNumber,
+    pub machine: LastIssued,
+    pub boot: LastIssued,
+    pub order: LastIssued,
 }

@@ -1,4 +1,5 @@
 //! Operators, and the pools of machines that they are members of.
+use crate::digest::Digest;
 use crate::kinds::Role;
 use crate::name::Name;
 
@@ -7,8 +8,8 @@ use crate::name::Name;
 pub struct Operator {
     pub name: Name,
     pub role: Role,
-    /// The SHA-256 of the operator's bearer token.
-    pub digest: [u8; 32],
+    pub digest: Digest,
+    /// Whether its token is accepted.
     pub enabled: bool,
 }
 

@@ -2,16 +2,17 @@
 ghost use Rattle.std.specs.Prelude.{◌≡◌, IfOk};
 
 use crate::name::Name;
+use crate::request_key::RequestKey;
 use crate::text::Text;
 use std::alloc::{AllocError, Global};
 
-/// What is kept for good of an accepted command, so that it's carried out once however often it's sent.
-#[derive(Debug, Drop)]
+/// The record of an accepted command, which is kept for good, so that a repeated request is answered and not
+/// carried out again.
+#[derive(Drop)]
 pub struct Receipt {
     pub operator: Name,
-    /// The key that the operator gave the request.
-    pub key: [u8; 16],
-    /// The command's text.
+    pub key: RequestKey,
+    /// The command's text, compact JSON.
     pub command: Text,
     /// The answer's HTTP status.
     pub status: u16,

@@ -1,81 +1,91 @@
 //! Why the desk refuses.
-ghost use Rattle.std.specs.Prelude.{◌≡◌};
+ghost use Rattle.std.specs.Prelude.{◌≡◌, Some};
 
-use thiserror::Error;
+use std::error::Error;
+use std::fmt;
 
-/// Why the desk refuses an arrival. The first of this order answers a command.
-#[derive(Clone, Copy, Debug, PartialEq, Eq, Error)]
+/// Why the desk refuses a request. A command is refused for the first cause of this order, from
+/// BadRequest to Exhausted.
+#[derive(Clone, Copy, Debug, PartialEq, Eq)]
 pub enum Refusal {
-    #[error("the request is malformed")]
+    /// The request is malformed.
     BadRequest = 1,
-    #[error("there is no such route")]
+    /// There is no such route.
     NoRoute = 2,
-    #[error("the route has another method")]
+    /// The route has another method.
     WrongMethod = 3,
-    #[error("the request has no Content-Length")]
+    /// The request has no Content-Length.
     NeedLength = 4,
-    #[error("the body is too large")]
+    /// The body is too large.
     TooLarge = 5,
-    #[error("the bearer token is of no enabled operator")]
+    /// The bearer token is that of no enabled operator.
     UnknownToken = 6,
-    #[error("the request key stands for another command")]
+    /// The request key was used for another command.
     KeyReused = 7,
-    #[error("the operator has another role")]
+    /// The operator's role does not allow it.
     RoleNeeded = 8,
-    #[error("there is no such machine")]
+    /// There is no such machine.
     NoMachine = 9,
-    #[error("the machine has no such interface")]
+    /// The machine has no such interface.
     NoInterface = 10,
-    #[error("there is no such pool")]
+    /// There is no such pool.
     NoPool = 11,
-    #[error("there is no such image")]
+    /// There is no such image.
     NoImage = 12,
-    #[error("there is no such operator")]
+    /// There is no such operator.
     NoOperator = 13,
-    #[error("the machine has another owner")]
+    /// The machine has another owner.
     NotOwner = 14,
-    #[error("the operator is no member of the pool")]
+    /// The operator is no member of the pool.
     NotMember = 15,
-    #[error("the machine has another version")]
+    /// The machine has another version.
     StaleVersion = 16,
-    #[error("the machine is locked")]
+    /// The machine is locked.
     Locked = 17,
-    #[error("the status does not allow it")]
+    /// The machine's status does not allow it.
     WrongStatus = 18,
-    #[error("it is taken")]
+    /// The name, address or identifier is in use.
     Taken = 19,
-    #[error("the architecture has no live image")]
+    /// The architecture has no live image.
     NoLiveImage = 20,
-    #[error("the image is for another architecture")]
+    /// The image is for another architecture.
     WrongArch = 21,
-    #[error("the image is in use")]
+    /// The image is in use.
     InUse = 22,
-    #[error("it is the last interface of its machine")]
+    /// It is the last interface of its machine.
     LastInterface = 23,
-    #[error("operators cannot disable themselves")]
+    /// An operator cannot disable itself.
     SelfDisable = 24,
-    #[error("there is no room")]
+    /// The hall or the machine can take no more.
     Full = 25,
-    #[error("the numbers are exhausted")]
+    /// All numbers were issued.
     Exhausted = 26,
-    #[error("there is no such boot")]
+    /// There is no such boot.
     NoBoot = 27,
-    #[error("there is no such order")]
+    /// There is no such order.
     NoOrder = 28,
-    #[error("another outcome was told")]
+    /// Another outcome was reported before.
     Spent = 29,
-    #[error("the boot is not the current one")]
+    /// The boot is not the machine's current one.
     Stale = 30,
-    #[error("the order was withdrawn")]
+    /// The order was withdrawn before.
     Withdrawn = 31,
-    #[error("the boot has no such stage here")]
+    /// The boot cannot report this stage.
     WrongStage = 32,
-    #[error("the desk is unavailable")]
+    /// Memory or disk is wanting, or the call was interrupted.
     Unavailable = 33,
 }
 
 impl Refusal {
-    ghost use Rattle.hall_types.specs.Refusal.{refusal_name, refusal_status};
+    ghost use Rattle.hall_types.specs.Refusal.{refusal_name, refusal_number, refusal_status};
+
+    /// The number in the order of refusals, 1 to 33.
+    #[tactic(auto, unfolding(crate::specs::Refusal::refusal_number))]
+    pub fn number(self) -> u8
+        ensures { result ≡ refusal_number self }
+    {
+        self as u8
+    }
 
     /// The name in answers.
     #[tactic(auto, unfolding(crate::specs::Refusal::refusal_name))]
@@ -119,7 +129,7 @@ impl Refusal {
         }
     }
 
-    /// The HTTP status of an answer that refuses (RFC 9110 section 15).
+    /// The HTTP status of the answer (RFC 9110 section 15; RFC 4918 section 11.3 for 423).
     #[tactic(auto, unfolding(crate::specs::Refusal::refusal_status))]
     pub fn status(self) -> u16
         ensures { result ≡ refusal_status self }
@@ -158,3 +168,15 @@ impl Refusal {
         }
     }
 }
+
+impl fmt::Display for Refusal {
+    ghost use Rattle.hall_types.specs.Refusal.{refusal_name};
+
+    ghost output = { λ refusal. Some (refusal_name refusal) };
+
+    fn fmt<W: fmt::Write>(&self, f: &mut fmt::Formatter<W>) -> fmt::Result {
+        f.pad(self.name())
+    }
+}
+
+impl Error for Refusal {}

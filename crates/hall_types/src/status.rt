@@ -1,7 +1,11 @@
-//! Where a machine stands in its life.
-ghost use Rattle.std.specs.Prelude.{◌≡◌, ◌<◌, IsSome, IfSome};
+//! Statuses of machines.
+ghost use Rattle.std.specs.Prelude.{◌≡◌, ◌<◌};
+ghost use Rattle.hall_types.specs.Kinds.{with_number};
+ghost use Rattle.hall_types.specs.Status.{status_number};
 
-/// A machine's status, after the node statuses of MAAS. Its number in tables is its place, from 0 on.
+use crate::kinds::UnknownNumber;
+
+/// A machine's status, modelled on the node statuses of MAAS. Its number in tables is its place, from 0 on.
 #[derive(Clone, Copy, Debug, PartialEq, Eq)]
 pub enum Status {
     New,
@@ -28,6 +32,29 @@ pub enum Status {
 
 impl Status {
     ghost use Rattle.hall_types.specs.Status.{status_text, status_number};
+
+    const ALL: [Status; 20] = [
+        Status::New,
+        Status::Commissioning,
+        Status::FailedCommissioning,
+        Status::Testing,
+        Status::FailedTesting,
+        Status::Ready,
+        Status::Allocated,
+        Status::Deploying,
+        Status::FailedDeployment,
+        Status::Deployed,
+        Status::Releasing,
+        Status::FailedReleasing,
+        Status::DiskErasing,
+        Status::FailedDiskErasing,
+        Status::EnteringRescue,
+        Status::FailedToEnterRescue,
+        Status::Rescue,
+        Status::ExitingRescue,
+        Status::FailedToExitRescue,
+        Status::Broken,
+    ];
 
     /// The printed text.
     #[tactic(auto, unfolding(crate::specs::Status::status_text))]
@@ -65,5 +92,27 @@ impl Status {
         ensures small { result < 20 }
     {
         self as u8
+    }
+}
+
+fn status_in(statuses: &[Status], number: u8) -> Option<Status>
+    ensures { result ≡ with_number status_number number statuses.now }
+{
+    statuses
+        .iter()
+        .copied()
+        .find(|status| status.number() == number)
+}
+
+impl TryFrom<u8> for Status {
+    ghost use Rattle.std.specs.Result.{result_ok};
+    ghost use Rattle.hall_types.specs.Status.{status_of_number};
+
+    type Error = UnknownNumber;
+
+    ghost try_from_gives = { λ number result. result_ok result ≡ status_of_number number };
+
+    fn try_from(number: u8) -> Result<Status, UnknownNumber> {
+        status_in(&Status::ALL, number).ok_or(UnknownNumber)
     }
 }

@@ -1,6 +1,6 @@
 -- Entering a status: what it makes of a machine.
 use Rattle.std.specs.Prelude.{ℕ, ◌+◌, Bool, true, false, Option, Some, None, option_map, unwrap_or, if◌then◌else◌}
-use Rattle.hall_types.specs.Number.{next_number}
+use Rattle.hall_types.specs.Number.{next_number, next_version}
 use Rattle.hall_types.specs.declared.status.Status.{Status}
 use Rattle.hall_types.specs.declared.status.Status.TheVariants.{Commissioning, Testing, Ready, Deploying, Deployed, Releasing, DiskErasing, FailedDiskErasing, EnteringRescue, FailedToEnterRescue, Rescue, ExitingRescue, FailedToExitRescue, Broken}
 use Rattle.hall_types.specs.declared.kinds.OrderKind.{OrderKind}
@@ -20,10 +20,6 @@ limit_of DiskErasing = Some 7200
 limit_of EnteringRescue = Some 1200
 limit_of ExitingRescue = Some 600
 limit_of other = None
-
--- a change of a machine's row adds one to its version, and the last version stays as it is
-abbrev pub next_version : ℕ → ℕ
-next_version version = unwrap_or (next_number version) version
 
 -- the value if it is kept, else nothing
 abbrev pub kept : {X : Type 0} → Bool → Option X → Option X

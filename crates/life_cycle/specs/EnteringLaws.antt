@@ -18,7 +18,8 @@ use Rattle.life_cycle.specs.declared.signal.Signal.TheVariants.{By}
 use Rattle.life_cycle.specs.declared.step.Step.{Step}
 use Rattle.life_cycle.specs.declared.entering.Entered.{Entered}
 use Rattle.life_cycle.specs.Table.{step_of}
-use Rattle.life_cycle.specs.Entering.{back_after, boot_after, entered, entered_by, entered_plain, entered_queued, is_origin, is_rescue, keeps_erase, keeps_owner, kept, limit_of, machine_in, next_version}
+use Rattle.life_cycle.specs.Entering.{back_after, boot_after, entered, entered_by, entered_plain, entered_queued, is_origin, is_rescue, keeps_erase, keeps_owner, kept, limit_of, machine_in}
+use Rattle.hall_types.specs.Number.{next_version}
 use Rattle.life_cycle.specs.Laws.{IsRemembered}
 use Rattle.life_cycle.specs.TableLaws.{each_status, only_if, only_if_true, statuses}
 use Rattle.life_cycle.specs.StepLaws.{rescue_enters, ways_to_rescue}

@@ -9,8 +9,8 @@ use Rattle.std.proofs.lemmas.List.Sums.{AllPass-from_list_all}
 use Rattle.hall_types.specs.Status.{status_number}
 use Rattle.hall_types.specs.declared.status.Status.{Status}
 use Rattle.hall_types.specs.declared.status.Status.TheVariants.{Deploying, Deployed, DiskErasing, FailedDiskErasing, EnteringRescue, ExitingRescue}
-use Rattle.hall_types.specs.declared.event.Progress.TheVariants as progress
-use Rattle.hall_types.specs.declared.order.Outcome.TheVariants as outcome
+use Rattle.hall_types.specs.declared.kinds.Progress.TheVariants as progress
+use Rattle.hall_types.specs.declared.kinds.Outcome.TheVariants as outcome
 use Rattle.hall_types.specs.declared.machine.Machine.{Machine}
 use Rattle.hall_types.specs.declared.kinds.OrderKind.{OrderKind}
 use Rattle.hall_types.specs.declared.kinds.OrderKind.TheVariants.{Cycle, Off}

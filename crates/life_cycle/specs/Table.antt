@@ -7,8 +7,8 @@ use Rattle.hall_types.specs.declared.status.Status.{Status}
 use Rattle.hall_types.specs.declared.status.Status.TheVariants.{New, Commissioning, FailedCommissioning, Testing, FailedTesting, Ready, Allocated, Deploying, FailedDeployment, Deployed, Releasing, FailedReleasing, DiskErasing, FailedDiskErasing, EnteringRescue, FailedToEnterRescue, Rescue, ExitingRescue, FailedToExitRescue, Broken}
 use Rattle.hall_types.specs.declared.kinds.OrderKind.{OrderKind}
 use Rattle.hall_types.specs.declared.kinds.OrderKind.TheVariants.{Cycle, Off}
-use Rattle.hall_types.specs.declared.event.Progress.TheVariants as progress
-use Rattle.hall_types.specs.declared.order.Outcome.TheVariants as outcome
+use Rattle.hall_types.specs.declared.kinds.Progress.TheVariants as progress
+use Rattle.hall_types.specs.declared.kinds.Outcome.TheVariants as outcome
 use Rattle.hall_types.specs.declared.machine.Machine.{Machine}
 use Rattle.life_cycle.specs.declared.action.Action.{Action}
 use Rattle.life_cycle.specs.declared.action.Action.TheVariants as act

@@ -1,12 +1,12 @@
 //! Entering a status.
 ghost use Rattle.std.specs.Prelude.{◌≡◌, ◌↔◌, ◌≤◌, IsSome, IsErr, IfSome};
 ghost use Rattle.std.specs.Result.{result_ok};
-ghost use Rattle.hall_types.specs.Number.{last_number};
+ghost use Rattle.hall_types.specs.Number.{max_number};
 ghost use Rattle.life_cycle.specs.Entering.{back_after, boot_after, entered, is_rescue, keeps_erase, keeps_owner, limit_of, machine_in};
 
 use crate::step::Step;
 use hall_types::{
-    BootCount, LastNumber, Machine, Moment, Number, Numbers, Order, OrderStage, Status,
+    BootCount, LastIssued, Machine, Moment, Number, Numbers, Order, OrderStage, Status,
 };
 use thiserror::Error;
 
@@ -113,7 +113,7 @@ fn machine_in(machine: &Machine, status: Status, moment: Moment, waiting: Option
         } else {
             None
         },
-        version: machine.version.next().unwrap_or(machine.version),
+        version: machine.version.raised(),
         deadline: limit_of(status).map(|limit| moment.get() + limit),
         boot: boot_after(machine, status),
         boots: BootCount::NONE,
@@ -139,7 +139,7 @@ pub fn enter(
     numbers: Numbers,
 ) -> Result<Entered, Exhausted>
     ensures entered { result_ok result ≡ entered machine.now step moment numbers }
-    ensures exhausted { IsErr result ↔ (IsSome step.order × (numbers.order ≡ last_number)) }
+    ensures exhausted { IsErr result ↔ (IsSome step.order × (numbers.order ≡ max_number)) }
 {
     let withdrawn = machine.waiting;
     let Some(kind) = step.order else {
@@ -162,7 +162,7 @@ pub fn enter(
     };
     let machine = machine_in(machine, step.status, moment, Some(number));
     let numbers = Numbers {
-        order: LastNumber::from(number),
+        order: LastIssued::from(number),
         ..numbers
     };
     Ok(Entered {

@@ -3,8 +3,8 @@ ghost use Rattle.std.specs.Prelude.{◌≡◌, ◌≢◌, ◌≤◌, ◌⊎◌, 
 ghost use Rattle.std.specs.List.{filter};
 ghost use Rattle.hall_types.specs.declared.status.Status.{Status};
 ghost use Rattle.hall_types.specs.declared.status.Status.TheVariants.{Deployed, Deploying, DiskErasing, ExitingRescue, FailedDiskErasing};
-ghost use Rattle.hall_types.specs.declared.event.Progress.TheVariants as progress;
-ghost use Rattle.hall_types.specs.declared.order.Outcome.TheVariants as outcome;
+ghost use Rattle.hall_types.specs.declared.kinds.Progress.TheVariants as progress;
+ghost use Rattle.hall_types.specs.declared.kinds.Outcome.TheVariants as outcome;
 ghost use Rattle.hall_types.specs.declared.machine.Machine.{Machine};
 ghost use Rattle.hall_types.specs.declared.operator.Operator.{Operator};
 ghost use Rattle.hall_types.specs.declared.number.Numbers.{Numbers};

@@ -2,8 +2,8 @@
 #![tactic(auto, unfolding(crate::specs::Table::step_of, hall_types::specs::Status::status_number))]
 
 ghost use Rattle.std.specs.Prelude.{◌≡◌};
-ghost use Rattle.hall_types.specs.declared.event.Progress.TheVariants as progress;
-ghost use Rattle.hall_types.specs.declared.order.Outcome.TheVariants as outcome;
+ghost use Rattle.hall_types.specs.declared.kinds.Progress.TheVariants as progress;
+ghost use Rattle.hall_types.specs.declared.kinds.Outcome.TheVariants as outcome;
 ghost use Rattle.life_cycle.specs.Table.{breakable, commissionable, is_among, releasable, step_of};
 ghost use Rattle.life_cycle.specs.declared.action.Action.TheVariants as act;
 ghost use Rattle.life_cycle.specs.declared.signal.Signal.TheVariants.{Answer, By, Expired, FourthBoot, Report};

@@ -1,8 +1,8 @@
 use super::Signal::{self, *};
 use super::*;
 use hall_types::{
-    Arch, BootCount, Erase, LastNumber, Machine, Moment, Name, Number, Numbers, Operator,
-    OrderKind, Outcome, Progress, Refusal, Role, Status,
+    Arch, BootCount, Digest, Erase, LastIssued, Machine, Moment, Name, Number, Numbers, Operator,
+    OrderKind, Outcome, Progress, Refusal, Role, Status, Version,
 };
 use std::process::Abort;
 
@@ -26,7 +26,7 @@ fn machine_in<R: Abort>(rt: &R, status: Status) -> Machine {
         back: None,
         erase: None,
         locked: false,
-        version: Number::FIRST,
+        version: Version::FIRST,
         deadline: None,
         boot: None,
         boots: BootCount::NONE,
@@ -35,9 +35,9 @@ fn machine_in<R: Abort>(rt: &R, status: Status) -> Machine {
 }
 
 const NO_NUMBERS: Numbers = Numbers {
-    machine: LastNumber::NONE,
-    boot: LastNumber::NONE,
-    order: LastNumber::NONE,
+    machine: LastIssued::NONE,
+    boot: LastIssued::NONE,
+    order: LastIssued::NONE,
 };
 
 /// What a signal makes of a machine at a moment.
@@ -112,7 +112,7 @@ fn an_abort_withdraws_the_waiting_order(rt: HostRuntime) {
     let mut machine = machine_in(&rt, Status::Deploying);
     machine.waiting = Some(Number::FIRST);
     let numbers = Numbers {
-        order: LastNumber::from(Number::FIRST),
+        order: LastIssued::from(Number::FIRST),
         ..NO_NUMBERS
     };
     let aborted = taken(&rt, &machine, By(Action::Abort), 1000, numbers);
@@ -235,7 +235,7 @@ fn operator<R: Abort>(rt: &R, text: &str, role: Role) -> Operator {
     Operator {
         name: name(rt, text),
         role,
-        digest: [0; 32],
+        digest: Digest::from([0; 32]),
         enabled: true,
     }
 }

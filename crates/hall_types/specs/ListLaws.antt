@@ -1,0 +1,117 @@
+-- What a list of all rows holds: each row once, in the order of the keys.
+use Rattle.std.specs.Prelude.{◌≡◌, ◌<◌, ℕ, zero, suc, List, [], ◌∷◌, Option, Some, None, Bool, true, false, ◌&&◌, if◌then◌else◌, IsTrue, map, length, Contains, slice_index_or}
+use Rattle.std.specs.List.{AllByRecursion}
+use Rattle.std.specs.List.Sorted.{IsStrictlySortedBy}
+use Rattle.std.specs.declared.cmp.Ordering.{Ordering}
+use Rattle.std.specs.declared.cmp.Ordering.TheVariants.{Less, Equal, Greater}
+use Rattle.std.specs.Ordering.{is_lt, is_eq, ordering_reverse, eq_by_cmp}
+use Rattle.std.specs.FinMap as map
+use Rattle.std.specs.FinMap.{find, is_sorted, entries_sorted, get-entries}
+use Rattle.std.specs.FinMap.Entries.{below_all}
+use Rattle.std.proofs.Math.Dec.{T}
+use Rattle.std.proofs.Common.{refl, arith, ◌∙◌, ap, sym}
+use Rattle.hall_types.specs.Rows.{Keys, Rows, at, listed, same_key}
+use Rattle.hall_types.specs.RowLaws.{same-key, key-same}
+use Rattle.hall_types.specs.Keyed.{StandUnder}
+
+is_true : (b : Bool) → T b → IsTrue b
+is_true true h = refl
+is_true false h = absurd h
+
+left : (a b : Bool) → IsTrue (a && b) → IsTrue a
+left true b h = refl
+left false b h = h
+
+right : (a b : Bool) → IsTrue (a && b) → IsTrue b
+right true b h = h
+right false b h = cc
+
+less : (o : Ordering) → IsTrue (is_lt o) → o ≡ Less
+less Less h = refl
+less Equal h = cc
+less Greater h = cc
+
+-- a key after another one is not the same
+apart : {K : Type 0} (keys : Keys K) (key later : K) → keys.cmp key later ≡ Less → same_key keys later key ≡ false
+apart keys key later below = ap is_eq (keys.total.antisymm later key ∙ ap ordering_reverse below)
+
+module _ {K X : Type 0} (keys : Keys K) where
+  all_below : (key : K) (es : List (K × X)) → IsTrue (below_all keys.cmp key es) → AllByRecursion (λ (e : K × X). keys.cmp key e.0 ≡ Less) es
+  all_below key [] h = tt
+  all_below key (e ∷ es) h = (less (keys.cmp key e.0) (left _ _ h), all_below key es (right _ _ h))
+
+  past : (first : K × X) (all es : List (K × X)) → AllByRecursion (λ (e : K × X). keys.cmp first.0 e.0 ≡ Less) es
+      → AllByRecursion (λ (e : K × X). find keys.cmp e.0 all ≡ Some e.1) es → AllByRecursion (λ (e : K × X). find keys.cmp e.0 (first ∷ all) ≡ Some e.1) es
+  past first all [] below stand = tt
+  past first all (e ∷ es) below stand =
+      (ap (λ b. if b then Some first.1 else find keys.cmp e.0 all) (apart keys first.0 e.0 below.0) ∙ stand.0, past first all es below.1 stand.1)
+
+  all_stand : (es : List (K × X)) → IsTrue (is_sorted keys.cmp es) → AllByRecursion (λ (e : K × X). find keys.cmp e.0 es ≡ Some e.1) es
+  all_stand [] h = tt
+  all_stand (e ∷ es) h =
+      (ap (λ b. if b then Some e.1 else find keys.cmp e.0 es) (same-key keys e.0), past e es es (all_below e.0 es (left _ _ h)) (all_stand es (right _ _ h)))
+
+  later : (row other : X) (rows : List X) → Contains rows row → Contains (other ∷ rows) row
+  later row other rows found = (suc found.0, omega (arith, found.1), found.2)
+
+  found_listed : (key : K) (row : X) (es : List (K × X)) → find keys.cmp key es ≡ Some row → Contains (map (λ (e : K × X). e.1) es) row
+  found_listed key row [] is = cc
+  found_listed key row (e ∷ es) is = by (eq_by_cmp keys.cmp key e.0) is (found_listed key row es)
+    where
+      by : (b : Bool) → (if b then Some e.1 else find keys.cmp key es) ≡ Some row
+          → (find keys.cmp key es ≡ Some row → Contains (map (λ (e : K × X). e.1) es) row) → Contains (map (λ (e : K × X). e.1) (e ∷ es)) row
+      by true same rest = let it : e.1 ≡ row = cc in (zero, omega arith, it)
+      by false found rest = later row e.1 (map (λ (e : K × X). e.1) es) (rest found)
+
+  by_keys : (look : K → Option X) (key_of : X → K) (all es : List (K × X))
+      → ((key : K) → look key ≡ find keys.cmp key all)
+      → ((key : K) (row : X) → look key ≡ Some row → key_of row ≡ key)
+      → AllByRecursion (λ (e : K × X). find keys.cmp e.0 all ≡ Some e.1) es
+      → AllByRecursion (λ row. look (key_of row) ≡ Some row) (map (λ (e : K × X). e.1) es)
+  by_keys look key_of all [] looks under stand = tt
+  by_keys look key_of all (e ∷ es) looks under stand =
+      (ap look (under e.0 e.1 (looks e.0 ∙ stand.0)) ∙ (looks e.0 ∙ stand.0), by_keys look key_of all es looks under stand.1)
+
+  rising : (key_of : X → K) (all es : List (K × X))
+      → ((key : K) (row : X) → find keys.cmp key all ≡ Some row → key_of row ≡ key)
+      → AllByRecursion (λ (e : K × X). find keys.cmp e.0 all ≡ Some e.1) es
+      → IsTrue (is_sorted keys.cmp es)
+      → IsStrictlySortedBy keys.cmp (map key_of (map (λ (e : K × X). e.1) es))
+  unfolding IsStrictlySortedBy
+  rising key_of all [] under stand sorted = tt
+  rising key_of all (e ∷ es) under stand sorted =
+      (above key_of all e es under stand.0 stand.1 (all_below e.0 es (left _ _ sorted)), rising key_of all es under stand.1 (right _ _ sorted))
+    where
+      above : (key_of : X → K) (all : List (K × X)) (e : K × X) (es : List (K × X))
+          → ((key : K) (row : X) → find keys.cmp key all ≡ Some row → key_of row ≡ key)
+          → find keys.cmp e.0 all ≡ Some e.1
+          → AllByRecursion (λ (e : K × X). find keys.cmp e.0 all ≡ Some e.1) es
+          → AllByRecursion (λ (other : K × X). keys.cmp e.0 other.0 ≡ Less) es
+          → AllByRecursion (λ key. keys.cmp (key_of e.1) key ≡ Less) (map key_of (map (λ (e : K × X). e.1) es))
+      above key_of all e [] under stands stand below = tt
+      above key_of all e (other ∷ es) under stands stand below = (
+        ap (λ key. keys.cmp key (key_of other.1)) (under e.0 e.1 stands) ∙ (ap (λ key. keys.cmp e.0 key) (under other.0 other.1 stand.0) ∙ below.0),
+        above key_of all e es under stands stand.1 below.1,
+      )
+
+module _ {K X : Type 0} {keys : Keys K} where
+  -- a row that stands under a key is listed
+  pub Contains-listed : (rows : Rows keys X) (key : K) (row : X) → at rows key ≡ Some row → Contains (listed rows) row
+  unfolding at listed
+  Contains-listed rows key row is = found_listed keys key row (map.entries rows.map) (sym (get-entries rows.map key) ∙ is)
+
+  -- each row that is listed stands under its key
+  pub AllByRecursion-listed : (key_of : X → K) (rows : Rows keys X) → StandUnder key_of rows → AllByRecursion (λ row. at rows (key_of row) ≡ Some row) (listed rows)
+  unfolding at listed
+  AllByRecursion-listed key_of rows under =
+      by_keys keys (at rows) key_of (map.entries rows.map) (map.entries rows.map) (get-entries rows.map) under
+      (all_stand keys (map.entries rows.map) (is_true _ (entries_sorted rows.map)))
+
+  -- the list is in the order of the keys, and has each key once
+  pub IsStrictlySortedBy-listed : (key_of : X → K) (rows : Rows keys X) → StandUnder key_of rows → IsStrictlySortedBy keys.cmp (map key_of (listed rows))
+  unfolding at listed
+  IsStrictlySortedBy-listed key_of rows under =
+      rising keys key_of (map.entries rows.map) (map.entries rows.map)
+      (λ key row is. under key row (get-entries rows.map key ∙ is))
+      (all_stand keys (map.entries rows.map) (is_true _ (entries_sorted rows.map)))
+      (is_true _ (entries_sorted rows.map))

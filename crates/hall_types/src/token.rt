@@ -1,0 +1,38 @@
+//! Tokens of boots.
+ghost use Rattle.std.specs.Prelude.{◌≡◌};
+ghost use Rattle.hall_types.specs.Octets.{AreOctets};
+
+use std::marker::Model;
+
+/// What a report of a boot has to name, 16 octets. Contracts see the octets.
+#[derive(Clone, Copy, Debug, PartialEq, Eq)]
+pub struct Token {
+    octets: [u8; 16],
+}
+
+impl Model for Token {
+    ghost use Rattle.std.specs.Prelude.{List, ℕ};
+
+    ghost Value = { List ℕ };
+
+    ghost view = { λ token. token.octets };
+
+    ghost inverse = { λ octets. record { octets = octets } };
+}
+
+impl From<[u8; 16]> for Token {
+    ghost from_gives = { λ octets token. token ≡ octets };
+
+    fn from(octets: [u8; 16]) -> Token {
+        Token { octets }
+    }
+}
+
+impl Token {
+    pub fn octets(self) -> [u8; 16]
+        ensures octets { result ≡ self }
+        ensures range { AreOctets 16 self }
+    {
+        self.octets
+    }
+}

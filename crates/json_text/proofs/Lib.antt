@@ -1,2 +1,0 @@
-pub mod ObjectLemmas
-pub mod OneTextLemmas
