@@ -1,0 +1,4 @@
+pub mod CommandLemmas
+mod CommandRows
+pub mod ReplyLemmas
+mod ReplyRows

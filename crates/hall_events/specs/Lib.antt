@@ -1,0 +1,7 @@
+pub mod Command
+pub mod CommandLaws
+pub mod Listing
+pub mod Object
+pub mod ObjectLaws
+pub mod Reply
+pub mod ReplyLaws

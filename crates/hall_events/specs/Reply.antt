@@ -1,0 +1,169 @@
+-- What the desk answers, with its text (statuses: RFC 9110 section 15).
+use Rattle.std.specs.Prelude.{ℕ, true, false, List, [], ◌∷◌, ◌++◌, map, fold, Option, codes}
+use Rattle.serde_json.specs.Data.{Data, string, boolean, array}
+use Rattle.serde_json.specs.View.{items_of}
+use Rattle.serde_json.specs.Written.{comma_if, compact_text}
+use Rattle.ipxe_script.specs.Script.{spelling, IsScript}
+use Rattle.ipxe_script.specs.declared.command.Command.{Command}
+use Rattle.pxe_vendor.specs.Arch.{arch_text}
+use Rattle.hall_types.specs.Hall.{Schema, first, second}
+use Rattle.hall_types.specs.Kinds.{erase_text, order_kind_text}
+use Rattle.hall_types.specs.Number.{IsNumber}
+use Rattle.hall_types.specs.Refusal.{refusal_name, refusal_status}
+use Rattle.hall_types.specs.Status.{status_text}
+use Rattle.hall_types.specs.declared.kinds.Erase.{Erase}
+use Rattle.hall_types.specs.declared.machine.Interface.{Interface}
+use Rattle.hall_types.specs.declared.machine.Machine.{Machine}
+use Rattle.hall_types.specs.declared.order.Order.{Order}
+use Rattle.hall_types.specs.declared.refusal.Refusal.{Refusal}
+use Rattle.hall_types.specs.declared.status.Status.{Status}
+use Rattle.hall_events.specs.Object.{Member, object_of, list_object, or_null, count}
+use Rattle.hall_events.specs.Command.{mac_data, uuid_data}
+use Rattle.hall_events.specs.Listing.{Listing}
+use Rattle.hall_events.specs.declared.reply.Reply.{Reply}
+use Rattle.hall_events.specs.declared.reply.Reply.TheVariants.{Http, File, Nothing}
+use Rattle.hall_events.specs.declared.reply.BodyKind.TheVariants.{Text, Json}
+
+-- a machine with the addresses of its interfaces
+pub record ListedMachine : Type 0 where
+  pub machine : Machine
+  pub macs : List (List ℕ)
+
+abbrev pub listed : Machine → List Interface → ListedMachine
+listed machine interfaces = record { machine = machine; macs = map (λ i. i.mac) interfaces }
+
+-- what an answer says
+pub data Content : Type 0 where
+  script : List Command → Content
+  refused : Refusal → Content
+  -- a report or the answer to an order was counted, or had been before
+  counted : Content
+  repeated : Content
+  -- a machine's number, its status and its version after a command
+  machine_is : ℕ → Status → ℕ → Content
+  machine_gone : ℕ → Content
+  -- any other command was carried out
+  done : Content
+  waiting_orders : List Order → Content
+  machine_list : List ListedMachine → Content
+  one_machine : ListedMachine → Content
+  -- the answer that a receipt keeps, with its status
+  stored : ℕ → List ℕ → Content
+  boot_file : List ℕ → Content
+  nothing : Content
+
+-- the name of the cause
+abbrev pub refusal_data : Refusal → Data
+refusal_data refusal = object_of ((codes "refusal", string (refusal_name refusal)) ∷ [])
+
+-- a word for what was done
+abbrev pub result_data : List ℕ → Data
+result_data word = object_of ((codes "result", string word) ∷ [])
+
+-- a machine's number
+abbrev pub id_data : ℕ → Data
+id_data id = object_of ((codes "id", count id) ∷ [])
+
+-- a machine's number, status and version
+abbrev pub status_data : ℕ → Status → ℕ → Data
+status_data id status version =
+    object_of ((codes "id", count id) ∷ (codes "status", string (status_text status)) ∷ (codes "version", count version) ∷ [])
+
+-- an order's kind, machine and number
+abbrev pub order_data : Order → Data
+order_data o =
+    object_of ((codes "kind", string (order_kind_text o.kind)) ∷ (codes "machine", count o.machine) ∷ (codes "number", count o.number) ∷ [])
+
+-- ---- machines
+
+-- what a machine is made of
+abbrev pub hardware_members : ListedMachine → List Member
+hardware_members listed =
+    (codes "arch", string (arch_text listed.machine.arch))
+    ∷ (codes "interfaces", array (items_of (map mac_data listed.macs)))
+    ∷ (codes "uuid", or_null uuid_data listed.machine.uuid)
+    ∷ []
+
+-- who holds a machine, and what it was deployed with
+abbrev pub holder_members : Machine → List Member
+holder_members m =
+    (codes "image", or_null string m.image)
+    ∷ (codes "locked", boolean m.locked)
+    ∷ (codes "owner", or_null string m.owner)
+    ∷ (codes "pool", string m.pool)
+    ∷ []
+
+-- the first schema keeps no kind of erasing
+abbrev pub erase_members : Schema → Option Erase → List Member
+erase_members first erase = []
+erase_members second erase = (codes "erase", or_null (λ e. string (erase_text e)) erase) ∷ []
+
+-- where a machine stands in its life
+abbrev pub status_members : Machine → List Member
+status_members m =
+    (codes "boot", or_null count m.boot)
+    ∷ (codes "deadline", or_null count m.deadline)
+    ∷ (codes "order", or_null count m.waiting)
+    ∷ (codes "status", string (status_text m.status))
+    ∷ []
+
+-- a machine as answers list it
+unfoldable pub machine_data : Schema → ListedMachine → Data
+machine_data schema listed =
+    let m = listed.machine in
+    object_of (
+    (codes "id", count m.id)
+    ∷ (codes "version", count m.version)
+    ∷ hardware_members listed
+    ++ holder_members m
+    ++ erase_members schema m.erase
+    ++ status_members m
+    )
+
+-- ---- answers
+
+-- an answer of JSON, whose request was carried out
+abbrev pub ok : Data → Reply
+ok body = Http 200 Json (compact_text body)
+
+-- the answer that says this
+unfoldable pub reply_of : Schema → Content → Reply
+reply_of schema (script commands) = Http 200 Text (spelling commands)
+reply_of schema (refused refusal) = Http (refusal_status refusal) Json (compact_text (refusal_data refusal))
+reply_of schema counted = ok (result_data (codes "counted"))
+reply_of schema repeated = ok (result_data (codes "repeat"))
+reply_of schema (machine_is id status version) = ok (status_data id status version)
+reply_of schema (machine_gone id) = ok (id_data id)
+reply_of schema done = ok (object_of [])
+reply_of schema (waiting_orders orders) = ok (list_object (codes "orders") (map order_data orders))
+reply_of schema (machine_list machines) = ok (list_object (codes "machines") (map (machine_data schema) machines))
+reply_of schema (one_machine listed) = ok (machine_data schema listed)
+reply_of schema (stored status body) = Http status Json body
+reply_of schema (boot_file file) = File file
+reply_of schema nothing = Nothing
+
+-- answers that are no lists and not kept by a receipt, of a script with its limits and numbers in their range
+abbrev pub IsReadable : Content → Type 0
+IsReadable (script commands) = IsScript commands
+IsReadable (machine_is id status version) = IsNumber id × IsNumber version
+IsReadable (machine_gone id) = IsNumber id
+IsReadable (waiting_orders orders) = ⊥
+IsReadable (machine_list machines) = ⊥
+IsReadable (one_machine listed) = ⊥
+IsReadable (stored status body) = ⊥
+IsReadable other = Unit {0}
+
+-- ---- a list of machines that is written machine by machine
+
+-- before the first machine
+abbrev pub no_machine : Listing
+no_machine = record { text = codes "{\"machines\":["; any = false }
+
+-- with one machine more
+unfoldable pub with_machine : Listing → ListedMachine → Listing
+with_machine list machine =
+    record { text = list.text ++ (comma_if list.any ++ compact_text (machine_data second machine)); any = true }
+
+-- after these machines
+abbrev pub listing : List ListedMachine → Listing
+listing machines = fold with_machine no_machine machines

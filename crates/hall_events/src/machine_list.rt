@@ -1,0 +1,64 @@
+//! The list of machines, which is written machine by machine.
+ghost use Rattle.std.specs.Prelude.{◌≡◌, List, IfOk, OnOk};
+ghost use Rattle.hall_types.specs.Hall.{second};
+ghost use Rattle.hall_events.specs.Reply.{ListedMachine, listed, listing, machine_list, no_machine, reply_of, with_machine};
+
+use crate::list_text::push_item;
+use crate::machine_value::machine_value;
+use crate::reply::{OK, Reply, json_reply};
+use hall_types::{Interface, Machine};
+use std::alloc::{AllocError, Global};
+use std::marker::Model;
+
+/// The text of a list of machines so far. Contracts see its octets, and whether a machine stands in it.
+#[derive(Drop)]
+pub struct MachineList {
+    text: String,
+    any: bool,
+}
+
+impl Model for MachineList {
+    ghost use Rattle.std.specs.Prelude.{string_bytes};
+    ghost use Rattle.hall_events.specs.Listing.{Listing};
+
+    ghost Value = { Listing };
+
+    ghost view = { λ list. record { text = string_bytes list.text; any = list.any } };
+}
+
+impl MachineList {
+    /// The list before its first machine.
+    pub fn new(alloc: Global) -> Result<MachineList, AllocError>
+        ensures { IfOk result (λ list. list ≡ no_machine) }
+    {
+        let text = String::from_str(alloc, "{\"machines\":[")?;
+        Ok(MachineList { text, any: false })
+    }
+
+    /// Writes a machine with its interfaces after those that stand in the list. After an error the list is of
+    /// no use.
+    #[tactic(auto, using(crate::proofs::ReplyLemmas::machine_no_float), unfolding(crate::specs::Reply::with_machine))]
+    pub fn push(
+        &mut self,
+        alloc: Global,
+        machine: &Machine,
+        interfaces: &[Interface],
+    ) -> Result<(), AllocError>
+        ensures { OnOk result (self.new ≡ with_machine self.old (listed machine.now interfaces.now)) }
+    {
+        let value = machine_value(alloc, machine, interfaces)?;
+        push_item(alloc, &mut self.text, self.any, &value)?;
+        self.any = true;
+        Ok(())
+    }
+
+    /// The answer with the machines that were written.
+    pub fn finish(self) -> Result<Reply, AllocError>
+        ensures { (machines : List ListedMachine) → self ≡ listing machines
+            → IfOk result (λ reply. reply ≡ reply_of second (machine_list machines)) }
+    {
+        let MachineList { mut text, .. } = self;
+        text.push_str("]}")?;
+        Ok(json_reply(OK, text))
+    }
+}
