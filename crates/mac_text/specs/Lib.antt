@@ -1,1 +1,3 @@
 pub mod MacText
+pub mod DigitLaws
+pub mod MacLaws

@@ -1,27 +1,28 @@
 use super::*;
 use std::test::Fail;
 
+const TEXTS: [(&[u8], Option<[u8; 6]>); 10] = [
+    (
+        b"52:54:00:12:34:56",
+        Some([0x52, 0x54, 0, 0x12, 0x34, 0x56]),
+    ),
+    (
+        b"52:54:00:AB:cd:Ef",
+        Some([0x52, 0x54, 0, 0xab, 0xcd, 0xef]),
+    ),
+    (b"", None),
+    (b"52:54:00:12:34:5", None),
+    (b"52:54:00:12:34:567", None),
+    (b"52:54:00:12:34:56\n", None),
+    (b"52-54-00-12-34-56", None),
+    (b"52:54:00:12:34-56", None),
+    (b"52:54:00:12:34:5g", None),
+    (b"52:54:00:12:34:g6", None),
+];
+
 #[test]
-fn reads_addresses_alone(rt: HostRuntime) {
-    let cases = [
-        (
-            b"52:54:00:12:34:56".as_slice(),
-            Some([0x52, 0x54, 0, 0x12, 0x34, 0x56]),
-        ),
-        (
-            b"52:54:00:AB:cd:Ef".as_slice(),
-            Some([0x52, 0x54, 0, 0xab, 0xcd, 0xef]),
-        ),
-        (b"".as_slice(), None),
-        (b"52:54:00:12:34:5".as_slice(), None),
-        (b"52:54:00:12:34:567".as_slice(), None),
-        (b"52:54:00:12:34:56\n".as_slice(), None),
-        (b"52-54-00-12-34-56".as_slice(), None),
-        (b"52:54:00:12:34-56".as_slice(), None),
-        (b"52:54:00:12:34:5g".as_slice(), None),
-        (b"52:54:00:12:34:g6".as_slice(), None),
-    ];
-    for (text, want) in cases {
+fn reads_only_addresses(rt: HostRuntime) {
+    for (text, want) in TEXTS {
         assert_eq!(rt; read(text), want, "at {text:?}");
     }
 }

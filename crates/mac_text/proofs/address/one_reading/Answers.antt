@@ -1,4 +1,4 @@
-use Rattle.mac_text.proofs.MacLemmas.{mac_of-from_IsMacText, IsMacText-from_mac_of}
+use Rattle.mac_text.specs.MacLaws.{mac_of-from_IsMacText, IsMacText-from_mac_of}
 use Rattle.mac_text.proofs.address.one_reading.Goals as goal
 
 pub returns : goal.returns

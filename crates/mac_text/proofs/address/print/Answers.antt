@@ -2,7 +2,7 @@ use Rattle.std.proofs.Common.{◌≡◌, ℕ, List, sym, subst, length, arith}
 use Rattle.std.specs.Prelude.{string_bytes}
 use Rattle.std.proofs.lemmas.List.{take_all}
 use Rattle.mac_text.specs.MacText.{IsMacText, mac_text}
-use Rattle.mac_text.proofs.MacLemmas.{IsMacText-mac_text}
+use Rattle.mac_text.specs.MacLaws.{IsMacText-mac_text}
 use Rattle.mac_text.proofs.address.print.Goals as goal
 
 pub returns-clause-read : goal.returns-clause-read

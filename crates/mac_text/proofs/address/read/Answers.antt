@@ -1,9 +1,10 @@
 use Rattle.std.proofs.Common.{◌∙◌}
-use Rattle.mac_text.proofs.MacLemmas.{IfSome-mac_of, mac_of-from_IsMacText}
+use Rattle.mac_text.specs.MacLaws.{mac_of-from_IsMacText}
+use Rattle.mac_text.proofs.MacLemmas.{IfSome-mac_of}
 use Rattle.mac_text.proofs.address.read.Goals as goal
 
 pub returns-clause-address : goal.returns-clause-address
-returns-clause-address c = IfSome-mac_of _ _ c.octets.ensures
+returns-clause-address c = IfSome-mac_of _ _ c.read_inner.ensures
 
 pub returns-clause-only : goal.returns-clause-only
-returns-clause-only c = λ octets is. c.octets.ensures ∙ mac_of-from_IsMacText _ octets is
+returns-clause-only c = λ octets is. c.read_inner.ensures ∙ mac_of-from_IsMacText _ octets is

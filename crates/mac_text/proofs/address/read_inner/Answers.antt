@@ -2,7 +2,7 @@ use Rattle.std.proofs.Common.{◌≡◌, ◌∙◌, ◌+◌, ◌*◌, ◌-◌, S
 use Rattle.std.proofs.lemmas.List.{length-set}
 use Rattle.mac_text.specs.MacText.{octet_of}
 use Rattle.mac_text.proofs.MacLemmas.{mac_of-more}
-use Rattle.mac_text.proofs.address.octets.Goals as goal
+use Rattle.mac_text.proofs.address.read_inner.Goals as goal
 
 pub loop-i-preserved : goal.loop-i-preserved
 loop-i-preserved c =

@@ -1,9 +1,9 @@
 use Rattle.std.proofs.Common.{◌≡◌, ◌-◌, ◌*◌, take, drop, length}
 use Rattle.mac_text.specs.MacText.{mac_of, more_octets}
 use Rattle.mac_text.proofs.MacLemmas.{read_then}
-use Rattle.mac_text.proofs.address.octets.Given as goal
+use Rattle.mac_text.proofs.address.read_inner.Given as goal
 
--- the octets so far, with those left, are the address
+-- the octets so far, and then those that are left, are the address
 abbrev pub invariant-loop-i : goal.invariant-loop-i
 invariant-loop-i l = record {
   room : length l.address ≡ 6;
