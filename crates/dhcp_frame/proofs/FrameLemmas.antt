@@ -1,25 +1,18 @@
--- The plain program `understood` finds the message that a frame carries, where the octets are one.
+-- The program `understood` finds the message that a frame carries, where the octets are one.
 use Rattle.std.proofs.Common.{◌≡◌, ℕ, ◌≤◌, Bool, true, false, List, [], ◌∷◌, ◌++◌, length, Option, Some, None, Result, Ok, Err, refl, sym, ap, ◌∙◌, arith}
 use Rattle.std.specs.Prelude.{slice_index, slice_range, IfOk, ok_or}
 use Rattle.std.proofs.lemmas.Bool.Decides.{nat_tests}
-use Rattle.std.proofs.lemmas.List.{drop_more}
+use Rattle.std.specs.Cmp.Lexicographic.{bytes_decides}
 use Rattle.dhcp_frame.specs.Area.{Entry, reading, value_of}
 use Rattle.dhcp_frame.specs.Message.{Message, HasHeader, ReadsIf, IsFrame, message_of, options_area, file_area, sname_area}
 use Rattle.dhcp_frame.specs.Overload.{overload_of}
-use Rattle.dhcp_frame.specs.Understood.{◌>>=◌, header, options_in, options_if, understood}
+use Rattle.dhcp_frame.specs.Understood.{◌>>=◌, has_cookie, header, options_in, options_if, understood}
 use Rattle.dhcp_frame.specs.declared.overload.Overload.{Overload}
 use Rattle.dhcp_frame.specs.declared.fault.FrameFault.{FrameFault}
 use Rattle.dhcp_frame.specs.declared.fault.FrameFault.TheVariants.{BadOverload}
-use Rattle.dhcp_frame.proofs.AreaLemmas.{reading-from_Reads, Reads-from_reading}
+use Rattle.dhcp_frame.specs.AreaLaws.{reading-from_Reads, Reads-from_reading}
 
 -- ---- the header
-
--- the cookie, octet by octet
-record HasCookie (octets : List ℕ) : Type 0 where
-  first : slice_index octets 236 ≡ 99
-  second : slice_index octets 237 ≡ 130
-  third : slice_index octets 238 ≡ 83
-  fourth : slice_index octets 239 ≡ 99
 
 tests_long : (octets : List ℕ) → header octets ≡ Ok tt → 240 ≤ length octets
 unfolding header
@@ -37,47 +30,27 @@ tests_six : (octets : List ℕ) → header octets ≡ Ok tt → slice_index octe
 unfolding header
 tests_six octets e = grind (arith, nat_tests)
 
-tests_cookie : (octets : List ℕ) → header octets ≡ Ok tt → HasCookie octets
+tests_cookie : (octets : List ℕ) → header octets ≡ Ok tt → has_cookie octets ≡ true
 unfolding header
-tests_cookie octets e = record {
-  first = grind (arith, nat_tests);
-  second = grind (arith, nat_tests);
-  third = grind (arith, nat_tests);
-  fourth = grind (arith, nat_tests);
-}
+tests_cookie octets e = grind (arith, nat_tests)
 
-tests_ok : (octets : List ℕ) → 240 ≤ length octets → slice_index octets 0 ≡ 1 → slice_index octets 1 ≡ 1 → slice_index octets 2 ≡ 6 → HasCookie octets → header octets ≡ Ok tt
+tests_ok : (octets : List ℕ) → 240 ≤ length octets → slice_index octets 0 ≡ 1 → slice_index octets 1 ≡ 1 → slice_index octets 2 ≡ 6 → has_cookie octets ≡ true → header octets ≡ Ok tt
 unfolding header
 tests_ok octets long request ethernet six cookie = grind (arith, nat_tests)
 
--- the four octets as they stand in the list
-cookie_at : (octets : List ℕ) → 240 ≤ length octets → slice_range octets 236 240 ≡ slice_index octets 236 ∷ slice_index octets 237 ∷ slice_index octets 238 ∷ slice_index octets 239 ∷ []
-cookie_at octets h =
-    let a = drop_more octets 236 0 (omega arith) in
-    let b = drop_more octets 237 0 (omega arith) in
-    let c = drop_more octets 238 0 (omega arith) in
-    let d = drop_more octets 239 0 (omega arith) in
-    rw (a, b, c, d) refl
-
 HasHeader-from_tests : (octets : List ℕ) → header octets ≡ Ok tt → HasHeader octets
-HasHeader-from_tests octets e =
-    let cookie = tests_cookie octets e in
-    let long = tests_long octets e in
-    record {
-      long = long;
-      request = tests_request octets e;
-      ethernet = tests_ethernet octets e;
-      six = tests_six octets e;
-      cookie = cookie_at octets long ∙ rw (cookie.first, cookie.second, cookie.third, cookie.fourth) refl;
-    }
-
-four_same : (a b c d p q r s : ℕ) → a ∷ b ∷ c ∷ d ∷ [] ≡ p ∷ q ∷ r ∷ s ∷ [] → (a ≡ p) × (b ≡ q) × (c ≡ r) × (d ≡ s)
-four_same a b c d p q r s e = (cc, cc, cc, cc)
+unfolding has_cookie
+HasHeader-from_tests octets e = record {
+  long = tests_long octets e;
+  request = tests_request octets e;
+  ethernet = tests_ethernet octets e;
+  six = tests_six octets e;
+  cookie = (bytes_decides _ _).0 (tests_cookie octets e);
+}
 
 tests-from_HasHeader : (octets : List ℕ) → HasHeader octets → header octets ≡ Ok tt
-tests-from_HasHeader octets h =
-    let same = four_same _ _ _ _ _ _ _ _ (sym (cookie_at octets h.long) ∙ h.cookie) in
-    tests_ok octets h.long h.request h.ethernet h.six (record { first = same.0; second = same.1; third = same.2; fourth = same.3 })
+unfolding has_cookie
+tests-from_HasHeader octets h = tests_ok octets h.long h.request h.ethernet h.six ((bytes_decides _ _).1 h.cookie)
 
 -- ---- areas
 

@@ -8,9 +8,10 @@ use Rattle.std.proofs.lemmas.List.Sums.{position_or_len_is}
 use Rattle.std.proofs.Math.Seq.{get_or-append_seam}
 use Rattle.dhcp_frame.specs.Area.{Entry, Reads, end, option}
 use Rattle.dhcp_frame.specs.Reply.{Reply, option_octets, area_octets, header_octets, reply_octets, zeros, AreOptions, start_octets, address_octets, name_octets, file_name}
-use Rattle.dhcp_frame.specs.Message.{magic_cookie, file_area}
+use Rattle.dhcp_frame.specs.Message.{file_area}
+use Rattle.dhcp_frame.specs.declared.layout.TheConstants.{MAGIC_COOKIE}
 
--- what follows the end octet doesn't matter
+-- the octets after the end octet don't matter
 pub Reads-area_octets : (es : List Entry) (rest : List ℕ) → AreOptions es → Reads (area_octets es ++ rest) es
 Reads-area_octets [] rest h = end rest
 Reads-area_octets (e ∷ es) rest h =
@@ -32,7 +33,7 @@ Reads-reply_octets r long h =
 length-name_octets : (file : List ℕ) → length file ≤ 128 → length (name_octets file) ≡ 196
 length-name_octets file h =
     let pad : length (zeros (128 - length file)) ≡ 128 - length file = length-replicate (128 - length file) 0 in
-    let a = length-append (file ++ zeros (128 - length file)) magic_cookie in
+    let a = length-append (file ++ zeros (128 - length file)) MAGIC_COOKIE in
     let b = length-append file (zeros (128 - length file)) in
     omega arith
 
@@ -46,7 +47,7 @@ length-header_octets r addresses h =
 
 -- ---- the file field
 
--- a name with a zero behind it ends there
+-- a name ends before the zero that is after it
 before_first-name : (name rest : List ℕ) → All (λ octet. octet ≢ 0) name → before_first (λ octet. octet == 0) (name ++ 0 ∷ rest) ≡ name
 before_first-name name rest h =
     let long : length name < length (name ++ 0 ∷ rest) = omega (arith, length-append name (0 ∷ rest)) in
@@ -59,7 +60,7 @@ middle : (front field behind : List ℕ) → length front ≡ 108 → length fie
 middle front field behind f g =
     ap (λ (x : List ℕ). take 128 x) (drop_at front (field ++ behind) 108 f) ∙ take_at field behind 128 g
 
--- a name, with zeros behind it, fills the file field
+-- a name, and the zeros after it, fill the file field
 name_field : (file : List ℕ) → length file ≤ 127 → file ++ zeros (128 - length file) ≡ file ++ 0 ∷ zeros (127 - length file)
 name_field file h =
     let more : 128 - length file ≡ suc (127 - length file) = omega arith in
@@ -72,7 +73,7 @@ file_area-reply_octets r addresses h =
     let start = start_octets r.xid r.flags in
     let others = address_octets r.ciaddr r.siaddr r.giaddr r.chaddr in
     let field = r.file ++ zeros (128 - length r.file) in
-    let behind = magic_cookie ++ (area_octets r.options ++ zeros (300 - length (header_octets r ++ area_octets r.options))) in
+    let behind = MAGIC_COOKIE ++ (area_octets r.options ++ zeros (300 - length (header_octets r ++ area_octets r.options))) in
     let spelt : reply_octets r ≡ (start ++ others ++ zeros 64) ++ (field ++ behind) = simp append_assoc in
     let front : length (start ++ others ++ zeros 64) ≡ 108 = omega (arith, length-append (start ++ others) (zeros 64), length-append start others) in
     let full : length field ≡ 128 = omega (arith, length-append r.file (zeros (128 - length r.file)), length-replicate {A = ℕ} (128 - length r.file) 0) in

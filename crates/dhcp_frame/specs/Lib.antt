@@ -1,4 +1,6 @@
 pub mod Area
+pub mod AreaLaws
+pub mod ValueLaws
 pub mod Front
 pub mod Overload
 pub mod Start

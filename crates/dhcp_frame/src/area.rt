@@ -3,25 +3,23 @@ ghost use Rattle.std.specs.Prelude.{◌≡◌, ◌≢◌, ◌∷◌, ◌++◌, L
 ghost use Rattle.dhcp_frame.specs.Area.{Entry, Reads, reading, entries_of, IsWhole, AreWhole};
 ghost use Rattle.dhcp_frame.specs.Front.{BeginsWith};
 
+use crate::option_codes::{END, PAD};
 use std::marker::Model;
 
-/// The law of option areas: an area holds one list of options at most, and `reading` is that list.
+/// The law of option areas: `reading` finds the options of each area that isn't cut, and an area holds
+/// at most one list of options.
 pub fn one_reading()
     ensures exact { (octets : List ℕ) (es : List Entry) → Reads octets es ↔ (reading octets ≡ Some es) }
     ensures one { (octets : List ℕ) (es others : List Entry) → Reads octets es → Reads octets others → es ≡ others }
 {}
 
-const PAD: u8 = 0;
-
-const END: u8 = 255;
-
-// What an area begins with, behind its padding.
+// What an area begins with, after its padding.
 #[derive(Drop)]
 enum Front<'a> {
-    // An option, and what follows it.
+    // An option's code, its value, and the octets after it.
     Item(u8, &'a [u8], &'a [u8]),
     End,
-    // An option that lacks its length octet, or whose length runs past the area.
+    // An option that lacks its length octet, or whose length is more than the area has left.
     Cut,
 }
 
@@ -45,8 +43,8 @@ fn first_of(area: &[u8]) -> Front<'_>
 // An option with this code, whose length octet and value come next.
 #[tactic(auto, using(crate::proofs::AreaLemmas::area_steps))]
 fn option_front(code: u8, octets: &[u8]) -> Front<'_>
-    requires padding { code ≢ 0 }
-    requires end { code ≢ 255 }
+    requires padding { code ≢ PAD }
+    requires end { code ≢ END }
     ensures { BeginsWith (code ∷ octets.now) result }
 {
     let Some((len, rest)) = octets.split_first() else {
@@ -60,7 +58,7 @@ fn option_front(code: u8, octets: &[u8]) -> Front<'_>
     Front::Item(code, value, rest)
 }
 
-/// Whether an area isn't cut.
+/// Whether an option area is whole: no option in it is cut.
 pub(crate) fn is_whole(area: &[u8]) -> bool
     ensures { MatchBool result (IsWhole area.now) (reading area.now ≡ None) }
 {
@@ -74,8 +72,8 @@ pub(crate) fn is_whole(area: &[u8]) -> bool
     }
 }
 
-/// Options in order, without padding and end octets. Each value is a part of the octets that were
-/// read, so going through them takes no memory.
+/// Options in order, each with its code and its value, without padding and end octets. A value is
+/// borrowed from the octets that were read, so it takes no memory.
 #[derive(Drop)]
 pub struct OptionIter<'a> {
     first: &'a [u8],
@@ -95,8 +93,8 @@ impl<'a> Model for OptionIter<'a> {
 }
 
 impl<'a> OptionIter<'a> {
-    /// The options of one area, as of a message's options field or of a vendor's area in option 43
-    /// (RFC 2132 section 8.4), or nothing where an option in it is cut.
+    /// The options of one option area, such as the value of option 43 (RFC 2132 section 8.4). `None`
+    /// means that an option in it is cut.
     #[tactic(auto, using(crate::proofs::AreaLemmas::whole_steps))]
     pub fn over(area: &'a [u8]) -> Option<OptionIter<'a>>
         ensures { result ≡ reading area.now }

@@ -1,19 +1,23 @@
-//! A client's frame, in the octets that it came in.
+//! A client's frame, read from its octets.
 ghost use Rattle.std.specs.Prelude.{◌≡◌, ◌≤◌, None, Some, Ok, Err, IsOk, IfOk, MatchResult, option_map, length, take};
 ghost use Rattle.dhcp_frame.specs.Area.{value_of, entries_of, IsWhole};
 ghost use Rattle.dhcp_frame.specs.Message.{Message, IsFrame};
-ghost use Rattle.dhcp_frame.specs.Understood.{header, options_if, understood};
+ghost use Rattle.dhcp_frame.specs.Understood.{has_cookie, header, options_if, understood};
 
 use crate::area::{OptionIter, is_whole};
 use crate::fault::FrameFault;
 use crate::joined::JoinedValue;
+use crate::layout::{
+    BOOT_REQUEST, CHADDR, CIADDR, COOKIE, ETHERNET, ETHERNET_LEN, FILE, FLAGS, GIADDR, HLEN, HTYPE,
+    MAGIC_COOKIE, OP, OPTIONS, SECS, SNAME, XID, YIADDR,
+};
 use crate::overload::overload_in;
 use byteorder::{BigEndian, ByteOrder};
 use std::alloc::{AllocError, Global};
 use std::marker::Model;
 
-/// A client's DHCP message over Ethernet (RFC 2131 section 2), over the octets that it came in.
-/// Contracts see what it says: its fields, and its options in order.
+/// A client's DHCP message over Ethernet (RFC 2131 section 2), borrowed from its octets. Contracts see
+/// the message: its fields, and its options in order.
 #[derive(Drop)]
 pub struct Frame<'a> {
     octets: &'a [u8],
@@ -27,38 +31,46 @@ impl<'a> Model for Frame<'a> {
     ghost use Rattle.std.specs.Prelude.{◌++◌, ◌≤◌, length};
     ghost use Rattle.dhcp_frame.specs.Area.{entries_of, AreWhole};
     ghost use Rattle.dhcp_frame.specs.Message.{Message, message_of};
+    ghost use Rattle.dhcp_frame.specs.declared.layout.TheConstants.{OPTIONS};
 
     ghost Value = { Message };
 
     ghost view = { λ f. message_of f.octets.now (entries_of f.options.now ++ entries_of f.file.now ++ entries_of f.sname.now) };
 
-    ghost invariant = { λ f. (240 ≤ length f.octets.now) × AreWhole f.options.now f.file.now f.sname.now };
+    ghost invariant = { λ f. (OPTIONS ≤ length f.octets.now) × AreWhole f.options.now f.file.now f.sname.now };
 }
 
-/// The octets of the fixed fields and the cookie.
-pub(crate) const HEADER_LEN: usize = 240;
+// Whether the options field begins with the cookie.
+#[tactic(auto, unfolding(crate::specs::Understood::has_cookie))]
+fn has_cookie(octets: &[u8]) -> bool
+    requires { OPTIONS ≤ length octets.now }
+    ensures { result ≡ has_cookie octets.now }
+{
+    let cookie = &octets[COOKIE..OPTIONS];
+    cookie == MAGIC_COOKIE.as_slice()
+}
 
 #[tactic(auto, unfolding(crate::specs::Understood::header))]
 fn check_header(octets: &[u8]) -> Result<(), FrameFault>
     ensures exact { result ≡ header octets.now }
-    ensures long { IsOk result → 240 ≤ length octets.now }
+    ensures long { IsOk result → OPTIONS ≤ length octets.now }
 {
-    if octets.len() < HEADER_LEN {
+    if octets.len() < OPTIONS {
         return Err(FrameFault::Short);
     }
-    if octets[0] != 1 {
+    if octets[OP] != BOOT_REQUEST {
         return Err(FrameFault::NotRequest);
     }
-    if octets[1] != 1 || octets[2] != 6 {
+    if octets[HTYPE] != ETHERNET || octets[HLEN] != ETHERNET_LEN {
         return Err(FrameFault::NotEthernet);
     }
-    if octets[236] != 99 || octets[237] != 130 || octets[238] != 83 || octets[239] != 99 {
+    if !has_cookie(octets) {
         return Err(FrameFault::NoCookie);
     }
     Ok(())
 }
 
-// An area without its options if it isn't in use.
+// An area if it is in use, else an empty area.
 #[tactic(auto, using(crate::proofs::AreaLemmas::whole_steps))]
 fn area_if(used: bool, area: &[u8]) -> Result<&[u8], FrameFault>
     ensures whole { IfOk result (λ area. IsWhole area.now) }
@@ -73,17 +85,17 @@ fn area_if(used: bool, area: &[u8]) -> Result<&[u8], FrameFault>
     Ok(area)
 }
 
-fn understand(octets: &[u8]) -> Result<Frame<'_>, FrameFault>
+fn read_inner(octets: &[u8]) -> Result<Frame<'_>, FrameFault>
     ensures { result ≡ understood octets.now }
 {
     check_header(octets)?;
-    let (_, options) = octets.split_at(HEADER_LEN);
+    let (_, options) = octets.split_at(OPTIONS);
     let options = area_if(true, options)?;
     let Some(overload) = overload_in(options) else {
         return Err(FrameFault::BadOverload);
     };
-    let file = area_if(overload.file, &octets[108..236])?;
-    let sname = area_if(overload.sname, &octets[44..108])?;
+    let file = area_if(overload.file, &octets[FILE..COOKIE])?;
+    let sname = area_if(overload.sname, &octets[SNAME..FILE])?;
     Ok(Frame {
         octets,
         options,
@@ -92,16 +104,17 @@ fn understand(octets: &[u8]) -> Result<Frame<'_>, FrameFault>
     })
 }
 
-/// Reads a client's frame, a datagram's octets. It takes no memory.
+/// Reads a client's frame from the octets of a datagram (RFC 2131 section 2). An error is the first
+/// fault. It takes no memory.
 pub fn read(octets: &[u8]) -> Result<Frame<'_>, FrameFault>
-    // What is read is a frame that carries that message.
+    // What is read is the message that the frame carries.
     ensures frame { IfOk result (λ message. IsFrame octets.now message) }
-    // Each frame is read, as the message that it carries.
+    // Each frame is read.
     ensures only { (message : Message) → IsFrame octets.now message → result ≡ Ok message }
     // A fault is the first in the order.
     ensures exact { result ≡ understood octets.now }
 {
-    understand(octets)
+    read_inner(octets)
 }
 
 impl<'a> Frame<'a> {
@@ -112,8 +125,8 @@ impl<'a> Frame<'a> {
         OptionIter::new(self.options, self.file, self.sname)
     }
 
-    /// The values of a code in order, joined (RFC 3396 section 5), or nothing where the code doesn't
-    /// appear.
+    /// The values of the options with this code, joined in order (RFC 3396 section 5). `None` means
+    /// that no option has this code, and the only error is that memory ran out.
     #[tactic(auto, using(crate::proofs::ValueLemmas::value_steps))]
     pub fn value(&self, alloc: Global, code: u8) -> Result<Option<Vec<u8>>, AllocError>
         ensures { IfOk result (λ found. option_map (λ octets. octets.items) found ≡ value_of code self.now.entries) }
@@ -127,18 +140,18 @@ impl<'a> Frame<'a> {
         joined.into_vec(alloc)
     }
 
-    /// The transaction's number.
+    /// The transaction's identifier.
     pub fn xid(&self) -> u32
         ensures { result ≡ self.now.xid }
     {
-        BigEndian::read_u32(&self.octets[4..8])
+        BigEndian::read_u32(&self.octets[XID..SECS])
     }
 
-    /// The flags, of which the highest bit asks for a broadcast.
+    /// The flags. The highest bit asks for a broadcast.
     pub fn flags(&self) -> u16
         ensures { result ≡ self.now.flags }
     {
-        BigEndian::read_u16(&self.octets[10..12])
+        BigEndian::read_u16(&self.octets[FLAGS..CIADDR])
     }
 
     /// The client's IP address, zeros where it has none.
@@ -146,7 +159,7 @@ impl<'a> Frame<'a> {
         ensures { result ≡ self.now.ciaddr }
     {
         let mut address = [0; 4];
-        address.copy_from_slice(&self.octets[12..16]);
+        address.copy_from_slice(&self.octets[CIADDR..YIADDR]);
         address
     }
 
@@ -155,20 +168,20 @@ impl<'a> Frame<'a> {
         ensures { result ≡ self.now.giaddr }
     {
         let mut address = [0; 4];
-        address.copy_from_slice(&self.octets[24..28]);
+        address.copy_from_slice(&self.octets[GIADDR..CHADDR]);
         address
     }
 
-    /// The client's hardware address field.
+    /// The client's hardware address, filled up to 16 octets.
     pub fn chaddr(&self) -> [u8; 16]
         ensures { result ≡ self.now.chaddr }
     {
         let mut address = [0; 16];
-        address.copy_from_slice(&self.octets[28..44]);
+        address.copy_from_slice(&self.octets[CHADDR..SNAME]);
         address
     }
 
-    /// The Ethernet address, the front of `chaddr`.
+    /// The client's Ethernet address, the first six octets of `chaddr`.
     pub fn mac(&self) -> [u8; 6]
         ensures { result ≡ take 6 self.now.chaddr }
     {

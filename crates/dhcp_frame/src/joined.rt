@@ -1,4 +1,4 @@
-//! The values of one code, joined.
+//! The values of the options with one code, joined.
 ghost use Rattle.std.specs.Prelude.{◌≡◌, ◌++◌, [], None, Some, OnOk, OnErr, IfOk, option_map, option_copied, unwrap_or};
 ghost use Rattle.std.specs.Cow.{cow_slice_items};
 
@@ -6,9 +6,9 @@ use std::alloc::{AllocError, Global};
 use std::borrow::CowSlice;
 use std::marker::Model;
 
-/// The values of one code in order, joined (RFC 3396 section 5). It takes memory for a second value
-/// alone; one value is borrowed from the octets that it came in. Contracts see the joined octets, or
-/// none where there was no value.
+/// The values of the options with one code, joined in order (RFC 3396 section 5). One value is borrowed
+/// from the octets that were read; memory is taken only for a second one. Contracts see the joined
+/// octets, or `None` where no value was joined.
 #[derive(Debug, Drop)]
 pub struct JoinedValue<'a> {
     octets: Option<CowSlice<'a, u8>>,
@@ -41,7 +41,8 @@ impl<'a> JoinedValue<'a> {
         JoinedValue { octets: None }
     }
 
-    /// Joins one more value to its end. After an error there is none left.
+    /// Joins one more value to the end. The only error is that memory ran out, and after it there is no
+    /// value.
     pub fn push(&mut self, alloc: Global, value: &'a [u8]) -> Result<(), AllocError>
         ensures ok { OnOk result (self.new ≡ Some (unwrap_or self.old [] ++ value.now)) }
         ensures err { OnErr result (self.new ≡ None) }
@@ -54,7 +55,7 @@ impl<'a> JoinedValue<'a> {
         Ok(())
     }
 
-    /// The joined octets, or nothing where there was no value.
+    /// The joined octets, or `None` where no value was joined.
     pub fn as_slice(&self) -> Option<&[u8]>
         ensures { option_copied result ≡ self.now }
     {
@@ -64,7 +65,8 @@ impl<'a> JoinedValue<'a> {
         }
     }
 
-    /// The same, in memory of their own.
+    /// The joined octets in memory of their own, or `None` where no value was joined. The only error is
+    /// that memory ran out.
     pub fn into_vec(self, alloc: Global) -> Result<Option<Vec<u8>>, AllocError>
         ensures { IfOk result (λ octets. option_map (λ octets. octets.items) octets ≡ self.entry) }
     {

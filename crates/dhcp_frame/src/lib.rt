@@ -5,6 +5,8 @@ mod area;
 mod fault;
 mod frame;
 mod joined;
+mod layout;
+pub mod option_codes;
 mod overload;
 mod reply;
 
@@ -12,7 +14,7 @@ pub use area::{OptionIter, one_reading};
 pub use fault::{FrameFault, WriteFault};
 pub use frame::{Frame, read};
 pub use joined::JoinedValue;
-pub use reply::{DhcpOption, ReplyFields, write};
+pub use reply::{DhcpOption, MAX_FILE_LEN, MAX_VALUE_LEN, ReplyFields, write};
 
 #[cfg(test)]
 mod tests;

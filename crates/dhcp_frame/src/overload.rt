@@ -1,19 +1,20 @@
-//! Option 52, which says which fields hold options beside the options field.
+//! Option 52, option overload (RFC 2132 section 9.3): which fields hold options after the options field.
 ghost use Rattle.std.specs.Prelude.{◌≡◌, Option, Some, List, ℕ};
 ghost use Rattle.dhcp_frame.specs.Area.{value_of, entries_of, IsWhole};
 ghost use Rattle.dhcp_frame.specs.Overload.{overload_of};
 ghost use Rattle.dhcp_frame.specs.Start.{start_of, start_with};
 
 use crate::area::OptionIter;
+use crate::option_codes::OVERLOAD;
 
-/// The fields that hold options (RFC 2132 section 9.3).
+/// Whether the file field and the server name field hold options.
 #[derive(Clone, Copy)]
 pub(crate) struct Overload {
     pub(crate) file: bool,
     pub(crate) sname: bool,
 }
 
-// The start of a joined value, as far as an overload asks: two octets are like three.
+// The joined value of option 52: it has one octet, or it is bad.
 #[derive(Clone, Copy)]
 enum Start {
     Absent,
@@ -21,8 +22,6 @@ enum Start {
     One(u8),
     Long,
 }
-
-const OVERLOAD: u8 = 52;
 
 #[tactic(auto, unfolding(crate::specs::Start::start_with, crate::specs::Start::start_of))]
 fn more(start: Start, value: &[u8]) -> Start
@@ -66,7 +65,7 @@ fn overload_start(options: &[u8]) -> Start
     start
 }
 
-/// What option 52 of an options field says, or nothing where it is bad.
+/// The fields that option 52 of an options field names. `None` means that the option is bad.
 pub(crate) fn overload_in(options: &[u8]) -> Option<Overload>
     requires { IsWhole options.now }
     ensures { result ≡ overload_of (value_of OVERLOAD (entries_of options.now)) }

@@ -1,15 +1,20 @@
-//! A server's reply, and how it is written.
+//! Writing a server's reply.
 ghost use Rattle.std.specs.Prelude.{◌≡◌, ◌≢◌, ◌≤◌, ◌<◌, ◌+◌, ◌↔◌, ◌++◌, ℕ, List, map, length, drop, OnOk, IfOk, IsErrOf, MatchBool, All, Any};
 ghost use Rattle.dhcp_frame.specs.Area.{Reads};
+ghost use Rattle.dhcp_frame.specs.Message.{options_area};
 ghost use Rattle.dhcp_frame.specs.Reply.{reply_of, entry_of, option_octets, start_octets, address_octets, name_octets, header_octets, reply_octets, AreOptions, padded, area_octets, zeros, file_name};
 
 use crate::fault::WriteFault;
-use crate::frame::HEADER_LEN;
+use crate::layout::{
+    BOOT_REPLY, CIADDR, COOKIE, ETHERNET, ETHERNET_LEN, FILE, FLAGS, HLEN, HTYPE, MAGIC_COOKIE, OP,
+    OPTIONS, SECS, SNAME, XID,
+};
+use crate::option_codes::END;
 use byteorder::{BigEndian, ByteOrder};
 use std::alloc::{AllocError, Global};
 
-/// The fields of a reply that a server chooses (RFC 2131 section 2). Of the others, op is 2, htype 1,
-/// hlen 6, and hops, secs, yiaddr and sname are zeros.
+/// The fields of a reply that differ between replies (RFC 2131 section 2). Of the other fields, op is 2
+/// (BOOTREPLY), htype 1 and hlen 6 (Ethernet), and hops, secs, yiaddr and sname are zeros.
 #[derive(Clone, Copy, Debug)]
 pub struct ReplyFields<'a> {
     pub xid: u32,
@@ -18,26 +23,32 @@ pub struct ReplyFields<'a> {
     pub siaddr: [u8; 4],
     pub giaddr: [u8; 4],
     pub chaddr: [u8; 16],
-    /// The boot file's name, which the reply ends by zeros.
+    /// The boot file's name. Zeros fill up its field.
     pub file: &'a str,
 }
 
 /// An option of a reply (RFC 2132 section 2).
 #[derive(Clone, Copy, Debug)]
 pub struct DhcpOption<'a> {
-    /// 1 to 254.
+    /// The option's code, 1 to 254.
     pub code: u8,
     pub value: &'a [u8],
 }
 
-const MAGIC_COOKIE: [u8; 4] = [99, 130, 83, 99];
+/// The maximum number of octets in an option's value (RFC 2132 section 2).
+pub const MAX_VALUE_LEN: usize = 255;
 
-const LEAST_LEN: usize = 300;
+/// The maximum number of octets in a file's name: its field has one octet more, which ends the name
+/// (RFC 2131 section 2).
+pub const MAX_FILE_LEN: usize = 127;
 
-static ZEROS: [u8; 300] = [0; 300];
+// The minimum number of octets that a BOOTP client takes (RFC 1542 section 2.1).
+const MIN_REPLY_LEN: usize = 300;
+
+static ZEROS: [u8; MIN_REPLY_LEN] = [0; MIN_REPLY_LEN];
 
 fn push_zeros(out: &mut Vec<u8>, count: usize) -> Result<(), AllocError>
-    requires { count ≤ 300 }
+    requires { count ≤ MIN_REPLY_LEN }
     ensures { OnOk result (out.new.items ≡ out.old.items ++ zeros count) }
 {
     out.extend_from_slice(&ZEROS[..count])
@@ -46,9 +57,12 @@ fn push_zeros(out: &mut Vec<u8>, count: usize) -> Result<(), AllocError>
 fn push_numbers(out: &mut Vec<u8>, fields: &ReplyFields<'_>) -> Result<(), AllocError>
     ensures { OnOk result (out.new.items ≡ out.old.items ++ start_octets fields.now.xid fields.now.flags) }
 {
-    let mut start = [2, 1, 6, 0, 0, 0, 0, 0, 0, 0, 0, 0];
-    BigEndian::write_u32(&mut start[4..8], fields.xid);
-    BigEndian::write_u16(&mut start[10..12], fields.flags);
+    let mut start = [0; CIADDR];
+    start[OP] = BOOT_REPLY;
+    start[HTYPE] = ETHERNET;
+    start[HLEN] = ETHERNET_LEN;
+    BigEndian::write_u32(&mut start[XID..SECS], fields.xid);
+    BigEndian::write_u16(&mut start[FLAGS..CIADDR], fields.flags);
     out.extend_from_slice(&start)?;
     Ok(())
 }
@@ -66,18 +80,18 @@ fn push_addresses(out: &mut Vec<u8>, fields: &ReplyFields<'_>) -> Result<(), All
 }
 
 fn push_names(out: &mut Vec<u8>, file: &str) -> Result<(), AllocError>
-    requires { length file.now ≤ 127 }
+    requires { length file.now ≤ MAX_FILE_LEN }
     ensures { OnOk result (out.new.items ≡ out.old.items ++ name_octets file.now) }
 {
-    push_zeros(out, 64)?;
+    push_zeros(out, FILE - SNAME)?;
     out.extend_from_slice(file.as_bytes())?;
-    push_zeros(out, 128 - file.len())?;
+    push_zeros(out, COOKIE - FILE - file.len())?;
     out.extend_from_slice(&MAGIC_COOKIE)?;
     Ok(())
 }
 
 fn push_option(out: &mut Vec<u8>, option: &DhcpOption<'_>) -> Result<(), AllocError>
-    requires { length option.now.value.now ≤ 255 }
+    requires { length option.now.value.now ≤ MAX_VALUE_LEN }
     ensures { OnOk result (out.new.items ≡ out.old.items ++ option_octets (entry_of option.now)) }
 {
     out.push(option.code)?;
@@ -87,39 +101,39 @@ fn push_option(out: &mut Vec<u8>, option: &DhcpOption<'_>) -> Result<(), AllocEr
 }
 
 fn push_area(out: &mut Vec<u8>, options: &[DhcpOption<'_>]) -> Result<(), AllocError>
-    requires { All (λ o. length o.value.now ≤ 255) options.now }
+    requires { All (λ o. length o.value.now ≤ MAX_VALUE_LEN) options.now }
     ensures { OnOk result (out.new.items ≡ out.old.items ++ area_octets (map entry_of options.now)) }
 {
     for option in options {
         push_option(out, option)?;
     }
-    out.push(255)?;
+    out.push(END)?;
     Ok(())
 }
 
-// Room for a reply with these options, unless there can be no such room.
+// The octets of a reply with these options, or the greatest number where they are more.
 fn room_for(options: &[DhcpOption<'_>]) -> usize
-    ensures { result < usize.MAX → LEAST_LEN ≤ result × HEADER_LEN + length (area_octets (map entry_of options.now)) ≤ result }
+    ensures { result < usize.MAX → MIN_REPLY_LEN ≤ result × OPTIONS + length (area_octets (map entry_of options.now)) ≤ result }
 {
-    let mut room = HEADER_LEN + 1;
+    let mut room = OPTIONS + 1;
     for option in options {
         room = room.saturating_add(option.value.len()).saturating_add(2);
     }
-    room.max(LEAST_LEN)
+    room.max(MIN_REPLY_LEN)
 }
 
 #[tactic(auto, unfolding(crate::specs::Reply::reply_octets))]
-fn reply(
+fn write_inner(
     alloc: Global,
     fields: &ReplyFields<'_>,
     options: &[DhcpOption<'_>],
 ) -> Result<Vec<u8>, AllocError>
     requires codes { AreOptions (map entry_of options.now) }
     requires file { All (λ octet. octet ≢ 0) fields.now.file.now }
-    requires room { length fields.now.file.now ≤ 127 }
-    requires lengths { All (λ o. length o.value.now ≤ 255) options.now }
+    requires room { length fields.now.file.now ≤ MAX_FILE_LEN }
+    requires lengths { All (λ o. length o.value.now ≤ MAX_VALUE_LEN) options.now }
     ensures octets { IfOk result (λ out. out.items ≡ reply_octets (reply_of fields.now options.now)) }
-    ensures options { IfOk result (λ out. Reads (drop 240 out.items) (map entry_of options.now)) }
+    ensures options { IfOk result (λ out. Reads (options_area out.items) (map entry_of options.now)) }
     ensures file { IfOk result (λ out. file_name out.items ≡ fields.now.file.now) }
 {
     let mut out = Vec::with_capacity(alloc, room_for(options))?;
@@ -127,28 +141,25 @@ fn reply(
     push_addresses(&mut out, fields)?;
     push_names(&mut out, fields.file)?;
     push_area(&mut out, options)?;
-    let missing = LEAST_LEN.saturating_sub(out.len());
+    let missing = MIN_REPLY_LEN.saturating_sub(out.len());
     push_zeros(&mut out, missing)?;
     Ok(out)
 }
 
-// Whether a length octet can't hold the length of a value.
+// Whether the value of an option has more octets than its length octet can hold.
 fn has_long(options: &[DhcpOption<'_>]) -> bool
-    ensures { MatchBool result (Any (λ o. 255 < length o.value.now) options.now) (All (λ o. length o.value.now ≤ 255) options.now) }
+    ensures { MatchBool result (Any (λ o. MAX_VALUE_LEN < length o.value.now) options.now) (All (λ o. length o.value.now ≤ MAX_VALUE_LEN) options.now) }
 {
-    for option in options {
-        if option.value.len() > 255 {
-            return true;
-        }
-    }
-    false
+    options
+        .iter()
+        .any(|option| option.value.len() > MAX_VALUE_LEN)
 }
 
-/// Writes a reply in at least 300 octets: the fields, the cookie, each option in order, the end octet
-/// and zeros. Its memory is taken at once.
+/// Writes a reply (RFC 2131 section 2): the fields, the cookie, each option in order, the end octet, and
+/// zeros up to 300 octets. Its memory is taken at once.
 ///
-/// The codes are those of options and the file has no zero octet, else a client would read another
-/// list of options or another name.
+/// The codes are 1 to 254 and the file has no zero octet: a client would read other options or another
+/// file.
 pub fn write(
     alloc: Global,
     fields: &ReplyFields<'_>,
@@ -157,20 +168,20 @@ pub fn write(
     requires codes { AreOptions (map entry_of options.now) }
     requires file { All (λ octet. octet ≢ 0) fields.now.file.now }
     ensures octets { IfOk result (λ out. out.items ≡ reply_octets (reply_of fields.now options.now)) }
-    // Whoever reads the options field finds these options and no others, and in the file field this name.
-    ensures options { IfOk result (λ out. Reads (drop 240 out.items) (map entry_of options.now)) }
+    // A client reads exactly these options from the options field, and this name from the file field.
+    ensures options { IfOk result (λ out. Reads (options_area out.items) (map entry_of options.now)) }
     ensures file { IfOk result (λ out. file_name out.items ≡ fields.now.file.now) }
-    ensures too_long { IsErrOf result WriteFault.TooLong ↔ Any (λ o. 255 < length o.value.now) options.now }
+    ensures too_long { IsErrOf result WriteFault.TooLong ↔ Any (λ o. MAX_VALUE_LEN < length o.value.now) options.now }
     ensures file_too_long { IsErrOf result WriteFault.FileTooLong
-        ↔ (All (λ o. length o.value.now ≤ 255) options.now × (127 < length fields.now.file.now)) }
+        ↔ (All (λ o. length o.value.now ≤ MAX_VALUE_LEN) options.now × (MAX_FILE_LEN < length fields.now.file.now)) }
 {
     if has_long(options) {
         return Err(WriteFault::TooLong);
     }
-    if fields.file.len() > 127 {
+    if fields.file.len() > MAX_FILE_LEN {
         return Err(WriteFault::FileTooLong);
     }
-    match reply(alloc, fields, options) {
+    match write_inner(alloc, fields, options) {
         Ok(octets) => Ok(octets),
         Err(AllocError) => Err(WriteFault::Memory),
     }

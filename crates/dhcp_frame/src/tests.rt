@@ -1,10 +1,10 @@
-ghost use Rattle.std.specs.Prelude.{◌≡◌};
+ghost use Rattle.std.specs.Prelude.{◌≡◌, ◌≢◌, All};
 
 use super::*;
 use std::alloc::{AllocError, Global};
 use std::test::Fail;
 
-// A client's message from 52:54:00:12:34:56 with these areas, the fixed ones filled up with zeros.
+// A client's message from 52:54:00:12:34:56 with these areas. Zeros fill up the first two.
 fn message(
     alloc: Global,
     sname: &[u8],
@@ -35,7 +35,8 @@ fn codes(alloc: Global, options: OptionIter<'_>) -> Result<Vec<u8>, AllocError> 
     Ok(codes)
 }
 
-// The options field of a UEFI machine's DISCOVER, with padding in front and octets behind its end.
+// The options field of a UEFI machine's DISCOVER, with padding before the options and octets after the
+// end octet.
 const DISCOVER_OPTIONS: &[u8] =
     b"\x00\x35\x01\x01\x3c\x20PXEClient:Arch:00007:UNDI:003016\x5d\x02\x00\x07\x5e\x03\x01\x03\x10\x61\x11\x00\x00\x11\x22\x33\x44\x55\x66\x77\x88\x99\xaa\xbb\xcc\xdd\xee\xff\xff\x0c\xff";
 
@@ -85,49 +86,68 @@ fn joins_values_of_three_areas_in_order(rt: HostRuntime) -> Result<(), Fail> {
     Ok(())
 }
 
+// The number of options in a message with these areas, or its fault.
+fn option_count(
+    alloc: Global,
+    sname: &[u8],
+    file: &[u8],
+    options: &[u8],
+) -> Result<Result<usize, FrameFault>, AllocError> {
+    let octets = message(alloc, sname, file, options)?;
+    match read(&octets) {
+        Ok(frame) => Ok(Ok(codes(alloc, frame.options())?.len())),
+        Err(fault) => Ok(Err(fault)),
+    }
+}
+
+// An option that is cut.
+const CUT: &[u8] = &[12, 255];
+
+// The server name field, the file field, the options field, and the number of options or the fault.
+const AREAS: [(&[u8], &[u8], &[u8], Result<usize, FrameFault>); 11] = [
+    (&[], &[], CUT, Err(FrameFault::CutOption)),
+    (&[], &[], &[53], Err(FrameFault::CutOption)),
+    (&[], CUT, &[52, 1, 4], Err(FrameFault::BadOverload)),
+    (&[], &[], &[52, 1, 4, 12, 255], Err(FrameFault::CutOption)),
+    (&[], &[], &[52, 0], Err(FrameFault::BadOverload)),
+    (
+        &[],
+        &[],
+        &[52, 1, 1, 52, 1, 1],
+        Err(FrameFault::BadOverload),
+    ),
+    (CUT, &[], &[52, 0, 52, 1, 1], Ok(2)),
+    (CUT, &[], &[52, 1, 2], Err(FrameFault::CutOption)),
+    (CUT, &[52, 1, 2, 255], &[52, 1, 1, 255], Ok(2)),
+    (CUT, CUT, &[53, 1, 1], Ok(1)),
+    (&[54, 1, 1], &[53, 1, 1], &[52, 1, 3], Ok(3)),
+];
+
 #[test]
-fn tells_the_first_fault(rt: HostRuntime) -> Result<(), Fail> {
-    let cut = [12u8, 255].as_slice();
-    // The server name field, the file field, the options field, and what they are read as.
-    let cases = [
-        (&[][..], &[][..], cut, Err(FrameFault::CutOption)),
-        (&[], &[], &[53], Err(FrameFault::CutOption)),
-        (&[], cut, &[52, 1, 4], Err(FrameFault::BadOverload)),
-        (&[], &[], &[52, 1, 4, 12, 255], Err(FrameFault::CutOption)),
-        (&[], &[], &[52, 0], Err(FrameFault::BadOverload)),
-        (cut, &[], &[52, 0, 52, 1, 1], Ok(2usize)),
-        (cut, &[], &[52, 1, 2], Err(FrameFault::CutOption)),
-        (cut, &[52, 1, 2, 255], &[52, 1, 1, 255], Ok(2)),
-        (cut, cut, &[53, 1, 1], Ok(1)),
-        (&[54, 1, 1], &[53, 1, 1], &[52, 1, 3], Ok(3)),
-    ];
-    for (sname, file, options, want) in cases {
-        let octets = message(rt.alloc(), sname, file, options)?;
-        let got = match read(&octets) {
-            Ok(frame) => Ok(codes(rt.alloc(), frame.options())?.len()),
-            Err(fault) => Err(fault),
-        };
+fn reads_areas_up_to_the_first_fault(rt: HostRuntime) -> Result<(), Fail> {
+    for (sname, file, options, want) in AREAS {
+        let got = option_count(rt.alloc(), sname, file, options)?;
         assert_eq!(rt; got, want, "options field {options:?}");
     }
     Ok(())
 }
 
+// The place of the first wrong octet, and the fault that it makes. Wrong octets after it make no
+// difference.
+const WRONG_FROM: [(usize, FrameFault); 5] = [
+    (0, FrameFault::NotRequest),
+    (1, FrameFault::NotEthernet),
+    (2, FrameFault::NotEthernet),
+    (236, FrameFault::NoCookie),
+    (239, FrameFault::NoCookie),
+];
+
 #[test]
-fn tells_faults_of_the_header_in_order(rt: HostRuntime) -> Result<(), Fail> {
-    let whole = message(rt.alloc(), &[], &[], &[12, 255])?;
-    // The place of a wrong octet, and the fault that it makes. Those behind it make no difference.
-    let places = [
-        (0usize, FrameFault::NotRequest),
-        (1, FrameFault::NotEthernet),
-        (2, FrameFault::NotEthernet),
-        (236, FrameFault::NoCookie),
-        (239, FrameFault::NoCookie),
-    ];
-    for (place, want) in places {
+fn reads_headers_up_to_the_first_fault(rt: HostRuntime) -> Result<(), Fail> {
+    let whole = message(rt.alloc(), &[], &[], CUT)?;
+    for (place, want) in WRONG_FROM {
         let mut octets = whole.clone()?;
-        for octet in octets.iter_mut().skip(place) {
-            *octet = 7;
-        }
+        octets.iter_mut().skip(place).for_each(|octet| *octet = 7);
         assert_eq!(rt; read(&octets).err(), Some(want), "from {place} on");
         octets.truncate(239);
         assert_eq!(rt; read(&octets).err(), Some(FrameFault::Short));
@@ -136,7 +156,20 @@ fn tells_faults_of_the_header_in_order(rt: HostRuntime) -> Result<(), Fail> {
 }
 
 #[test]
-fn goes_over_one_area(rt: HostRuntime) -> Result<(), Fail> {
+fn faults_have_numbers(rt: HostRuntime) {
+    assert_eq!(rt; FrameFault::Short as u8, 1);
+    assert_eq!(rt; FrameFault::NotRequest as u8, 2);
+    assert_eq!(rt; FrameFault::NotEthernet as u8, 3);
+    assert_eq!(rt; FrameFault::NoCookie as u8, 4);
+    assert_eq!(rt; FrameFault::BadOverload as u8, 5);
+    assert_eq!(rt; FrameFault::CutOption as u8, 6);
+    assert_eq!(rt; WriteFault::TooLong as u8, 1);
+    assert_eq!(rt; WriteFault::FileTooLong as u8, 2);
+    assert_eq!(rt; WriteFault::Memory as u8, 3);
+}
+
+#[test]
+fn reads_options_of_one_area(rt: HostRuntime) -> Result<(), Fail> {
     let nested = OptionIter::over(&[71, 4, 0, 0, 0, 0, 255, 12]).ok_or("the area is whole")?;
     assert_eq!(rt; codes(rt.alloc(), nested)?.as_slice(), [71].as_slice());
     assert!(rt; OptionIter::over(&[71, 4, 0, 0]).is_none());
@@ -159,31 +192,44 @@ fn fields(file: &str) -> ReplyFields<'_>
     }
 }
 
+// The length of a reply with an option and a file of these lengths, or its fault.
+fn reply_len(
+    alloc: Global,
+    value_len: usize,
+    file: &str,
+) -> Result<Result<usize, WriteFault>, AllocError>
+    requires { All (λ octet. octet ≢ 0) file.now }
+{
+    let value = vec![in alloc; 7u8; value_len]?;
+    let options = [DhcpOption {
+        code: 60,
+        value: &value,
+    }];
+    match write(alloc, &fields(file), &options) {
+        Ok(octets) => Ok(Ok(octets.len())),
+        Err(fault) => Ok(Err(fault)),
+    }
+}
+
+// A length of an option's value and of a file's name, and the length of the reply or its fault.
+const LENGTHS: [(usize, usize, Result<usize, WriteFault>); 5] = [
+    (255, 127, Ok(240 + 257 + 1)),
+    (256, 127, Err(WriteFault::TooLong)),
+    (255, 128, Err(WriteFault::FileTooLong)),
+    (256, 128, Err(WriteFault::TooLong)),
+    (3, 0, Ok(300)),
+];
+
 #[test]
 fn writes_what_fits(rt: HostRuntime) -> Result<(), Fail> {
-    let cases = [
-        (255usize, 127usize, Ok(240 + 257 + 1)),
-        (256, 127, Err(WriteFault::TooLong)),
-        (255, 128, Err(WriteFault::FileTooLong)),
-        (256, 128, Err(WriteFault::TooLong)),
-        (3, 0, Ok(300usize)),
-    ];
-    for (length, name_length, want) in cases {
-        let mut name = String::new(rt.alloc());
-        for _ in 0..name_length {
-            name.push('a')?;
+    for (value_len, file_len, want) in LENGTHS {
+        let mut file = String::new(rt.alloc());
+        for _ in 0..file_len {
+            file.push('a')?;
         }
-        assert!(rt; name.as_bytes().iter().all(|octet| *octet != 0));
-        let value = vec![in rt.alloc(); 7u8; length]?;
-        let options = [DhcpOption {
-            code: 60,
-            value: &value,
-        }];
-        let written = match write(rt.alloc(), &fields(name.as_str()), &options) {
-            Ok(octets) => Ok(octets.len()),
-            Err(fault) => Err(fault),
-        };
-        assert_eq!(rt; written, want, "{length} and {name_length} octets");
+        assert!(rt; file.as_bytes().iter().all(|octet| *octet != 0));
+        let got = reply_len(rt.alloc(), value_len, file.as_str())?;
+        assert_eq!(rt; got, want, "{value_len} and {file_len} octets");
     }
     Ok(())
 }

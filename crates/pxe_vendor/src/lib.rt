@@ -1,19 +1,20 @@
-//! PXE clients: who asks by DHCP to be booted, and what they are answered.
+//! PXE clients (PXE 2.1): which machine asks by DHCP for its boot file, and the answer to it.
 #![tactic(auto)]
 
 mod answer;
 mod arch;
 mod clients;
 mod file;
+mod numbers;
 mod octets;
 mod place;
 mod serve;
 mod values;
 
-pub use answer::reply;
-pub use arch::Arch;
+pub use answer::{boot_reply, reply};
+pub use arch::{Arch, UnknownArch, one_word};
 pub use clients::{Client, Kind};
-pub use file::{boot_file, loader, url};
+pub use file::{boot_file, loader_file, script_url};
 pub use octets::Octets;
 pub use place::{Place, PlaceFault};
 pub use serve::{NotServed, client, one_client};

@@ -3,7 +3,7 @@ use Rattle.dhcp_frame.proofs.FrameLemmas.{IfOk-understood, understood-from_IsFra
 use Rattle.dhcp_frame.proofs.frame.read.Goals as goal
 
 pub returns-clause-frame : goal.returns-clause-frame
-returns-clause-frame c = IfOk-understood _ _ c.understand.ensures
+returns-clause-frame c = IfOk-understood _ _ c.read_inner.ensures
 
 pub returns-clause-only : goal.returns-clause-only
-returns-clause-only c = λ message is. c.understand.ensures ∙ understood-from_IsFrame _ message is
+returns-clause-only c = λ message is. c.read_inner.ensures ∙ understood-from_IsFrame _ message is

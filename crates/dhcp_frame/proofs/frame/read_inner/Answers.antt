@@ -2,7 +2,7 @@
 use Rattle.std.proofs.Common.{sym}
 use Rattle.std.proofs.lemmas.Result.{err_from_is_err_and}
 use Rattle.dhcp_frame.proofs.FrameLemmas.{understood-header, understood-options, understood-overload, understood-file, understood-sname, understood-whole}
-use Rattle.dhcp_frame.proofs.frame.understand.Goals as goal
+use Rattle.dhcp_frame.proofs.frame.read_inner.Goals as goal
 
 pub returns-in_err-check_header : goal.returns-in_err-check_header
 returns-in_err-check_header c =

@@ -3,7 +3,7 @@ use Rattle.std.proofs.lemmas.Grind.{common_steps}
 use Rattle.dhcp_frame.specs.Area.{Reads}
 use Rattle.dhcp_frame.specs.Reply.{reply_of, reply_octets, file_name}
 use Rattle.dhcp_frame.proofs.ReplyLemmas.{Reads-reply_octets, length-header_octets, file_name-reply_octets}
-use Rattle.dhcp_frame.proofs.reply.reply.Goals as goal
+use Rattle.dhcp_frame.proofs.reply.write_inner.Goals as goal
 
 pub returns-clause-options : goal.returns-clause-options
 unfolding reply_octets
