@@ -1,4 +1,4 @@
--- The plain program `understood` finds what an input says.
+-- The program `understood` finds the addresses and the octets in an input.
 use Rattle.std.proofs.Common.{◌≡◌, ℕ, ◌≤◌, ◌==◌, true, false, List, [], ◌∷◌, ◌++◌, length, Option, Some, None, Result, Ok, Err, refl, sym, ap, subst, ◌∙◌, arith, inl, inr}
 use Rattle.std.specs.Prelude.{option_map, All}
 use Rattle.std.specs.List.{join_with_byte}
@@ -13,7 +13,7 @@ use Rattle.hex.specs.Hex.{decode_of, is_hex_digit}
 use Rattle.hex.specs.declared.error.FromHexError.{FromHexError}
 use Rattle.hex.proofs.HexLemmas.{decode_of-ok}
 use Rattle.mac_text.specs.MacText.{IsMacText, mac_of}
-use Rattle.mac_text.proofs.MacLemmas.{mac_of-from_IsMacText, IsMacText-from_mac_of, IsMacText-high}
+use Rattle.mac_text.specs.MacLaws.{mac_of-from_IsMacText, IsMacText-from_mac_of, IsMacText-high}
 use Rattle.hallboot.specs.Input.{IsHexLine, ended, open_ended, IsInput, frame, address, Understood, lines_of, only_line, hex_octets, framed, listed, listed_then, understood_lines, understood}
 use Rattle.hallboot.proofs.LineLemmas.{lines_of-line, lines_of-last}
 
@@ -41,13 +41,13 @@ pub only_line-nothing : (line : List ℕ) → length line ≡ 0 → only_line (l
 unfolding only_line
 only_line-nothing line h = rw (eq-eqb (length line) 0 h) refl
 
-pub only_line-ended : (line behind : List ℕ) → length behind ≡ 0 → only_line (line ∷ behind ∷ []) ≡ Some line
+pub only_line-ended : (line after : List ℕ) → length after ≡ 0 → only_line (line ∷ after ∷ []) ≡ Some line
 unfolding only_line
-only_line-ended line behind h = rw (eq-eqb (length behind) 0 h) refl
+only_line-ended line after h = rw (eq-eqb (length after) 0 h) refl
 
-pub only_line-more : (line behind : List ℕ) → (length behind ≡ 0 → ⊥) → only_line (line ∷ behind ∷ []) ≡ None
+pub only_line-more : (line after : List ℕ) → (length after ≡ 0 → ⊥) → only_line (line ∷ after ∷ []) ≡ None
 unfolding only_line
-only_line-more line behind h = rw (ne_eqb (length behind) 0 h) refl
+only_line-more line after h = rw (ne_eqb (length after) 0 h) refl
 
 decoded : (r : Result (List ℕ) FromHexError) (octets : List ℕ) → result_ok r ≡ Some octets → r ≡ Ok octets
 decoded (Ok found) octets e = ap (λ (xs : List ℕ). Ok xs) (same_Some found octets e)
@@ -68,14 +68,14 @@ IsHexLine-from_lines (line ∷ []) octets e =
       | inl none ↦ absurd (hex_octets-none (line ∷ []) octets (only_line-nothing line none) e)
       | inr some ↦ open_ended line octets (λ empty. some (ap length empty)) (hex_octets-line (line ∷ []) line octets (only_line-open line some) e)
     ]
-IsHexLine-from_lines (line ∷ behind ∷ []) octets e =
-    elim (cases_eq (length behind) 0) [
+IsHexLine-from_lines (line ∷ after ∷ []) octets e =
+    elim (cases_eq (length after) 0) [
       | inl none ↦
-          let is = hex_octets-line (line ∷ behind ∷ []) line octets (only_line-ended line behind none) e in
-          ended (line ++ 10 ∷ behind) line octets (ap (λ (xs : List ℕ). line ++ 10 ∷ xs) (nil_from_length behind none)) is
-      | inr some ↦ absurd (hex_octets-none (line ∷ behind ∷ []) octets (only_line-more line behind some) e)
+          let is = hex_octets-line (line ∷ after ∷ []) line octets (only_line-ended line after none) e in
+          ended (line ++ 10 ∷ after) line octets (ap (λ (xs : List ℕ). line ++ 10 ∷ xs) (nil_from_length after none)) is
+      | inr some ↦ absurd (hex_octets-none (line ∷ after ∷ []) octets (only_line-more line after some) e)
     ]
-IsHexLine-from_lines (line ∷ behind ∷ more ∷ lines) octets e = absurd cc
+IsHexLine-from_lines (line ∷ after ∷ more ∷ lines) octets e = absurd cc
 
 hex_octets-at : (lines : List (List ℕ)) (line octets : List ℕ) → only_line lines ≡ Some line → decode_of line ≡ Ok octets → hex_octets lines ≡ Some octets
 hex_octets-at lines line octets is e = rw (is, e) refl
@@ -122,36 +122,37 @@ framed-some : (found : Option (List ℕ)) (u : Understood) → option_map framed
 framed-some None u e = absurd cc
 framed-some (Some octets) u e = (octets, refl, same_Some _ _ e)
 
-listed-some : (mac : Option (List ℕ)) (behind : Option Understood) (u : Understood) → listed_then mac behind ≡ Some u → (first : List ℕ) × (v : Understood) × (mac ≡ Some first) × (behind ≡ Some v) × (listed first v ≡ u)
-listed-some None behind u e = absurd cc
+listed-some : (mac : Option (List ℕ)) (after : Option Understood) (u : Understood) → listed_then mac after ≡ Some u → (first : List ℕ) × (v : Understood) × (mac ≡ Some first) × (after ≡ Some v) × (listed first v ≡ u)
+listed-some None after u e = absurd cc
 listed-some (Some first) None u e = absurd cc
 listed-some (Some first) (Some v) u e = (first, v, refl, refl, same_Some _ _ e)
 
-abbrev Says : List ℕ → Understood → Type 0
-Says input u = IsInput input u.addresses u.octets
+-- the input has these addresses and these octets
+abbrev Has : List ℕ → Understood → Type 0
+Has input u = IsInput input u.addresses u.octets
 
-Says-from_lines : (lines : List (List ℕ)) (u : Understood) → understood_lines lines ≡ Some u → Says (join_with_byte 10 lines) u
+Has-from_lines : (lines : List (List ℕ)) (u : Understood) → understood_lines lines ≡ Some u → Has (join_with_byte 10 lines) u
 unfolding understood_lines
-Says-from_lines [] u e = absurd cc
-Says-from_lines (line ∷ []) u e = absurd (let gone = sym (understood_lines-last line) ∙ e in cc)
-Says-from_lines (line ∷ next ∷ lines) u e =
+Has-from_lines [] u e = absurd cc
+Has-from_lines (line ∷ []) u e = absurd (let gone = sym (understood_lines-last line) ∙ e in cc)
+Has-from_lines (line ∷ next ∷ lines) u e =
     let rest = join_with_byte 10 (next ∷ lines) in
     elim (cases_eq (length line) 0) [
       | inl none ↦
           let (octets, found, same) = framed-some _ u (sym (understood_lines-frame line (next ∷ lines) none) ∙ e) in
           let empty = nil_from_length line none in
-          subst (λ (w : Understood). Says (line ++ 10 ∷ rest) w) same
+          subst (λ (w : Understood). Has (line ++ 10 ∷ rest) w) same
           (frame (line ++ 10 ∷ rest) rest octets (ap (λ (xs : List ℕ). xs ++ 10 ∷ rest) empty) (IsHexLine-from_lines (next ∷ lines) octets found))
       | inr some ↦
-          let (first, v, mac, behind, same) = listed-some _ _ u (sym (understood_lines-listed line (next ∷ lines) some) ∙ e) in
-          subst (λ (w : Understood). Says (line ++ 10 ∷ rest) w) same
-          (address (line ++ 10 ∷ rest) line rest v.octets first v.addresses refl (IsMacText-from_mac_of line first mac) (Says-from_lines (next ∷ lines) v behind))
+          let (first, v, mac, after, same) = listed-some _ _ u (sym (understood_lines-listed line (next ∷ lines) some) ∙ e) in
+          subst (λ (w : Understood). Has (line ++ 10 ∷ rest) w) same
+          (address (line ++ 10 ∷ rest) line rest v.octets first v.addresses refl (IsMacText-from_mac_of line first mac) (Has-from_lines (next ∷ lines) v after))
     ]
 
 pub IsInput-from_understood : (input : List ℕ) (u : Understood) → understood input ≡ Some u → IsInput input u.addresses u.octets
 unfolding understood lines_of
 IsInput-from_understood input u e =
-    subst (λ (text : List ℕ). Says text u) (join_with_byte-slice_split 10 input) (Says-from_lines (lines_of input) u e)
+    subst (λ (text : List ℕ). Has text u) (join_with_byte-slice_split 10 input) (Has-from_lines (lines_of input) u e)
 
 mac_some : (text mac : List ℕ) → IsMacText text mac → length text ≡ 0 → ⊥
 unfolding mac_of
@@ -168,7 +169,7 @@ understood-from_IsInput (address input text rest octets mac macs is mac_is other
     ap (λ (xs : List ℕ). understood xs) is
     ∙ ap understood_lines (lines_of-line text rest (mac_no_feed text mac mac_is))
     ∙ understood_lines-address text mac (lines_of rest) (mac_some text mac mac_is) (mac_of-from_IsMacText text mac mac_is)
-    ∙ ap (λ (behind : Option Understood). option_map (listed mac) behind) (understood-from_IsInput others)
+    ∙ ap (λ (after : Option Understood). option_map (listed mac) after) (understood-from_IsInput others)
 
 pub IsInput-one : (input : List ℕ) (u v : Understood) → IsInput input u.addresses u.octets → IsInput input v.addresses v.octets → u ≡ v
 IsInput-one input u v first second = same_Some u v (sym (understood-from_IsInput first) ∙ understood-from_IsInput second)
@@ -187,38 +188,38 @@ left_no_mac text line rest is some e = ap understood_lines is ∙ understood_lin
 left_address : (text line rest mac : List ℕ) → lines_of text ≡ line ∷ lines_of rest → (length line ≡ 0 → ⊥) → mac_of line ≡ Some mac → understood_lines (lines_of text) ≡ option_map (listed mac) (understood_lines (lines_of rest))
 left_address text line rest mac is some e = ap understood_lines is ∙ understood_lines-address line mac (lines_of rest) some e
 
--- the addresses so far, in front of what is understood behind them
-abbrev pub behind : List (List ℕ) → Option Understood → Option Understood
-behind macs left = option_map (λ (u : Understood). record u { addresses = macs ++ u.addresses }) left
+-- the addresses so far, before those of what is left
+abbrev pub with_addresses : List (List ℕ) → Option Understood → Option Understood
+with_addresses macs left = option_map (λ (u : Understood). record u { addresses = macs ++ u.addresses }) left
 
-behind_nothing : (left : Option Understood) → left ≡ behind [] left
-behind_nothing None = refl
-behind_nothing (Some u) = refl
+with_addresses-nothing : (left : Option Understood) → left ≡ with_addresses [] left
+with_addresses-nothing None = refl
+with_addresses-nothing (Some u) = refl
 
-pub understood-start : (input : List ℕ) → behind [] (understood_lines (lines_of input)) ≡ understood input
+pub understood-start : (input : List ℕ) → with_addresses [] (understood_lines (lines_of input)) ≡ understood input
 unfolding understood
-understood-start input = sym (behind_nothing _)
+understood-start input = sym (with_addresses-nothing _)
 
-pub understood-last : (input text : List ℕ) (macs : List (List ℕ)) → behind macs (understood_lines (lines_of text)) ≡ understood input → lines_of text ≡ text ∷ [] → understood input ≡ None
-understood-last input text macs so_far is = sym so_far ∙ ap (behind macs) (left_last text is)
+pub understood-last : (input text : List ℕ) (macs : List (List ℕ)) → with_addresses macs (understood_lines (lines_of text)) ≡ understood input → lines_of text ≡ text ∷ [] → understood input ≡ None
+understood-last input text macs so_far is = sym so_far ∙ ap (with_addresses macs) (left_last text is)
 
-pub understood-no_octets : (input text line rest : List ℕ) (macs : List (List ℕ)) → behind macs (understood_lines (lines_of text)) ≡ understood input → lines_of text ≡ line ∷ lines_of rest → length line ≡ 0 → hex_octets (lines_of rest) ≡ None → understood input ≡ None
-understood-no_octets input text line rest macs so_far is none e = sym so_far ∙ ap (behind macs) (left_frame text line rest is none ∙ ap (option_map framed) e)
+pub understood-no_octets : (input text line rest : List ℕ) (macs : List (List ℕ)) → with_addresses macs (understood_lines (lines_of text)) ≡ understood input → lines_of text ≡ line ∷ lines_of rest → length line ≡ 0 → hex_octets (lines_of rest) ≡ None → understood input ≡ None
+understood-no_octets input text line rest macs so_far is none e = sym so_far ∙ ap (with_addresses macs) (left_frame text line rest is none ∙ ap (option_map framed) e)
 
-pub understood-frame : (input text line rest octets : List ℕ) (macs : List (List ℕ)) → behind macs (understood_lines (lines_of text)) ≡ understood input → lines_of text ≡ line ∷ lines_of rest → length line ≡ 0 → hex_octets (lines_of rest) ≡ Some octets → understood input ≡ Some (record { addresses = macs; octets = octets })
+pub understood-frame : (input text line rest octets : List ℕ) (macs : List (List ℕ)) → with_addresses macs (understood_lines (lines_of text)) ≡ understood input → lines_of text ≡ line ∷ lines_of rest → length line ≡ 0 → hex_octets (lines_of rest) ≡ Some octets → understood input ≡ Some (record { addresses = macs; octets = octets })
 understood-frame input text line rest octets macs so_far is none e =
-    sym so_far ∙ ap (behind macs) (left_frame text line rest is none ∙ ap (option_map framed) e)
+    sym so_far ∙ ap (with_addresses macs) (left_frame text line rest is none ∙ ap (option_map framed) e)
     ∙ ap (λ (xs : List (List ℕ)). Some (record { addresses = xs; octets = octets })) (append-nil macs)
 
-pub understood-no_mac : (input text line rest : List ℕ) (macs : List (List ℕ)) → behind macs (understood_lines (lines_of text)) ≡ understood input → lines_of text ≡ line ∷ lines_of rest → (length line ≡ 0 → ⊥) → mac_of line ≡ None → understood input ≡ None
-understood-no_mac input text line rest macs so_far is some e = sym so_far ∙ ap (behind macs) (left_no_mac text line rest is some e)
+pub understood-no_mac : (input text line rest : List ℕ) (macs : List (List ℕ)) → with_addresses macs (understood_lines (lines_of text)) ≡ understood input → lines_of text ≡ line ∷ lines_of rest → (length line ≡ 0 → ⊥) → mac_of line ≡ None → understood input ≡ None
+understood-no_mac input text line rest macs so_far is some e = sym so_far ∙ ap (with_addresses macs) (left_no_mac text line rest is some e)
 
-behind_listed : (macs : List (List ℕ)) (mac : List ℕ) (left : Option Understood) → behind (macs ++ mac ∷ []) left ≡ behind macs (option_map (listed mac) left)
-behind_listed macs mac None = refl
-behind_listed macs mac (Some u) = ap (λ (xs : List (List ℕ)). Some (record u { addresses = xs })) (append_assoc macs (mac ∷ []) u.addresses)
+with_addresses-listed : (macs : List (List ℕ)) (mac : List ℕ) (left : Option Understood) → with_addresses (macs ++ mac ∷ []) left ≡ with_addresses macs (option_map (listed mac) left)
+with_addresses-listed macs mac None = refl
+with_addresses-listed macs mac (Some u) = ap (λ (xs : List (List ℕ)). Some (record u { addresses = xs })) (append_assoc macs (mac ∷ []) u.addresses)
 
-pub understood-address : (input text line rest mac : List ℕ) (macs : List (List ℕ)) → behind macs (understood_lines (lines_of text)) ≡ understood input → lines_of text ≡ line ∷ lines_of rest → (length line ≡ 0 → ⊥) → mac_of line ≡ Some mac → behind (macs ++ mac ∷ []) (understood_lines (lines_of rest)) ≡ understood input
+pub understood-address : (input text line rest mac : List ℕ) (macs : List (List ℕ)) → with_addresses macs (understood_lines (lines_of text)) ≡ understood input → lines_of text ≡ line ∷ lines_of rest → (length line ≡ 0 → ⊥) → mac_of line ≡ Some mac → with_addresses (macs ++ mac ∷ []) (understood_lines (lines_of rest)) ≡ understood input
 understood-address input text line rest mac macs so_far is some e =
-    behind_listed macs mac _ ∙ sym (ap (behind macs) (left_address text line rest mac is some e)) ∙ so_far
+    with_addresses-listed macs mac _ ∙ sym (ap (with_addresses macs) (left_address text line rest mac is some e)) ∙ so_far
 
-pub ruleset understand_steps = (understood-start, understood-last, understood-no_octets, understood-frame, understood-no_mac, understood-address)
+pub ruleset parse_steps = (understood-start, understood-last, understood-no_octets, understood-frame, understood-no_mac, understood-address)

@@ -61,10 +61,10 @@ lines_of-some text = omega (arith, length-slice_split is_feed text)
 more_lines : (line text : List ℕ) (lines : List (List ℕ)) → 0 < length lines → join_with_byte 10 lines ≡ text → 0 < length text → only_line (line ∷ lines) ≡ None
 unfolding only_line
 more_lines line text [] some is long = absurd (omega arith)
-more_lines line text (behind ∷ []) some is long =
-    let other : length behind ≡ 0 → ⊥ = λ none. omega (arith, ap length is, none) in
-    rw (ne_eqb (length behind) 0 other) refl
-more_lines line text (behind ∷ next ∷ lines) some is long = refl
+more_lines line text (after ∷ []) some is long =
+    let other : length after ≡ 0 → ⊥ = λ none. omega (arith, ap length is, none) in
+    rw (ne_eqb (length after) 0 other) refl
+more_lines line text (after ∷ next ∷ lines) some is long = refl
 
 pub only_line-rest : (text line rest : List ℕ) → lines_of text ≡ line ∷ lines_of rest → 0 < length rest → only_line (lines_of text) ≡ None
 unfolding lines_of

@@ -1,6 +1,6 @@
--- What a run finds is what the input says.
-use Rattle.std.proofs.Common.{◌≡◌, ℕ, ◌≤◌, Bool, false, List, length, Option, Some, None, Result, Ok, Err, sym, subst, ◌∙◌, inl, inr}
-use Rattle.std.specs.Prelude.{◌⊎◌, IfSome, IsTrue}
+-- A run finds the OFFER to the frame in its input.
+use Rattle.std.proofs.Common.{◌≡◌, ℕ, ◌<◌, ◌≤◌, Bool, false, List, [], length, arith, Option, Some, None, Result, Ok, Err, sym, subst, ◌∙◌, inl, inr}
+use Rattle.std.specs.Prelude.{◌⊎◌, IfSome, IsTrue, unwrap_or}
 use Rattle.std.specs.Io.KnownBytes.{Appends}
 use Rattle.dhcp_frame.specs.Message.{Message, IsFrame}
 use Rattle.dhcp_frame.specs.declared.fault.FrameFault.{FrameFault}
@@ -32,49 +32,60 @@ no_frame site addresses octets read offer fault only same is =
     let e = only is.message (subst (λ (x : List ℕ). IsFrame x is.message) (sym same) is.carries) in
     cc
 
-same_message : (site : Site) (addresses : List (List ℕ)) (octets read offer : List ℕ) (message : Message) (fault : FrameFault)
+-- the message that was read is the one of the offer
+same_message : (site : Site) (addresses : List (List ℕ)) (octets read offer : List ℕ) (message : Message)
     → ((other : Message) → IsFrame read other → frame_ok message ≡ frame_ok other) → read ≡ octets
-    → (is : IsOffer site addresses octets offer) → message ≡ is.message
-same_message site addresses octets read offer message fault only same is =
+    → (is : IsOffer site addresses octets offer) → IsClient message is.client
+same_message site addresses octets read offer message only same is =
     let e = only is.message (subst (λ (x : List ℕ). IsFrame x is.message) (sym same) is.carries) in
-    cc
+    let message_is : message ≡ is.message = cc in
+    subst (λ (m : Message). IsClient m is.client) (sym message_is) is.sent
 
 pub no_client : (site : Site) (addresses : List (List ℕ)) (octets read offer : List ℕ) (message : Message) (cause : NotServed)
     → ((other : Message) → IsFrame read other → frame_ok message ≡ frame_ok other) → read ≡ octets
     → ((client : Client) → IsClient message client → (client_err cause ≡ client_ok client) ⊎ (client_err cause ≡ client_err Memory)) → (cause ≡ Memory → ⊥)
     → IsOffer site addresses octets offer → ⊥
 no_client site addresses octets read offer message cause only same clients other is =
-    let e = only is.message (subst (λ (x : List ℕ). IsFrame x is.message) (sym same) is.carries) in
-    let message_is : message ≡ is.message = cc in
-    let names = subst (λ (m : Message). IsClient m is.client) (sym message_is) is.names in
-    elim (clients is.client names) [ inl gone ↦ absurd cc | inr memory ↦ other cc ]
+    elim (clients is.client (same_message site addresses octets read offer message only same is)) [ inl gone ↦ absurd cc | inr memory ↦ other cc ]
+
+-- the client that was identified is the one of the offer
+same_client : (site : Site) (addresses : List (List ℕ)) (octets read offer : List ℕ) (message : Message) (client : Client)
+    → ((other : Message) → IsFrame read other → frame_ok message ≡ frame_ok other) → read ≡ octets
+    → ((other : Client) → IsClient message other → (client_ok client ≡ client_ok other) ⊎ (client_ok client ≡ client_err Memory))
+    → (is : IsOffer site addresses octets offer) → is.client ≡ client
+same_client site addresses octets read offer message client only same clients is =
+    elim (clients is.client (same_message site addresses octets read offer message only same is)) [ inl found ↦ cc | inr gone ↦ absurd cc ]
 
 pub not_served : (site : Site) (addresses : List (List ℕ)) (octets read offer : List ℕ) (message : Message) (client : Client) (served : Bool)
     → ((other : Message) → IsFrame read other → frame_ok message ≡ frame_ok other) → read ≡ octets
     → ((other : Client) → IsClient message other → (client_ok client ≡ client_ok other) ⊎ (client_ok client ≡ client_err Memory))
     → (IsServed addresses client → IsTrue served) → served ≡ false
     → IsOffer site addresses octets offer → ⊥
-not_served site addresses octets read offer message client served only same clients tells not is =
-    let e = only is.message (subst (λ (x : List ℕ). IsFrame x is.message) (sym same) is.carries) in
-    let message_is : message ≡ is.message = cc in
-    let names = subst (λ (m : Message). IsClient m is.client) (sym message_is) is.names in
-    elim (clients is.client names) [
-      | inl found ↦
-          let client_is : client ≡ is.client = cc in
-          absurd (let yes = tells (subst (λ (c : Client). IsServed addresses c) (sym client_is) is.served) in cc)
-      | inr gone ↦ absurd cc
-    ]
+not_served site addresses octets read offer message client served only same clients serves not is =
+    let client_is = same_client site addresses octets read offer message client only same clients is in
+    let yes = serves (subst (λ (c : Client). IsServed addresses c) client_is is.served) in
+    absurd cc
 
--- ---- what an input says
+pub not_short : (site : Site) (addresses : List (List ℕ)) (octets read offer : List ℕ) (message : Message) (client : Client)
+    → ((other : Message) → IsFrame read other → frame_ok message ≡ frame_ok other) → read ≡ octets
+    → ((other : Client) → IsClient message other → (client_ok client ≡ client_ok other) ⊎ (client_ok client ≡ client_err Memory))
+    → 255 < length (unwrap_or client.echo97 [])
+    → IsOffer site addresses octets offer → ⊥
+not_short site addresses octets read offer message client only same clients long is =
+    let client_is = same_client site addresses octets read offer message client only same clients is in
+    let short = subst (λ (c : Client). length (unwrap_or c.echo97 []) ≤ 255) client_is is.short in
+    absurd (omega arith)
+
+-- ---- good and bad inputs
 
 pub IsGood-understood : (input : List ℕ) (u : Understood) → length input ≤ 65536 → understood input ≡ Some u → IsGood input u.addresses u.octets
-IsGood-understood input u room e = record { room = room; says = IsInput-from_understood input u e }
+IsGood-understood input u room e = record { room = room; has = IsInput-from_understood input u e }
 
 pub IsBad-none : (input : List ℕ) (fault : Fault) → (fault ≡ NoMemory) ⊎ ((fault ≡ BadInput) × (understood input ≡ None)) → fault ≡ BadInput → IsBad input
-IsBad-none input fault told is =
-    elim told [
+IsBad-none input fault why is =
+    elim why [
       | inl memory ↦ absurd cc
-      | inr none ↦ λ addresses octets good. let e = sym none.1 ∙ understood-from_IsInput good.says in cc
+      | inr none ↦ λ addresses octets good. let e = sym none.1 ∙ understood-from_IsInput good.has in cc
     ]
 
 pub IsBad-long : (input : List ℕ) → (length input ≤ 65536 → ⊥) → IsBad input

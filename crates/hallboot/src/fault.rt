@@ -1,15 +1,16 @@
-//! Why a run ends without an answer.
+//! Faults of a run.
 ghost use Rattle.std.specs.Prelude.{◌≡◌};
 ghost use Rattle.hallboot.specs.Fault.{name_of};
 
 use thiserror::Error;
 
+/// The fault that ended a run.
 #[derive(Clone, Copy, Debug, PartialEq, Eq, Error)]
 pub enum Fault {
-    /// The input is too long or isn't what the program reads.
+    /// The input has more than 65,536 octets, or isn't addresses, an empty line and a frame.
     #[error("the input isn't addresses, an empty line and a frame")]
     BadInput,
-    /// A read or a write failed, or too many reads brought no end.
+    /// A read or a write failed, or the input didn't end after 70,000 reads.
     #[error("a read or a write failed")]
     Io,
     #[error("out of memory")]

@@ -1,4 +1,4 @@
-//! The program's input: addresses, one a line, an empty line, and one line of hexadecimal.
+//! The program's input: Ethernet addresses, each on a line, an empty line, and one line of hexadecimal.
 ghost use Rattle.std.specs.Prelude.{◌≡◌, ◌≤◌, ◌<◌, ◌↔◌, ◌⊎◌, ◌∷◌, [], List, ℕ, None, Some, length, option_map, option_copied, position, ◌==◌, Contains, IsTrue, IfOk, IfErr, IfSome, IsErrOf, MatchOption, vec_len};
 ghost use Rattle.hallboot.specs.Input.{IsInput, Understood, hex_octets, lines_of, only_line, understood};
 
@@ -8,26 +8,29 @@ use std::alloc::{AllocError, Global};
 use std::io::Read;
 use std::marker::Model;
 
-const MOST_OCTETS: usize = 65_536;
+// The maximum number of octets in an input.
+const MAX_OCTETS: usize = 65_536;
 
-const MOST_READS: u32 = 70_000;
+// The maximum number of reads, so that a reader that never ends ends in a fault.
+const MAX_READS: u32 = 70_000;
 
-/// All that a reader has left, at most 65,536 octets.
+/// Reads a reader to its end.
 ///
-/// More octets are `BadInput`. A read that fails is `Io`, and so are 70,000 reads that bring no end.
+/// The errors are `BadInput` where there are more than 65,536 octets, `Io` where a read fails or the
+/// end doesn't come after 70,000 reads, and `Memory`.
 pub fn read_input<R: Read>(alloc: Global, reader: &mut R) -> Result<Vec<u8>, Fault>
     ensures all { IfOk result (λ input. IfSome (R.remaining reader.old) (λ octets. input.items ≡ octets)) }
-    ensures room { IfOk result (λ input. vec_len input ≤ MOST_OCTETS) }
-    ensures too_long { IsErrOf result Fault.BadInput → IfSome (R.remaining reader.old) (λ octets. MOST_OCTETS < length octets) }
+    ensures room { IfOk result (λ input. vec_len input ≤ MAX_OCTETS) }
+    ensures too_long { IsErrOf result Fault.BadInput → IfSome (R.remaining reader.old) (λ octets. MAX_OCTETS < length octets) }
 {
     let mut input = Vec::new(alloc);
     let mut buffer = [0u8; 4096];
-    for _ in 0..MOST_READS {
+    for _ in 0..MAX_READS {
         let count = reader.read(&mut buffer).map_err(|_| Fault::Io)?;
         if count == 0 {
             return Ok(input);
         }
-        if input.len() + count > MOST_OCTETS {
+        if input.len() + count > MAX_OCTETS {
             return Err(Fault::BadInput);
         }
         input
@@ -37,7 +40,8 @@ pub fn read_input<R: Read>(alloc: Global, reader: &mut R) -> Result<Vec<u8>, Fau
     Err(Fault::Io)
 }
 
-/// The law of inputs: `understood` finds what an input says, and an input says one thing.
+/// The law of inputs: `understood` finds the addresses and the octets in an input, and an input has at
+/// most one list of addresses and octets.
 pub fn one_reading()
     ensures exact { (input : List ℕ) (u : Understood) → IsInput input u.addresses u.octets ↔ (understood input ≡ Some u) }
     ensures one { (input : List ℕ) (u v : Understood) → IsInput input u.addresses u.octets → IsInput input v.addresses v.octets → u ≡ v }
@@ -49,7 +53,7 @@ fn line_end(text: &[u8]) -> Option<usize>
     text.iter().position(|c| *c == b'\n')
 }
 
-// The first line and what follows its line feed, or nothing where there is no line feed.
+// The first line, and the text after its line feed. `None` means that there is no line feed.
 #[tactic(auto, using(crate::proofs::LineLemmas::line_steps))]
 fn split_line(text: &[u8]) -> Option<(&[u8], &[u8])>
     ensures { MatchOption result (lines_of text.now ≡ text.now ∷ [])
@@ -63,7 +67,7 @@ fn split_line(text: &[u8]) -> Option<(&[u8], &[u8])>
     Some((line, rest))
 }
 
-// The one line that a text is, without its line feed.
+// The only line of a text, without its line feed.
 #[tactic(auto, using(crate::proofs::LineLemmas::only_steps))]
 fn line_in(text: &[u8]) -> Option<&[u8]>
     ensures { option_copied result ≡ only_line (lines_of text.now) }
@@ -75,7 +79,7 @@ fn line_in(text: &[u8]) -> Option<&[u8]>
     }
 }
 
-// The octets of one line of hexadecimal, or nothing where the text is none.
+// The octets of one line of hexadecimal. `None` means that the text is no such line.
 fn decode(alloc: Global, text: &[u8]) -> Result<Option<Vec<u8>>, AllocError>
     ensures { IfOk result (λ found. option_map (λ octets. octets.items) found ≡ hex_octets (lines_of text.now)) }
 {
@@ -89,7 +93,7 @@ fn decode(alloc: Global, text: &[u8]) -> Result<Option<Vec<u8>>, AllocError>
     }
 }
 
-/// An input that was understood. Contracts see it as its addresses and its octets.
+/// An input that was parsed. Contracts see its addresses and its octets.
 #[derive(Debug, Drop)]
 pub struct Input {
     addresses: Vec<[u8; 6]>,
@@ -104,8 +108,8 @@ impl Model for Input {
     ghost view = { λ i. record { addresses = i.addresses.items; octets = i.octets.items } };
 }
 
-#[tactic(auto, using(crate::proofs::InputLemmas::understand_steps))]
-fn understand(alloc: Global, input: &[u8]) -> Result<Option<Input>, AllocError>
+#[tactic(auto, using(crate::proofs::InputLemmas::parse_steps))]
+fn parse_inner(alloc: Global, input: &[u8]) -> Result<Option<Input>, AllocError>
     ensures { IfOk result (λ found. found ≡ understood input.now) }
 {
     let mut addresses = Vec::new(alloc);
@@ -126,12 +130,12 @@ fn understand(alloc: Global, input: &[u8]) -> Result<Option<Input>, AllocError>
     Ok(None)
 }
 
-/// Understands an input, or tells why not: `BadInput` or `Memory`.
+/// Parses an input. The errors are `BadInput` and `Memory`.
 pub fn parse(alloc: Global, input: &[u8]) -> Result<Input, Fault>
     ensures input { IfOk result (λ found. understood input.now ≡ Some found) }
     ensures fault { IfErr result (λ fault. (fault ≡ Fault.Memory) ⊎ ((fault ≡ Fault.BadInput) × (understood input.now ≡ None))) }
 {
-    match understand(alloc, input) {
+    match parse_inner(alloc, input) {
         Ok(Some(input)) => Ok(input),
         Ok(None) => Err(Fault::BadInput),
         Err(AllocError) => Err(Fault::Memory),

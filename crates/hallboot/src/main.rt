@@ -1,5 +1,5 @@
-//! Answers one PXE client's frame: addresses, an empty line and the frame in hexadecimal on standard
-//! input, the OFFER in hexadecimal on standard output.
+//! Answers the frame of one PXE client. Standard input has Ethernet addresses, an empty line and the frame
+//! in hexadecimal; the OFFER in hexadecimal is written to standard output.
 #![tactic(auto)]
 
 mod fault;
@@ -11,6 +11,7 @@ use run::{Exit, frame_run};
 use std::env;
 use std::process::ExitCode;
 
+// The exit status where there is an argument.
 const USAGE: u8 = 2;
 
 fn main(rt: HostRuntime) -> ExitCode {

@@ -1,16 +1,13 @@
-//! One client's frame in, the OFFER to it out.
+//! Reading the frame of one client, and writing the OFFER to it.
 ghost use Rattle.std.specs.Prelude.{◌≡◌, ◌≢◌, ◌≤◌, ◌⊎◌, ◌↔◌, ◌++◌, ◌∷◌, [], List, ℕ, IsTrue, IsErrOf, IfErr, IfOk, IfSome, MatchOption, string_bytes, vec_len, length, unwrap_or, Contains};
 ghost use Rattle.std.specs.Io.KnownBytes.{Appends};
 ghost use Rattle.hex.specs.Hex.{encode_lower};
-ghost use Rattle.dhcp_frame.specs.Reply.{reply_octets};
-ghost use Rattle.pxe_vendor.specs.Answer.{answer_to};
-ghost use Rattle.pxe_vendor.specs.BootFile.{boot_file_of};
 ghost use Rattle.hallboot.specs.Run.{IsServed, IsOffer, IsAnswer, IsIgnored, IsBad};
 
 use crate::fault::Fault;
 use crate::input::{Input, parse, read_input};
-use dhcp_frame::{Frame, read};
-use pxe_vendor::{Client, Kind, NotServed, Place, boot_file, client, reply};
+use dhcp_frame::{WriteFault, read};
+use pxe_vendor::{Client, Kind, NotServed, Place, boot_reply, client};
 use std::alloc::{AllocError, Global};
 use std::io::{Read, Write};
 
@@ -20,7 +17,7 @@ pub enum Exit {
     /// The OFFER was written.
     Done,
     Fault(Fault),
-    /// There is no answer to what was read.
+    /// There is no OFFER to the frame.
     Silence,
 }
 
@@ -39,35 +36,14 @@ impl Exit {
     }
 }
 
-// Whether a client is answered: a DISCOVER from a listed address whose identifier a reply can give
-// back.
+// Whether a client is served: it sent a DISCOVER from a listed address.
 fn is_served(input: &Input, client: &Client) -> bool
     ensures { IsTrue result ↔ IsServed input.now.addresses client.now }
 {
-    let identifier = match &client.echo97 {
-        Some(identifier) => identifier.as_slice(),
-        None => &[],
-    };
-    client.kind == Kind::Discover && identifier.len() <= 255 && input.lists(&client.mac)
+    client.kind == Kind::Discover && input.lists(&client.mac)
 }
 
-fn offer_to(
-    alloc: Global,
-    frame: &Frame<'_>,
-    client: &Client,
-    place: &Place,
-) -> Result<Vec<u8>, AllocError>
-    ensures { IfOk result (λ offer. offer.items ≡ reply_octets (answer_to frame.now client.now place.now (boot_file_of client.now place.now))) }
-{
-    let file = boot_file(alloc, client, place)?;
-    // Only memory can be wanting: the caller has looked at the identifier, and each boot file fits.
-    match reply(alloc, frame, client, place, file.as_str()) {
-        Ok(offer) => Ok(offer),
-        Err(_) => Err(AllocError),
-    }
-}
-
-/// The OFFER to what an input says, if there is one.
+// The OFFER to the frame in an input, if there is one.
 fn offer(alloc: Global, input: &Input, place: &Place) -> Result<Option<Vec<u8>>, AllocError>
     ensures { IfOk result (λ found. MatchOption found
         ((offer : List ℕ) → IsOffer place.now input.now.addresses input.now.octets offer → ⊥)
@@ -79,15 +55,17 @@ fn offer(alloc: Global, input: &Input, place: &Place) -> Result<Option<Vec<u8>>,
     };
     let client = match client(alloc, &frame) {
         Ok(client) => client,
-        Err(cause) => match cause {
-            NotServed::Memory => return Err(AllocError),
-            _ => return Ok(None),
-        },
+        Err(NotServed::Memory) => return Err(AllocError),
+        Err(_) => return Ok(None),
     };
     if !is_served(input, &client) {
         return Ok(None);
     }
-    Ok(Some(offer_to(alloc, &frame, &client, place)?))
+    match boot_reply(alloc, &frame, &client, place) {
+        Ok(offer) => Ok(Some(offer)),
+        Err(WriteFault::TooLong) => Ok(None),
+        Err(_) => Err(AllocError),
+    }
 }
 
 // Octets in hexadecimal, and a line feed.
@@ -101,7 +79,7 @@ fn hex_line(alloc: Global, octets: &[u8]) -> Result<String, AllocError>
 
 // The answer to an input, or why there is none.
 fn answer(alloc: Global, input: &[u8], place: &Place) -> Result<String, Exit>
-    requires { length input.now ≤ 65536 }
+    requires { length input.now ≤ MAX_OCTETS }
     ensures answer { IfOk result (λ text. IsAnswer place.now input.now (string_bytes text)) }
     ensures silence { IsErrOf result Exit.Silence → IsIgnored place.now input.now }
     ensures bad { result ≡ Err (Exit.Fault Fault.BadInput) → IsBad input.now }
@@ -122,17 +100,17 @@ fn answer(alloc: Global, input: &[u8], place: &Place) -> Result<String, Exit>
     }
 }
 
-/// Reads addresses and a frame in hexadecimal to the end of the input, and writes the OFFER to the
-/// frame's client in lower-case hexadecimal with a line feed, if the client is answered.
+/// Reads addresses and a frame in hexadecimal to the end of the input. If the client that sent the frame
+/// is served, writes the OFFER to it in lower-case hexadecimal with a line feed.
 ///
-/// A read or a write that fails is `Io`, and so are 70,000 reads that bring no end.
+/// A read or a write that fails is `Io`, and so is an input that doesn't end after 70,000 reads.
 pub fn frame_run<R: Read, W: Write>(
     alloc: Global,
     reader: &mut R,
     writer: &mut W,
     place: &Place,
 ) -> Exit
-    // What was written is the OFFER to what was read.
+    // What was written is the OFFER to the frame that was read.
     ensures done { result ≡ Exit.Done → IfSome (R.remaining reader.old) (λ input. (text : List ℕ)
         × IsAnswer place.now input text × Appends (W.contents writer.old) (W.contents writer.new) text) }
     // No good input is refused.

@@ -1,4 +1,4 @@
--- The plain program `client_of` finds the client whose message it is.
+-- The program `client_of` identifies the client that sent a message.
 use Rattle.std.proofs.Common.{◌≡◌, ℕ, Bool, true, false, List, [], ◌∷◌, ◌++◌, length, take, drop, Option, Some, None, Result, Ok, Err, refl, sym, ap, subst, ◌∙◌, inl, inr, arith}
 use Rattle.std.specs.Prelude.{IfOk, ◌⊎◌, nat_eq, codes, ok_or, unwrap_or, if◌then◌else◌}
 use Rattle.std.specs.Option.{option_map}
@@ -8,7 +8,7 @@ use Rattle.std.proofs.lemmas.Bool.Decides.{nat_tests}
 use Rattle.std.proofs.lemmas.List.{take-append-drop}
 use Rattle.dhcp_frame.specs.Area.{Entry, reading, value_of}
 use Rattle.dhcp_frame.specs.Message.{Message}
-use Rattle.dhcp_frame.proofs.AreaLemmas.{reading-from_Reads, Reads-from_reading}
+use Rattle.dhcp_frame.specs.AreaLaws.{reading-from_Reads, Reads-from_reading}
 use Rattle.pxe_vendor.specs.Arch.{numbers_of, class_numbers, first_known}
 use Rattle.pxe_vendor.specs.Client.{IsClient, HasItem, message_type, uuid_of, is_ipxe, boot_item}
 use Rattle.pxe_vendor.specs.Served.{◌>>=◌, kind_of, class_of, item_of, decided, client_of, Answers}
@@ -22,7 +22,7 @@ use Rattle.pxe_vendor.specs.declared.serve.NotServed.{NotServed}
 use Rattle.pxe_vendor.specs.declared.serve.NotServed.TheVariants.{NotPxe, NoArch, BadVendor, Memory}
 use Rattle.pxe_vendor.proofs.ArchLemmas.{FirstKnown-from_first_known, first_known-from_FirstKnown}
 
--- ---- the boot item, a tag at a time
+-- ---- the boot item, one tag at a time
 
 pub boot_item-here : (tag : ℕ) (value : List ℕ) (tags : List Entry) → tag ≡ 71 → length value ≡ 4 → boot_item ((tag, value) ∷ tags) ≡ Some value
 boot_item-here tag value tags a b = rw (eq-eqb tag 71 a, eq-eqb (length value) 4 b) refl
@@ -118,28 +118,28 @@ HasItem-from_item_of Request (Some area) item e =
 
 -- ---- what joined values tell
 
--- joined values tell this kind, architecture and boot item
-record Tells (v : Values) (told : Kind × Arch × Option (List ℕ)) : Type 0 where
-  kind : kind_of v.message_type ≡ Ok told.0
+-- joined values give this kind, architecture and boot item
+record Gives (v : Values) (given : Kind × Arch × Option (List ℕ)) : Type 0 where
+  kind : kind_of v.message_type ≡ Ok given.0
   class : class_of v.class ≡ Ok (unwrap_or v.class [])
-  arch : first_known (numbers_of (unwrap_or v.architectures []) ++ class_numbers (unwrap_or v.class [])) ≡ Some told.1
-  item : item_of told.0 v.vendor ≡ Ok told.2
+  arch : first_known (numbers_of (unwrap_or v.architectures []) ++ class_numbers (unwrap_or v.class [])) ≡ Some given.1
+  item : item_of given.0 v.vendor ≡ Ok given.2
 
-decided-from_Tells : (v : Values) (told : Kind × Arch × Option (List ℕ)) → Tells v told → decided v ≡ Ok told
+decided-from_Gives : (v : Values) (given : Kind × Arch × Option (List ℕ)) → Gives v given → decided v ≡ Ok given
 unfolding decided
-decided-from_Tells v told h = rw (h.kind, h.class, h.arch, h.item) refl
+decided-from_Gives v given h = rw (h.kind, h.class, h.arch, h.item) refl
 
-Tells-from_decided : (v : Values) (told : Kind × Arch × Option (List ℕ)) → decided v ≡ Ok told → Tells v told
+Gives-from_decided : (v : Values) (given : Kind × Arch × Option (List ℕ)) → decided v ≡ Ok given → Gives v given
 unfolding decided
-Tells-from_decided v told e =
-    let (kind, is_kind, e1) = bind_ok (kind_of v.message_type) _ told e in
-    let (class, is_class, e2) = bind_ok (class_of v.class) _ told e1 in
+Gives-from_decided v given e =
+    let (kind, is_kind, e1) = bind_ok (kind_of v.message_type) _ given e in
+    let (class, is_class, e2) = bind_ok (class_of v.class) _ given e1 in
     let known = first_known (numbers_of (unwrap_or v.architectures []) ++ class_numbers class) in
-    let (arch, is_arch, e3) = bind_ok (ok_or known NoArch) _ told e2 in
-    let (item, is_item, e4) = bind_ok (item_of kind v.vendor) _ told e3 in
-    let whole : (kind, arch, item) ≡ told = cc in
+    let (arch, is_arch, e3) = bind_ok (ok_or known NoArch) _ given e2 in
+    let (item, is_item, e4) = bind_ok (item_of kind v.vendor) _ given e3 in
+    let whole : (kind, arch, item) ≡ given = cc in
     let value = value-from_class_of v.class class is_class in
-    subst (λ (x : Kind × Arch × Option (List ℕ)). Tells v x) whole (record {
+    subst (λ (x : Kind × Arch × Option (List ℕ)). Gives v x) whole (record {
       kind = is_kind;
       class = rw value is_class;
       arch = rw value (ok_or-ok known NoArch arch is_arch);
@@ -152,13 +152,13 @@ pub client_of-from_IsClient : (m : Message) (client : Client) → IsClient m cli
 unfolding client_of
 client_of-from_IsClient m client h =
     let (more, is_class) = h.class in
-    let told = decided-from_Tells (values_of m.entries) (client.kind, client.arch, client.item) (record {
+    let given = decided-from_Gives (values_of m.entries) (client.kind, client.arch, client.item) (record {
       kind = ap kind_of h.type ∙ kind_of-message_type client.kind;
       class = rw is_class (class_of-pxe more);
       arch = first_known-from_FirstKnown _ client.arch h.arch;
       item = item_of-from_HasItem client.kind _ client.item h.item;
     }) in
-    rw (told, ← h.mac, ← h.uuid, ← h.echo97, ← h.ipxe) refl
+    rw (given, ← h.mac, ← h.uuid, ← h.echo97, ← h.ipxe) refl
 
 -- the client of a message with this kind, architecture and boot item
 abbrev client_with : Message → Kind → Arch → Option (List ℕ) → Client
@@ -175,14 +175,14 @@ client_with m kind arch item = record {
 pub IsClient-from_client_of : (m : Message) (client : Client) → client_of m ≡ Ok client → IsClient m client
 unfolding client_of
 IsClient-from_client_of m client e =
-    let (told, is_told, is_client) = bind_ok (decided (values_of m.entries)) _ client e in
-    let h = Tells-from_decided (values_of m.entries) told is_told in
-    let whole : client_with m told.0 told.1 told.2 ≡ client = cc in
+    let (given, is_told, is_client) = bind_ok (decided (values_of m.entries)) _ client e in
+    let h = Gives-from_decided (values_of m.entries) given is_told in
+    let whole : client_with m given.0 given.1 given.2 ≡ client = cc in
     subst (λ (x : Client). IsClient m x) whole (record {
-      type = message_type-from_kind_of _ told.0 h.kind;
+      type = message_type-from_kind_of _ given.0 h.kind;
       class = pxe-from_class_of _ _ h.class;
-      arch = FirstKnown-from_first_known _ told.1 h.arch;
-      item = HasItem-from_item_of told.0 _ told.2 h.item;
+      arch = FirstKnown-from_first_known _ given.1 h.arch;
+      item = HasItem-from_item_of given.0 _ given.2 h.item;
       mac = refl;
       uuid = refl;
       echo97 = refl;
@@ -195,16 +195,16 @@ IsClient-one m client other h k =
     let b = client_of-from_IsClient m other k in
     cc
 
--- ---- what a call answered
+-- ---- the result, unless memory ran out
 
 pub IfOk-Answers : (m : Message) (r : Result Client NotServed) → Answers r (client_of m) → IfOk r (λ client. IsClient m client)
-IfOk-Answers m (Ok client) told = IsClient-from_client_of m client told
-IfOk-Answers m (Err cause) told = tt
+IfOk-Answers m (Ok client) given = IsClient-from_client_of m client given
+IfOk-Answers m (Err cause) given = tt
 
 pub Answers-only : (m : Message) (r : Result Client NotServed) (client : Client) → Answers r (client_of m) → IsClient m client → (r ≡ Ok client) ⊎ (r ≡ Err Memory)
-Answers-only m (Ok other) client told h = inl (sym told ∙ client_of-from_IsClient m client h)
-Answers-only m (Err cause) client told h =
-    elim told [
+Answers-only m (Ok other) client given h = inl (sym given ∙ client_of-from_IsClient m client h)
+Answers-only m (Err cause) client given h =
+    elim given [
       | inl memory ↦ inr (ap (λ (x : NotServed). Err x) memory)
       | inr is ↦ absurd (let no = sym is ∙ client_of-from_IsClient m client h in cc)
     ]

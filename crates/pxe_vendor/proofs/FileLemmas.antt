@@ -6,8 +6,8 @@ use Rattle.std.specs.Char.{is_ascii_alphanumeric}
 use Rattle.std.proofs.lemmas.Bool.{and_parts, leb-true}
 use Rattle.std.proofs.lemmas.List.Elements.{All-nil, All-cons, All-append}
 use Rattle.mac_text.specs.MacText.{IsMacText}
-use Rattle.mac_text.proofs.MacLemmas.{IsMacText-high, length-IsMacText}
-use Rattle.pxe_vendor.specs.BootFile.{loader_of}
+use Rattle.mac_text.specs.MacLaws.{IsMacText-high, length-IsMacText}
+use Rattle.pxe_vendor.specs.BootFile.{loader_file}
 use Rattle.pxe_vendor.specs.Place.{is_host, is_host_octet}
 use Rattle.pxe_vendor.specs.declared.arch.Arch.{Arch}
 use Rattle.pxe_vendor.specs.declared.arch.Arch.TheVariants.{Bios, Uefi32, Uefi64, Arm64}
@@ -24,19 +24,19 @@ IsNamed-from_test test (x ∷ xs) zero_fails e =
 
 -- ---- loaders
 
-pub IsNamed-loader_of : (arch : Arch) → IsNamed (loader_of arch)
-unfolding loader_of
-IsNamed-loader_of Bios = IsNamed-from_test (λ (o : ℕ). not (o == 0)) (codes "undionly.kpxe") refl refl
-IsNamed-loader_of Uefi32 = IsNamed-from_test (λ (o : ℕ). not (o == 0)) (codes "ipxe-i386.efi") refl refl
-IsNamed-loader_of Uefi64 = IsNamed-from_test (λ (o : ℕ). not (o == 0)) (codes "ipxe-x86_64.efi") refl refl
-IsNamed-loader_of Arm64 = IsNamed-from_test (λ (o : ℕ). not (o == 0)) (codes "ipxe-arm64.efi") refl refl
+pub IsNamed-loader_file : (arch : Arch) → IsNamed (loader_file arch)
+unfolding loader_file
+IsNamed-loader_file Bios = IsNamed-from_test (λ (o : ℕ). not (o == 0)) (codes "undionly.kpxe") refl refl
+IsNamed-loader_file Uefi32 = IsNamed-from_test (λ (o : ℕ). not (o == 0)) (codes "ipxe-i386.efi") refl refl
+IsNamed-loader_file Uefi64 = IsNamed-from_test (λ (o : ℕ). not (o == 0)) (codes "ipxe-x86_64.efi") refl refl
+IsNamed-loader_file Arm64 = IsNamed-from_test (λ (o : ℕ). not (o == 0)) (codes "ipxe-arm64.efi") refl refl
 
-pub length-loader_of : (arch : Arch) → length (loader_of arch) ≤ 127
-unfolding loader_of
-length-loader_of Bios = omega arith
-length-loader_of Uefi32 = omega arith
-length-loader_of Uefi64 = omega arith
-length-loader_of Arm64 = omega arith
+pub length-loader_file : (arch : Arch) → length (loader_file arch) ≤ 127
+unfolding loader_file
+length-loader_file Bios = omega arith
+length-loader_file Uefi32 = omega arith
+length-loader_file Uefi64 = omega arith
+length-loader_file Arm64 = omega arith
 
 -- ---- scripts
 
@@ -48,16 +48,16 @@ IsHost-from_is_host : (host : List ℕ) → is_host host ≡ true → IsHost hos
 unfolding is_host
 IsHost-from_is_host [] e = absurd cc
 IsHost-from_is_host (first ∷ others) e =
-    let (front, allowed) = and_parts (is_ascii_alphanumeric first && nat_le (length others) 63) (list_all is_host_octet others) e in
-    let (letter, short) = and_parts (is_ascii_alphanumeric first) (nat_le (length others) 63) front in
-    let few = leb-true (length others) 63 short in
+    let (front, allowed) = and_parts (is_ascii_alphanumeric first && nat_le (length (first ∷ others)) 64) (list_all is_host_octet others) e in
+    let (letter, short) = and_parts (is_ascii_alphanumeric first) (nat_le (length (first ∷ others)) 64) front in
+    let few = leb-true (length (first ∷ others)) 64 short in
     record {
       named = All-cons (λ (octet : ℕ). octet ≢ 0) first others (λ is. absurd (let gone = sym letter ∙ ap is_ascii_alphanumeric is in cc)) (IsNamed-from_test is_host_octet others refl allowed);
       short = omega arith;
     }
 
-pub IsNamed-url : (host mac text : List ℕ) → is_host host ≡ true → IsMacText text mac → IsNamed (codes "http://" ++ host ++ codes "/ipxe/" ++ text)
-IsNamed-url host mac text good is =
+pub IsNamed-script_url : (host mac text : List ℕ) → is_host host ≡ true → IsMacText text mac → IsNamed (codes "http://" ++ host ++ codes "/ipxe/" ++ text)
+IsNamed-script_url host mac text good is =
     let P = λ (octet : ℕ). octet ≢ 0 in
     let scheme = IsNamed-from_test (λ (o : ℕ). not (o == 0)) (codes "http://") refl refl in
     let path = IsNamed-from_test (λ (o : ℕ). not (o == 0)) (codes "/ipxe/") refl refl in
@@ -65,8 +65,8 @@ IsNamed-url host mac text good is =
     let h = IsHost-from_is_host host good in
     All-append P (codes "http://" ++ host ++ codes "/ipxe/") text (All-append P (codes "http://" ++ host) (codes "/ipxe/") (All-append P (codes "http://") host scheme h.named) path) address
 
-pub length-url : (host mac text : List ℕ) → is_host host ≡ true → IsMacText text mac → length (codes "http://" ++ host ++ codes "/ipxe/" ++ text) ≤ 127
-length-url host mac text good is =
+pub length-script_url : (host mac text : List ℕ) → is_host host ≡ true → IsMacText text mac → length (codes "http://" ++ host ++ codes "/ipxe/" ++ text) ≤ 127
+length-script_url host mac text good is =
     let h = IsHost-from_is_host host good in
     let short = h.short in
     let a = length-append (codes "http://" ++ host ++ codes "/ipxe/") text in

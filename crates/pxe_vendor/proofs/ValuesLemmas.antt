@@ -1,9 +1,9 @@
--- Joining the values of several codes in one walk.
+-- Joining the values of several codes in one pass.
 use Rattle.std.proofs.Common.{◌≡◌, ℕ, List, [], ◌∷◌, ◌++◌, Option, Some, None, refl, inl, inr}
 use Rattle.std.specs.Prelude.{unwrap_or, ◌==◌}
 use Rattle.std.proofs.lemmas.Bool.{cases_eq, eq-eqb, ne_eqb}
 use Rattle.dhcp_frame.specs.Area.{Entry, value_of}
-use Rattle.dhcp_frame.proofs.ValueLemmas.{joined_then, joined_then-nothing, joined_then-more}
+use Rattle.dhcp_frame.specs.ValueLaws.{joined_then, joined_then-nothing, joined_then-more}
 use Rattle.pxe_vendor.specs.Values.{values_of, push_if, pushed}
 use Rattle.pxe_vendor.specs.declared.values.Values.{Values}
 
@@ -40,9 +40,9 @@ pushed-other v code value a b c d e f =
 
 pub ruleset push_steps = (pushed-message_type, pushed-class, pushed-architectures, pushed-vendor, pushed-identifier, pushed-user_class, pushed-other)
 
--- ---- the walk
+-- ---- the pass
 
--- the values so far, with those of the rest behind them
+-- the values so far, and then those of the rest
 unfoldable pub values_then : Values → Values → Values
 values_then v rest = record {
   message_type = joined_then v.message_type rest.message_type;

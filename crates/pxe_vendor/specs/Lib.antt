@@ -1,4 +1,5 @@
 pub mod Arch
+pub mod ArchLaws
 pub mod Client
 pub mod Values
 pub mod Served

@@ -1,9 +1,11 @@
--- Telling a client from its message, up to the first cause not to serve it: the plain program for `IsClient`.
+-- Identifying the client that sent a message, up to the first cause not to serve it: the program for `IsClient`.
 use Rattle.std.specs.Prelude.{◌≡◌, ◌⊎◌, ℕ, List, [], ◌∷◌, Option, Some, None, Result, Ok, Err, MatchResult, ok_or, unwrap_or, ◌++◌, take, ◌==◌, if◌then◌else◌, codes, nat_eq}
 use Rattle.std.specs.List.{starts_with}
 use Rattle.std.specs.Option.{option_map}
 use Rattle.dhcp_frame.specs.Area.{reading, value_of}
 use Rattle.dhcp_frame.specs.Message.{Message}
+use Rattle.dhcp_frame.specs.declared.option_codes.TheConstants.{USER_CLASS, MACHINE_IDENTIFIER}
+use Rattle.pxe_vendor.specs.declared.numbers.TheConstants.{DISCOVER, REQUEST}
 use Rattle.pxe_vendor.specs.Arch.{numbers_of, class_numbers, first_known}
 use Rattle.pxe_vendor.specs.Client.{uuid_of, is_ipxe, boot_item}
 use Rattle.pxe_vendor.specs.Values.{values_of}
@@ -15,18 +17,18 @@ use Rattle.pxe_vendor.specs.declared.clients.Client.{Client}
 use Rattle.pxe_vendor.specs.declared.serve.NotServed.{NotServed}
 use Rattle.pxe_vendor.specs.declared.serve.NotServed.TheVariants.{NoType, OtherType, NotPxe, NoArch, BadVendor, Memory}
 
--- the first cause is the answer
+-- a step, and then another one, up to the first cause
 infixl 10 ◌>>=◌
 abbrev pub ◌>>=◌ : {A B : Type 0} → Result A NotServed → (A → Result B NotServed) → Result B NotServed
 (Ok x) >>= f = f x
 (Err cause) >>= f = Err cause
 
--- what option 53 says
+-- the kind of message that option 53 means
 unfoldable pub kind_of : Option (List ℕ) → Result Kind NotServed
-kind_of (Some (n ∷ [])) = if n == 1 then Ok Discover else if n == 3 then Ok Request else Err OtherType
+kind_of (Some (n ∷ [])) = if n == DISCOVER then Ok Discover else if n == REQUEST then Ok Request else Err OtherType
 kind_of value = Err NoType
 
--- a vendor class, if it is that of a PXE client
+-- the vendor class of a PXE client
 unfoldable pub class_of : Option (List ℕ) → Result (List ℕ) NotServed
 class_of None = Err NotPxe
 class_of (Some class) = if starts_with nat_eq class (codes "PXEClient") then Ok class else Err NotPxe
@@ -37,7 +39,7 @@ item_of Discover area = Ok None
 item_of Request None = Ok None
 item_of Request (Some area) = ok_or (option_map boot_item (reading area)) BadVendor
 
--- the kind, the architecture and the boot item that joined values tell, or the first cause not to serve
+-- the kind, the architecture and the boot item in joined values, or the first cause not to serve
 unfoldable pub decided : Values → Result (Kind × Arch × Option (List ℕ)) NotServed
 decided v = do
   kind ← kind_of v.message_type
@@ -46,7 +48,7 @@ decided v = do
   item ← item_of kind v.vendor
   Ok (kind, arch, item)
 
--- the client whose message this is, or the first cause not to serve it
+-- the client that sent a message, or the first cause not to serve it
 unfoldable pub client_of : Message → Result Client NotServed
 client_of m = do
   (kind, arch, item) ← decided (values_of m.entries)
@@ -54,12 +56,12 @@ client_of m = do
     mac = take 6 m.chaddr;
     kind = kind;
     arch = arch;
-    uuid = uuid_of (value_of 97 m.entries);
-    echo97 = value_of 97 m.entries;
+    uuid = uuid_of (value_of MACHINE_IDENTIFIER m.entries);
+    echo97 = value_of MACHINE_IDENTIFIER m.entries;
     item = item;
-    ipxe = is_ipxe (value_of 77 m.entries);
+    ipxe = is_ipxe (value_of USER_CLASS m.entries);
   })
 
--- what a call answered is this, unless memory ran out
+-- a result is this, unless memory ran out
 abbrev pub Answers : {X : Type 0} → Result X NotServed → Result X NotServed → Type 0
 Answers result is = MatchResult result (λ x. is ≡ Ok x) (λ cause. (cause ≡ Memory) ⊎ (is ≡ Err cause))

@@ -11,7 +11,9 @@ use crate::clients::{Client, Kind};
 use crate::file::boot_file;
 use crate::numbers::{ACK, BOOT_ITEM, BOOT_ITEM_LEN, DISCOVERY_CONTROL, OFFER, USE_BOOT_FILE};
 use crate::place::Place;
-use dhcp_frame::option_codes::{END, MACHINE_IDENTIFIER, MESSAGE_TYPE, SERVER_IDENTIFIER, VENDOR_CLASS, VENDOR_OPTIONS};
+use dhcp_frame::option_codes::{
+    END, MACHINE_IDENTIFIER, MESSAGE_TYPE, SERVER_IDENTIFIER, VENDOR_CLASS, VENDOR_OPTIONS,
+};
 use dhcp_frame::{DhcpOption, Frame, MAX_VALUE_LEN, ReplyFields, WriteFault, write};
 use std::alloc::{AllocError, Global};
 
@@ -22,9 +24,23 @@ fn vendor_area(item: Option<[u8; BOOT_ITEM_LEN]>) -> ([u8; 10], usize)
     ensures length { result.1 ≤ 10 }
 {
     match item {
-        None => ([DISCOVERY_CONTROL, 1, USE_BOOT_FILE, END, 0, 0, 0, 0, 0, 0], 4),
+        None => (
+            [DISCOVERY_CONTROL, 1, USE_BOOT_FILE, END, 0, 0, 0, 0, 0, 0],
+            4,
+        ),
         Some(item) => {
-            let mut area = [DISCOVERY_CONTROL, 1, USE_BOOT_FILE, BOOT_ITEM, 4, 0, 0, 0, 0, END];
+            let mut area = [
+                DISCOVERY_CONTROL,
+                1,
+                USE_BOOT_FILE,
+                BOOT_ITEM,
+                4,
+                0,
+                0,
+                0,
+                0,
+                END,
+            ];
             area[5..9].copy_from_slice(&item);
             (area, 10)
         }

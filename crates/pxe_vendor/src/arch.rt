@@ -1,11 +1,13 @@
 //! Processor architectures.
-ghost use Rattle.std.specs.Prelude.{◌≡◌, ◌≤◌, ◌<◌, Option, Some, None, true, length};
+ghost use Rattle.std.specs.Prelude.{◌≡◌, ◌≤◌, ◌↔◌, ℕ, List, Some, true, length};
 ghost use Rattle.std.specs.List.{list_all};
 ghost use Rattle.std.specs.Char.{is_ascii_digit};
-ghost use Rattle.std.specs.Option.{option_or};
-ghost use Rattle.pxe_vendor.specs.Arch.{arch_of, arch_text, arch_number, numbers_of, decimal, class_numbers, first_known};
+ghost use Rattle.pxe_vendor.specs.Arch.{arch_of_dhcp_number, arch_in, arch_text, numbers_of, decimal, class_numbers, first_known};
 
-/// A client's processor architecture with its firmware (RFC 4578 section 2.1).
+use std::str::FromStr;
+use thiserror::Error;
+
+/// A client's processor architecture and firmware (RFC 4578 section 2.1).
 #[derive(Clone, Copy, Debug, PartialEq, Eq)]
 pub enum Arch {
     Bios,
@@ -15,7 +17,7 @@ pub enum Arch {
 }
 
 impl Arch {
-    /// The word for it in texts.
+    /// The architecture's word in texts.
     #[tactic(auto, unfolding(crate::specs::Arch::arch_text))]
     pub fn text(self) -> &'static str
         ensures { result.now ≡ arch_text self }
@@ -27,19 +29,44 @@ impl Arch {
             Arch::Arm64 => "arm64",
         }
     }
+}
 
-    /// The number in tables, 0 to 3.
-    #[tactic(auto, unfolding(crate::specs::Arch::arch_number))]
-    pub fn number(self) -> u8
-        ensures number { result ≡ arch_number self }
-        ensures small { result < 4 }
-    {
-        self as u8
+/// The text is not the word of an architecture.
+#[derive(Clone, Copy, Debug, PartialEq, Eq, Error)]
+#[error("not the word of an architecture")]
+pub struct UnknownArch;
+
+/// Reads an architecture's word: `bios`, `uefi32`, `uefi64` or `arm64`.
+impl FromStr for Arch {
+    ghost use Rattle.std.specs.Prelude.{◌≡◌, ok_or};
+    ghost use Rattle.pxe_vendor.specs.Arch.{arch_in};
+    ghost use Rattle.pxe_vendor.specs.declared.arch.UnknownArch.{UnknownArch};
+
+    type Err = UnknownArch;
+
+    ghost from_str_gives = { λ text r. r ≡ ok_or (arch_in text) (record {}) };
+
+    #[tactic(auto, unfolding(crate::specs::Arch::arch_in, crate::specs::Arch::arch_text))]
+    fn from_str(text: &str) -> Result<Arch, UnknownArch> {
+        match text {
+            "bios" => Ok(Arch::Bios),
+            "uefi32" => Ok(Arch::Uefi32),
+            "uefi64" => Ok(Arch::Uefi64),
+            "arm64" => Ok(Arch::Arm64),
+            _ => Err(UnknownArch),
+        }
     }
 }
 
-fn from_number(number: u32) -> Option<Arch>
-    ensures { result ≡ arch_of number }
+/// The law of the architectures' words: a text is read as an architecture if and only if it is the word
+/// of that architecture.
+pub fn one_word()
+    ensures { (text : List ℕ) (arch : Arch) → (text ≡ arch_text arch) ↔ (arch_in text ≡ Some arch) }
+{}
+
+// The architecture of a number in option 93 or in a vendor class.
+fn from_dhcp_number(number: u32) -> Option<Arch>
+    ensures { result ≡ arch_of_dhcp_number number }
 {
     match number {
         0 => Some(Arch::Bios),
@@ -50,26 +77,24 @@ fn from_number(number: u32) -> Option<Arch>
     }
 }
 
-/// The first known architecture of option 93, a list of numbers of two octets.
+/// The first known architecture in option 93, a list of numbers of two octets.
 #[tactic(auto, using(crate::proofs::ArchLemmas::arch_steps))]
 pub(crate) fn in_list(octets: &[u8]) -> Option<Arch>
     ensures { result ≡ first_known (numbers_of octets.now) }
 {
-    let mut here = octets;
-    loop {
-        let Some((high, behind)) = here.split_first() else {
-            return None;
-        };
-        let Some((low, behind)) = behind.split_first() else {
-            return None;
-        };
-        let known = from_number(256 * u32::from(*high) + u32::from(*low));
+    for pair in octets.chunks_exact(2) {
+        let known = from_dhcp_number(256 * u32::from(pair[0]) + u32::from(pair[1]));
         if known.is_some() {
             return known;
         }
-        here = behind;
     }
+    None
 }
+
+// The places of the five digits in a vendor class `PXEClient:Arch:xxxxx:UNDI:yyyzzz` (PXE 2.1).
+const DIGITS_START: usize = 15;
+
+const DIGITS_END: usize = 20;
 
 fn are_digits(octets: &[u8]) -> bool
     ensures { result ≡ list_all is_ascii_digit octets.now }
@@ -89,15 +114,15 @@ fn decimal_of(digits: &[u8]) -> u32
     number
 }
 
-/// The architecture of a vendor class, if it has one and it is known.
+/// The known architecture in a vendor class.
 #[tactic(auto, using(crate::proofs::ArchLemmas::arch_steps))]
 pub(crate) fn in_class(class: &[u8]) -> Option<Arch>
     ensures { result ≡ first_known (class_numbers class.now) }
 {
-    if class.starts_with(b"PXEClient:Arch:") && class.len() >= 20 {
-        let digits = &class[15..20];
+    if class.starts_with(b"PXEClient:Arch:") && class.len() >= DIGITS_END {
+        let digits = &class[DIGITS_START..DIGITS_END];
         if are_digits(digits) {
-            return from_number(decimal_of(digits));
+            return from_dhcp_number(decimal_of(digits));
         }
     }
     None

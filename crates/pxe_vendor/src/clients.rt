@@ -16,12 +16,13 @@ pub struct Client {
     pub mac: [u8; 6],
     pub kind: Kind,
     pub arch: Arch,
-    /// The machine's UUID, in the order in which its octets came.
+    /// The machine's UUID, its octets in the order of option 97.
     pub uuid: Option<[u8; 16]>,
-    /// The machine's identifier, the value of option 97 as it came (RFC 4578 section 2.3).
+    /// The machine identifier, the value of option 97, which an answer gives back (RFC 4578 section
+    /// 2.3).
     pub echo97: Option<Octets>,
-    /// The boot item that a REQUEST asks for (PXE 2.1, tag 71).
+    /// The boot item that a REQUEST asks for (PXE 2.1, vendor option 71).
     pub item: Option<[u8; 4]>,
-    /// Whether the client is iPXE, and takes a script.
+    /// Whether the client is iPXE, which runs scripts.
     pub ipxe: bool,
 }

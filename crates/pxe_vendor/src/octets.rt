@@ -1,9 +1,9 @@
-//! Octets of a client's option, kept as they came.
+//! Octets of a client's option.
 ghost use Rattle.std.specs.Prelude.{◌≡◌, length};
 
 use std::marker::Model;
 
-/// A list of octets. Contracts see the list, and not where it lies in memory.
+/// A list of octets. Contracts see the list alone: a `Vec` also has a capacity and a place in memory.
 #[derive(Debug, Drop)]
 pub struct Octets {
     items: Vec<u8>,
@@ -32,7 +32,7 @@ impl Octets {
         self.items.as_slice()
     }
 
-    /// The octets, as they were taken.
+    /// The octets in their memory.
     pub fn into_vec(self) -> Vec<u8>
         ensures { result.items ≡ self }
     {

@@ -1,4 +1,4 @@
-//! Where a hall's services stand.
+//! The addresses of the services that boot machines.
 ghost use Rattle.std.specs.Prelude.{◌≡◌, false, IsOk, IfOk, IsErrOf, IsTrue, ◌↔◌, string_bytes};
 ghost use Rattle.std.specs.List.{list_all};
 ghost use Rattle.pxe_vendor.specs.Place.{Site, is_host, is_host_octet};
@@ -7,8 +7,8 @@ use std::alloc::{AllocError, Global};
 use std::marker::Model;
 use thiserror::Error;
 
-/// The addresses of a hall's boot server and of its next server, which has the boot files, and the
-/// host of its scripts.
+/// The IP address of the boot server, the IP address of the next server, which has the boot files (siaddr
+/// in RFC 2131), and the host of the scripts.
 #[derive(Debug, Drop)]
 pub struct Place {
     server: [u8; 4],
@@ -27,15 +27,18 @@ impl Model for Place {
     ghost invariant = { λ p. IsTrue (is_host (string_bytes p.host)) };
 }
 
-/// Why there is no such place.
+/// Why a place can't be made.
 #[derive(Clone, Copy, Debug, PartialEq, Eq, Error)]
 pub enum PlaceFault {
-    /// A host has 1 to 64 characters: letters, digits, `-`, `.` and `:`, the first a letter or a digit.
+    /// A host has 1 to 64 characters: letters, digits, `-`, `.` and `:`. The first is a letter or a digit.
     #[error("not a host")]
     BadHost = 1,
     #[error("out of memory")]
     Memory = 2,
 }
+
+// The maximum number of characters in a host.
+const MAX_HOST_LEN: usize = 64;
 
 fn are_host_octets(octets: &[u8]) -> bool
     ensures { result ≡ list_all is_host_octet octets.now }
@@ -50,10 +53,11 @@ fn is_good(host: &[u8]) -> bool
     let Some((first, others)) = host.split_first() else {
         return false;
     };
-    first.is_ascii_alphanumeric() && others.len() <= 63 && are_host_octets(others)
+    first.is_ascii_alphanumeric() && host.len() <= MAX_HOST_LEN && are_host_octets(others)
 }
 
 impl Place {
+    /// A place with these IP addresses and this host. `BadHost` comes before `Memory`.
     pub fn new(
         alloc: Global,
         server: [u8; 4],
@@ -87,6 +91,7 @@ impl Place {
         self.next
     }
 
+    /// The host of the scripts.
     pub fn host(&self) -> &str
         ensures text { result.now ≡ self.now.host }
         ensures host { IsTrue (is_host self.now.host) }

@@ -1,4 +1,4 @@
-//! Telling a client from its message.
+//! Identifying the client that sent a message.
 ghost use Rattle.std.specs.Prelude.{◌≡◌, ◌⊎◌, ◌↔◌, ◌++◌, [], ℕ, List, unwrap_or, Option, Some, None, Ok, IfOk, IsErrOf, MatchResult, ok_or, option_copied, length, nat_eq, codes, ◌==◌, if◌then◌else◌};
 ghost use Rattle.std.specs.List.{starts_with, list_all};
 ghost use Rattle.dhcp_frame.specs.Message.{Message};
@@ -9,23 +9,25 @@ ghost use Rattle.pxe_vendor.specs.Served.{Answers, kind_of, class_of, item_of, d
 use crate::arch;
 use crate::arch::Arch;
 use crate::clients::{Client, Kind};
+use crate::numbers::{BOOT_ITEM, BOOT_ITEM_LEN, DISCOVER, REQUEST, UUID_LEN, UUID_TYPE};
 use crate::octets::Octets;
 use crate::values::Values;
 use dhcp_frame::{Frame, OptionIter};
 use std::alloc::{AllocError, Global};
 use thiserror::Error;
 
-/// The first cause not to serve a message, in the order in which they are looked for.
+/// The first cause not to serve a message. The causes but `Memory` are numbered in the order in which
+/// they are checked.
 #[derive(Clone, Copy, Debug, PartialEq, Eq, Error)]
 pub enum NotServed {
     /// There is no option 53 of one octet.
     #[error("no message type")]
     NoType = 1,
-    /// Neither a DISCOVER nor a REQUEST.
+    /// Option 53 is neither a DISCOVER nor a REQUEST.
     #[error("another type of message")]
     OtherType = 2,
     /// Option 60 doesn't begin `PXEClient`.
-    #[error("no PXE client")]
+    #[error("not a PXE client")]
     NotPxe = 3,
     /// Neither option 93 nor option 60 has a known architecture.
     #[error("no known architecture")]
@@ -37,27 +39,26 @@ pub enum NotServed {
     Memory = 6,
 }
 
-/// The law of clients: a message is one client's at most, and `client_of` is that client.
+/// The law of clients: `client_of` identifies the client that sent a message, and at most one client
+/// sent it.
 pub fn one_client()
     ensures exact { (message : Message) (client : Client) → IsClient message client ↔ (client_of message ≡ Ok client) }
     ensures one { (message : Message) (client other : Client) → IsClient message client → IsClient message other → client ≡ other }
 {}
-
-const BOOT_ITEM: u8 = 71;
 
 #[tactic(auto, unfolding(crate::specs::Served::kind_of))]
 fn kind_in(value: Option<&[u8]>) -> Result<Kind, NotServed>
     ensures { result ≡ kind_of (option_copied value.entry) }
 {
     match value {
-        Some([1]) => Ok(Kind::Discover),
-        Some([3]) => Ok(Kind::Request),
+        Some([DISCOVER]) => Ok(Kind::Discover),
+        Some([REQUEST]) => Ok(Kind::Request),
         Some([_]) => Err(NotServed::OtherType),
         _ => Err(NotServed::NoType),
     }
 }
 
-// A vendor class that is a PXE client's.
+// The vendor class of a PXE client.
 #[tactic(auto, unfolding(crate::specs::Served::class_of))]
 fn class_in(value: Option<&[u8]>) -> Result<&[u8], NotServed>
     ensures { MatchResult result (λ class. class_of (option_copied value.entry) ≡ Ok class.now) (λ cause. class_of (option_copied value.entry) ≡ Err cause) }
@@ -99,11 +100,11 @@ fn are_all(octets: &[u8], value: u8) -> bool
 }
 
 // The UUID in the value of option 97.
-fn uuid_in(value: Option<&[u8]>) -> Option<[u8; 16]>
+fn uuid_in(value: Option<&[u8]>) -> Option<[u8; UUID_LEN]>
     ensures { result ≡ uuid_of (option_copied value.entry) }
 {
     let (kind, octets) = value?.split_first()?;
-    if *kind != 0 || are_all(octets, 0) || are_all(octets, 255) {
+    if *kind != UUID_TYPE || are_all(octets, 0) || are_all(octets, 255) {
         return None;
     }
     exactly(octets)
@@ -116,7 +117,7 @@ fn is_ipxe_class(value: Option<&[u8]>) -> bool
 }
 
 #[tactic(auto, unfolding(crate::specs::Served::item_of))]
-fn item_in(kind: Kind, area: Option<&[u8]>) -> Result<Option<[u8; 4]>, NotServed>
+fn item_in(kind: Kind, area: Option<&[u8]>) -> Result<Option<[u8; BOOT_ITEM_LEN]>, NotServed>
     ensures { result ≡ item_of kind (option_copied area.entry) }
 {
     let (Kind::Request, Some(area)) = (kind, area) else {
@@ -129,11 +130,11 @@ fn item_in(kind: Kind, area: Option<&[u8]>) -> Result<Option<[u8; 4]>, NotServed
 }
 
 #[tactic(auto, using(crate::proofs::ClientLemmas::item_steps))]
-fn first_item(tags: OptionIter<'_>) -> Option<[u8; 4]>
+fn first_item(tags: OptionIter<'_>) -> Option<[u8; BOOT_ITEM_LEN]>
     ensures { result ≡ boot_item tags.entry }
 {
     for (tag, value) in tags {
-        if tag == BOOT_ITEM && value.len() == 4 {
+        if tag == BOOT_ITEM && value.len() == BOOT_ITEM_LEN {
             return exactly(value);
         }
     }
@@ -142,7 +143,7 @@ fn first_item(tags: OptionIter<'_>) -> Option<[u8; 4]>
 
 // The kind, the architecture and the boot item, or the first cause not to serve.
 #[tactic(auto, unfolding(crate::specs::Served::decided))]
-fn decide(values: &Values<'_>) -> Result<(Kind, Arch, Option<[u8; 4]>), NotServed>
+fn decide(values: &Values<'_>) -> Result<(Kind, Arch, Option<[u8; BOOT_ITEM_LEN]>), NotServed>
     ensures { result ≡ decided values.now }
 {
     let kind = kind_in(values.message_type.as_slice())?;
@@ -162,7 +163,7 @@ fn kept(alloc: Global, value: Option<&[u8]>) -> Result<Option<Octets>, AllocErro
 }
 
 #[tactic(auto, unfolding(crate::specs::Served::client_of))]
-fn serve(alloc: Global, frame: &Frame<'_>) -> Result<Client, NotServed>
+fn client_inner(alloc: Global, frame: &Frame<'_>) -> Result<Client, NotServed>
     ensures { Answers result (client_of frame.now) }
 {
     let values = match Values::of(alloc, frame) {
@@ -186,14 +187,15 @@ fn serve(alloc: Global, frame: &Frame<'_>) -> Result<Client, NotServed>
     })
 }
 
-/// Tells the PXE client whose message a frame carries.
+/// Identifies the PXE client that sent a frame (PXE 2.1; RFC 4578). An error is the first cause not to
+/// serve it, unless memory ran out.
 pub fn client(alloc: Global, frame: &Frame<'_>) -> Result<Client, NotServed>
-    // The client is the message's.
+    // This client sent the message.
     ensures client { IfOk result (λ client. IsClient frame.now client) }
-    // The message's client is told, unless memory runs out.
+    // The client that sent the message is identified, unless memory ran out.
     ensures only { (client : Client) → IsClient frame.now client → (result ≡ Ok client) ⊎ IsErrOf result NotServed.Memory }
-    // A cause is the first in the order, unless memory runs out.
+    // A cause is the first in the order, unless memory ran out.
     ensures exact { Answers result (client_of frame.now) }
 {
-    serve(alloc, frame)
+    client_inner(alloc, frame)
 }

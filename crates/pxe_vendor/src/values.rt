@@ -1,10 +1,14 @@
-//! The values that tell a client.
+//! The values that identify a client.
 ghost use Rattle.std.specs.Prelude.{◌≡◌, OnOk, IfOk};
 
+use dhcp_frame::option_codes::{
+    CLIENT_ARCHITECTURES, MACHINE_IDENTIFIER, MESSAGE_TYPE, USER_CLASS, VENDOR_CLASS,
+    VENDOR_OPTIONS,
+};
 use dhcp_frame::{Frame, JoinedValue};
 use std::alloc::{AllocError, Global};
 
-/// The joined values of the options that tell a client.
+/// The joined values of the options that identify a client.
 #[derive(Drop)]
 pub(crate) struct Values<'a> {
     pub(crate) message_type: JoinedValue<'a>,
@@ -23,17 +27,17 @@ impl<'a> Values<'a> {
         ensures { OnOk result (self.new ≡ pushed self.old code value.now) }
     {
         match code {
-            53 => self.message_type.push(alloc, value),
-            60 => self.class.push(alloc, value),
-            93 => self.architectures.push(alloc, value),
-            43 => self.vendor.push(alloc, value),
-            97 => self.identifier.push(alloc, value),
-            77 => self.user_class.push(alloc, value),
+            MESSAGE_TYPE => self.message_type.push(alloc, value),
+            VENDOR_CLASS => self.class.push(alloc, value),
+            CLIENT_ARCHITECTURES => self.architectures.push(alloc, value),
+            VENDOR_OPTIONS => self.vendor.push(alloc, value),
+            MACHINE_IDENTIFIER => self.identifier.push(alloc, value),
+            USER_CLASS => self.user_class.push(alloc, value),
             _ => Ok(()),
         }
     }
 
-    /// The values of a frame, in one walk over its options.
+    /// The values in a frame, joined in one pass over its options.
     #[tactic(auto, using(crate::proofs::ValuesLemmas::values_steps))]
     pub(crate) fn of(alloc: Global, frame: &Frame<'a>) -> Result<Values<'a>, AllocError>
         ensures { IfOk result (λ values. values ≡ values_of frame.now.entries) }

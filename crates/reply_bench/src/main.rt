@@ -1,10 +1,10 @@
-//! The way of one frame, many times over: `reply N` answers N DISCOVERs that differ in their xid,
-//! `copy N` copies the OFFERs to them. Both print one digest of the N replies.
+//! A benchmark: `reply N` answers N DISCOVERs that differ in their xid, and `copy N` copies the OFFERs to
+//! them. Both print the same digest of the N replies.
 #![tactic(auto)]
 
 use byteorder::{BigEndian, ByteOrder};
 use dhcp_frame::read;
-use pxe_vendor::{Place, boot_file, client, reply};
+use pxe_vendor::{Place, boot_reply, client};
 use std::alloc::Global;
 use std::env;
 use std::process::ExitCode;
@@ -42,7 +42,7 @@ enum BenchFault {
     Memory,
 }
 
-// Octets given as hexadecimal, each part with this many zeros behind it.
+// Octets given as hexadecimal, each part with this many zeros after it.
 fn octets(alloc: Global, parts: &[(&str, usize)]) -> Result<Vec<u8>, BenchFault> {
     let mut octets = Vec::new(alloc);
     for (digits, zeros) in parts {
@@ -57,7 +57,8 @@ fn octets(alloc: Global, parts: &[(&str, usize)]) -> Result<Vec<u8>, BenchFault>
     Ok(octets)
 }
 
-fn number_in(octets: &mut [u8], xid: u32) {
+// Writes the transaction identifier of a message.
+fn write_xid(octets: &mut [u8], xid: u32) {
     if octets.len() >= 8 {
         BigEndian::write_u32(&mut octets[4..8], xid);
     }
@@ -66,13 +67,10 @@ fn number_in(octets: &mut [u8], xid: u32) {
 fn answered(alloc: Global, frame: &[u8], place: &Place) -> Result<Vec<u8>, BenchFault> {
     let frame = read(frame).map_err(|_| BenchFault::Refused)?;
     let client = client(alloc, &frame).map_err(|_| BenchFault::Refused)?;
-    let Ok(file) = boot_file(alloc, &client, place) else {
-        return Err(BenchFault::Memory);
-    };
-    reply(alloc, &frame, &client, place, file.as_str()).map_err(|_| BenchFault::Refused)
+    boot_reply(alloc, &frame, &client, place).map_err(|_| BenchFault::Refused)
 }
 
-// One octet of each reply, each at the next place.
+// The digest with one octet of a reply, at the next place in each round.
 fn with_octet(digest: u64, reply: &[u8], round: u32) -> u64 {
     let octet = reply.get(round as usize % 300).copied().unwrap_or(0);
     digest.wrapping_mul(31).wrapping_add(u64::from(octet))
@@ -85,7 +83,7 @@ fn replies(alloc: Global, rounds: u32) -> Result<u64, BenchFault> {
     let mut frame = octets(alloc, &DISCOVER)?;
     let mut digest = 0;
     for round in 0..rounds {
-        number_in(&mut frame, round);
+        write_xid(&mut frame, round);
         digest = with_octet(digest, &answered(alloc, &frame, &place)?, round);
     }
     Ok(digest)
@@ -95,7 +93,7 @@ fn copies(alloc: Global, rounds: u32) -> Result<u64, BenchFault> {
     let mut offer = octets(alloc, &OFFER)?;
     let mut digest = 0;
     for round in 0..rounds {
-        number_in(&mut offer, round);
+        write_xid(&mut offer, round);
         let copy = Vec::from_slice(alloc, &offer).map_err(|_| BenchFault::Memory)?;
         digest = with_octet(digest, &copy, round);
     }

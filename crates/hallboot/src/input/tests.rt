@@ -1,5 +1,6 @@
 use super::{parse, read_input};
 use crate::fault::Fault;
+use std::alloc::Global;
 use std::io;
 use std::io::Read;
 use std::test::Fail;
@@ -32,30 +33,22 @@ impl<'a> Read for OneByOne<'a> {
     }
 }
 
+// An input, its octets, and whether it lists the first and the second address.
+const GOOD: [(&[u8], &[u8], bool, bool); 4] = [
+    (b"\n\n", b"", false, false),
+    (b"52:54:00:12:34:56\n\n0a\n", b"\x0a", true, false),
+    (b"52:54:00:12:34:56\n\n0a", b"\x0a", true, false),
+    (
+        b"AB:CD:EF:00:00:01\n52:54:00:12:34:56\n\n00FF7f\n",
+        b"\x00\xff\x7f",
+        true,
+        true,
+    ),
+];
+
 #[test]
-fn understands_inputs(rt: HostRuntime) -> Result<(), Fail> {
-    let cases = [
-        (b"\n\n".as_slice(), b"".as_slice(), false, false),
-        (
-            b"52:54:00:12:34:56\n\n0a\n".as_slice(),
-            b"\x0a".as_slice(),
-            true,
-            false,
-        ),
-        (
-            b"52:54:00:12:34:56\n\n0a".as_slice(),
-            b"\x0a".as_slice(),
-            true,
-            false,
-        ),
-        (
-            b"AB:CD:EF:00:00:01\n52:54:00:12:34:56\n\n00FF7f\n".as_slice(),
-            b"\x00\xff\x7f".as_slice(),
-            true,
-            true,
-        ),
-    ];
-    for (input, octets, first, second) in cases {
+fn parses_inputs(rt: HostRuntime) -> Result<(), Fail> {
+    for (input, octets, first, second) in GOOD {
         let found = parse(rt.alloc(), input).ok().ok_or("the input is good")?;
         assert_eq!(rt; found.octets(), octets, "at {input:?}");
         assert_eq!(rt; found.lists(&FIRST), first, "at {input:?}");
@@ -64,75 +57,47 @@ fn understands_inputs(rt: HostRuntime) -> Result<(), Fail> {
     Ok(())
 }
 
+const BAD: [&[u8]; 13] = [
+    b"",
+    b"\n",
+    b"0a\n",
+    b"52:54:00:12:34:56\n",
+    b"52:54:00:12:34:56\n0a\n",
+    b"52:54:00:12:34:5\n\n0a\n",
+    b"\n0\n",
+    b"\n0a0\n",
+    b"\n0g\n",
+    b"\n0a\n0a\n",
+    b"\n0a\n\n",
+    b"\n0a\r\n",
+    b"52:54:00:12:34:56\r\n\r\n0a\r\n",
+];
+
 #[test]
 fn refuses_bad_inputs(rt: HostRuntime) {
-    let cases = [
-        b"".as_slice(),
-        b"\n".as_slice(),
-        b"0a\n".as_slice(),
-        b"52:54:00:12:34:56\n".as_slice(),
-        b"52:54:00:12:34:56\n0a\n".as_slice(),
-        b"52:54:00:12:34:5\n\n0a\n".as_slice(),
-        b"\n0\n".as_slice(),
-        b"\n0a0\n".as_slice(),
-        b"\n0g\n".as_slice(),
-        b"\n0a\n0a\n".as_slice(),
-        b"\n0a\n\n".as_slice(),
-        b"\n0a\r\n".as_slice(),
-        b"52:54:00:12:34:56\r\n\r\n0a\r\n".as_slice(),
-    ];
-    for input in cases {
+    for input in BAD {
         let fault = parse(rt.alloc(), input).err();
         assert_eq!(rt; fault, Some(Fault::BadInput), "at {input:?}");
     }
 }
 
-#[test]
-fn reads_all_up_to_a_limit(rt: HostRuntime) -> Result<(), Fail> {
-    let octets = vec![in rt.alloc(); 7u8; 65_537]?;
-    let most = octets.get(..65_536).ok_or("there are as many")?;
-    for fails in [false, true] {
-        let mut reader = OneByOne {
-            octets: most,
-            fails,
-        };
-        let read = read_input(rt.alloc(), &mut reader);
-        if fails {
-            assert_eq!(rt; read.err(), Some(Fault::Io));
-        } else {
-            let read = read.ok().ok_or("the octets are few enough")?;
-            assert_eq!(rt; read.as_slice(), most);
-        }
-    }
-    let mut whole = most;
-    let read = read_input(rt.alloc(), &mut whole)
-        .ok()
-        .ok_or("the octets are few enough")?;
-    assert_eq!(rt; read.as_slice(), most);
-    let mut longer = octets.as_slice();
-    assert_eq!(rt;
-        read_input(rt.alloc(), &mut longer).err(),
-        Some(Fault::BadInput)
-    );
-    let mut longer = OneByOne {
-        octets: &octets,
-        fails: false,
-    };
-    assert_eq!(rt;
-        read_input(rt.alloc(), &mut longer).err(),
-        Some(Fault::BadInput)
-    );
-    Ok(())
+// How a read of these octets, one at a time, ends: with how many octets, or with a fault.
+fn read_len(alloc: Global, octets: &[u8], fails: bool) -> Result<usize, Fault> {
+    let mut reader = OneByOne { octets, fails };
+    Ok(read_input(alloc, &mut reader)?.len())
 }
 
 #[test]
-fn names_faults(rt: HostRuntime) {
-    let cases = [
-        (Fault::BadInput, "BadInput"),
-        (Fault::Io, "Io"),
-        (Fault::Memory, "Memory"),
-    ];
-    for (fault, name) in cases {
-        assert_eq!(rt; fault.name(), name);
-    }
+fn reads_all_up_to_a_limit(rt: HostRuntime) -> Result<(), Fail> {
+    let longer = vec![in rt.alloc(); 7u8; 65_537]?;
+    let longest = longer.get(..65_536).ok_or("there are as many")?;
+    assert_eq!(rt; read_len(rt.alloc(), longest, false), Ok(65_536));
+    assert_eq!(rt; read_len(rt.alloc(), longest, true), Err(Fault::Io));
+    assert_eq!(rt; read_len(rt.alloc(), &longer, false), Err(Fault::BadInput));
+    let mut whole = longest;
+    let read = read_input(rt.alloc(), &mut whole)
+        .ok()
+        .ok_or("the octets are few enough")?;
+    assert_eq!(rt; read.as_slice(), longest);
+    Ok(())
 }

@@ -1,5 +1,7 @@
 use super::*;
+use std::alloc::AllocError;
 use std::io;
+use std::process::Abort;
 use std::test::Fail;
 
 const LISTED: &str = "52:54:00:12:34:56\n52:54:00:00:00:09\n\n";
@@ -51,92 +53,104 @@ impl Write for Full {
     }
 }
 
+// Runs on such an input, and asserts how the run ends and that only `Done` writes.
+fn ends<R: Abort>(
+    rt: &R,
+    alloc: Global,
+    listed: &str,
+    mac: &str,
+    options: &[&str],
+    want: Exit,
+) -> Result<(), Fail> {
+    let input = input(alloc, listed, mac, options)?;
+    let mut reader = input.as_bytes();
+    let mut writer = Vec::new(alloc);
+    let exit = frame_run(alloc, &mut reader, &mut writer, &place(alloc)?);
+    assert_eq!(rt; exit, want, "{mac}");
+    assert_eq!(rt; writer.is_empty(), exit != Exit::Done);
+    Ok(())
+}
+
+const FIRST: &str = "525400123456";
+
+const RUNS: [(&str, &str, [&str; 3], Exit); 9] = [
+    (LISTED, FIRST, ["350101", CLASS, "ff"], Exit::Done),
+    (
+        LISTED,
+        "525400000009",
+        ["350101", CLASS, "ff\n"],
+        Exit::Done,
+    ),
+    (LISTED, "525400000008", ["350101", CLASS, ""], Exit::Silence),
+    ("\n", FIRST, ["350101", CLASS, ""], Exit::Silence),
+    (LISTED, FIRST, ["350103", CLASS, ""], Exit::Silence),
+    (LISTED, FIRST, ["350101", "", ""], Exit::Silence),
+    (LISTED, FIRST, ["350101", CLASS, "0cff"], Exit::Silence),
+    (
+        LISTED,
+        FIRST,
+        ["350101", CLASS, "f"],
+        Exit::Fault(Fault::BadInput),
+    ),
+    (
+        "",
+        FIRST,
+        ["350101", CLASS, ""],
+        Exit::Fault(Fault::BadInput),
+    ),
+];
+
 #[test]
-fn answers_listed_discovers_alone(rt: HostRuntime) -> Result<(), Fail> {
-    let alloc = rt.alloc();
-    let place = place(alloc)?;
-    let first = "525400123456";
-    let mut long = String::from_str(alloc, "61ff")?;
-    for _ in 0..255 {
-        long.push_str("aa")?;
-    }
-    let long = long.as_str();
-    let cases = [
-        (LISTED, first, ["350101", CLASS, "", "ff"], Exit::Done),
-        (
-            LISTED,
-            "525400000009",
-            ["350101", CLASS, "", "ff\n"],
-            Exit::Done,
-        ),
-        (LISTED, first, ["350101", CLASS, long, ""], Exit::Done),
-        (
-            LISTED,
-            first,
-            ["350101", CLASS, long, "6101bb"],
-            Exit::Silence,
-        ),
-        (
-            LISTED,
-            "525400000008",
-            ["350101", CLASS, "", ""],
-            Exit::Silence,
-        ),
-        ("\n", first, ["350101", CLASS, "", ""], Exit::Silence),
-        (LISTED, first, ["350103", CLASS, "", ""], Exit::Silence),
-        (LISTED, first, ["350101", "", "", ""], Exit::Silence),
-        (LISTED, first, ["350101", CLASS, "", "0cff"], Exit::Silence),
-        (
-            LISTED,
-            first,
-            ["350101", CLASS, "", "f"],
-            Exit::Fault(Fault::BadInput),
-        ),
-        (
-            "",
-            first,
-            ["350101", CLASS, "", ""],
-            Exit::Fault(Fault::BadInput),
-        ),
-    ];
-    for (listed, mac, options, want) in cases {
-        let input = input(alloc, listed, mac, &options)?;
-        let mut reader = input.as_bytes();
-        let mut writer = Vec::new(alloc);
-        let exit = frame_run(alloc, &mut reader, &mut writer, &place);
-        assert_eq!(rt; exit, want);
-        assert_eq!(rt; writer.is_empty(), exit != Exit::Done);
+fn answers_only_discovers_from_listed_addresses(rt: HostRuntime) -> Result<(), Fail> {
+    for (listed, mac, options, want) in RUNS {
+        ends(&rt, rt.alloc(), listed, mac, &options, want)?;
     }
     Ok(())
 }
 
 #[test]
-fn tells_a_write_that_fails(rt: HostRuntime) -> Result<(), Fail> {
+fn answers_identifiers_that_fit(rt: HostRuntime) -> Result<(), Fail> {
+    let alloc = rt.alloc();
+    let mut long = String::from_str(alloc, "61ff")?;
+    for _ in 0..255 {
+        long.push_str("aa")?;
+    }
+    ends(
+        &rt,
+        alloc,
+        LISTED,
+        FIRST,
+        &["350101", CLASS, long.as_str()],
+        Exit::Done,
+    )?;
+    long.push_str("6101bb")?;
+    ends(
+        &rt,
+        alloc,
+        LISTED,
+        FIRST,
+        &["350101", CLASS, long.as_str()],
+        Exit::Silence,
+    )
+}
+
+// A room for octets, and how a run that writes 601 octets ends.
+const ROOMS: [(usize, Exit); 3] = [
+    (0, Exit::Fault(Fault::Io)),
+    (600, Exit::Fault(Fault::Io)),
+    (601, Exit::Done),
+];
+
+#[test]
+fn a_failed_write_is_io(rt: HostRuntime) -> Result<(), Fail> {
     let alloc = rt.alloc();
     let place = place(alloc)?;
-    let input = input(alloc, LISTED, "525400123456", &["350101", CLASS])?;
-    // The OFFER and its line feed take 601 octets.
-    for (room, want) in [
-        (0usize, Exit::Fault(Fault::Io)),
-        (600, Exit::Fault(Fault::Io)),
-        (601, Exit::Done),
-    ] {
+    let input = input(alloc, LISTED, FIRST, &["350101", CLASS])?;
+    for (room, want) in ROOMS {
         let mut reader = input.as_bytes();
         let mut writer = Full { room };
         let exit = frame_run(alloc, &mut reader, &mut writer, &place);
         assert_eq!(rt; exit, want, "room for {room} octets");
     }
     Ok(())
-}
-
-#[test]
-fn has_an_exit_status(rt: HostRuntime) {
-    let cases = [
-        (Exit::Done, 0u8),
-        (Exit::Fault(Fault::Io), 1),
-        (Exit::Silence, 3),
-    ];
-    for (exit, status) in cases {
-        assert_eq!(rt; exit.status(), status);
-    }
 }

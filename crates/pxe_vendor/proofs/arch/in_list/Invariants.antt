@@ -1,10 +1,11 @@
-use Rattle.std.proofs.Common.{◌≡◌, length}
+use Rattle.std.proofs.Common.{◌≡◌}
+use Rattle.std.specs.Slice.Iter.{chunks_exact_rest, chunks_exact_size}
 use Rattle.pxe_vendor.specs.Arch.{numbers_of, first_known}
 use Rattle.pxe_vendor.proofs.arch.in_list.Given as goal
 
 -- the numbers so far are unknown
-abbrev pub invariant-loop-high : goal.invariant-loop-high
-invariant-loop-high l = first_known (numbers_of l.here) ≡ first_known (numbers_of l.octets)
-
-abbrev pub decreases-loop-high : goal.decreases-loop-high
-decreases-loop-high l = length l.here
+abbrev pub invariant-loop-pair : goal.invariant-loop-pair
+invariant-loop-pair l = record {
+  size : chunks_exact_size l.pair-iterator ≡ 2;
+  known : first_known (numbers_of (chunks_exact_rest l.pair-iterator)) ≡ first_known (numbers_of l.octets);
+}
