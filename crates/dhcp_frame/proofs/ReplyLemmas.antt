@@ -25,9 +25,9 @@ unfolding reply_octets
 Reads-reply_octets r long h =
     let es = r.options in
     let tail = zeros (300 - length (header_octets r ++ area_octets es)) in
-    let behind : drop 240 (reply_octets r) ≡ area_octets es ++ tail =
+    let after : drop 240 (reply_octets r) ≡ area_octets es ++ tail =
     ap (λ (x : List ℕ). drop 240 x) (append_assoc (header_octets r) (area_octets es) tail) ∙ drop_at (header_octets r) (area_octets es ++ tail) 240 long in
-    subst (λ (x : List ℕ). Reads x es) (sym behind) (Reads-area_octets es tail h)
+    subst (λ (x : List ℕ). Reads x es) (sym after) (Reads-area_octets es tail h)
 
 -- a name field has its length, whatever the name
 length-name_octets : (file : List ℕ) → length file ≤ 128 → length (name_octets file) ≡ 196
@@ -56,9 +56,9 @@ before_first-name name rest h =
     (λ _. rw (get_or-append_seam name 0 rest 1) refl) in
     rw here (take_at name (0 ∷ rest) (length name) refl)
 
-middle : (front field behind : List ℕ) → length front ≡ 108 → length field ≡ 128 → slice_range (front ++ (field ++ behind)) 108 236 ≡ field
-middle front field behind f g =
-    ap (λ (x : List ℕ). take 128 x) (drop_at front (field ++ behind) 108 f) ∙ take_at field behind 128 g
+middle : (front field after : List ℕ) → length front ≡ 108 → length field ≡ 128 → slice_range (front ++ (field ++ after)) 108 236 ≡ field
+middle front field after f g =
+    ap (λ (x : List ℕ). take 128 x) (drop_at front (field ++ after) 108 f) ∙ take_at field after 128 g
 
 -- a name, and the zeros after it, fill the file field
 name_field : (file : List ℕ) → length file ≤ 127 → file ++ zeros (128 - length file) ≡ file ++ 0 ∷ zeros (127 - length file)
@@ -73,11 +73,11 @@ file_area-reply_octets r addresses h =
     let start = start_octets r.xid r.flags in
     let others = address_octets r.ciaddr r.siaddr r.giaddr r.chaddr in
     let field = r.file ++ zeros (128 - length r.file) in
-    let behind = MAGIC_COOKIE ++ (area_octets r.options ++ zeros (300 - length (header_octets r ++ area_octets r.options))) in
-    let spelt : reply_octets r ≡ (start ++ others ++ zeros 64) ++ (field ++ behind) = simp append_assoc in
+    let after = MAGIC_COOKIE ++ (area_octets r.options ++ zeros (300 - length (header_octets r ++ area_octets r.options))) in
+    let whole : reply_octets r ≡ (start ++ others ++ zeros 64) ++ (field ++ after) = simp append_assoc in
     let front : length (start ++ others ++ zeros 64) ≡ 108 = omega (arith, length-append (start ++ others) (zeros 64), length-append start others) in
     let full : length field ≡ 128 = omega (arith, length-append r.file (zeros (128 - length r.file)), length-replicate {A = ℕ} (128 - length r.file) 0) in
-    ap (λ (x : List ℕ). file_area x) spelt ∙ middle (start ++ others ++ zeros 64) field behind front full ∙ name_field r.file h
+    ap (λ (x : List ℕ). file_area x) whole ∙ middle (start ++ others ++ zeros 64) field after front full ∙ name_field r.file h
 
 pub file_name-reply_octets : (r : Reply) → length (address_octets r.ciaddr r.siaddr r.giaddr r.chaddr) ≡ 32 → length r.file ≤ 127 → All (λ octet. octet ≢ 0) r.file → file_name (reply_octets r) ≡ r.file
 file_name-reply_octets r addresses room h =

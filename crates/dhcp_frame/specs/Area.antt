@@ -18,7 +18,7 @@ pub data Reads : List ℕ → List Entry → Type 0 where
   option : (octets : List ℕ) (code : ℕ) (value rest : List ℕ) (es : List Entry) → code ≢ PAD → code ≢ END
       → octets ≡ code ∷ length value ∷ value ++ rest → Reads rest es → Reads octets ((code, value) ∷ es)
 
--- the option with this code, whose length comes next, and then the options of the other octets
+-- an option with this code, from its length on, and then the options of the other octets
 abbrev pub option_then : ℕ → List ℕ → (List ℕ → Option (List Entry)) → Option (List Entry)
 option_then code [] rest_holds = None
 option_then code (n ∷ octets) rest_holds =

@@ -73,8 +73,8 @@ option_then-some code (n ∷ rest) f es e =
     ]
 
 -- an option's octets are its code, its value's length, its value and the rest
-option_spelt : (code : ℕ) (octets : List ℕ) (n : ℕ) (rest : List ℕ) → octets ≡ n ∷ rest → n ≤ length rest → code ∷ octets ≡ code ∷ length (take n rest) ∷ take n rest ++ drop n rest
-option_spelt code octets n rest is long = rw (is, length-take-le n rest long, take-append-drop n rest) refl
+option_octets : (code : ℕ) (octets : List ℕ) (n : ℕ) (rest : List ℕ) → octets ≡ n ∷ rest → n ≤ length rest → code ∷ octets ≡ code ∷ length (take n rest) ∷ take n rest ++ drop n rest
+option_octets code octets n rest is long = rw (is, length-take-le n rest long, take-append-drop n rest) refl
 
 -- the same within any number of steps
 Reads-from_within : (k : ℕ) (octets : List ℕ) (es : List Entry) → reading_within k octets ≡ Some es → Reads octets es
@@ -92,9 +92,9 @@ Reads-from_within (suc k) (code ∷ octets) es e =
         | inr high ↦
             let (n, rest, others, is, long, given, whole) = option_then-some code octets (reading_within k) es (rw (ne_eqb code 0 low, ne_eqb code 255 high) at e) in
             let value = take n rest in
-            let spelt = option_spelt code octets n rest is long in
+            let is_option = option_octets code octets n rest is long in
             subst (λ (x : List Entry). Reads (code ∷ octets) x) whole
-            (option (code ∷ octets) code value (drop n rest) others low high spelt (Reads-from_within k (drop n rest) others given))
+            (option (code ∷ octets) code value (drop n rest) others low high is_option (Reads-from_within k (drop n rest) others given))
       ]
     ]
 

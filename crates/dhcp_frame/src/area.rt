@@ -40,7 +40,7 @@ fn first_of(area: &[u8]) -> Front<'_>
     }
 }
 
-// An option with this code, whose length octet and value come next.
+// An option with this code: its length octet and its value come next.
 #[tactic(auto, using(crate::proofs::AreaLemmas::area_steps))]
 fn option_front(code: u8, octets: &[u8]) -> Front<'_>
     requires padding { code ≢ PAD }

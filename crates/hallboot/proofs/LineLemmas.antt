@@ -51,7 +51,7 @@ lines_of-none text e = no_feed text (ltb-false _ _ (cond_none _ _ e))
 pub found_within : (text : List ℕ) (end : ℕ) → position (λ c. c == 10) text ≡ Some end → end < length text
 found_within text end e = (found_at text end e).0
 
--- ---- one line alone
+-- ---- only one line
 
 lines_of-some : (text : List ℕ) → 0 < length (lines_of text)
 unfolding lines_of

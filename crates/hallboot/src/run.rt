@@ -2,6 +2,7 @@
 ghost use Rattle.std.specs.Prelude.{◌≡◌, ◌≢◌, ◌≤◌, ◌⊎◌, ◌↔◌, ◌++◌, ◌∷◌, [], List, ℕ, IsTrue, IsErrOf, IfErr, IfOk, IfSome, MatchOption, string_bytes, vec_len, length, unwrap_or, Contains};
 ghost use Rattle.std.specs.Io.KnownBytes.{Appends};
 ghost use Rattle.hex.specs.Hex.{encode_lower};
+ghost use Rattle.hallboot.specs.declared.input.TheConstants.{MAX_OCTETS};
 ghost use Rattle.hallboot.specs.Run.{IsServed, IsOffer, IsAnswer, IsIgnored, IsBad};
 
 use crate::fault::Fault;
@@ -55,8 +56,10 @@ fn offer(alloc: Global, input: &Input, place: &Place) -> Result<Option<Vec<u8>>,
     };
     let client = match client(alloc, &frame) {
         Ok(client) => client,
-        Err(NotServed::Memory) => return Err(AllocError),
-        Err(_) => return Ok(None),
+        Err(cause) => match cause {
+            NotServed::Memory => return Err(AllocError),
+            _ => return Ok(None),
+        },
     };
     if !is_served(input, &client) {
         return Ok(None);

@@ -24,7 +24,7 @@ pub record IsMacText (text octets : List ℕ) : Type 0 where
   pub small : IsBytes octets
   pub written : str_to_ascii_lowercase text ≡ mac_text octets
 
--- ---- the plain program for `IsMacText`
+-- ---- the program for `IsMacText`
 
 -- the octet of two digits in either case
 abbrev pub octet_of : ℕ → ℕ → Option ℕ

@@ -14,7 +14,7 @@ pub reply_of-same : (f : ReplyFields) (os : List DhcpOption) (r : Reply) → rep
 reply_of-same f os r fields options =
     ap (λ (x : Reply). record x { options = map entry_of os }) fields ∙ ap (λ (es : List Entry). record r { options = es }) options
 
--- the options that stand in each answer are those of the answer to this client
+-- the options that each answer has are those of the answer to this client
 pub record AreAnswers (client : Client) (site : Site) (kind server class vendor : DhcpOption) : Type 0 where
   pub type : entry_of kind ≡ (53, answer_type client.kind ∷ [])
   pub address : entry_of server ≡ (54, site.server)

@@ -116,7 +116,7 @@ HasItem-from_item_of Request (Some area) item e =
     let (tags, reads, is) = item_read (reading area) item e in
     (tags, Reads-from_reading area tags reads, is)
 
--- ---- what joined values tell
+-- ---- the kind, the architecture and the boot item in joined values
 
 -- joined values give this kind, architecture and boot item
 record Gives (v : Values) (given : Kind × Arch × Option (List ℕ)) : Type 0 where
@@ -175,8 +175,8 @@ client_with m kind arch item = record {
 pub IsClient-from_client_of : (m : Message) (client : Client) → client_of m ≡ Ok client → IsClient m client
 unfolding client_of
 IsClient-from_client_of m client e =
-    let (given, is_told, is_client) = bind_ok (decided (values_of m.entries)) _ client e in
-    let h = Gives-from_decided (values_of m.entries) given is_told in
+    let (given, is_given, is_client) = bind_ok (decided (values_of m.entries)) _ client e in
+    let h = Gives-from_decided (values_of m.entries) given is_given in
     let whole : client_with m given.0 given.1 given.2 ≡ client = cc in
     subst (λ (x : Client). IsClient m x) whole (record {
       type = message_type-from_kind_of _ given.0 h.kind;

@@ -15,7 +15,7 @@ arch_text Uefi32 = codes "uefi32"
 arch_text Uefi64 = codes "uefi64"
 arch_text Arm64 = codes "arm64"
 
--- the architecture whose word is this text
+-- the architecture that has this text as its word
 unfoldable pub arch_in : List ℕ → Option Arch
 arch_in text =
     if pointwise nat_eq text (arch_text Bios) then Some Bios

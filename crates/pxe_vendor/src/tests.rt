@@ -200,7 +200,7 @@ fn answers_overloaded_discover(rt: HostRuntime) -> Result<(), Fail> {
     answers(&rt, alloc, &octets, &want, "option 93 in file and sname")
 }
 
-// Option 43 of a REQUEST, and what stands in its place in the ACK.
+// Option 43 of a REQUEST, and option 43 of the ACK to it.
 const VENDOR_AREAS: [(&str, &str); 4] = [
     ("2b07470400000000ff", "2b0a060108470400000000ffff"),
     ("2b03060108", "2b04060108ffff"),

@@ -73,29 +73,34 @@ fn ends<R: Abort>(
 
 const FIRST: &str = "525400123456";
 
-const RUNS: [(&str, &str, [&str; 3], Exit); 9] = [
-    (LISTED, FIRST, ["350101", CLASS, "ff"], Exit::Done),
+const RUNS: [(&str, &str, &[&str], Exit); 9] = [
+    (LISTED, FIRST, &["350101", CLASS, "ff"], Exit::Done),
     (
         LISTED,
         "525400000009",
-        ["350101", CLASS, "ff\n"],
+        &["350101", CLASS, "ff\n"],
         Exit::Done,
     ),
-    (LISTED, "525400000008", ["350101", CLASS, ""], Exit::Silence),
-    ("\n", FIRST, ["350101", CLASS, ""], Exit::Silence),
-    (LISTED, FIRST, ["350103", CLASS, ""], Exit::Silence),
-    (LISTED, FIRST, ["350101", "", ""], Exit::Silence),
-    (LISTED, FIRST, ["350101", CLASS, "0cff"], Exit::Silence),
+    (
+        LISTED,
+        "525400000008",
+        &["350101", CLASS, ""],
+        Exit::Silence,
+    ),
+    ("\n", FIRST, &["350101", CLASS, ""], Exit::Silence),
+    (LISTED, FIRST, &["350103", CLASS, ""], Exit::Silence),
+    (LISTED, FIRST, &["350101", "", ""], Exit::Silence),
+    (LISTED, FIRST, &["350101", CLASS, "0cff"], Exit::Silence),
     (
         LISTED,
         FIRST,
-        ["350101", CLASS, "f"],
+        &["350101", CLASS, "f"],
         Exit::Fault(Fault::BadInput),
     ),
     (
         "",
         FIRST,
-        ["350101", CLASS, ""],
+        &["350101", CLASS, ""],
         Exit::Fault(Fault::BadInput),
     ),
 ];
@@ -103,7 +108,7 @@ const RUNS: [(&str, &str, [&str; 3], Exit); 9] = [
 #[test]
 fn answers_only_discovers_from_listed_addresses(rt: HostRuntime) -> Result<(), Fail> {
     for (listed, mac, options, want) in RUNS {
-        ends(&rt, rt.alloc(), listed, mac, &options, want)?;
+        ends(&rt, rt.alloc(), listed, mac, options, want)?;
     }
     Ok(())
 }
