@@ -4,7 +4,7 @@ use Rattle.std.specs.List.{flat_map, before_first, AllByRecursion}
 use Rattle.byteorder.specs.Endian.{big_bytes}
 use Rattle.dhcp_frame.specs.Area.{Entry}
 use Rattle.dhcp_frame.specs.Message.{file_area}
-use Rattle.dhcp_frame.specs.declared.layout.TheConstants.{SNAME, FILE, COOKIE, BOOT_REPLY, ETHERNET, ETHERNET_LEN, MAGIC_COOKIE}
+use Rattle.dhcp_frame.specs.declared.layout.TheConstants.{YIADDR, SIADDR, SNAME, FILE, COOKIE, BOOT_REPLY, ETHERNET, ETHERNET_LEN, MAGIC_COOKIE}
 use Rattle.dhcp_frame.specs.declared.option_codes.TheConstants.{PAD, END}
 use Rattle.dhcp_frame.specs.declared.reply.TheConstants.{MIN_REPLY_LEN}
 use Rattle.dhcp_frame.specs.declared.reply.ReplyFields.{ReplyFields}
@@ -48,7 +48,7 @@ start_octets xid flags = BOOT_REPLY ∷ ETHERNET ∷ ETHERNET_LEN ∷ 0 ∷ big_
 
 -- ciaddr, yiaddr 0, siaddr, giaddr, chaddr
 abbrev pub address_octets : List ℕ → List ℕ → List ℕ → List ℕ → List ℕ
-address_octets ciaddr siaddr giaddr chaddr = ciaddr ++ zeros 4 ++ siaddr ++ giaddr ++ chaddr
+address_octets ciaddr siaddr giaddr chaddr = ciaddr ++ zeros (SIADDR - YIADDR) ++ siaddr ++ giaddr ++ chaddr
 
 -- sname 0, the file filled up with zeros, and the cookie
 abbrev pub name_octets : List ℕ → List ℕ

@@ -17,6 +17,8 @@ pub(crate) const CIADDR: usize = 12;
 
 pub(crate) const YIADDR: usize = 16;
 
+pub(crate) const SIADDR: usize = 20;
+
 pub(crate) const GIADDR: usize = 24;
 
 pub(crate) const CHADDR: usize = 28;

@@ -7,7 +7,7 @@ ghost use Rattle.dhcp_frame.specs.Reply.{reply_of, entry_of, option_octets, star
 use crate::fault::WriteFault;
 use crate::layout::{
     BOOT_REPLY, CIADDR, COOKIE, ETHERNET, ETHERNET_LEN, FILE, FLAGS, HLEN, HTYPE, MAGIC_COOKIE, OP,
-    OPTIONS, SECS, SNAME, XID,
+    OPTIONS, SECS, SIADDR, SNAME, XID, YIADDR,
 };
 use crate::option_codes::END;
 use byteorder::{BigEndian, ByteOrder};
@@ -72,7 +72,7 @@ fn push_addresses(out: &mut Vec<u8>, fields: &ReplyFields<'_>) -> Result<(), All
     ensures octets { OnOk result (out.new.items ≡ out.old.items ++ address_octets fields.now.ciaddr fields.now.siaddr fields.now.giaddr fields.now.chaddr) }
 {
     out.extend_from_slice(&fields.ciaddr)?;
-    push_zeros(out, 4)?;
+    push_zeros(out, SIADDR - YIADDR)?;
     out.extend_from_slice(&fields.siaddr)?;
     out.extend_from_slice(&fields.giaddr)?;
     out.extend_from_slice(&fields.chaddr)?;
