@@ -21,6 +21,7 @@ use Rattle.hall_events.specs.Object.{Member, put_all, object_of}
 
 -- ---- values whose text can be read
 
+-- a number from 0 up that has at most 64 bits
 abbrev pub IsCount : Num → Type 0
 IsCount (unsigned n) = n < 2 ^ 64
 IsCount (negative z) = ⊥

@@ -29,6 +29,7 @@ pub record ListedMachine : Type 0 where
   pub machine : Machine
   pub macs : List (List ℕ)
 
+-- a machine with these interfaces, in this order
 abbrev pub listed : Machine → List Interface → ListedMachine
 listed machine interfaces = record { machine = machine; macs = map (λ i. i.mac) interfaces }
 
@@ -142,7 +143,7 @@ reply_of schema (stored status body) = Http status Json body
 reply_of schema (boot_file file) = File file
 reply_of schema nothing = Nothing
 
--- answers that are no lists and not kept by a receipt, of a script with its limits and numbers in their range
+-- an answer whose content can be read: neither a list nor kept by a receipt, a script within its limits, numbers in their range
 abbrev pub IsReadable : Content → Type 0
 IsReadable (script commands) = IsScript commands
 IsReadable (machine_is id status version) = IsNumber id × IsNumber version
