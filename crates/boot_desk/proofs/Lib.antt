@@ -1,0 +1,7 @@
+pub mod DecisionLemmas
+pub mod EnlistLemmas
+pub mod MoveLemmas
+pub mod NewHallLemmas
+pub mod PromiseLemmas
+pub mod StepLemmas
+pub mod TextLemmas

@@ -1,0 +1,167 @@
+-- How the rows of one machine change, except for entries: a new boot, a boot's stage, an order that waits no more.
+use Rattle.std.specs.Prelude.{◌≡◌, ◌≤◌, ◌==◌, ◌&&◌, not, ℕ, ◌+◌, Bool, true, false, List, Some, None, is_some}
+use Rattle.std.proofs.Common.{refl, sym, ap, subst, inl, inr, arith, ◌∙◌}
+use Rattle.std.proofs.lemmas.Bool.{eqb-false}
+use Rattle.std.proofs.lemmas.Option.{none-some}
+use Rattle.hall_types.specs.Number.{next_number}
+use Rattle.hall_types.specs.Rows.{numbers, Rows, at, put}
+use Rattle.hall_types.specs.RowLaws.{at-put-same, put_same}
+use Rattle.hall_types.specs.Hall.{Schema, first, second, Hall}
+use Rattle.hall_types.specs.declared.boot.Boot.{Boot}
+use Rattle.hall_types.specs.declared.kinds.Purpose.{Purpose}
+use Rattle.hall_types.specs.declared.kinds.Stage.{Stage}
+use Rattle.hall_types.specs.declared.kinds.Stage.TheVariants.{Started}
+use Rattle.hall_types.specs.declared.machine.Machine.{Machine}
+use Rattle.hall_types.specs.declared.order.Order.{Order}
+use Rattle.hall_types.specs.declared.status.Status.{Status}
+use Rattle.hall_types.specs.declared.status.Status.TheVariants.{Rescue}
+use Rattle.boot_desk.specs.declared.class.ScriptClass.TheVariants.{Work}
+use Rattle.boot_desk.specs.Class.{class_of}
+use Rattle.boot_desk.specs.Fetch.{booted, boots_after, is_fourth, is_rescue_mode, new_boot}
+use Rattle.boot_desk.specs.OrderAnswer.{idle}
+use Rattle.boot_desk.specs.Views.{row_at, view_of}
+use Rattle.boot_desk.specs.Sound.{KeepsErase, IsSoundMachine, IsSound}
+use Rattle.boot_desk.specs.SoundLaws.{some_is, own_more, own_put, boots_same, orders_same, waits_same, OwnBoots, OwnOrders, WaitsFor, moved_to, image_for-same, moved_sound}
+use Rattle.boot_desk.specs.EntryLaws.{next_is}
+
+-- how the disks are erased is kept with the status
+erase_same : (schema : Schema) (m n : Machine) → n.erase ≡ m.erase → n.status ≡ m.status → KeepsErase schema m → KeepsErase schema n
+erase_same first m n erase status keeps = erase ∙ keeps
+erase_same second m n erase status keeps = rw (erase, status) keeps
+
+-- before the fourth boot there is room for one more
+few_boots : (status : Status) (boots : ℕ) → boots ≤ 3 → ((boots == 3) && not (is_rescue_mode status)) ≡ false → boots_after status boots ≤ 3
+few_boots status boots le few = by status (boots == 3) refl few
+  where
+    other_than : (b : Bool) → (boots == 3) ≡ b → (b && true) ≡ false → boots + 1 ≤ 3
+    other_than true t e = cc
+    other_than false t e = let apart = eqb-false boots 3 t in omega (arith, le, apart)
+
+    by : (x : Status) (b : Bool) → (boots == 3) ≡ b → (b && not (is_rescue_mode x)) ≡ false → boots_after x boots ≤ 3
+    by Rescue b t e = le
+    by other b t e = other_than b t e
+
+no_boots : (status : Status) (boots : ℕ) → status ≡ Rescue → boots ≡ 0 → boots_after status boots ≡ 0
+no_boots status boots is none = ap (λ x. boots_after x boots) is ∙ none
+
+module _ (h : Hall) (m : Machine) (s : IsSound h) (was : at h.machines m.id ≡ Some m) where
+  v : IsSoundMachine (view_of h m)
+  v = s.machines m.id m was
+
+  -- ---- a new boot
+
+  pub issue_sound : (number : ℕ) (p : Purpose) (fresh : List ℕ) → next_number h.last.boot ≡ Some number → class_of m ≡ Work p → is_fourth m ≡ false
+      → IsSound (moved_to h (booted number m) (put number (new_boot number m p fresh) h.boots) h.orders (record h.last { boot = number }))
+  issue_sound number p fresh next works few =
+      moved_sound h m (booted number m) (put number new h.boots) h.orders (record h.last { boot = number }) s (record {
+        was = was;
+        id = refl;
+        uuid = refl;
+        pool = s.machine_pools m.id m was;
+        owner = s.machine_owners m.id m was;
+        image = s.machine_images m.id m was;
+        own_boots = own_put (λ (b : Boot). b.number) (λ (b : Boot). b.machine) m.id h.boots number h.boots new
+            (own_more (λ (b : Boot). b.number) (λ (b : Boot). b.machine) m.id h.boots h.last.boot number h.boots (omega (arith, above)) (boots_same h m s))
+            refl (omega arith) (λ b is. absurd (unused b is));
+        own_orders = orders_same h m s;
+        waits = waits_same h m s was;
+        last_machine = refl;
+        last_boot = omega (arith, above);
+        last_order = omega arith;
+        machine = record {
+          boot = λ n is. (new, at-put-same h.boots number new, refl, inl refl, works);
+          order = v.order;
+          deployed = v.deployed;
+          boots = few_boots m.status m.boots v.boots few;
+          rescue = λ is. no_boots m.status m.boots is (v.rescue is);
+          locked = v.locked;
+          deadline = v.deadline;
+          back = v.back;
+          remembered = v.remembered;
+          image = λ q is. ap (λ o. is_some o) (image_for-same q (view_of (moved_to h (booted number m) (put number new h.boots) h.orders (record h.last { boot = number })) (booted number m)) (view_of h m) refl refl) ∙ v.image q is;
+        };
+        erase = erase_same h.schema m (booted number m) refl refl (s.erasing m.id m was);
+      })
+    where
+      new : Boot
+      new = new_boot number m p fresh
+
+      above : number ≡ h.last.boot + 1
+      above = next_is h.last.boot number next
+
+      unused : (b : Boot) → at h.boots number ≡ Some b → ⊥
+      unused b is = omega (arith, above, s.last_boot number (ap (λ x. is_some x) is))
+
+  -- ---- a boot's stage
+
+  pub boots_staged : (b : Boot) (stage : Stage) → at h.boots b.number ≡ Some b → b.machine ≡ m.id → OwnBoots h m.id h.last.boot (put b.number (record b { stage = stage }) h.boots)
+  boots_staged b stage is its =
+      own_put (λ (b : Boot). b.number) (λ (b : Boot). b.machine) m.id h.boots h.last.boot h.boots (record b { stage = stage }) (boots_same h m s) its (s.last_boot b.number (ap (λ x. is_some x) is))
+      (λ x there. ap (λ (y : Boot). y.machine) (some_is x b (sym there ∙ is)) ∙ its)
+
+  -- the machine's current boot has started
+  pub start_sound : (b : Boot) → at h.boots b.number ≡ Some b → b.machine ≡ m.id → m.boot ≡ Some b.number → class_of m ≡ Work b.purpose → IsSound (record h { boots = put b.number (record b { stage = Started }) h.boots })
+  start_sound b is its current works =
+      subst (λ machines. IsSound (record h { machines = machines; boots = boots })) (put_same h.machines m.id m was)
+      (moved_sound h m m boots h.orders h.last s (record {
+        was = was;
+        id = refl;
+        uuid = refl;
+        pool = s.machine_pools m.id m was;
+        owner = s.machine_owners m.id m was;
+        image = s.machine_images m.id m was;
+        own_boots = boots_staged b Started is its;
+        own_orders = orders_same h m s;
+        waits = waits_same h m s was;
+        last_machine = refl;
+        last_boot = omega arith;
+        last_order = omega arith;
+        machine = record {
+          boot = λ n is. (record b { stage = Started }, ap (row_at boots) current ∙ at-put-same h.boots b.number (record b { stage = Started }), its, inr refl, works);
+          order = v.order;
+          deployed = v.deployed;
+          boots = v.boots;
+          rescue = v.rescue;
+          locked = v.locked;
+          deadline = v.deadline;
+          back = v.back;
+          remembered = v.remembered;
+          image = λ q is. ap (λ o. is_some o) (image_for-same q (view_of (moved_to h m boots h.orders h.last) m) (view_of h m) refl refl) ∙ v.image q is;
+        };
+        erase = s.erasing m.id m was;
+      }))
+    where
+      boots : Rows numbers Boot
+      boots = put b.number (record b { stage = Started }) h.boots
+
+  -- ---- an order that waits no more
+
+  pub idle_sound : (orders : Rows numbers Order) → OwnOrders h m.id h.last.order orders → WaitsFor m.id None orders → IsSound (moved_to h (idle m) h.boots orders h.last)
+  idle_sound orders own waits =
+      moved_sound h m (idle m) h.boots orders h.last s (record {
+        was = was;
+        id = refl;
+        uuid = refl;
+        pool = s.machine_pools m.id m was;
+        owner = s.machine_owners m.id m was;
+        image = s.machine_images m.id m was;
+        own_boots = boots_same h m s;
+        own_orders = own;
+        waits = waits;
+        last_machine = refl;
+        last_boot = omega arith;
+        last_order = omega arith;
+        machine = record {
+          boot = v.boot;
+          order = λ n is. absurd (none-some n is);
+          deployed = λ is. refl;
+          boots = v.boots;
+          rescue = v.rescue;
+          locked = v.locked;
+          deadline = v.deadline;
+          back = v.back;
+          remembered = v.remembered;
+          image = λ q is. ap (λ o. is_some o) (image_for-same q (view_of (moved_to h (idle m) h.boots orders h.last) (idle m)) (view_of h m) refl refl) ∙ v.image q is;
+        };
+        erase = erase_same h.schema m (idle m) refl refl (s.erasing m.id m was);
+      })

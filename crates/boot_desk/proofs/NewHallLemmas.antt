@@ -1,0 +1,73 @@
+-- A new hall is sound.
+use Rattle.std.specs.Prelude.{◌≡◌, ℕ, List, Some, true, is_some}
+use Rattle.std.proofs.Common.{refl, sym, ap, inl, inr, arith, ◌∙◌}
+use Rattle.std.proofs.lemmas.Bool.{both_ways}
+use Rattle.std.proofs.lemmas.Option.{none-some}
+use Rattle.hall_types.specs.Rows.{Keys, numbers, pairs, texts, at, put, no_rows}
+use Rattle.hall_types.specs.RowLaws.{at-no_rows, at-put-same, put_cases}
+use Rattle.hall_types.specs.Hall.{Schema, default_pool, new_hall}
+use Rattle.hall_types.specs.Keyed.{StandUnder}
+use Rattle.hall_types.specs.declared.boot.Boot.{Boot}
+use Rattle.hall_types.specs.declared.kinds.Role.TheVariants.{Admin}
+use Rattle.hall_types.specs.declared.machine.Machine.{Machine}
+use Rattle.hall_types.specs.declared.operator.Operator.{Operator}
+use Rattle.hall_types.specs.declared.operator.Pool.{Pool}
+use Rattle.hall_types.specs.declared.order.Order.{Order}
+use Rattle.boot_desk.specs.Sound.{HasRow, IsSound}
+use Rattle.boot_desk.proofs.EnlistLemmas.{none_size}
+
+-- no number has a row
+nowhere : (X : Type 0) (number : ℕ) → HasRow (no_rows {X = X} {keys = numbers}) number → ⊥
+nowhere X number has = both_ways (is_some (at (no_rows {X = X} {keys = numbers}) number)) (ap (λ o. is_some o) (at-no_rows {X = X} numbers number no_rows refl)) has
+
+module _ {K X : Type 0} (keys : Keys K) where
+  nothing : (key : K) (row : X) → at (no_rows {keys = keys}) key ≡ Some row → ⊥
+  nothing key row is = none-some row (sym (at-no_rows keys key no_rows refl) ∙ is)
+
+  -- the only row stands under its key
+  sole : (key_of : X → K) (row : X) → StandUnder key_of (put {keys = keys} (key_of row) row no_rows)
+  sole key_of row key x is = elim (put_cases no_rows (key_of row) row key x is) [ inl w ↦ ap key_of w.1 ∙ sym w.0 | inr w ↦ absurd (nothing key x w.1) ]
+
+  sole_key : (key : K) (row : X) (other : K) (x : X) → at (put {keys = keys} key row no_rows) other ≡ Some x → other ≡ key
+  sole_key key row other x is = elim (put_cases no_rows key row other x is) [ inl w ↦ w.0 | inr w ↦ absurd (nothing other x w.1) ]
+
+pub new_hall_sound : (schema : Schema) (admin digest : List ℕ) → IsSound (new_hall schema admin digest)
+new_hall_sound schema admin digest = record {
+  keyed = record {
+    operators = sole texts (λ (o : Operator). o.name) first;
+    pools = sole texts (λ (p : Pool). p.name) (record { name = default_pool });
+    members = λ key x is. absurd (nothing pairs key x is);
+    images = λ key x is. absurd (nothing texts key x is);
+    lives = λ key x is. absurd (nothing numbers key x is);
+    machines = λ key x is. absurd (nothing numbers key x is);
+    interfaces = λ key x is. absurd (nothing texts key x is);
+    boots = λ key x is. absurd (nothing numbers key x is);
+    orders = λ key x is. absurd (nothing numbers key x is);
+    receipts = λ key x is. absurd (nothing pairs key x is);
+  };
+  member_pools = λ key x is. absurd (nothing pairs key x is);
+  member_operators = λ key x is. absurd (nothing pairs key x is);
+  live_images = λ key x is. absurd (nothing numbers key x is);
+  machine_pools = λ key x is. absurd (nothing numbers key x is);
+  machine_owners = λ key x is. absurd (nothing numbers key x is);
+  machine_images = λ key x is. absurd (nothing numbers key x is);
+  interface_machines = λ key x is. absurd (nothing texts key x is);
+  boot_machines = λ key x is. absurd (nothing numbers key x is);
+  order_machines = λ key x is. absurd (nothing numbers key x is);
+  receipt_operators = λ key x is. absurd (nothing pairs key x is);
+  default = ap (λ o. is_some o) (at-put-same no_rows default_pool (record { name = default_pool }));
+  uuids = λ id other a b uuid is_a is_b of_a of_b. absurd (nothing numbers id a is_a);
+  digests = λ name other o p is_o is_p same. sole_key texts admin first name o is_o ∙ sym (sole_key texts admin first other p is_p);
+  few_machines = let none = none_size {X = Machine} numbers no_rows refl in omega arith;
+  some_interfaces = λ id has. absurd (nowhere Machine id has);
+  few_interfaces = λ id has. absurd (nowhere Machine id has);
+  machines = λ key x is. absurd (nothing numbers key x is);
+  erasing = λ key x is. absurd (nothing numbers key x is);
+  waiting = λ key x is waits. absurd (nothing numbers key x is);
+  last_machine = λ id has. absurd (nowhere Machine id has);
+  last_boot = λ number has. absurd (nowhere Boot number has);
+  last_order = λ number has. absurd (nowhere Order number has);
+}
+  where
+    first : Operator
+    first = record { name = admin; role = Admin; digest = digest; enabled = true }

@@ -1,0 +1,14 @@
+pub mod Class
+pub mod Decided
+pub mod EntryLaws
+pub mod Expiry
+pub mod Fetch
+pub mod Following
+pub mod FrameEvent
+pub mod OrderAnswer
+pub mod Promises
+pub mod Report
+pub mod Sound
+pub mod SoundLaws
+pub mod Texts
+pub mod Views

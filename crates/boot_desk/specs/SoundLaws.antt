@@ -1,0 +1,271 @@
+-- A hall stays sound if the rows of only one machine change, and are as they have to be afterwards.
+use Rattle.std.specs.Prelude.{◌≡◌, ◌≢◌, ◌≤◌, ◌⊎◌, ◌==◌, ℕ, Bool, true, false, Option, Some, None, is_some, IsSome, if◌then◌else◌}
+use Rattle.std.proofs.Common.{refl, sym, ap, subst, inl, inr, arith, ◌∙◌}
+use Rattle.std.proofs.lemmas.Bool.{eqb-true, eqb-false}
+use Rattle.hall_types.specs.Rows.{Keys, numbers, Rows, at, put, size, one_if, same_key}
+use Rattle.hall_types.specs.RowLaws.{at-put, at-put-same, at-put-other, put_cases, size-put}
+use Rattle.hall_types.specs.Hall.{Hall}
+use Rattle.hall_types.specs.Keyed.{StandUnder, IsKeyed}
+use Rattle.hall_types.specs.declared.boot.Boot.{Boot}
+use Rattle.hall_types.specs.declared.kinds.OrderStage.TheVariants.{Waiting}
+use Rattle.hall_types.specs.declared.kinds.Purpose.{Purpose}
+use Rattle.hall_types.specs.declared.kinds.Purpose.TheVariants as purpose
+use Rattle.hall_types.specs.declared.kinds.Stage.TheVariants.{Offered, Started}
+use Rattle.hall_types.specs.declared.machine.Machine.{Machine}
+use Rattle.hall_types.specs.declared.number.Numbers.{Numbers}
+use Rattle.hall_types.specs.declared.order.Order.{Order}
+use Rattle.boot_desk.specs.declared.class.ScriptClass.TheVariants.{Work}
+use Rattle.boot_desk.specs.declared.views.BootView.{BootView}
+use Rattle.boot_desk.specs.Class.{class_of}
+use Rattle.boot_desk.specs.Fetch.{image_for}
+use Rattle.boot_desk.specs.Views.{row_at, view_of}
+use Rattle.boot_desk.specs.Sound.{HasRow, HasRowIf, KeepsErase, IsSoundMachine, IsSound}
+
+pub some_is : {X : Type 0} (x y : X) → Some x ≡ Some y → x ≡ y
+some_is x y e = cc
+
+-- the value of an option that has one
+pub some_of : {X : Type 0} (o : Option X) → IsSome o → (x : X) × (o ≡ Some x)
+some_of None is = cc
+some_of (Some x) is = (x, refl)
+
+-- ---- the rows of one machine
+
+-- Only the rows of one machine differ. They stand under their numbers, none of which is above the last.
+pub record OwnRows {X : Type 0} (number_of machine_of : X → ℕ) (id last : ℕ) (before after : Rows numbers X) : Type 0 where
+  pub back : (n : ℕ) (x : X) → at after n ≡ Some x → ((machine_of x ≢ id) × (at before n ≡ Some x)) ⊎ ((number_of x ≡ n) × (n ≤ last) × (machine_of x ≡ id))
+  pub others : (n : ℕ) (x : X) → at before n ≡ Some x → machine_of x ≢ id → at after n ≡ Some x
+
+module _ {X : Type 0} (number_of machine_of : X → ℕ) (id : ℕ) (before : Rows numbers X) where
+  -- rows that didn't change
+  pub own_same : (last : ℕ) → StandUnder number_of before → ((n : ℕ) → HasRow before n → n ≤ last) → OwnRows number_of machine_of id last before before
+  own_same last under below = record { back = back; others = λ n x is apart. is }
+    where
+      back : (n : ℕ) (x : X) → at before n ≡ Some x → ((machine_of x ≢ id) × (at before n ≡ Some x)) ⊎ ((number_of x ≡ n) × (n ≤ last) × (machine_of x ≡ id))
+      back n x is = by (machine_of x == id) refl
+        where
+          by : (b : Bool) → (machine_of x == id) ≡ b → ((machine_of x ≢ id) × (at before n ≡ Some x)) ⊎ ((number_of x ≡ n) × (n ≤ last) × (machine_of x ≡ id))
+          by true t = inr (under n x is, below n (ap (λ o. is_some o) is), eqb-true (machine_of x) id t)
+          by false t = inl (eqb-false (machine_of x) id t, is)
+
+  -- a higher last number is above them too
+  pub own_more : (last more : ℕ) (after : Rows numbers X) → last ≤ more → OwnRows number_of machine_of id last before after → OwnRows number_of machine_of id more before after
+  own_more last more after le own = record { back = back; others = own.others }
+    where
+      back : (n : ℕ) (x : X) → at after n ≡ Some x → ((machine_of x ≢ id) × (at before n ≡ Some x)) ⊎ ((number_of x ≡ n) × (n ≤ more) × (machine_of x ≡ id))
+      back n x is = elim (own.back n x is) [ inl w ↦ inl w | inr w ↦ inr (w.0, omega (arith, w.1), w.2) ]
+
+  -- a row of the machine is put in the place of none, or of one of its own
+  pub own_put : (last : ℕ) (after : Rows numbers X) (row : X) → OwnRows number_of machine_of id last before after → machine_of row ≡ id → number_of row ≤ last
+      → ((x : X) → at before (number_of row) ≡ Some x → machine_of x ≡ id) → OwnRows number_of machine_of id last before (put (number_of row) row after)
+  own_put last after row own its few free = record { back = back; others = others }
+    where
+      back : (n : ℕ) (x : X) → at (put (number_of row) row after) n ≡ Some x → ((machine_of x ≢ id) × (at before n ≡ Some x)) ⊎ ((number_of x ≡ n) × (n ≤ last) × (machine_of x ≡ id))
+      back n x is = elim (put_cases after (number_of row) row n x is) [
+        | inl w ↦ inr (ap number_of w.1 ∙ sym w.0, omega (arith, w.0, few), ap machine_of w.1 ∙ its)
+        | inr w ↦ own.back n x w.1
+      ]
+
+      others : (n : ℕ) (x : X) → at before n ≡ Some x → machine_of x ≢ id → at (put (number_of row) row after) n ≡ Some x
+      others n x is apart =
+          at-put-other after (number_of row) row n (λ same. apart (free x (ap (at before) (sym same) ∙ is))) ∙ own.others n x is apart
+
+-- each order of the machine that waits is this one
+abbrev pub WaitsFor : ℕ → Option ℕ → Rows numbers Order → Type 0
+WaitsFor id waiting orders = (n : ℕ) (o : Order) → at orders n ≡ Some o → o.machine ≡ id → o.stage ≡ Waiting → waiting ≡ Some n
+
+-- of the boots only one machine's differ
+abbrev pub OwnBoots : Hall → ℕ → ℕ → Rows numbers Boot → Type 0
+OwnBoots h id last boots = OwnRows (λ (b : Boot). b.number) (λ (b : Boot). b.machine) id last h.boots boots
+
+-- of the orders only one machine's differ
+abbrev pub OwnOrders : Hall → ℕ → ℕ → Rows numbers Order → Type 0
+OwnOrders h id last orders = OwnRows (λ (o : Order). o.number) (λ (o : Order). o.machine) id last h.orders orders
+
+-- ---- a hall in which one machine has moved
+
+-- the hall with this row of a machine, these boots and orders, and these last numbers
+abbrev pub moved_to : Hall → Machine → Rows numbers Boot → Rows numbers Order → Numbers → Hall
+moved_to h m boots orders last = record h { machines = put m.id m h.machines; boots = boots; orders = orders; last = last }
+
+-- One machine has moved: its row, its boots and orders and the last numbers may differ, and are as a sound hall needs
+-- them.
+pub record Moved (h : Hall) (m m' : Machine) (boots : Rows numbers Boot) (orders : Rows numbers Order) (last : Numbers) : Type 0 where
+  pub was : at h.machines m.id ≡ Some m
+  pub id : m'.id ≡ m.id
+  pub uuid : m'.uuid ≡ m.uuid
+  pub pool : HasRow h.pools m'.pool
+  pub owner : HasRowIf h.operators m'.owner
+  pub image : HasRowIf h.images m'.image
+  pub own_boots : OwnBoots h m.id last.boot boots
+  pub own_orders : OwnOrders h m.id last.order orders
+  pub waits : WaitsFor m.id m'.waiting orders
+  pub last_machine : last.machine ≡ h.last.machine
+  pub last_boot : h.last.boot ≤ last.boot
+  pub last_order : h.last.order ≤ last.order
+  pub machine : IsSoundMachine (view_of (moved_to h m' boots orders last) m')
+  pub erase : KeepsErase h.schema m'
+
+-- a key that has a row has one after each put
+pub has-put : {K X : Type 0} {keys : Keys K} (rows : Rows keys X) (key : K) (row : X) (other : K) → HasRow rows other → HasRow (put key row rows) other
+has-put {keys = keys} rows key row other has = ap (λ o. is_some o) (at-put rows key row other) ∙ by (same_key keys other key)
+  where
+    by : (b : Bool) → is_some (if b then Some row else at rows other) ≡ true
+    by true = refl
+    by false = has
+
+-- which image a machine works with follows from its own image and the live image
+pub image_for-same : (p : Purpose) (v w : BootView) → v.image ≡ w.image → v.live ≡ w.live → image_for p v ≡ image_for p w
+image_for-same purpose.Deploy v w image live = image
+image_for-same other v w image live = live
+
+module _ (h : Hall) (m m' : Machine) (boots : Rows numbers Boot) (orders : Rows numbers Order) (last : Numbers) (s : IsSound h) (moved : Moved h m m' boots orders last) where
+  abbrev after : Hall
+  after = moved_to h m' boots orders last
+
+  -- a row of a machine is the one that was written or another machine's
+  cases : (id : ℕ) (x : Machine) → at after.machines id ≡ Some x → ((id ≡ m.id) × (x ≡ m')) ⊎ ((id ≢ m.id) × (at h.machines id ≡ Some x))
+  cases id x is = elim (put_cases h.machines m'.id m' id x is) [ inl w ↦ inl (w.0 ∙ moved.id, w.1) | inr w ↦ inr (λ e. w.0 (e ∙ sym moved.id), w.1) ]
+
+  there : at after.machines m.id ≡ Some m'
+  there = ap (at after.machines) (sym moved.id) ∙ at-put-same h.machines m'.id m'
+
+  stays : (id : ℕ) (x : Machine) → at h.machines id ≡ Some x → id ≢ m.id → at after.machines id ≡ Some x
+  stays id x is apart = at-put-other h.machines m'.id m' id (λ e. apart (e ∙ moved.id)) ∙ is
+
+  has : (id : ℕ) → HasRow h.machines id → HasRow after.machines id
+  has id is = has-put h.machines m'.id m' id is
+
+  -- the row that a machine had before
+  before : (id : ℕ) (x : Machine) → at after.machines id ≡ Some x → (y : Machine) × (at h.machines id ≡ Some y) × (y.uuid ≡ x.uuid)
+  before id x is = elim (cases id x is) [
+    | inl w ↦ (m, ap (at h.machines) w.0 ∙ moved.was, sym moved.uuid ∙ ap (λ y. y.uuid) (sym w.1))
+    | inr w ↦ (x, w.1, refl)
+  ]
+
+  had : (id : ℕ) → HasRow after.machines id → HasRow h.machines id
+  had id is = let x = some_of (at after.machines id) is in ap (λ o. is_some o) (before id x.0 x.1).1
+
+  -- another machine's rows are as they were
+  other_machine : (x : Machine) → x.id ≢ m.id → IsSoundMachine (view_of h x) → IsSoundMachine (view_of after x)
+  other_machine x apart v = record {
+    boot = λ number is. own_boot number is;
+    order = λ number is. own_order number is;
+    deployed = v.deployed;
+    boots = v.boots;
+    rescue = v.rescue;
+    locked = v.locked;
+    deadline = v.deadline;
+    back = v.back;
+    remembered = v.remembered;
+    image = λ p works. ap (λ o. is_some o) (image_for-same p (view_of after x) (view_of h x) refl refl) ∙ v.image p works;
+  }
+    where
+      own_boot : (number : ℕ) → x.boot ≡ Some number → (b : Boot) × (row_at boots x.boot ≡ Some b) × (b.machine ≡ x.id) × ((b.stage ≡ Offered) ⊎ (b.stage ≡ Started)) × (class_of x ≡ Work b.purpose)
+      own_boot number is =
+          let o = v.boot number is in
+          let stood : at h.boots number ≡ Some o.0 = ap (row_at h.boots) (sym is) ∙ o.1 in
+          (o.0, ap (row_at boots) is ∙ moved.own_boots.others number o.0 stood (λ e. apart (sym o.2 ∙ e)), o.2, o.3, o.4)
+
+      own_order : (number : ℕ) → x.waiting ≡ Some number → (o : Order) × (row_at orders x.waiting ≡ Some o) × (o.machine ≡ x.id) × (o.stage ≡ Waiting)
+      own_order number is =
+          let o = v.order number is in
+          let stood : at h.orders number ≡ Some o.0 = ap (row_at h.orders) (sym is) ∙ o.1 in
+          (o.0, ap (row_at orders) is ∙ moved.own_orders.others number o.0 stood (λ e. apart (sym o.2 ∙ e)), o.2, o.3)
+
+  machine_after : (id : ℕ) (x : Machine) → at after.machines id ≡ Some x → IsSoundMachine (view_of after x)
+  machine_after id x is = elim (cases id x is) [
+    | inl w ↦ subst (λ y. IsSoundMachine (view_of after y)) (sym w.1) moved.machine
+    | inr w ↦ other_machine x (λ e. w.0 (sym (s.keyed.machines id x w.1) ∙ e)) (s.machines id x w.1)
+  ]
+
+  -- what holds of the row that was written, and of each row before, holds of each row
+  each : (P : Machine → Type 0) → P m' → ((id : ℕ) (x : Machine) → at h.machines id ≡ Some x → P x) → (id : ℕ) (x : Machine) → at after.machines id ≡ Some x → P x
+  each P new old id x is = elim (cases id x is) [ inl w ↦ subst P (sym w.1) new | inr w ↦ old id x w.1 ]
+
+  keyed : IsKeyed after
+  keyed = record {
+    operators = s.keyed.operators;
+    pools = s.keyed.pools;
+    members = s.keyed.members;
+    images = s.keyed.images;
+    lives = s.keyed.lives;
+    machines = λ id x is. elim (cases id x is) [ inl w ↦ ap (λ y. y.id) w.1 ∙ (moved.id ∙ sym w.0) | inr w ↦ s.keyed.machines id x w.1 ];
+    interfaces = s.keyed.interfaces;
+    boots = λ n b is. elim (moved.own_boots.back n b is) [ inl w ↦ s.keyed.boots n b w.1 | inr w ↦ w.0 ];
+    orders = λ n o is. elim (moved.own_orders.back n o is) [ inl w ↦ s.keyed.orders n o w.1 | inr w ↦ w.0 ];
+    receipts = s.keyed.receipts;
+  }
+
+  has_own : (id : ℕ) → id ≡ m.id → HasRow after.machines id
+  has_own id own = ap (λ q. is_some (at after.machines q)) own ∙ ap (λ o. is_some o) there
+
+  waiting_after : (n : ℕ) (o : Order) → at orders n ≡ Some o → o.stage ≡ Waiting → (x : Machine) × (at after.machines o.machine ≡ Some x) × (x.waiting ≡ Some n)
+  waiting_after n o is waits = elim (moved.own_orders.back n o is) [
+    | inl w ↦ let x = s.waiting n o w.1 waits in (x.0, stays o.machine x.0 x.1 w.0, x.2)
+    | inr w ↦ (m', ap (at after.machines) w.2 ∙ there, moved.waits n o is w.2 waits)
+  ]
+
+  last_boot_after : (n : ℕ) → HasRow boots n → n ≤ last.boot
+  last_boot_after n is = let b = some_of (at boots n) is in elim (moved.own_boots.back n b.0 b.1) [
+    | inl w ↦ omega (arith, s.last_boot n (ap (λ o. is_some o) w.1), moved.last_boot)
+    | inr w ↦ w.1
+  ]
+
+  last_order_after : (n : ℕ) → HasRow orders n → n ≤ last.order
+  last_order_after n is = let o = some_of (at orders n) is in elim (moved.own_orders.back n o.0 o.1) [
+    | inl w ↦ omega (arith, s.last_order n (ap (λ o. is_some o) w.1), moved.last_order)
+    | inr w ↦ w.1
+  ]
+
+  same_size : size after.machines ≡ size h.machines
+  same_size =
+      let e = size-put h.machines m'.id m' in
+      let one : one_if (is_some (at h.machines m'.id)) ≡ 1 = ap (λ id. one_if (is_some (at h.machines id))) moved.id ∙ ap (λ o. one_if (is_some o)) moved.was in
+      omega arith
+
+  -- a sound hall in which one machine has moved is sound
+  pub moved_sound : IsSound after
+  moved_sound = record {
+    keyed = keyed;
+    member_pools = s.member_pools;
+    member_operators = s.member_operators;
+    live_images = s.live_images;
+    machine_pools = each (λ x. HasRow h.pools x.pool) moved.pool s.machine_pools;
+    machine_owners = each (λ x. HasRowIf h.operators x.owner) moved.owner s.machine_owners;
+    machine_images = each (λ x. HasRowIf h.images x.image) moved.image s.machine_images;
+    interface_machines = λ mac i is. has i.machine (s.interface_machines mac i is);
+    boot_machines = λ n b is. elim (moved.own_boots.back n b is) [ inl w ↦ has b.machine (s.boot_machines n b w.1) | inr w ↦ has_own b.machine w.2 ];
+    order_machines = λ n o is. elim (moved.own_orders.back n o is) [ inl w ↦ has o.machine (s.order_machines n o w.1) | inr w ↦ has_own o.machine w.2 ];
+    receipt_operators = s.receipt_operators;
+    default = s.default;
+    uuids = λ id other a b uuid is_a is_b of_a of_b.
+        let x = before id a is_a in
+        let y = before other b is_b in
+        s.uuids id other x.0 y.0 uuid x.1 y.1 (x.2 ∙ of_a) (y.2 ∙ of_b);
+    digests = s.digests;
+    few_machines = omega (arith, same_size, s.few_machines);
+    some_interfaces = λ id is. s.some_interfaces id (had id is);
+    few_interfaces = λ id is. s.few_interfaces id (had id is);
+    machines = machine_after;
+    erasing = each (λ x. KeepsErase h.schema x) moved.erase s.erasing;
+    waiting = waiting_after;
+    last_machine = λ id is. omega (arith, s.last_machine id (had id is), moved.last_machine);
+    last_boot = last_boot_after;
+    last_order = last_order_after;
+  }
+
+-- ---- the rows of one machine in a sound hall
+
+module _ (h : Hall) (m : Machine) (s : IsSound h) where
+  pub boots_same : OwnBoots h m.id h.last.boot h.boots
+  boots_same = own_same (λ (b : Boot). b.number) (λ (b : Boot). b.machine) m.id h.boots h.last.boot s.keyed.boots s.last_boot
+
+  pub orders_same : OwnOrders h m.id h.last.order h.orders
+  orders_same = own_same (λ (o : Order). o.number) (λ (o : Order). o.machine) m.id h.orders h.last.order s.keyed.orders s.last_order
+
+  pub waits_same : at h.machines m.id ≡ Some m → WaitsFor m.id m.waiting h.orders
+  waits_same was n o is its wait =
+      let x = s.waiting n o is wait in
+      let same : x.0 ≡ m = some_is x.0 m (sym x.1 ∙ (ap (at h.machines) its ∙ was)) in
+      ap (λ y. y.waiting) (sym same) ∙ x.2
