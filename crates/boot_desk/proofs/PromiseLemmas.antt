@@ -1,10 +1,9 @@
 -- Why the desk's answers keep to what they promise.
-use Rattle.std.proofs.Common.{◌≡◌, ◌≢◌, ℕ, Bool, true, false, List, [], ◌∷◌, refl, sym, ap, ◌∙◌, subst}
-use Rattle.std.specs.Prelude.{Option, Some, None, Result, Ok, Err, ◌==◌, if◌then◌else◌}
+use Rattle.std.proofs.Common.{◌≡◌, ℕ, Bool, true, false, List, [], refl, ap, ◌∙◌}
+use Rattle.std.specs.Prelude.{Option, Some, None, Ok, Err, if◌then◌else◌}
 use Rattle.std.specs.Str.{bytes_eq}
 use Rattle.std.proofs.lemmas.Bool.{eqb-true}
 use Rattle.std.proofs.lemmas.Slice.Eq.{bytes_eq-Decides}
-use Rattle.ipxe_script.specs.declared.command.Command.{Command}
 use Rattle.hall_types.specs.declared.change.RowWrite.{RowWrite}
 use Rattle.hall_types.specs.declared.kinds.OrderStage.{OrderStage}
 use Rattle.hall_types.specs.declared.kinds.OrderStage.TheVariants as order
@@ -18,7 +17,6 @@ use Rattle.hall_types.specs.declared.refusal.Refusal.TheVariants.{NoBoot, Stale,
 use Rattle.hall_types.specs.declared.status.Status.TheVariants.{Deployed, ExitingRescue}
 use Rattle.boot_desk.specs.declared.fault.Verdict.{Verdict}
 use Rattle.boot_desk.specs.declared.fault.Verdict.TheVariants.{Counted, Repeat}
-use Rattle.boot_desk.specs.declared.class.ScriptClass.{ScriptClass}
 use Rattle.boot_desk.specs.declared.class.ScriptClass.TheVariants.{Local}
 use Rattle.boot_desk.specs.declared.reporting.Standing.{Standing}
 use Rattle.boot_desk.specs.declared.reporting.Standing.TheVariants.{Repeated, Contradicted, News}
@@ -26,7 +24,7 @@ use Rattle.boot_desk.specs.declared.views.BootView.{BootView}
 use Rattle.boot_desk.specs.declared.views.OrderView.{OrderView}
 use Rattle.boot_desk.specs.declared.views.ReportView.{ReportView}
 use Rattle.boot_desk.specs.Class.{class_in, class_of}
-use Rattle.boot_desk.specs.Fetch.{Fetched, fetched, fetched_by}
+use Rattle.boot_desk.specs.Fetch.{fetched, fetched_by}
 use Rattle.boot_desk.specs.OrderAnswer.{answered, answered_as}
 use Rattle.boot_desk.specs.Promises.{CountsFor, Takes}
 use Rattle.boot_desk.specs.Report.{Judged, counted, is_current, is_wrong_stage, judged, reported, standing_of}

@@ -1,5 +1,5 @@
 -- The desk's words are words of a script.
-use Rattle.std.proofs.Common.{◌≡◌, ◌≤◌, ◌+◌, ◌*◌, ◌/◌, ◌%◌, ◌++◌, ◌^◌, ◌<◌, ℕ, suc, Bool, true, List, [], ◌∷◌, length, slice_index, refl, ap, false, arith, append_assoc}
+use Rattle.std.proofs.Common.{◌≡◌, ◌≤◌, ◌/◌, ◌%◌, ◌++◌, ◌^◌, ◌<◌, ℕ, suc, Bool, true, List, [], ◌∷◌, length, slice_index, refl, ap, false, arith, append_assoc}
 use Rattle.std.specs.Prelude.{All, Option, Some, None, codes, ◌&&◌, ◌||◌, ◌==◌, nat_le, IsTrue}
 use Rattle.std.specs.Char.{is_ascii_alphanumeric}
 use Rattle.std.specs.List.{list_all}

@@ -1,6 +1,5 @@
 -- Which script a machine is given.
-use Rattle.std.specs.Prelude.{Option, Some, None}
-use Rattle.hall_types.specs.declared.kinds.Purpose.{Purpose}
+use Rattle.std.specs.Prelude.{Option, Some}
 use Rattle.hall_types.specs.declared.kinds.Purpose.TheVariants as purpose
 use Rattle.hall_types.specs.declared.status.Status.{Status}
 use Rattle.hall_types.specs.declared.status.Status.TheVariants.{Commissioning, Testing, Deploying, Deployed, DiskErasing, EnteringRescue, Rescue, ExitingRescue}

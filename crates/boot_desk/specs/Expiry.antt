@@ -1,5 +1,5 @@
 -- Which machine expires at a quiet moment, and what becomes of it.
-use Rattle.std.specs.Prelude.{ℕ, nat_le, Bool, true, false, List, [], Option, Some, None, Result, Ok, Err, if◌then◌else◌}
+use Rattle.std.specs.Prelude.{ℕ, nat_le, Bool, false, List, [], Option, Some, None, Result, Ok, Err, if◌then◌else◌}
 use Rattle.hall_types.specs.declared.change.RowWrite.{RowWrite}
 use Rattle.hall_types.specs.declared.refusal.Refusal.{Refusal}
 use Rattle.life_cycle.specs.Table.{step_of}

@@ -1,5 +1,5 @@
 -- What a client's frame is answered (PXE 2.1).
-use Rattle.std.specs.Prelude.{ℕ, ◌==◌, ◌<◌, nat_lt, nat_le, not, Bool, true, false, List, [], ◌∷◌, length, find, Option, Some, None, option_map, if◌then◌else◌, codes}
+use Rattle.std.specs.Prelude.{ℕ, ◌==◌, nat_lt, nat_le, not, Bool, true, false, List, [], ◌∷◌, length, find, Option, Some, None, option_map, if◌then◌else◌}
 use Rattle.std.specs.Str.{bytes_eq}
 use Rattle.pxe_vendor.specs.declared.clients.Client.{Client}
 use Rattle.pxe_vendor.specs.declared.clients.Kind.{Kind}
@@ -7,7 +7,6 @@ use Rattle.pxe_vendor.specs.declared.clients.Kind.TheVariants.{Discover, Request
 use Rattle.hall_types.specs.Hall.{Hall, default_pool}
 use Rattle.hall_types.specs.Number.{next_number}
 use Rattle.hall_types.specs.Rows.{at, size, listed}
-use Rattle.hall_types.specs.declared.machine.Interface.{Interface}
 use Rattle.hall_types.specs.declared.machine.Machine.{Machine}
 use Rattle.hall_types.specs.declared.machine.TheConstants.{MAX_MACHINES}
 use Rattle.hall_types.specs.declared.number.Numbers.{Numbers}

@@ -1,5 +1,5 @@
 -- What becomes of the power program's answer to an order.
-use Rattle.std.specs.Prelude.{ℕ, List, [], ◌∷◌, Option, Some, None, Ok, Err}
+use Rattle.std.specs.Prelude.{ℕ, [], ◌∷◌, Option, Some, None, Ok, Err}
 use Rattle.hall_types.specs.Number.{next_version}
 use Rattle.hall_types.specs.declared.kinds.Outcome.{Outcome}
 use Rattle.hall_types.specs.declared.kinds.Outcome.TheVariants as outcome

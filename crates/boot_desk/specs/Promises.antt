@@ -1,5 +1,5 @@
 -- What the desk's answers keep to.
-use Rattle.std.specs.Prelude.{◌≡◌, ◌⊎◌, ℕ, List, Some}
+use Rattle.std.specs.Prelude.{◌≡◌, ℕ, List, Some}
 use Rattle.hall_types.specs.declared.kinds.Progress.{Progress}
 use Rattle.hall_types.specs.declared.kinds.Progress.TheVariants as report
 use Rattle.hall_types.specs.declared.kinds.Stage.{Stage}

@@ -1,6 +1,5 @@
 -- When a hall is sound: what its rows have to say of each other.
-use Rattle.std.specs.Prelude.{◌≡◌, ◌≢◌, ℕ, ◌≤◌, ◌⊎◌, ◌==◌, ◌↔◌, List, Option, Some, None, is_some, IsSome, IsTrue}
-use Rattle.hall_types.specs.Image.{BootImage}
+use Rattle.std.specs.Prelude.{◌≡◌, ℕ, ◌≤◌, ◌⊎◌, ◌==◌, List, Option, Some, None, is_some, IsSome, IsTrue}
 use Rattle.hall_types.specs.Rows.{Keys, Rows, at, size, how_many}
 use Rattle.hall_types.specs.Hall.{Schema, first, second, Hall, default_pool}
 use Rattle.hall_types.specs.Keyed.{IsKeyed}
@@ -14,11 +13,9 @@ use Rattle.hall_types.specs.declared.operator.Member.{Member}
 use Rattle.hall_types.specs.declared.operator.Operator.{Operator}
 use Rattle.hall_types.specs.declared.order.Order.{Order}
 use Rattle.hall_types.specs.declared.receipt.Receipt.{Receipt}
-use Rattle.hall_types.specs.declared.kinds.Erase.{Erase}
 use Rattle.hall_types.specs.declared.kinds.OrderStage.TheVariants.{Waiting}
 use Rattle.hall_types.specs.declared.kinds.Purpose.{Purpose}
 use Rattle.hall_types.specs.declared.kinds.Stage.TheVariants.{Offered, Started}
-use Rattle.hall_types.specs.declared.status.Status.{Status}
 use Rattle.hall_types.specs.declared.status.Status.TheVariants.{Deployed, Rescue}
 use Rattle.life_cycle.specs.Entering.{limit_of, keeps_erase, is_rescue}
 use Rattle.life_cycle.specs.Laws.{IsRemembered}

@@ -2,7 +2,7 @@
 use Rattle.std.specs.Prelude.{ℕ, List, Option, Some, None}
 use Rattle.hall_types.specs.Image.{BootImage}
 use Rattle.hall_types.specs.Kinds.{arch_number}
-use Rattle.hall_types.specs.Rows.{Keys, Rows, at, size}
+use Rattle.hall_types.specs.Rows.{Keys, Rows, at}
 use Rattle.hall_types.specs.Hall.{Hall}
 use Rattle.hall_types.specs.declared.boot.Boot.{Boot}
 use Rattle.hall_types.specs.declared.image.Live.{Live}
@@ -12,7 +12,6 @@ use Rattle.hall_types.specs.declared.order.Order.{Order}
 use Rattle.boot_desk.specs.declared.views.BootView.{BootView}
 use Rattle.boot_desk.specs.declared.views.ReportView.{ReportView}
 use Rattle.boot_desk.specs.declared.views.OrderView.{OrderView}
-use Rattle.boot_desk.specs.declared.frames.FrameView.{FrameView}
 
 -- the row with a key, if there is a key and a row with it
 abbrev pub row_at : {K X : Type 0} {keys : Keys K} → Rows keys X → Option K → Option X
