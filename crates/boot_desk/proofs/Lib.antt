@@ -5,3 +5,4 @@ pub mod NewHallLemmas
 pub mod PromiseLemmas
 pub mod StepLemmas
 pub mod TextLemmas
+pub mod WorkedRows

@@ -7,6 +7,8 @@ pub mod Following
 pub mod FrameEvent
 pub mod OrderAnswer
 pub mod Promises
+pub mod PurposeLaws
+pub mod Purposes
 pub mod Report
 pub mod Sound
 pub mod SoundLaws

@@ -20,7 +20,9 @@ pub use fault::{DeskFault, Verdict};
 pub use fetching::fetch;
 pub use frames::{Decision, FrameView, Silence, enlist, frame};
 pub use laws::{decisions_keep_halls_sound, new_halls_are_sound};
-pub use promises::{answers_count_once, local_boot, reports_count_once};
+pub use promises::{
+    answers_count_once, deploying_texts, erasing_texts, local_boot, reports_count_once,
+};
 pub use reporting::report;
 pub use sweeping::sweep;
 pub use texts::script_text;

@@ -1,8 +1,12 @@
 //! The program's input: Ethernet addresses, each on a line, an empty line, and one line of hexadecimal.
 ghost use Rattle.std.specs.Prelude.{◌≡◌, ◌≤◌, ◌<◌, ◌↔◌, ◌⊎◌, ◌∷◌, [], List, ℕ, None, Some, length, option_map, option_copied, position, ◌==◌, Contains, IsTrue, IfOk, IfErr, IfSome, IsErrOf, MatchOption, vec_len};
 ghost use Rattle.hallboot.specs.Input.{IsInput, Understood, hex_octets, lines_of, only_line, understood};
+ghost use Rattle.std.specs.Prelude.{suc};
+ghost use Rattle.std.specs.Str.{bytes_eq};
+ghost use Rattle.hallboot.specs.Run.{line_number, numbered};
 
 use crate::fault::Fault;
+use hall_types::Number;
 use hex::FromHexError;
 use std::alloc::{AllocError, Global};
 use std::io::Read;
@@ -142,12 +146,27 @@ pub fn parse(alloc: Global, input: &[u8]) -> Result<Input, Fault>
     }
 }
 
+fn index_of(addresses: &[[u8; 6]], address: &[u8; 6]) -> Option<usize>
+    ensures index { result ≡ position (λ one. bytes_eq one address.now) addresses.now }
+    ensures inside { IfSome result (λ index. index < length addresses.now) }
+{
+    addresses.iter().position(|one| one == address)
+}
+
+// The number of the line with this index.
+fn number_of(index: usize) -> Option<Number>
+    ensures { result ≡ numbered (suc index) }
+{
+    let number = u64::try_from(index).ok()?.checked_add(1)?;
+    Number::new(number).ok()
+}
+
 impl Input {
-    /// Whether the input lists an address.
-    pub fn lists(&self, address: &[u8; 6]) -> bool
-        ensures { IsTrue result ↔ Contains self.now.addresses address.now }
+    /// The number of the first line with an address, counted from 1.
+    pub fn line_of(&self, address: &[u8; 6]) -> Option<Number>
+        ensures { result ≡ line_number self.now.addresses address.now }
     {
-        self.addresses.contains(address)
+        number_of(index_of(&self.addresses, address)?)
     }
 
     /// The octets of the line of hexadecimal.

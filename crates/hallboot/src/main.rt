@@ -6,6 +6,7 @@ mod fault;
 mod input;
 mod run;
 
+use hall_types::Port;
 use pxe_vendor::Place;
 use run::{Exit, frame_run};
 use std::env;
@@ -22,7 +23,13 @@ fn main(rt: HostRuntime) -> ExitCode {
     }
     let place = Place::new(rt.alloc(), [192, 0, 2, 1], [192, 0, 2, 2], "hall.example");
     let exit = match place {
-        Ok(place) => frame_run(rt.alloc(), &mut rt.stdin(), &mut rt.stdout(), &place),
+        Ok(place) => frame_run(
+            rt.alloc(),
+            &mut rt.stdin(),
+            &mut rt.stdout(),
+            Port::Discover,
+            &place,
+        ),
         Err(_) => Exit::Fault(fault::Fault::Memory),
     };
     if let Exit::Fault(fault) = exit {

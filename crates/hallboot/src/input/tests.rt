@@ -1,4 +1,4 @@
-use super::{parse, read_input};
+use super::{Input, parse, read_input};
 use crate::fault::Fault;
 use std::alloc::Global;
 use std::io;
@@ -33,26 +33,31 @@ impl<'a> Read for OneByOne<'a> {
     }
 }
 
-// An input, its octets, and whether it lists the first and the second address.
-const GOOD: [(&[u8], &[u8], bool, bool); 4] = [
-    (b"\n\n", b"", false, false),
-    (b"52:54:00:12:34:56\n\n0a\n", b"\x0a", true, false),
-    (b"52:54:00:12:34:56\n\n0a", b"\x0a", true, false),
+// An input, its octets, and the lines of the first and the second address, 0 where it isn't listed.
+const GOOD: [(&[u8], &[u8], u64, u64); 5] = [
+    (b"\n\n", b"", 0, 0),
+    (b"52:54:00:12:34:56\n\n0a\n", b"\x0a", 1, 0),
+    (b"52:54:00:12:34:56\n\n0a", b"\x0a", 1, 0),
+    (b"52:54:00:12:34:56\n52:54:00:12:34:56\n\n0a", b"\x0a", 1, 0),
     (
         b"AB:CD:EF:00:00:01\n52:54:00:12:34:56\n\n00FF7f\n",
         b"\x00\xff\x7f",
-        true,
-        true,
+        2,
+        1,
     ),
 ];
+
+fn line(input: &Input, address: &[u8; 6]) -> u64 {
+    input.line_of(address).map_or(0, |number| number.get())
+}
 
 #[test]
 fn parses_inputs(rt: HostRuntime) -> Result<(), Fail> {
     for (input, octets, first, second) in GOOD {
         let found = parse(rt.alloc(), input).ok().ok_or("the input is good")?;
         assert_eq!(rt; found.octets(), octets, "at {input:?}");
-        assert_eq!(rt; found.lists(&FIRST), first, "at {input:?}");
-        assert_eq!(rt; found.lists(&SECOND), second, "at {input:?}");
+        assert_eq!(rt; line(&found, &FIRST), first, "at {input:?}");
+        assert_eq!(rt; line(&found, &SECOND), second, "at {input:?}");
     }
     Ok(())
 }

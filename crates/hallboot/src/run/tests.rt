@@ -60,12 +60,13 @@ fn ends<R: Abort>(
     listed: &str,
     mac: &str,
     options: &[&str],
+    port: Port,
     want: Exit,
 ) -> Result<(), Fail> {
     let input = input(alloc, listed, mac, options)?;
     let mut reader = input.as_bytes();
     let mut writer = Vec::new(alloc);
-    let exit = frame_run(alloc, &mut reader, &mut writer, &place(alloc)?);
+    let exit = frame_run(alloc, &mut reader, &mut writer, port, &place(alloc)?);
     assert_eq!(rt; exit, want, "{mac}");
     assert_eq!(rt; writer.is_empty(), exit != Exit::Done);
     Ok(())
@@ -73,42 +74,87 @@ fn ends<R: Abort>(
 
 const FIRST: &str = "525400123456";
 
-const RUNS: [(&str, &str, &[&str], Exit); 9] = [
-    (LISTED, FIRST, &["350101", CLASS, "ff"], Exit::Done),
+const USER: &str = "4d0469505845";
+
+const RUNS: [(&str, &str, &[&str], Port, Exit); 12] = [
+    (
+        LISTED,
+        FIRST,
+        &["350101", CLASS, "ff"],
+        Port::Discover,
+        Exit::Done,
+    ),
     (
         LISTED,
         "525400000009",
-        &["350101", CLASS, "ff\n"],
+        &["350101", CLASS, USER, "ff\n"],
+        Port::Discover,
+        Exit::Done,
+    ),
+    (
+        LISTED,
+        FIRST,
+        &["350103", CLASS, "ff"],
+        Port::Boot,
         Exit::Done,
     ),
     (
         LISTED,
         "525400000008",
-        &["350101", CLASS, ""],
+        &["350101", CLASS],
+        Port::Discover,
         Exit::Silence,
     ),
-    ("\n", FIRST, &["350101", CLASS, ""], Exit::Silence),
-    (LISTED, FIRST, &["350103", CLASS, ""], Exit::Silence),
-    (LISTED, FIRST, &["350101", "", ""], Exit::Silence),
-    (LISTED, FIRST, &["350101", CLASS, "0cff"], Exit::Silence),
+    (
+        "\n",
+        FIRST,
+        &["350101", CLASS],
+        Port::Discover,
+        Exit::Silence,
+    ),
+    (
+        LISTED,
+        FIRST,
+        &["350103", CLASS, USER],
+        Port::Discover,
+        Exit::Silence,
+    ),
+    (LISTED, FIRST, &["350101", CLASS], Port::Boot, Exit::Silence),
+    (LISTED, FIRST, &["350101"], Port::Discover, Exit::Silence),
+    (
+        LISTED,
+        FIRST,
+        &["350101", CLASS, "0cff"],
+        Port::Discover,
+        Exit::Silence,
+    ),
+    (
+        LISTED,
+        FIRST,
+        &["350102", CLASS],
+        Port::Discover,
+        Exit::Silence,
+    ),
     (
         LISTED,
         FIRST,
         &["350101", CLASS, "f"],
+        Port::Discover,
         Exit::Fault(Fault::BadInput),
     ),
     (
         "",
         FIRST,
-        &["350101", CLASS, ""],
+        &["350101", CLASS],
+        Port::Discover,
         Exit::Fault(Fault::BadInput),
     ),
 ];
 
 #[test]
-fn answers_only_discovers_from_listed_addresses(rt: HostRuntime) -> Result<(), Fail> {
-    for (listed, mac, options, want) in RUNS {
-        ends(&rt, rt.alloc(), listed, mac, options, want)?;
+fn answers_clients_of_the_port_with_listed_addresses(rt: HostRuntime) -> Result<(), Fail> {
+    for (listed, mac, options, port, want) in RUNS {
+        ends(&rt, rt.alloc(), listed, mac, options, port, want)?;
     }
     Ok(())
 }
@@ -126,6 +172,7 @@ fn answers_identifiers_that_fit(rt: HostRuntime) -> Result<(), Fail> {
         LISTED,
         FIRST,
         &["350101", CLASS, long.as_str()],
+        Port::Discover,
         Exit::Done,
     )?;
     long.push_str("6101bb")?;
@@ -135,6 +182,7 @@ fn answers_identifiers_that_fit(rt: HostRuntime) -> Result<(), Fail> {
         LISTED,
         FIRST,
         &["350101", CLASS, long.as_str()],
+        Port::Discover,
         Exit::Silence,
     )
 }
@@ -154,7 +202,7 @@ fn a_failed_write_is_io(rt: HostRuntime) -> Result<(), Fail> {
     for (room, want) in ROOMS {
         let mut reader = input.as_bytes();
         let mut writer = Full { room };
-        let exit = frame_run(alloc, &mut reader, &mut writer, &place);
+        let exit = frame_run(alloc, &mut reader, &mut writer, Port::Discover, &place);
         assert_eq!(rt; exit, want, "room for {room} octets");
     }
     Ok(())

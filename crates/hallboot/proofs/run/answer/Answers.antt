@@ -18,8 +18,8 @@ pub returns-in-Ok-hex_line-clause-answer : goal.returns-in-Ok-hex_line-clause-an
 returns-in-Ok-hex_line-clause-answer c = record {
   addresses = c.in-Ok.input.addresses;
   octets = c.in-Ok.input.octets;
-  offer = c.in-Ok-Some.offer.items;
+  reply = c.in-Ok-Some.reply.items;
   good = IsGood-understood c.args.input.now c.in-Ok.input c.requires c.in-Ok.ensures.input;
-  is_offer = rw c.in-Ok-Some.field-0-is at c.in-Ok-Some.ensures;
+  is_reply = rw c.in-Ok-Some.field-0-is at c.in-Ok-Some.ensures;
   written = c.in-Ok-hex_line.ensures ∙ ap (λ (x : List ℕ). encode_lower x ++ 10 ∷ []) c.deref.ensures.value;
 }

@@ -1,0 +1,344 @@
+-- Laws of what kernels are told to do, for the proofs of callers.
+use Rattle.std.proofs.Common.{◌≡◌, ℕ, zero, suc, ◌⊎◌, Bool, true, false, List, [], ◌∷◌, ◌++◌, refl, sym, ap, subst, ◌∙◌, inl, inr, arith}
+use Rattle.std.specs.Prelude.{Option, Some, None, Result, Ok, Err, Contains, bytes_eq, codes, if◌then◌else◌}
+use Rattle.std.specs.List.{list_any}
+use Rattle.std.proofs.lemmas.Bool.{or_parts, both_ways}
+use Rattle.std.proofs.lemmas.List.Elements.{Contains-append_cases, Contains-append_left, Contains-append_right}
+use Rattle.hex.specs.Hex.{encode_lower}
+use Rattle.std.specs.Fmt.{decimal}
+use Rattle.pxe_vendor.specs.declared.arch.Arch.{Arch}
+use Rattle.pxe_vendor.specs.declared.arch.Arch.TheVariants as arch
+use Rattle.ipxe_script.specs.Purpose.{HasKernelWord, is_kernel}
+use Rattle.ipxe_script.specs.PurposeLaws.{HasKernelWord-boot, HasKernelWord-no_kernel, IsArgument-hall}
+use Rattle.ipxe_script.specs.Script.{spelling, IsScript}
+use Rattle.ipxe_script.specs.declared.command.Command.{Command}
+use Rattle.hall_types.specs.Image.{BootImage, has_hall_word, is_hall_word}
+use Rattle.hall_types.specs.Kinds.{erase_text, purpose_text}
+use Rattle.hall_types.specs.Number.{next_number}
+use Rattle.hall_types.specs.declared.boot.Boot.{Boot}
+use Rattle.hall_types.specs.declared.change.RowWrite.{RowWrite}
+use Rattle.hall_types.specs.declared.kinds.Erase.{Erase}
+use Rattle.hall_types.specs.declared.kinds.Erase.TheVariants as erase
+use Rattle.hall_types.specs.declared.kinds.Purpose.{Purpose}
+use Rattle.hall_types.specs.declared.kinds.Purpose.TheVariants as purpose
+use Rattle.hall_types.specs.declared.refusal.Refusal.{Refusal}
+use Rattle.hall_types.specs.declared.status.Status.{Status}
+use Rattle.hall_types.specs.declared.status.Status.TheVariants.{Deploying, Deployed, DiskErasing, ExitingRescue}
+use Rattle.life_cycle.specs.Table.{step_of}
+use Rattle.life_cycle.specs.declared.signal.Signal.TheVariants.{FourthBoot}
+use Rattle.boot_desk.specs.declared.class.ScriptClass.{ScriptClass}
+use Rattle.boot_desk.specs.declared.class.ScriptClass.TheVariants.{Local, Work, Hold}
+use Rattle.boot_desk.specs.declared.views.BootView.{BootView}
+use Rattle.boot_desk.specs.Class.{class_in, class_of, class_after_rescue}
+use Rattle.boot_desk.specs.Fetch.{Fetched, fetched, fetched_by, image_for, is_fourth, issued, new_boot, offered_boot, worked, worked_if}
+use Rattle.boot_desk.specs.Following.{answering, followed}
+use Rattle.boot_desk.specs.Purposes.{IsWork, HasNoHallWords, ErasesBy}
+use Rattle.boot_desk.specs.Texts.{desk_arguments, erase_argument, hold_script, local_script, work_script}
+
+-- ---- a script of a script request starts no kernel, or it is that of the machine's work
+
+abbrev script_in : Fetched → List Command
+script_in (Ok answer) = answer.1
+script_in (Err refusal) = []
+
+abbrev Given : List ℕ → BootView → List Command → Type 0
+Given host v script = (list_any is_kernel script ≡ false) ⊎ ((purpose : Purpose) × IsWork host v purpose script)
+
+local_has_no_kernel : (a : Arch) → list_any is_kernel (local_script a) ≡ false
+unfolding local_script
+local_has_no_kernel arch.Bios = refl
+local_has_no_kernel arch.Uefi32 = refl
+local_has_no_kernel arch.Uefi64 = refl
+local_has_no_kernel arch.Arm64 = refl
+
+hold_has_no_kernel : list_any is_kernel hold_script ≡ false
+unfolding hold_script
+hold_has_no_kernel = refl
+
+held : (host : List ℕ) (v : BootView) (script : List Command) → hold_script ≡ script → Given host v script
+held host v script is = inl (subst (λ (x : List Command). list_any is_kernel x ≡ false) is hold_has_no_kernel)
+
+held_after : (host : List ℕ) (v : BootView) (rows : List RowWrite) (script : List Command) (after : Result (List RowWrite) Refusal)
+    → answering hold_script after ≡ Ok (rows, script) → Given host v script
+held_after host v rows script (Ok its) is = held host v script (ap script_in is)
+held_after host v rows script (Err refusal) is = cc
+
+issued_work : (host : List ℕ) (v : BootView) (p : Purpose) (image : BootImage) (fresh : List ℕ) (number : Option ℕ) (rows : List RowWrite) (script : List Command)
+    → class_of v.machine ≡ Work p → image_for p v ≡ Some image
+    → issued host v p image fresh number ≡ Ok (rows, script) → Given host v script
+issued_work host v p image fresh None rows script class image_is is = cc
+issued_work host v p image fresh (Some number) rows script class image_is is =
+    inr (p, record { boot = new_boot number v.machine p fresh; image = image; class = class; image_is = image_is; is = sym (ap script_in is) })
+
+by_offered : (host : List ℕ) (v : BootView) (moment : ℕ) (fresh : List ℕ) (p : Purpose) (image : BootImage) (offered : Option Boot) (rows : List RowWrite) (script : List Command)
+    → class_of v.machine ≡ Work p → image_for p v ≡ Some image
+    → worked host v moment fresh p image offered ≡ Ok (rows, script) → Given host v script
+by_offered host v moment fresh p image (Some b) rows script class image_is is =
+    inr (p, record { boot = b; image = image; class = class; image_is = image_is; is = sym (ap script_in is) })
+by_offered host v moment fresh p image None rows script class image_is is = by (is_fourth v.machine) is
+  where
+    by : (fourth : Bool)
+        → ◌≡◌ {A = Fetched} (if fourth then answering hold_script (followed [] v moment (step_of v.machine FourthBoot)) else issued host v p image fresh (next_number v.numbers.boot)) (Ok (rows, script))
+        → Given host v script
+    by true e = held_after host v rows script (followed [] v moment (step_of v.machine FourthBoot)) e
+    by false e = issued_work host v p image fresh (next_number v.numbers.boot) rows script class image_is e
+
+by_image : (host : List ℕ) (v : BootView) (moment : ℕ) (fresh : List ℕ) (p : Purpose) (image : Option BootImage) (rows : List RowWrite) (script : List Command)
+    → class_of v.machine ≡ Work p → image_for p v ≡ image
+    → worked_if host v moment fresh p image ≡ Ok (rows, script) → Given host v script
+by_image host v moment fresh p None rows script class image_is is = held host v script (ap script_in is)
+by_image host v moment fresh p (Some image) rows script class image_is is =
+    by_offered host v moment fresh p image (offered_boot v.boot) rows script class image_is is
+
+by_class : (host : List ℕ) (v : BootView) (moment : ℕ) (fresh : List ℕ) (class : ScriptClass) (rows : List RowWrite) (script : List Command)
+    → class_of v.machine ≡ class → fetched_by class host v moment fresh ≡ Ok (rows, script) → Given host v script
+by_class host v moment fresh Local rows script class is =
+    inl (subst (λ (x : List Command). list_any is_kernel x ≡ false) (ap script_in is) (local_has_no_kernel v.machine.arch))
+by_class host v moment fresh Hold rows script class is = held host v script (ap script_in is)
+by_class host v moment fresh (Work p) rows script class is =
+    by_image host v moment fresh p (image_for p v) rows script class refl is
+
+pub given : (host : List ℕ) (v : BootView) (moment : ℕ) (fresh : List ℕ) (rows : List RowWrite) (script : List Command)
+    → fetched host v moment fresh ≡ Ok (rows, script) → Given host v script
+unfolding fetched
+given host v moment fresh rows script is = by_class host v moment fresh (class_of v.machine) rows script refl is
+
+-- ---- the words of its kernel's line
+
+Contains-cases : (x : List ℕ) (xs : List (List ℕ)) (y : List ℕ) → Contains (x ∷ xs) y → (x ≡ y) ⊎ Contains xs y
+Contains-cases x xs y (zero, lt, e) = inl e
+Contains-cases x xs y (suc k, lt, e) = inr (k, omega arith, e)
+
+Contains-none : (y : List ℕ) → Contains [] y → ⊥
+Contains-none y h = omega (arith, h.1)
+
+Contains-first : (x : List ℕ) (xs : List (List ℕ)) → Contains (x ∷ xs) x
+Contains-first x xs = (0, omega arith, refl)
+
+begins : (rest : List ℕ) → is_hall_word (codes "hall." ++ rest) ≡ true
+unfolding is_hall_word
+begins rest = refl
+
+-- an image's arguments are not the desk's
+not_own : (args : List (List ℕ)) (rest : List ℕ) → has_hall_word args ≡ false → Contains args (codes "hall." ++ rest) → ⊥
+not_own [] rest none h = Contains-none (codes "hall." ++ rest) h
+not_own (first ∷ args) rest none h =
+    let parts = or_parts (is_hall_word first) (has_hall_word args) none in
+    elim (Contains-cases first args (codes "hall." ++ rest) h) [
+      | inl e ↦ both_ways (is_hall_word first) parts.0 (ap is_hall_word e ∙ begins rest)
+      | inr h ↦ not_own args rest parts.1 h
+    ]
+
+-- one of the desk's words
+pub data IsDeskWord : List ℕ → Purpose → Option Erase → Boot → List ℕ → Type 0 where
+  is_purpose : {host : List ℕ} {p : Purpose} {e : Option Erase} {b : Boot} {word : List ℕ} → codes "hall.purpose=" ++ purpose_text p ≡ word → IsDeskWord host p e b word
+  is_erase : {host : List ℕ} {p : Purpose} {e : Option Erase} {b : Boot} {word : List ℕ} → Contains (erase_argument p e) word → IsDeskWord host p e b word
+  is_boot : {host : List ℕ} {p : Purpose} {e : Option Erase} {b : Boot} {word : List ℕ} → codes "hall.boot=" ++ decimal b.number ≡ word → IsDeskWord host p e b word
+  is_token : {host : List ℕ} {p : Purpose} {e : Option Erase} {b : Boot} {word : List ℕ} → codes "hall.token=" ++ encode_lower b.token ≡ word → IsDeskWord host p e b word
+  is_desk : {host : List ℕ} {p : Purpose} {e : Option Erase} {b : Boot} {word : List ℕ} → codes "hall.desk=http://" ++ host ≡ word → IsDeskWord host p e b word
+
+last_words : (host : List ℕ) (p : Purpose) (e : Option Erase) (b : Boot) (word : List ℕ)
+    → Contains ((codes "hall.boot=" ++ decimal b.number) ∷ (codes "hall.token=" ++ encode_lower b.token) ∷ (codes "hall.desk=http://" ++ host) ∷ []) word → IsDeskWord host p e b word
+last_words host p e b word h =
+    elim (Contains-cases (codes "hall.boot=" ++ decimal b.number) ((codes "hall.token=" ++ encode_lower b.token) ∷ (codes "hall.desk=http://" ++ host) ∷ []) word h) [
+      | inl is ↦ is_boot is
+      | inr h ↦ elim (Contains-cases (codes "hall.token=" ++ encode_lower b.token) ((codes "hall.desk=http://" ++ host) ∷ []) word h) [
+        | inl is ↦ is_token is
+        | inr h ↦ elim (Contains-cases (codes "hall.desk=http://" ++ host) [] word h) [
+          | inl is ↦ is_desk is
+          | inr h ↦ absurd (Contains-none word h)
+        ]
+      ]
+    ]
+
+desk_word : (host : List ℕ) (p : Purpose) (e : Option Erase) (b : Boot) (word : List ℕ) → Contains (desk_arguments host p e b) word → IsDeskWord host p e b word
+desk_word host p e b word h =
+    elim (Contains-cases (codes "hall.purpose=" ++ purpose_text p)
+    (erase_argument p e ++ (codes "hall.boot=" ++ decimal b.number) ∷ (codes "hall.token=" ++ encode_lower b.token) ∷ (codes "hall.desk=http://" ++ host) ∷ []) word h) [
+      | inl is ↦ is_purpose is
+      | inr h ↦ elim (Contains-append_cases (erase_argument p e) ((codes "hall.boot=" ++ decimal b.number) ∷ (codes "hall.token=" ++ encode_lower b.token) ∷ (codes "hall.desk=http://" ++ host) ∷ []) word h) [
+        | inl h ↦ is_erase h
+        | inr h ↦ last_words host p e b word h
+      ]
+    ]
+
+-- two words are not the same where a test of them fails
+differ : (one other : List ℕ) → bytes_eq one other ≡ false → bytes_eq other other ≡ true → one ≡ other → ⊥
+differ one other apart same is = both_ways (bytes_eq one other) apart (ap (λ (x : List ℕ). bytes_eq x other) is ∙ same)
+
+-- a word about erasing is there only in an erasing script, and names the kind
+record IsEraseWord (p : Purpose) (e : Option Erase) (word : List ℕ) : Type 0 where
+  kind : Erase
+  erases : p ≡ purpose.Erase
+  kept : e ≡ Some kind
+  is : codes "hall.erase=" ++ erase_text kind ≡ word
+
+erase_word : (p : Purpose) (e : Option Erase) (word : List ℕ) → Contains (erase_argument p e) word → IsEraseWord p e word
+erase_word purpose.Erase (Some kind) word h =
+    elim (Contains-cases (codes "hall.erase=" ++ erase_text kind) [] word h) [
+      | inl is ↦ record { kind = kind; erases = refl; kept = refl; is = is }
+      | inr h ↦ absurd (Contains-none word h)
+    ]
+erase_word purpose.Erase None word h = absurd (Contains-none word h)
+erase_word purpose.Commission e word h = absurd (Contains-none word h)
+erase_word purpose.Test e word h = absurd (Contains-none word h)
+erase_word purpose.Deploy e word h = absurd (Contains-none word h)
+erase_word purpose.Rescue e word h = absurd (Contains-none word h)
+
+-- a word `hall.purpose=`
+to_erase : (p : Purpose) → codes "hall.purpose=" ++ purpose_text p ≡ codes "hall.purpose=erase" → p ≡ purpose.Erase
+unfolding purpose_text
+to_erase purpose.Erase is = refl
+to_erase purpose.Commission is = absurd (differ _ _ refl refl is)
+to_erase purpose.Test is = absurd (differ _ _ refl refl is)
+to_erase purpose.Deploy is = absurd (differ _ _ refl refl is)
+to_erase purpose.Rescue is = absurd (differ _ _ refl refl is)
+
+to_deploy : (p : Purpose) → codes "hall.purpose=" ++ purpose_text p ≡ codes "hall.purpose=deploy" → p ≡ purpose.Deploy
+unfolding purpose_text
+to_deploy purpose.Deploy is = refl
+to_deploy purpose.Commission is = absurd (differ _ _ refl refl is)
+to_deploy purpose.Test is = absurd (differ _ _ refl refl is)
+to_deploy purpose.Erase is = absurd (differ _ _ refl refl is)
+to_deploy purpose.Rescue is = absurd (differ _ _ refl refl is)
+
+purpose_erase : (host : List ℕ) (p : Purpose) (e : Option Erase) (b : Boot) → IsDeskWord host p e b (codes "hall.purpose=erase") → p ≡ purpose.Erase
+purpose_erase host p e b (is_purpose is) = to_erase p is
+purpose_erase host p e b (is_erase h) = (erase_word p e (codes "hall.purpose=erase") h).erases
+purpose_erase host p e b (is_boot is) = absurd (differ (codes "hall.boot=" ++ decimal b.number) (codes "hall.purpose=erase") refl refl is)
+purpose_erase host p e b (is_token is) = absurd (differ (codes "hall.token=" ++ encode_lower b.token) (codes "hall.purpose=erase") refl refl is)
+purpose_erase host p e b (is_desk is) = absurd (differ (codes "hall.desk=http://" ++ host) (codes "hall.purpose=erase") refl refl is)
+
+purpose_deploy : (host : List ℕ) (p : Purpose) (e : Option Erase) (b : Boot) → IsDeskWord host p e b (codes "hall.purpose=deploy") → p ≡ purpose.Deploy
+purpose_deploy host p e b (is_purpose is) = to_deploy p is
+purpose_deploy host p e b (is_erase h) =
+    let w = erase_word p e (codes "hall.purpose=deploy") h in
+    absurd (differ (codes "hall.erase=" ++ erase_text w.kind) (codes "hall.purpose=deploy") refl refl w.is)
+purpose_deploy host p e b (is_boot is) = absurd (differ (codes "hall.boot=" ++ decimal b.number) (codes "hall.purpose=deploy") refl refl is)
+purpose_deploy host p e b (is_token is) = absurd (differ (codes "hall.token=" ++ encode_lower b.token) (codes "hall.purpose=deploy") refl refl is)
+purpose_deploy host p e b (is_desk is) = absurd (differ (codes "hall.desk=http://" ++ host) (codes "hall.purpose=deploy") refl refl is)
+
+-- a word `hall.erase=` names the kind that the machine keeps
+to_kind : (kept kind : Erase) → codes "hall.erase=" ++ erase_text kept ≡ codes "hall.erase=" ++ erase_text kind → kept ≡ kind
+unfolding erase_text
+to_kind erase.Quick erase.Quick is = refl
+to_kind erase.Quick erase.Full is = absurd (differ _ _ refl refl is)
+to_kind erase.Full erase.Quick is = absurd (differ _ _ refl refl is)
+to_kind erase.Full erase.Full is = refl
+
+differ_erase : (one : List ℕ) (kind : Erase) → ((rest : List ℕ) → bytes_eq one (codes "hall.erase=" ++ rest) ≡ false) → one ≡ codes "hall.erase=" ++ erase_text kind → ⊥
+unfolding erase_text
+differ_erase one erase.Quick apart is = differ one (codes "hall.erase=quick") (apart (codes "quick")) refl is
+differ_erase one erase.Full apart is = differ one (codes "hall.erase=full") (apart (codes "full")) refl is
+
+kind_word : (host : List ℕ) (p : Purpose) (e : Option Erase) (b : Boot) (kind : Erase) → IsDeskWord host p e b (codes "hall.erase=" ++ erase_text kind) → e ≡ Some kind
+kind_word host p e b kind (is_purpose is) = absurd (differ_erase (codes "hall.purpose=" ++ purpose_text p) kind (λ rest. refl) is)
+kind_word host p e b kind (is_erase h) =
+    let w = erase_word p e (codes "hall.erase=" ++ erase_text kind) h in
+    w.kept ∙ ap Some (to_kind w.kind kind w.is)
+kind_word host p e b kind (is_boot is) = absurd (differ_erase (codes "hall.boot=" ++ decimal b.number) kind (λ rest. refl) is)
+kind_word host p e b kind (is_token is) = absurd (differ_erase (codes "hall.token=" ++ encode_lower b.token) kind (λ rest. refl) is)
+kind_word host p e b kind (is_desk is) = absurd (differ_erase (codes "hall.desk=http://" ++ host) kind (λ rest. refl) is)
+
+-- ---- which status has which purpose
+
+abbrev is_work : ScriptClass → Bool
+is_work (Work p) = true
+is_work other = false
+
+rests : (back : Option Status) → is_work (class_after_rescue back) ≡ false
+rests (Some Deployed) = refl
+rests other = refl
+
+no_work : (back : Option Status) (p : Purpose) → class_after_rescue back ≡ Work p → ⊥
+no_work back p is = both_ways (is_work (class_after_rescue back)) (rests back) (ap is_work is)
+
+erasing_status : (status : Status) (back : Option Status) → class_in status back ≡ Work purpose.Erase → status ≡ DiskErasing
+unfolding class_in
+erasing_status DiskErasing back is = refl
+erasing_status ExitingRescue back is = absurd (no_work back purpose.Erase is)
+erasing_status other back is = cc
+
+deploying_status : (status : Status) (back : Option Status) → class_in status back ≡ Work purpose.Deploy → status ≡ Deploying
+unfolding class_in
+deploying_status Deploying back is = refl
+deploying_status ExitingRescue back is = absurd (no_work back purpose.Deploy is)
+deploying_status other back is = cc
+
+-- ---- what a text with one of these words is given for
+
+own_arguments : (p : Purpose) (v : BootView) (image : BootImage) → HasNoHallWords v → image_for p v ≡ Some image → has_hall_word image.args ≡ false
+own_arguments purpose.Deploy v image none is = none.image image is
+own_arguments other v image none is = none.live image is
+
+-- the words of a work script's text that begin as the desk's own do are the desk's
+work_word : (host : List ℕ) (v : BootView) (p : Purpose) (script : List Command) (rest : List ℕ) → HasNoHallWords v → IsScript script → (work : IsWork host v p script)
+    → HasKernelWord (codes "hall." ++ rest) (spelling script) → IsDeskWord host p v.machine.erase work.boot (codes "hall." ++ rest)
+unfolding work_script
+work_word host v p script rest none good work h =
+    let args = work.image.args ++ desk_arguments host p v.machine.erase work.boot in
+    let whole = subst IsScript work.is good in
+    let has = (HasKernelWord-boot (codes "hall." ++ rest) work.image.kernel args work.image.initrd (IsArgument-hall rest) whole).0
+    (subst (λ (x : List Command). HasKernelWord (codes "hall." ++ rest) (spelling x)) work.is h) in
+    elim (Contains-append_cases work.image.args (desk_arguments host p v.machine.erase work.boot) (codes "hall." ++ rest) has) [
+      | inl own ↦ absurd (not_own work.image.args rest (own_arguments p v work.image none work.image_is) own)
+      | inr desk ↦ desk_word host p v.machine.erase work.boot (codes "hall." ++ rest) desk
+    ]
+
+-- such a word is only in a work script's text
+pub working : (host : List ℕ) (v : BootView) (moment : ℕ) (fresh : List ℕ) (rows : List RowWrite) (script : List Command) (rest : List ℕ)
+    → HasNoHallWords v → IsScript script → fetched host v moment fresh ≡ Ok (rows, script) → HasKernelWord (codes "hall." ++ rest) (spelling script)
+    → (p : Purpose) × (work : IsWork host v p script) × IsDeskWord host p v.machine.erase work.boot (codes "hall." ++ rest)
+working host v moment fresh rows script rest none good is h =
+    elim (given host v moment fresh rows script is) [
+      | inl no_kernel ↦ absurd (HasKernelWord-no_kernel (codes "hall." ++ rest) script (IsArgument-hall rest) good no_kernel h)
+      | inr work ↦ (work.0, work.1, work_word host v work.0 script rest none good work.1 h)
+    ]
+
+pub erasing : (host : List ℕ) (v : BootView) (moment : ℕ) (fresh : List ℕ) (rows : List RowWrite) (script : List Command)
+    → HasNoHallWords v → IsScript script → fetched host v moment fresh ≡ Ok (rows, script) → HasKernelWord (codes "hall.purpose=erase") (spelling script)
+    → v.machine.status ≡ DiskErasing
+erasing host v moment fresh rows script none good is h =
+    let work = working host v moment fresh rows script (codes "purpose=erase") none good is h in
+    let p_is = purpose_erase host work.0 v.machine.erase work.1.boot work.2 in
+    erasing_status v.machine.status v.machine.back (work.1.class ∙ ap Work p_is)
+
+pub kind_kept : (host : List ℕ) (v : BootView) (moment : ℕ) (fresh : List ℕ) (rows : List RowWrite) (script : List Command) (kind : Erase)
+    → HasNoHallWords v → IsScript script → fetched host v moment fresh ≡ Ok (rows, script) → ErasesBy kind script
+    → v.machine.erase ≡ Some kind
+kind_kept host v moment fresh rows script kind none good is h =
+    let work = working host v moment fresh rows script (codes "erase=" ++ erase_text kind) none good is h in
+    kind_word host work.0 v.machine.erase work.1.boot kind work.2
+
+pub deploying : (host : List ℕ) (v : BootView) (moment : ℕ) (fresh : List ℕ) (rows : List RowWrite) (script : List Command)
+    → HasNoHallWords v → IsScript script → fetched host v moment fresh ≡ Ok (rows, script) → HasKernelWord (codes "hall.purpose=deploy") (spelling script)
+    → (v.machine.status ≡ Deploying) × IsWork host v purpose.Deploy script
+deploying host v moment fresh rows script none good is h =
+    let work = working host v moment fresh rows script (codes "purpose=deploy") none good is h in
+    let p_is = purpose_deploy host work.0 v.machine.erase work.1.boot work.2 in (
+      deploying_status v.machine.status v.machine.back (work.1.class ∙ ap Work p_is),
+      subst (λ (p : Purpose). IsWork host v p script) p_is work.1,
+    )
+
+-- ---- an erasing text names the kind that the machine keeps
+
+names_kind : (host : List ℕ) (v : BootView) (script : List Command) (kind : Erase) → IsScript script → IsWork host v purpose.Erase script → v.machine.erase ≡ Some kind → ErasesBy kind script
+unfolding work_script
+names_kind host v script kind good work kept =
+    let args = work.image.args ++ desk_arguments host purpose.Erase v.machine.erase work.boot in
+    let word = codes "hall.erase=" ++ erase_text kind in
+    let there : Contains (erase_argument purpose.Erase v.machine.erase) word = subst (λ (e : Option Erase). Contains (erase_argument purpose.Erase e) word) (sym kept) (Contains-first word []) in
+    let rest = (codes "hall.boot=" ++ decimal work.boot.number) ∷ (codes "hall.token=" ++ encode_lower work.boot.token) ∷ (codes "hall.desk=http://" ++ host) ∷ [] in
+    let desk = Contains-append_right ((codes "hall.purpose=" ++ purpose_text purpose.Erase) ∷ []) (erase_argument purpose.Erase v.machine.erase ++ rest) word
+    (Contains-append_left (erase_argument purpose.Erase v.machine.erase) rest word there) in
+    let has = Contains-append_right work.image.args (desk_arguments host purpose.Erase v.machine.erase work.boot) word desk in
+    subst (λ (x : List Command). HasKernelWord word (spelling x)) (sym work.is)
+    ((HasKernelWord-boot word work.image.kernel args work.image.initrd (IsArgument-hall (codes "erase=" ++ erase_text kind)) (subst IsScript work.is good)).1 has)
+
+pub erasing_names : (host : List ℕ) (v : BootView) (moment : ℕ) (fresh : List ℕ) (rows : List RowWrite) (script : List Command) (kind : Erase)
+    → HasNoHallWords v → IsScript script → fetched host v moment fresh ≡ Ok (rows, script) → HasKernelWord (codes "hall.purpose=erase") (spelling script)
+    → v.machine.erase ≡ Some kind → ErasesBy kind script
+erasing_names host v moment fresh rows script kind none good is h kept =
+    let work = working host v moment fresh rows script (codes "purpose=erase") none good is h in
+    let p_is = purpose_erase host work.0 v.machine.erase work.1.boot work.2 in
+    names_kind host v script kind good (subst (λ (p : Purpose). IsWork host v p script) p_is work.1) kept
