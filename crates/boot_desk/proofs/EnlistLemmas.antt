@@ -24,9 +24,10 @@ use Rattle.boot_desk.specs.declared.frames.Decision.TheVariants.{Loader, ScriptU
 use Rattle.boot_desk.specs.declared.frames.FrameView.{FrameView}
 use Rattle.boot_desk.specs.declared.frames.Silence.TheVariants.{WrongPort, EchoTooLong, KnownUuid, Full}
 use Rattle.boot_desk.specs.Class.{class_in}
-use Rattle.boot_desk.specs.FrameEvent.{enlisted, enlisted_as, for_address, for_unknown, frame_decision, frame_view, has_uuid_in, if_number, is_echo_long, is_port_of, is_uuid_of_other, machine_with, new_machine}
+use Rattle.boot_desk.specs.FrameEvent.{enlisted, enlisted_as, for_address, for_unknown, frame_decision, frame_view, if_number, is_echo_long, is_port_of, is_uuid_of_other, machine_with, new_machine}
 use Rattle.boot_desk.specs.Views.{view_of}
-use Rattle.boot_desk.specs.Sound.{HasRow, KeepsErase, IsSoundMachine, IsSound}
+use Rattle.hall_types.specs.Lookup.{HasRow, has_uuid}
+use Rattle.boot_desk.specs.Sound.{KeepsErase, IsSoundMachine, IsSound}
 use Rattle.boot_desk.specs.SoundLaws.{some_of, has-put, image_for-same}
 use Rattle.boot_desk.specs.EntryLaws.{next_is}
 
@@ -110,10 +111,10 @@ all_fail p (x ∷ xs) is = by (p x) refl is (λ rest. all_fail p xs rest)
 -- no machine has a UUID that none was found with
 no_uuid : (h : Hall) (uuid : List ℕ) (id : ℕ) (m : Machine) → machine_with h (Some uuid) ≡ None → at h.machines id ≡ Some m → m.uuid ≡ Some uuid → ⊥
 no_uuid h uuid id m none is its =
-    let fails : has_uuid_in m.uuid uuid ≡ false = All-contains (λ (x : Machine). has_uuid_in x.uuid uuid ≡ false) (listed h.machines) m
-    (All-from_recursion (λ (x : Machine). has_uuid_in x.uuid uuid ≡ false) (listed h.machines) (all_fail (λ (x : Machine). has_uuid_in x.uuid uuid) (listed h.machines) none))
+    let fails : has_uuid m.uuid uuid ≡ false = All-contains (λ (x : Machine). has_uuid x.uuid uuid ≡ false) (listed h.machines) m
+    (All-from_recursion (λ (x : Machine). has_uuid x.uuid uuid ≡ false) (listed h.machines) (all_fail (λ (x : Machine). has_uuid x.uuid uuid) (listed h.machines) none))
     (Contains-listed h.machines id m is) in
-    both_ways (has_uuid_in m.uuid uuid) fails (ap (λ o. has_uuid_in o uuid) its ∙ (bytes_eq-Decides uuid uuid).1 refl)
+    both_ways (has_uuid m.uuid uuid) fails (ap (λ o. has_uuid o uuid) its ∙ (bytes_eq-Decides uuid uuid).1 refl)
 
 -- ---- a new machine
 

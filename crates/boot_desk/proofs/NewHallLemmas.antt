@@ -13,7 +13,8 @@ use Rattle.hall_types.specs.declared.machine.Machine.{Machine}
 use Rattle.hall_types.specs.declared.operator.Operator.{Operator}
 use Rattle.hall_types.specs.declared.operator.Pool.{Pool}
 use Rattle.hall_types.specs.declared.order.Order.{Order}
-use Rattle.boot_desk.specs.Sound.{HasRow, IsSound}
+use Rattle.hall_types.specs.Lookup.{HasRow}
+use Rattle.boot_desk.specs.Sound.{IsSound}
 use Rattle.boot_desk.proofs.EnlistLemmas.{none_size}
 
 -- no number has a row

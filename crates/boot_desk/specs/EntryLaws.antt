@@ -33,7 +33,8 @@ use Rattle.boot_desk.specs.Class.{class_in}
 use Rattle.boot_desk.specs.Fetch.{image_for}
 use Rattle.boot_desk.specs.Following.{entry_rows}
 use Rattle.boot_desk.specs.Views.{row_at, view_of}
-use Rattle.boot_desk.specs.Sound.{HasRow, HasRowIf, KeepsErase, IsSoundMachine, IsSound}
+use Rattle.hall_types.specs.Lookup.{HasRow, HasRowIf}
+use Rattle.boot_desk.specs.Sound.{KeepsErase, IsSoundMachine, IsSound}
 use Rattle.boot_desk.specs.SoundLaws.{some_is, own_more, own_put, boots_same, orders_same, waits_same, OwnBoots, OwnOrders, WaitsFor, moved_to, image_for-same, moved_sound}
 
 -- ---- the order that waited

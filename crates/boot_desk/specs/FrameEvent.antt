@@ -1,12 +1,12 @@
 -- What a client's frame is answered (PXE 2.1).
-use Rattle.std.specs.Prelude.{ℕ, ◌==◌, nat_lt, nat_le, not, Bool, true, false, List, [], ◌∷◌, length, find, Option, Some, None, option_map, if◌then◌else◌}
-use Rattle.std.specs.Str.{bytes_eq}
+use Rattle.std.specs.Prelude.{ℕ, ◌==◌, nat_lt, nat_le, not, Bool, true, false, List, [], ◌∷◌, length, Option, Some, None, option_map, if◌then◌else◌}
 use Rattle.pxe_vendor.specs.declared.clients.Client.{Client}
 use Rattle.pxe_vendor.specs.declared.clients.Kind.{Kind}
 use Rattle.pxe_vendor.specs.declared.clients.Kind.TheVariants.{Discover, Request}
 use Rattle.hall_types.specs.Hall.{Hall, default_pool}
+use Rattle.hall_types.specs.Lookup.{machine_with_uuid}
 use Rattle.hall_types.specs.Number.{next_number}
-use Rattle.hall_types.specs.Rows.{at, size, listed}
+use Rattle.hall_types.specs.Rows.{at, size}
 use Rattle.hall_types.specs.declared.machine.Machine.{Machine}
 use Rattle.hall_types.specs.declared.machine.TheConstants.{MAX_MACHINES}
 use Rattle.hall_types.specs.declared.number.Numbers.{Numbers}
@@ -22,14 +22,10 @@ use Rattle.boot_desk.specs.declared.frames.FrameView.{FrameView}
 
 -- ---- the view
 
-abbrev pub has_uuid_in : Option (List ℕ) → List ℕ → Bool
-has_uuid_in None uuid = false
-has_uuid_in (Some its) uuid = bytes_eq its uuid
-
--- the machine that a UUID is recorded with
+-- the machine that a UUID is recorded with, if there is one
 abbrev pub machine_with : Hall → Option (List ℕ) → Option Machine
 machine_with h None = None
-machine_with h (Some uuid) = find (λ m. has_uuid_in m.uuid uuid) (listed h.machines)
+machine_with h (Some uuid) = machine_with_uuid h uuid
 
 -- what the hall has of a client: the machines of its address and of its UUID, how many machines there are, and the last
 -- numbers

@@ -3,6 +3,7 @@ use Rattle.std.specs.Prelude.{◌≡◌, ℕ, ◌≤◌, ◌⊎◌, ◌==◌, Li
 use Rattle.hall_types.specs.Rows.{Keys, Rows, at, size, how_many}
 use Rattle.hall_types.specs.Hall.{Schema, first, second, Hall, default_pool}
 use Rattle.hall_types.specs.Keyed.{IsKeyed}
+use Rattle.hall_types.specs.Lookup.{HasRow, HasRowIf}
 use Rattle.hall_types.specs.declared.boot.Boot.{Boot}
 use Rattle.hall_types.specs.declared.boot.TheConstants.{MAX_BOOTS}
 use Rattle.hall_types.specs.declared.image.Live.{Live}
@@ -24,14 +25,6 @@ use Rattle.boot_desk.specs.declared.views.BootView.{BootView}
 use Rattle.boot_desk.specs.Class.{class_of}
 use Rattle.boot_desk.specs.Fetch.{image_for}
 use Rattle.boot_desk.specs.Views.{view_of}
-
--- there is a row with this key
-abbrev pub HasRow : {K X : Type 0} {keys : Keys K} → Rows keys X → K → Type 0
-HasRow rows key = IsSome (at rows key)
-
--- where a key is given, there is a row with it
-abbrev pub HasRowIf : {K X : Type 0} {keys : Keys K} → Rows keys X → Option K → Type 0
-HasRowIf {K = K} rows given = (key : K) → given ≡ Some key → HasRow rows key
 
 -- how the disks are erased is kept exactly in Disk erasing and Failed disk erasing; the first schema keeps it nowhere
 abbrev pub KeepsErase : Schema → Machine → Type 0

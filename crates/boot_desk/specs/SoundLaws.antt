@@ -19,7 +19,8 @@ use Rattle.boot_desk.specs.declared.views.BootView.{BootView}
 use Rattle.boot_desk.specs.Class.{class_of}
 use Rattle.boot_desk.specs.Fetch.{image_for}
 use Rattle.boot_desk.specs.Views.{row_at, view_of}
-use Rattle.boot_desk.specs.Sound.{HasRow, HasRowIf, KeepsErase, IsSoundMachine, IsSound}
+use Rattle.hall_types.specs.Lookup.{HasRow, HasRowIf}
+use Rattle.boot_desk.specs.Sound.{KeepsErase, IsSoundMachine, IsSound}
 
 pub some_is : {X : Type 0} (x y : X) → Some x ≡ Some y → x ≡ y
 some_is x y e = cc

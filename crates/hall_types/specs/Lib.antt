@@ -3,6 +3,8 @@ pub mod Hall
 pub mod Image
 pub mod Keyed
 pub mod ListLaws
+pub mod Lookup
+pub mod LookupLaws
 pub mod KindLaws
 pub mod Kinds
 pub mod Name

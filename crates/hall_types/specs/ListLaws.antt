@@ -1,17 +1,17 @@
 -- What a list of all rows holds: each row once, in the order of the keys.
-use Rattle.std.specs.Prelude.{◌≡◌, ◌<◌, ℕ, zero, suc, List, [], ◌∷◌, Option, Some, None, Bool, true, false, ◌&&◌, if◌then◌else◌, IsTrue, map, length, Contains, slice_index_or}
+use Rattle.std.specs.Prelude.{◌≡◌, zero, suc, List, [], ◌∷◌, Option, Some, None, Bool, true, false, ◌&&◌, if◌then◌else◌, IsTrue, map, length, Contains, filter}
 use Rattle.std.specs.List.{AllByRecursion}
 use Rattle.std.specs.List.Sorted.{IsStrictlySortedBy}
 use Rattle.std.specs.declared.cmp.Ordering.{Ordering}
 use Rattle.std.specs.declared.cmp.Ordering.TheVariants.{Less, Equal, Greater}
 use Rattle.std.specs.Ordering.{is_lt, is_eq, ordering_reverse, eq_by_cmp}
 use Rattle.std.specs.FinMap as map
-use Rattle.std.specs.FinMap.{find, is_sorted, entries_sorted, get-entries}
-use Rattle.std.specs.FinMap.Entries.{below_all}
+use Rattle.std.specs.FinMap.{FinMap, find, is_sorted, entries_sorted, get-entries, len-entries, same_map, get-retain_keys, get-from_sorted, entries-from_sorted}
+use Rattle.std.specs.FinMap.Entries.{below_all, where_key, is_sorted-where_key, find-where_key}
 use Rattle.std.proofs.Math.Dec.{T}
 use Rattle.std.proofs.Common.{refl, arith, ◌∙◌, ap, sym}
-use Rattle.hall_types.specs.Rows.{Keys, Rows, at, listed, same_key}
-use Rattle.hall_types.specs.RowLaws.{same-key, key-same}
+use Rattle.hall_types.specs.Rows.{Keys, Rows, at, listed, same_key, passes, rows_where, size, how_many}
+use Rattle.hall_types.specs.RowLaws.{same-key}
 use Rattle.hall_types.specs.Keyed.{StandUnder}
 
 is_true : (b : Bool) → T b → IsTrue b
@@ -115,3 +115,65 @@ module _ {K X : Type 0} {keys : Keys K} where
       (λ key row is. under key row (get-entries rows.map key ∙ is))
       (all_stand keys (map.entries rows.map) (is_true _ (entries_sorted rows.map)))
       (is_true _ (entries_sorted rows.map))
+
+-- ---- the rows that pass
+
+module _ {K X : Type 0} (keys : Keys K) (p : X → Bool) where
+  -- the test of a key by its row
+  abbrev by_row : Rows keys X → K → Bool
+  by_row rows key = passes p (map.get rows.map key)
+
+  alike : (rows : Rows keys X) (key other : K) → keys.cmp key other ≡ Equal → by_row rows other ≡ by_row rows key
+  alike rows key other tie = ap (by_row rows) (sym (keys.same key other tie))
+
+  entries-where : (rows : Rows keys X) → map.entries (map.retain_keys rows.map (by_row rows)) ≡ where_key keys.cmp (by_row rows) (map.entries rows.map)
+  entries-where rows =
+      let es = map.entries rows.map in
+      let q = by_row rows in
+      let sorted = is_sorted-where_key keys.cmp q es (entries_sorted rows.map) in
+      ap map.entries
+      (same_map keys.total keys.same (map.retain_keys rows.map q) (map.from_sorted (where_key keys.cmp q es)) (λ key.
+      get-retain_keys rows.map q key (alike rows key)
+      ∙ (ap (λ o. if q key then o else None) (get-entries rows.map key)
+      ∙ sym (get-from_sorted keys.cmp (where_key keys.cmp q es) key sorted ∙ find-where_key keys.cmp q key (alike rows key) es))))
+      ∙ entries-from_sorted keys.cmp (where_key keys.cmp q es) sorted
+
+  values-where : (look : K → Option X) (es : List (K × X)) → AllByRecursion (λ (e : K × X). look e.0 ≡ Some e.1) es
+      → map (λ (e : K × X). e.1) (filter (λ (e : K × X). passes p (look e.0)) es) ≡ filter p (map (λ (e : K × X). e.1) es)
+  values-where look [] all = refl
+  values-where look (e ∷ es) all =
+      ap (λ o. map (λ (e : K × X). e.1) (if passes p o then e ∷ filter (λ (e : K × X). passes p (look e.0)) es else filter (λ (e : K × X). passes p (look e.0)) es)) all.0
+      ∙ by (p e.1) (values-where look es all.1)
+    where
+      by : (b : Bool) → map (λ (e : K × X). e.1) (filter (λ (e : K × X). passes p (look e.0)) es) ≡ filter p (map (λ (e : K × X). e.1) es)
+          → map (λ (e : K × X). e.1) (if b then e ∷ filter (λ (e : K × X). passes p (look e.0)) es else filter (λ (e : K × X). passes p (look e.0)) es)
+          ≡ (if b then e.1 ∷ filter p (map (λ (e : K × X). e.1) es) else filter p (map (λ (e : K × X). e.1) es))
+      by true rest = ap (λ xs. e.1 ∷ xs) rest
+      by false rest = rest
+
+  found_all : (m : FinMap keys.cmp X) (es : List (K × X)) → AllByRecursion (λ (e : K × X). find keys.cmp e.0 (map.entries m) ≡ Some e.1) es
+      → AllByRecursion (λ (e : K × X). map.get m e.0 ≡ Some e.1) es
+  found_all m [] all = tt
+  found_all m (e ∷ es) all = (get-entries m e.0 ∙ all.0, found_all m es all.1)
+
+module _ {K X : Type 0} {keys : Keys K} where
+  -- the rows that pass are those of the list
+  pub listed-rows_where : (p : X → Bool) (rows : Rows keys X) → listed (rows_where p rows) ≡ filter p (listed rows)
+  unfolding listed rows_where
+  listed-rows_where p rows =
+      ap (λ es. map (λ (e : K × X). e.1) es) (entries-where keys p rows)
+      ∙ values-where keys p (map.get rows.map) (map.entries rows.map)
+      (found_all keys p rows.map (map.entries rows.map) (all_stand keys (map.entries rows.map) (is_true _ (entries_sorted rows.map))))
+
+  -- there are as many rows as the list has
+  pub length-listed : (rows : Rows keys X) → length (listed rows) ≡ size rows
+  unfolding listed size
+  length-listed rows = as_long (map.entries rows.map) ∙ sym (len-entries rows.map)
+    where
+      as_long : (es : List (K × X)) → length (map (λ (e : K × X). e.1) es) ≡ length es
+      as_long [] = refl
+      as_long (e ∷ es) = omega (arith, as_long es)
+
+  -- and as many that pass as the list has
+  pub how_many-listed : (p : X → Bool) (rows : Rows keys X) → how_many p rows ≡ length (filter p (listed rows))
+  how_many-listed p rows = sym (length-listed (rows_where p rows)) ∙ ap length (listed-rows_where p rows)
