@@ -1,0 +1,14 @@
+-- The first machine with the least deadline, found in one walk.
+use Rattle.std.specs.Prelude.{ℕ, Option, Some, None, if◌then◌else◌}
+use Rattle.hall_types.specs.Lookup.{is_due, sooner}
+use Rattle.hall_types.specs.declared.machine.Machine.{Machine}
+
+-- the one of what was found so far and what comes after it
+abbrev pub joined : Option Machine → Option Machine → Option Machine
+joined None later = later
+joined (Some m) later = Some (sooner m later)
+
+-- the machine, if it is due
+abbrev pub if_due : ℕ → Option Machine → Option Machine
+if_due moment None = None
+if_due moment (Some m) = if is_due moment m then Some m else None

@@ -1,0 +1,4 @@
+pub mod Counted
+pub mod Expiry
+pub mod Held
+pub mod Table

@@ -1,0 +1,20 @@
+//! A store of a hall in memory.
+#![tactic(auto)]
+
+mod copying;
+mod counting;
+mod creating;
+mod expiring;
+mod indexing;
+mod listing;
+mod memory;
+mod reading;
+mod store;
+mod table;
+mod versions;
+mod writing;
+
+pub use memory::MemoryStore;
+
+#[cfg(test)]
+mod tests;
