@@ -1,0 +1,15 @@
+//! What the bodies of requests say: commands with their keys, reports of boots and answers to orders, in JSON.
+#![tactic(auto)]
+
+mod body;
+mod command;
+mod image;
+mod kind;
+mod machine;
+mod member;
+mod report;
+mod shape;
+mod value;
+
+pub use command::{KeyedCommand, command_in};
+pub use report::{outcome_in, progress_in};

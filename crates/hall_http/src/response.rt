@@ -1,0 +1,111 @@
+//! The octets of responses.
+ghost use Rattle.std.specs.Prelude.{◌≡◌, ◌++◌, IfOk, OnOk};
+ghost use Rattle.hall_http.specs.Response.{phrase_of, kind_text, status_line, type_line, length_line, last_lines, response, response_of, IsResponse};
+
+use hall_events::{BodyKind, Reply};
+use itoa::Buffer;
+use std::alloc::{AllocError, Global};
+
+/// The response to a request that could not be answered: memory or disk was wanting, or the desk was
+/// interrupted.
+pub const UNAVAILABLE: &[u8] =
+    b"HTTP/1.1 503 Service Unavailable\r\nContent-Type: application/json\r\nContent-Length: 25\r\nConnection: close\r\n\r\n{\"refusal\":\"Unavailable\"}";
+
+// Room for the octets of a response's head.
+const HEAD_ROOM: usize = 160;
+
+#[tactic(auto, unfolding(crate::specs::Response::phrase_of))]
+fn phrase(status: u16) -> &'static str
+    ensures { result.now ≡ phrase_of status }
+{
+    match status {
+        200 => "OK",
+        400 => "Bad Request",
+        401 => "Unauthorized",
+        403 => "Forbidden",
+        404 => "Not Found",
+        405 => "Method Not Allowed",
+        409 => "Conflict",
+        410 => "Gone",
+        411 => "Length Required",
+        412 => "Precondition Failed",
+        413 => "Payload Too Large",
+        423 => "Locked",
+        503 => "Service Unavailable",
+        _ => "",
+    }
+}
+
+#[tactic(auto, unfolding(crate::specs::Response::kind_text))]
+fn kind_text(kind: BodyKind) -> &'static str
+    ensures { result.now ≡ kind_text kind }
+{
+    match kind {
+        BodyKind::Text => "text/plain",
+        BodyKind::Json => "application/json",
+    }
+}
+
+#[tactic(auto, unfolding(crate::specs::Response::status_line))]
+fn push_status_line(octets: &mut Vec<u8>, status: u16) -> Result<(), AllocError>
+    ensures { OnOk result (octets.new.items ≡ octets.old.items ++ status_line status) }
+{
+    let mut buffer = Buffer::new();
+    octets.extend_from_slice(b"HTTP/1.1 ")?;
+    octets.extend_from_slice(buffer.format(status).as_bytes())?;
+    octets.extend_from_slice(b" ")?;
+    octets.extend_from_slice(phrase(status).as_bytes())?;
+    octets.extend_from_slice(b"\r\n")
+}
+
+#[tactic(auto, unfolding(crate::specs::Response::type_line))]
+fn push_type_line(octets: &mut Vec<u8>, kind: &str) -> Result<(), AllocError>
+    ensures { OnOk result (octets.new.items ≡ octets.old.items ++ type_line kind.now) }
+{
+    octets.extend_from_slice(b"Content-Type: ")?;
+    octets.extend_from_slice(kind.as_bytes())?;
+    octets.extend_from_slice(b"\r\n")?;
+    Ok(())
+}
+
+#[tactic(auto, unfolding(crate::specs::Response::length_line))]
+fn push_length_line(octets: &mut Vec<u8>, size: usize) -> Result<(), AllocError>
+    ensures { OnOk result (octets.new.items ≡ octets.old.items ++ length_line size) }
+{
+    let mut buffer = Buffer::new();
+    octets.extend_from_slice(b"Content-Length: ")?;
+    octets.extend_from_slice(buffer.format(size).as_bytes())?;
+    octets.extend_from_slice(b"\r\n")
+}
+
+#[tactic(auto, unfolding(crate::specs::Response::last_lines))]
+fn push_last_lines(octets: &mut Vec<u8>) -> Result<(), AllocError>
+    ensures { OnOk result (octets.new.items ≡ octets.old.items ++ last_lines) }
+{
+    octets.extend_from_slice(b"Connection: close\r\n\r\n")
+}
+
+// The octets of a response with these parts.
+fn response(alloc: Global, status: u16, kind: BodyKind, body: &str) -> Result<Vec<u8>, AllocError>
+    ensures { IfOk result (λ octets. octets.items ≡ response status kind body.now) }
+{
+    let mut octets = Vec::with_capacity(alloc, body.len().saturating_add(HEAD_ROOM))?;
+    push_status_line(&mut octets, status)?;
+    push_type_line(&mut octets, kind_text(kind))?;
+    push_length_line(&mut octets, body.len())?;
+    push_last_lines(&mut octets)?;
+    octets.extend_from_slice(body.as_bytes())?;
+    Ok(octets)
+}
+
+/// The octets of an answer by HTTP: its status line, its fields and its body. The error is want of memory,
+/// which is taken in one piece.
+pub fn bytes_of(alloc: Global, reply: &Reply) -> Result<Vec<u8>, AllocError>
+    requires { IsResponse reply.now }
+    ensures { IfOk result (λ octets. octets.items ≡ response_of reply.now) }
+{
+    match reply {
+        Reply::Http { status, kind, body } => response(alloc, *status, *kind, body.as_str()),
+        Reply::File(_) | Reply::Nothing => unreachable!(),
+    }
+}

@@ -1,0 +1,3 @@
+pub mod DecidedLemmas
+mod RouteRows
+pub mod TargetLemmas

@@ -1,0 +1,9 @@
+pub mod Answer
+pub mod Decided
+pub mod Demand
+pub mod Event
+pub mod Fields
+pub mod Head
+pub mod Request
+pub mod Resource
+pub mod Target
