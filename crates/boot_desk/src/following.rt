@@ -1,5 +1,5 @@
 //! The rows that a machine's entry into a status writes.
-ghost use Rattle.std.specs.Prelude.{◌≡◌, ◌++◌, OnOk};
+ghost use Rattle.std.specs.Prelude.{◌≡◌, ◌++◌, IfOk, OnOk};
 ghost use Rattle.boot_desk.specs.Decided.{Decides};
 ghost use Rattle.boot_desk.specs.Following.{entry_rows, followed, machine_row, with_entry};
 ghost use Rattle.life_cycle.specs.Entering.{entered};
@@ -11,7 +11,7 @@ use life_cycle::{Entered, Step, enter};
 use std::alloc::{AllocError, Global};
 
 /// A machine's row in the place of the one that it had.
-pub(crate) fn machine_row(before: &Machine, after: Machine) -> RowWrite
+pub fn machine_row(before: &Machine, after: Machine) -> RowWrite
     ensures { result ≡ machine_row before.now after }
 {
     RowWrite::PutMachine {
@@ -40,6 +40,21 @@ fn push_entry(
         rows.push(RowWrite::PutNumbers(entered.numbers))?;
     }
     Ok(())
+}
+
+/// The rows of a machine's entry into a status: its row, the order that waited, which is withdrawn, and the order that is
+/// queued with the last numbers.
+pub fn entry_rows(
+    alloc: Global,
+    before: &Machine,
+    waiting: Option<Order>,
+    entered: &Entered,
+) -> Result<Vec<RowWrite>, AllocError>
+    ensures { IfOk result (λ rows. rows.items ≡ entry_rows before.now waiting entered.now) }
+{
+    let mut rows = Vec::new(alloc);
+    push_entry(&mut rows, before, waiting, entered)?;
+    Ok(rows)
 }
 
 /// The rows of a machine's step after some others. The order that waited is withdrawn, unless none is given.

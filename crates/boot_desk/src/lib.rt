@@ -18,6 +18,7 @@ pub use answering::order_answer;
 pub use class::{ScriptClass, script_for};
 pub use fault::{DeskFault, Verdict};
 pub use fetching::fetch;
+pub use following::{entry_rows, machine_row};
 pub use frames::{Decision, FrameView, Silence, enlist, frame};
 pub use laws::{decisions_keep_halls_sound, new_halls_are_sound};
 pub use promises::{

@@ -1,0 +1,4 @@
+pub mod Causes
+pub mod Command
+pub mod Effect
+pub mod View

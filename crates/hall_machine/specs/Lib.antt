@@ -1,0 +1,3 @@
+pub mod Decision
+pub mod Refusing
+pub mod Step
