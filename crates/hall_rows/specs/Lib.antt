@@ -1,0 +1,9 @@
+pub mod ColumnLaws
+pub mod Columns
+pub mod Holding
+pub mod HoldingLaws
+pub mod ListedLaws
+pub mod NamedLaws
+pub mod NumberedLaws
+pub mod Spelling
+pub mod SpellingLaws

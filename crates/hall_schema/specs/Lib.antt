@@ -1,0 +1,10 @@
+pub mod CascadeLaws
+pub mod CountStatementLaws
+pub mod CountStatements
+pub mod Creating
+pub mod CreatingLaws
+pub mod MachineStatementLaws
+pub mod MachineStatements
+pub mod NameStatementLaws
+pub mod NameStatements
+pub mod Tables

@@ -1,0 +1,3 @@
+pub mod BootLemmas
+pub mod MachineLemmas
+pub mod OrderLemmas

@@ -1,0 +1,3 @@
+pub mod Boots
+pub mod Machines
+pub mod Orders

@@ -1,0 +1,10 @@
+//! The tables of machines, boots and orders: reads and writes of rows.
+#![tactic(auto)]
+
+mod boots;
+mod machines;
+mod orders;
+
+pub use boots::{find_boot, put_boot, remove_boots};
+pub use machines::{remove_row, set_machine};
+pub use orders::{find_order, put_order, remove_orders};

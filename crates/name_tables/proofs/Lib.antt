@@ -1,0 +1,2 @@
+pub mod OperatorLemmas
+pub mod PoolLemmas

@@ -1,0 +1,11 @@
+pub mod CascadeLaws
+pub mod Cascades
+pub mod ListLaws
+pub mod Queries
+pub mod QueryLaws
+pub mod Rows
+pub mod StatementLaws
+pub mod Statements
+pub mod TableLaws
+pub mod ValueLaws
+pub mod WriteLaws

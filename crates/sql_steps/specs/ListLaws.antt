@@ -1,0 +1,168 @@
+-- Laws of lists, for the proofs of callers: rows taken out in any order, put back under their keys, or counted.
+use Rattle.std.proofs.Common.{◌≡◌, ◌⊎◌, ◌&&◌, ◌||◌, ◌≤◌, ◌<ℤ◌, not, inl, inr, ℤ, List, [], ◌∷◌, length, map, filter, Bool, true, false, cond, refl, sym, ap, subst₂, ◌∙◌, arith, Ordering, Less, Equal, Greater, int_eq, int_cmp, is_eq, fold, IsPermutation, true≢false, flat_map, slice_get}
+use Rattle.std.specs.List.{list_any, AllByRecursion}
+use Rattle.std.specs.Option.{option_to_list}
+use Rattle.std.specs.Ordering.{match_ordering}
+use Rattle.std.proofs.lemmas.Int.{ints}
+use Rattle.std.proofs.lemmas.List.{length-map}
+use Rattle.std.proofs.lemmas.List.Sorted.{IsPermutation-refl, IsPermutation-cons, IsPermutation-trans, IsPermutation-middle}
+use Rattle.sqlite.specs.Order.{Row}
+use Rattle.sqlite.specs.Edit.{put_all}
+use Rattle.sqlite.specs.Tree.{put_row, IsAscending}
+use Rattle.sqlite_rules.specs.Lists.{Has}
+use Rattle.sqlite_keyed.specs.Keyed.{IsKeyedBy, insert_by, has_key}
+use Rattle.sqlite_keyed.specs.Lists.{without_key, delete_where, update_where}
+use Rattle.sqlite_keyed.proofs.ListLemmas.{all_map, all-filter, all_weaker, all_of, filter_all, filter_same, along_permutation, IsPermutation-flat_map}
+use Rattle.sqlite_keyed.proofs.KeyedLemmas.{Less-from_lt}
+use Rattle.sqlite_keyed.proofs.WriteLemmas.{removes_delete}
+
+pub and_true : (b : Bool) → (b && true) ≡ b
+and_true true = refl
+and_true false = refl
+
+-- ---- lists of at most one item
+
+-- at most one item is in any order
+pub any_order : {X : Type 0} (R : X → X → Type 0) (xs : List X) → length xs ≤ 1 → IsAscending R xs
+any_order R [] short = tt
+any_order R (x ∷ []) short = (tt, tt)
+any_order R (x ∷ y ∷ more) short = absurd (omega arith)
+
+-- such a list is that of its first item
+pub first_or_none : {X : Type 0} (xs : List X) → length xs ≤ 1 → xs ≡ option_to_list (slice_get xs 0)
+first_or_none [] short = refl
+first_or_none (x ∷ []) short = refl
+first_or_none (x ∷ y ∷ more) short = absurd (omega arith)
+
+pub short_map : {X Y : Type 0} (f : X → Y) (xs : List X) → length xs ≤ 1 → length (map f xs) ≤ 1
+short_map f xs short = omega (arith, short, length-map xs f)
+
+-- ---- lists in another order
+
+pub IsPermutation-map : {A B : Type 0} (f : A → B) (xs ys : List A) → IsPermutation xs ys → IsPermutation (map f xs) (map f ys)
+IsPermutation-map f xs ys same = subst₂ IsPermutation (one f xs) (one f ys) (IsPermutation-flat_map (λ x. f x ∷ []) xs ys same)
+  where
+    one : {A B : Type 0} (f : A → B) (xs : List A) → flat_map (λ x. f x ∷ []) xs ≡ map f xs
+    one f [] = refl
+    one f (x ∷ xs) = ap (λ l. f x ∷ l) (one f xs)
+
+-- whether some item passes doesn't depend on the order
+pub any_along : {X : Type 0} (p : X → Bool) (xs ys : List X) → IsPermutation xs ys → list_any p xs ≡ list_any p ys
+any_along p = along_permutation (λ xs ys. list_any p xs ≡ list_any p ys) (λ xs. refl) (λ x xs ys e. ap (λ b. p x || b) e) (λ x y xs. turn (p x) (p y) (list_any p xs)) (λ xs ys zs a b. a ∙ b)
+  where
+    turn : (a b c : Bool) → (a || (b || c)) ≡ (b || (a || c))
+    turn true true c = refl
+    turn true false c = refl
+    turn false true c = refl
+    turn false false c = refl
+
+-- ---- what passes a test
+
+-- what is left passes the test no more
+pub none_left : {X : Type 0} (p : X → Bool) (xs : List X) → list_any p (delete_where p xs) ≡ false
+none_left p [] = refl
+none_left p (x ∷ xs) = go (p x) refl (none_left p xs)
+  where
+    go : (b : Bool) → p x ≡ b → list_any p (delete_where p xs) ≡ false → list_any p (cond (not b) (x ∷ delete_where p xs) (delete_where p xs)) ≡ false
+    go true e more = more
+    go false e more = rw e more
+
+pub all_passed : {X : Type 0} (P : X → Type 0) (p : X → Bool) → ((x : X) → p x ≡ true → P x) → (xs : List X) → AllByRecursion P (filter p xs)
+all_passed P p gives [] = tt
+all_passed P p gives (x ∷ xs) = go (p x) refl (all_passed P p gives xs)
+  where
+    go : (b : Bool) → p x ≡ b → AllByRecursion P (filter p xs) → AllByRecursion P (cond b (x ∷ filter p xs) (filter p xs))
+    go true e more = (gives x e, more)
+    go false e more = more
+
+-- ---- membership
+
+pub has_map : {A B : Type 0} (f : A → B) (xs : List A) (y : B) → Has (map f xs) y → (x : A) × Has xs x × (y ≡ f x)
+has_map f [] y h = absurd h
+has_map f (x ∷ xs) y (inl e) = (x, inl refl, e)
+has_map f (x ∷ xs) y (inr h) = let it = has_map f xs y h in (it.0, inr it.1, it.2)
+
+pub map_has : {A B : Type 0} (f : A → B) (xs : List A) (x : A) → Has xs x → Has (map f xs) (f x)
+map_has f [] x h = h
+map_has f (y ∷ xs) x (inl same) = inl (ap f same)
+map_has f (y ∷ xs) x (inr h) = inr (map_has f xs x h)
+
+pub has_none : {X : Type 0} (p : X → Bool) (xs : List X) (x : X) → list_any p xs ≡ false → Has xs x → p x ≡ false
+has_none p [] x none h = absurd h
+has_none p (y ∷ ys) x none h = go (p y) refl none h (has_none p ys x)
+  where
+    go : (b : Bool) → p y ≡ b → (b || list_any p ys) ≡ false → (x ≡ y) ⊎ Has ys x → (list_any p ys ≡ false → Has ys x → p x ≡ false) → p x ≡ false
+    go true e none h more = absurd (true≢false none)
+    go false e none (inl same) more = ap p same ∙ e
+    go false e none (inr h) more = more none h
+
+-- ---- rows under their keys
+
+pub put_all-map : {X : Type 0} (f : X → Row) (news : List X) (rows : List Row) → put_all rows (map f news) ≡ fold (λ rows x. put_row (f x) rows) rows news
+put_all-map f [] rows = refl
+put_all-map f (n ∷ news) rows = put_all-map f news (put_row (f n) rows)
+
+module _ {X : Type 0} (key : X → ℤ) where
+  removes_all : (ids : List ℤ) (xs : List X) → fold (without_key key) xs ids ≡ filter (λ x. not (list_any (λ id. int_eq (key x) id) ids)) xs
+  removes_all [] xs = sym (filter_all _ xs (all_of (λ x. true ≡ true) (λ x. refl) xs))
+  removes_all (id ∷ ids) xs = removes_all ids (without_key key xs id) ∙ both xs
+    where
+      both : (xs : List X) → filter (λ x. not (list_any (λ i. int_eq (key x) i) ids)) (without_key key xs id) ≡ filter (λ x. not (int_eq (key x) id || list_any (λ i. int_eq (key x) i) ids)) xs
+      both [] = refl
+      both (x ∷ xs) = go (int_eq (key x) id) (list_any (λ i. int_eq (key x) i) ids) refl (both xs)
+        where
+          go : (a b : Bool) → list_any (λ i. int_eq (key x) i) ids ≡ b
+              → filter (λ x. not (list_any (λ i. int_eq (key x) i) ids)) (without_key key xs id) ≡ filter (λ x. not (int_eq (key x) id || list_any (λ i. int_eq (key x) i) ids)) xs
+              → filter (λ x. not (list_any (λ i. int_eq (key x) i) ids)) (cond (not a) (x ∷ without_key key xs id) (without_key key xs id))
+              ≡ cond (not (a || b)) (x ∷ filter (λ x. not (int_eq (key x) id || list_any (λ i. int_eq (key x) i) ids)) xs) (filter (λ x. not (int_eq (key x) id || list_any (λ i. int_eq (key x) i) ids)) xs)
+          go true b e more = more
+          go false true e more = rw e more
+          go false false e more = rw e (ap (λ l. x ∷ l) more)
+
+  -- the keys of the rows that pass, taken out in any order
+  pub removes_any : (p : X → Bool) (xs : List X) → IsKeyedBy key xs → (ids : List ℤ) → IsPermutation (map key (filter p xs)) ids → fold (without_key key) xs ids ≡ delete_where p xs
+  removes_any p xs up ids same =
+      removes_all ids xs ∙ filter_same _ _ (λ x. ap not (sym (any_along (λ id. int_eq (key x) id) _ ids same))) xs ∙ sym (removes_all (map key (filter p xs)) xs) ∙ removes_delete key p xs up
+
+  -- a row with a new key stands somewhere among the others
+  pub insert_by-permutes : (new : X) (xs : List X) → has_key key xs (key new) ≡ false → IsPermutation (insert_by key xs new) (new ∷ xs)
+  insert_by-permutes new [] free = IsPermutation-refl _
+  insert_by-permutes new (x ∷ xs) free = go (int_cmp (key x) (key new)) refl (insert_by-permutes new xs)
+    where
+      go : (o : Ordering) → int_cmp (key x) (key new) ≡ o → (has_key key xs (key new) ≡ false → IsPermutation (insert_by key xs new) (new ∷ xs))
+          → IsPermutation (match_ordering o (x ∷ insert_by key xs new) (new ∷ xs) (new ∷ x ∷ xs)) (new ∷ x ∷ xs)
+      go Less e more =
+          let apart : int_eq (key x) (key new) ≡ false = ap is_eq e in
+          IsPermutation-trans _ _ _ (IsPermutation-cons x _ _ (more (rw apart at free))) (IsPermutation-middle (x ∷ []) new xs)
+      go Equal e more =
+          let same : int_eq (key x) (key new) ≡ true = ap is_eq e in
+          absurd (true≢false (rw same at free))
+      go Greater e more = IsPermutation-refl _
+
+  first_in : (new : X) (xs : List X) → AllByRecursion (λ y. key new <ℤ key y) xs → insert_by key xs new ≡ new ∷ xs
+  first_in new [] above = refl
+  first_in new (x ∷ xs) above =
+      let k = above.0 in
+      let here : int_cmp (key x) (key new) ≡ Greater = grind (arith, ints) in
+      rw here refl
+
+  puts_past : (news : List X) (x : X) (xs : List X) → AllByRecursion (λ n. key x <ℤ key n) news → fold (insert_by key) (x ∷ xs) news ≡ x ∷ fold (insert_by key) xs news
+  puts_past [] x xs above = refl
+  puts_past (n ∷ news) x xs above = rw (Less-from_lt (key x) (key n) above.0) (puts_past news x (insert_by key xs n) above.1)
+
+  -- rows that are taken out and put back changed, with the same keys
+  pub puts_back : (p : X → Bool) (f : X → X) → ((x : X) → key (f x) ≡ key x) → (xs : List X) → IsKeyedBy key xs
+      → fold (insert_by key) (delete_where p xs) (map f (filter p xs)) ≡ update_where p f xs
+  puts_back p f keeps [] up = refl
+  puts_back p f keeps (x ∷ xs) up = go (p x) (puts_back p f keeps xs up.1)
+    where
+      above : (y : X) → key y ≡ key x → AllByRecursion (λ n. key y <ℤ key n) (map f (filter p xs))
+      above y same = all_map _ f _ (all-filter _ p xs (all_weaker _ (λ n. key y <ℤ key (f n)) (λ n h. rw (same, keeps n) h) xs up.0))
+
+      over : AllByRecursion (λ n. key (f x) <ℤ key n) (delete_where p xs)
+      over = all-filter _ (λ n. not (p n)) xs (all_weaker _ (λ n. key (f x) <ℤ key n) (λ n h. rw (keeps x) h) xs up.0)
+
+      go : (b : Bool) → fold (insert_by key) (delete_where p xs) (map f (filter p xs)) ≡ update_where p f xs
+          → fold (insert_by key) (cond (not b) (x ∷ delete_where p xs) (delete_where p xs)) (map f (cond b (x ∷ filter p xs) (filter p xs))) ≡ cond b (f x) x ∷ update_where p f xs
+      go true more = ap (λ l. fold (insert_by key) l (map f (filter p xs))) (first_in (f x) (delete_where p xs) over) ∙ puts_past _ (f x) _ (above (f x) (keeps x)) ∙ ap (λ l. f x ∷ l) more
+      go false more = puts_past _ x _ (above x refl) ∙ ap (λ l. x ∷ l) more
