@@ -50,7 +50,8 @@ use Rattle.boot_desk.specs.Sound.{IsSoundMachine, IsSound}
 use Rattle.boot_desk.specs.SoundLaws.{some_is, boots_same}
 use Rattle.boot_desk.specs.EntryLaws.{entry_from_sound, entry_sound, is_by, orders_answered, orders_withdrawn, waits_answered, waits_withdrawn}
 use Rattle.boot_desk.proofs.MoveLemmas.{boots_staged, idle_sound, issue_sound, start_sound}
-use Rattle.boot_desk.proofs.StepLemmas.{KeptBoot, done-leads, failed-leads, may_enter, same_purpose}
+use Rattle.boot_desk.specs.ClassLaws.{same_purpose}
+use Rattle.boot_desk.proofs.StepLemmas.{KeptBoot, done-leads, failed-leads, may_enter}
 
 -- the rows of an answer leave the hall sound
 abbrev Keeps : {A : Type 0} → Hall → Result (List RowWrite × A) Refusal → Type 0

@@ -1,7 +1,6 @@
 -- A sound hall stays sound with a new machine.
 use Rattle.std.specs.Prelude.{◌≡◌, ◌≢◌, ◌<◌, ◌≤◌, ◌==◌, ℕ, ◌+◌, not, nat_le, Bool, true, false, List, [], ◌∷◌, Option, Some, None, is_some, option_map, find, if◌then◌else◌}
 use Rattle.std.specs.List.{AllByRecursion}
-use Rattle.std.specs.FinMap.{len-empty}
 use Rattle.std.proofs.Common.{refl, sym, ap, subst, inl, inr, arith, ◌∙◌}
 use Rattle.std.proofs.lemmas.Bool.{both_ways, eq-eqb, ne_eqb, leb-false}
 use Rattle.std.proofs.lemmas.List.Elements.{All-contains, All-from_recursion}
@@ -9,9 +8,9 @@ use Rattle.std.proofs.lemmas.Option.{none-some}
 use Rattle.std.proofs.lemmas.Slice.Eq.{bytes_eq-Decides}
 use Rattle.pxe_vendor.specs.declared.clients.Client.{Client}
 use Rattle.hall_types.specs.Number.{next_number}
-use Rattle.hall_types.specs.Rows.{Keys, Rows, at, put, no_rows, rows_where, listed, one_if, passes, size, how_many}
-use Rattle.hall_types.specs.RowLaws.{at-no_rows, at-put-same, at-put-other, at-rows_where, put_cases, same_rows, size-put}
-use Rattle.hall_types.specs.CountLaws.{how_many-new}
+use Rattle.hall_types.specs.Rows.{at, put, listed, one_if, size, how_many}
+use Rattle.hall_types.specs.RowLaws.{at-put-same, at-put-other, put_cases, size-put}
+use Rattle.hall_types.specs.CountLaws.{how_many-new, none_pass}
 use Rattle.hall_types.specs.ListLaws.{Contains-listed}
 use Rattle.hall_types.specs.Hall.{Schema, first, second, Hall, applied}
 use Rattle.hall_types.specs.Keyed.{IsKeyed}
@@ -30,21 +29,6 @@ use Rattle.hall_types.specs.Lookup.{HasRow, has_uuid}
 use Rattle.boot_desk.specs.Sound.{KeepsErase, IsSoundMachine, IsSound}
 use Rattle.boot_desk.specs.SoundLaws.{some_of, has-put, image_for-same}
 use Rattle.boot_desk.specs.EntryLaws.{next_is}
-
--- ---- counts
-
-pub none_size : {K X : Type 0} (keys : Keys K) → (none : Rows keys X) → none ≡ no_rows → size none ≡ 0
-unfolding size no_rows
-none_size {X = X} keys none is = ap (λ rows. size rows) is ∙ len-empty keys.cmp X
-
--- where no row passes, none are counted
-none_pass : {K X : Type 0} {keys : Keys K} (p : X → Bool) (rows : Rows keys X) → ((key : K) (row : X) → at rows key ≡ Some row → p row ≡ false) → how_many p rows ≡ 0
-none_pass {K = K} {X = X} {keys = keys} p rows fails =
-    none_size keys (rows_where p rows) (same_rows (rows_where p rows) no_rows (λ q. at-rows_where p rows q ∙ (by q (at rows q) refl ∙ sym (at-no_rows keys q no_rows refl))))
-  where
-    by : (q : K) (o : Option X) → at rows q ≡ o → (if passes p o then o else None) ≡ None
-    by q None is = refl
-    by q (Some x) is = ap (λ b. if b then Some x else None) (fails q x is)
 
 -- ---- what a frame's decision to enlist says
 

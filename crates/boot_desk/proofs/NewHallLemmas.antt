@@ -15,7 +15,7 @@ use Rattle.hall_types.specs.declared.operator.Pool.{Pool}
 use Rattle.hall_types.specs.declared.order.Order.{Order}
 use Rattle.hall_types.specs.Lookup.{HasRow}
 use Rattle.boot_desk.specs.Sound.{IsSound}
-use Rattle.boot_desk.proofs.EnlistLemmas.{none_size}
+use Rattle.hall_types.specs.CountLaws.{none_size}
 
 -- no number has a row
 nowhere : (X : Type 0) (number : ℕ) → HasRow (no_rows {X = X} {keys = numbers}) number → ⊥

@@ -28,39 +28,9 @@ use Rattle.boot_desk.specs.Class.{class_after_rescue, class_in, class_of}
 use Rattle.boot_desk.specs.Fetch.{image_for}
 use Rattle.boot_desk.specs.Report.{fails_too_late, is_rescue_boot}
 use Rattle.boot_desk.specs.Views.{view_of}
+use Rattle.boot_desk.specs.ClassLaws.{same_purpose, works-status, works_at}
 use Rattle.boot_desk.specs.Sound.{KeepsErase, IsSoundMachine, IsSound}
 use Rattle.boot_desk.specs.EntryLaws.{MayEnter, back-remembered, boot_goes, boot_stays, deployed-order, is_by, is_some-back}
-
--- ---- statuses in which a machine works
-
-abbrev pub works_at : Status → Bool
-works_at Commissioning = true
-works_at Testing = true
-works_at Deploying = true
-works_at DiskErasing = true
-works_at EnteringRescue = true
-works_at Rescue = true
-works_at other = false
-
-abbrev pub is_work : ScriptClass → Bool
-is_work (Work purpose) = true
-is_work other = false
-
-works_after_rescue : (back : Option Status) → is_work (class_after_rescue back) ≡ false
-works_after_rescue (Some Deployed) = refl
-works_after_rescue other = refl
-
-pub works_in : (status : Status) (back : Option Status) → is_work (class_in status back) ≡ works_at status
-unfolding class_in
-works_in ExitingRescue back = works_after_rescue back
-works_in other back = refl
-
-pub same_purpose : (p q : Purpose) → Work p ≡ Work q → p ≡ q
-same_purpose p q e = cc
-
--- a machine that works is in one of these statuses
-pub works-status : (status : Status) (back : Option Status) (p : Purpose) → class_in status back ≡ Work p → works_at status ≡ true
-works-status status back p is = sym (works_in status back) ∙ ap is_work is
 
 -- ---- what the table says of the signals that no operator gives
 

@@ -1,4 +1,5 @@
 pub mod Class
+pub mod ClassLaws
 pub mod Decided
 pub mod EntryLaws
 pub mod Expiry

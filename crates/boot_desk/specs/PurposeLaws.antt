@@ -23,12 +23,13 @@ use Rattle.hall_types.specs.declared.kinds.Purpose.{Purpose}
 use Rattle.hall_types.specs.declared.kinds.Purpose.TheVariants as purpose
 use Rattle.hall_types.specs.declared.refusal.Refusal.{Refusal}
 use Rattle.hall_types.specs.declared.status.Status.{Status}
-use Rattle.hall_types.specs.declared.status.Status.TheVariants.{Deploying, Deployed, DiskErasing, ExitingRescue}
+use Rattle.hall_types.specs.declared.status.Status.TheVariants.{Deploying, DiskErasing, ExitingRescue}
 use Rattle.life_cycle.specs.Table.{step_of}
 use Rattle.life_cycle.specs.declared.signal.Signal.TheVariants.{FourthBoot}
 use Rattle.boot_desk.specs.declared.class.ScriptClass.{ScriptClass}
 use Rattle.boot_desk.specs.declared.class.ScriptClass.TheVariants.{Local, Work, Hold}
 use Rattle.boot_desk.specs.declared.views.BootView.{BootView}
+use Rattle.boot_desk.specs.ClassLaws.{is_work, works_after_rescue}
 use Rattle.boot_desk.specs.Class.{class_in, class_of, class_after_rescue}
 use Rattle.boot_desk.specs.Fetch.{Fetched, fetched, fetched_by, image_for, is_fourth, issued, new_boot, offered_boot, worked, worked_if}
 use Rattle.boot_desk.specs.Following.{answering, followed}
@@ -242,16 +243,8 @@ kind_word host p e b kind (is_desk is) = absurd (differ_erase (codes "hall.desk=
 
 -- ---- which status has which purpose
 
-abbrev is_work : ScriptClass → Bool
-is_work (Work p) = true
-is_work other = false
-
-rests : (back : Option Status) → is_work (class_after_rescue back) ≡ false
-rests (Some Deployed) = refl
-rests other = refl
-
 no_work : (back : Option Status) (p : Purpose) → class_after_rescue back ≡ Work p → ⊥
-no_work back p is = both_ways (is_work (class_after_rescue back)) (rests back) (ap is_work is)
+no_work back p is = both_ways (is_work (class_after_rescue back)) (works_after_rescue back) (ap is_work is)
 
 erasing_status : (status : Status) (back : Option Status) → class_in status back ≡ Work purpose.Erase → status ≡ DiskErasing
 unfolding class_in

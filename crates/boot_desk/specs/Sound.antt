@@ -1,6 +1,6 @@
 -- When a hall is sound: what its rows have to say of each other.
-use Rattle.std.specs.Prelude.{◌≡◌, ℕ, ◌≤◌, ◌⊎◌, ◌==◌, List, Option, Some, None, is_some, IsSome, IsTrue}
-use Rattle.hall_types.specs.Rows.{Keys, Rows, at, size, how_many}
+use Rattle.std.specs.Prelude.{◌≡◌, ℕ, ◌≤◌, ◌⊎◌, ◌==◌, List, Some, None, is_some, IsSome, IsTrue}
+use Rattle.hall_types.specs.Rows.{at, size, how_many}
 use Rattle.hall_types.specs.Hall.{Schema, first, second, Hall, default_pool}
 use Rattle.hall_types.specs.Keyed.{IsKeyed}
 use Rattle.hall_types.specs.Lookup.{HasRow, HasRowIf}

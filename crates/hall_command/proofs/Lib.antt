@@ -1,1 +1,10 @@
+pub mod ActionLemmas
+pub mod AddMachineLemmas
+pub mod AllowedLemmas
 pub mod CommandRows
+pub mod DeleteLemmas
+pub mod EditLemmas
+pub mod EnteringLemmas
+pub mod OtherRowLemmas
+pub mod PlainLemmas
+pub mod SoundLemmas

@@ -6,10 +6,12 @@ mod action;
 mod cause;
 mod commanding;
 mod effects;
+mod laws;
 mod sending;
 mod view;
 
 pub use commanding::{command, repeated};
+pub use laws::commands_keep_halls_sound;
 pub use sending::may_send;
 pub use view::CommandView;
 

@@ -7,10 +7,6 @@ use Rattle.hall_types.specs.RowLaws.{where_found, where_kept}
 use Rattle.hall_types.specs.Hall.{Hall, applied, written}
 use Rattle.hall_types.specs.declared.change.RowWrite.{RowWrite}
 
-pub applied_append : (vs ws : List RowWrite) (h : Hall) → applied (vs ++ ws) h ≡ applied ws (applied vs h)
-applied_append [] ws h = refl
-applied_append (v ∷ vs) ws h = applied_append vs ws (written v h)
-
 -- the rows that aren't of one machine
 pub others : {K X : Type 0} {keys : Keys K} (machine : X → ℕ) (id : ℕ) (rows : Rows keys X) (key : K) (x : X) →
     (at (rows_where (λ row. not (machine row == id)) rows) key ≡ Some x) ↔ ((at rows key ≡ Some x) × (machine x ≢ id))

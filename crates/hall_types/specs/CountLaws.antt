@@ -101,3 +101,18 @@ module _ {K X : Type 0} {keys : Keys K} where
               let no = ap (how_many p) (rows_where-put (λ x. not (q x)) rows key row ∙ ap (λ b. if not b then put key row (rows_where (λ x. not (q x)) rows) else gone key (rows_where (λ x. not (q x)) rows)) t) in
               let no_one = how_many-new p (rows_where (λ x. not (q x)) rows) key row (absent (λ x. not (q x)) rows key new) in
               omega arith
+
+-- ---- rows of which none is there, or none passes
+
+pub none_size : {K X : Type 0} (keys : Keys K) → (none : Rows keys X) → none ≡ no_rows → size none ≡ 0
+unfolding size no_rows
+none_size {X = X} keys none is = ap (λ rows. size rows) is ∙ len-empty keys.cmp X
+
+-- where no row passes, none are counted
+pub none_pass : {K X : Type 0} {keys : Keys K} (p : X → Bool) (rows : Rows keys X) → ((key : K) (row : X) → at rows key ≡ Some row → p row ≡ false) → how_many p rows ≡ 0
+none_pass {K = K} {X = X} {keys = keys} p rows fails =
+    none_size keys (rows_where p rows) (same_rows (rows_where p rows) no_rows (λ q. at-rows_where p rows q ∙ (by q (at rows q) refl ∙ sym (at-no_rows keys q no_rows refl))))
+  where
+    by : (q : K) (o : Option X) → at rows q ≡ o → (if passes p o then o else None) ≡ None
+    by q None is = refl
+    by q (Some x) is = ap (λ b. if b then Some x else None) (fails q x is)

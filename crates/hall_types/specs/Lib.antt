@@ -1,3 +1,4 @@
+pub mod ChangeLaws
 pub mod CountLaws
 pub mod Hall
 pub mod Image

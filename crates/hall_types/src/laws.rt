@@ -32,7 +32,7 @@ ghost use Rattle.hall_types.specs.declared.change.RowWrite.{RowWrite};
 ghost use Rattle.hall_types.specs.declared.change.RowWrite.TheVariants.{ImageGone, InterfaceGone, MachineGone, PutBoot, PutImage, PutInterface, PutLive, PutMachine, PutMember, PutNumbers, PutOperator, PutOrder, PutPool, PutReceipt};
 
 /// A change in two parts is carried out part by part.
-#[tactic(auto, using(crate::proofs::HallLemmas::applied_append))]
+#[tactic(auto, using(crate::specs::ChangeLaws::applied_append))]
 pub fn changes_in_turn()
     ensures { (vs ws : List RowWrite) (h : Hall) → applied (vs ++ ws) h ≡ applied ws (applied vs h) }
 {}
