@@ -2,10 +2,9 @@
 //! the response to the command. They print a digest of what came out.
 #![tactic(auto)]
 
-use hall_events::{BodyKind, Event, Reply};
-use hall_http::{bytes_of, event_of};
-use hall_types::Text;
-use std::alloc::Global;
+use hall_events::{Event, Reply};
+use hall_http::{answers_have_responses, bytes_of, event_of};
+use std::alloc::{AllocError, Global};
 use std::env;
 use std::process::ExitCode;
 use std::rt::Env;
@@ -43,17 +42,19 @@ fn requests(alloc: Global, octets: &str, rounds: u32) -> Result<u64, BenchFault>
     Ok(digest)
 }
 
+// How many octets the response to a command has that was carried out.
+fn response_len(alloc: Global) -> Result<usize, AllocError> {
+    // The answer's status is one of a response.
+    answers_have_responses();
+    let reply = Reply::done(alloc)?;
+    Ok(bytes_of(alloc, &reply)?.len())
+}
+
 fn responses(alloc: Global, rounds: u32) -> Result<u64, BenchFault> {
-    let body = String::from_str(alloc, "{}").map_err(|_| BenchFault::Memory)?;
-    let reply = Reply::Http {
-        status: 200,
-        kind: BodyKind::Json,
-        body: Text::from(body),
-    };
     let mut digest = 0u64;
     for _ in 0..rounds {
-        let octets = bytes_of(alloc, &reply).map_err(|_| BenchFault::Memory)?;
-        digest = digest.wrapping_add(octets.len() as u64);
+        let octets = response_len(alloc).map_err(|_| BenchFault::Memory)?;
+        digest = digest.wrapping_add(octets as u64);
     }
     Ok(digest)
 }
