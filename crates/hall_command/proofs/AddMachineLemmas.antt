@@ -32,7 +32,7 @@ use Rattle.hall_command.specs.Effect.{about, added, added_machine}
 use Rattle.hall_command.specs.View.{by_mac, by_uuid, has_pool}
 use Rattle.hall_command.specs.declared.view.CommandView.{CommandView}
 use Rattle.hall_command.proofs.ActionLemmas.{same_rows_of}
-use Rattle.hall_command.proofs.AllowedLemmas.{first_none, unless_none, when_none}
+use Rattle.hall_command.specs.AllowedLaws.{first_none, unless_none, when_none}
 use Rattle.hall_types.specs.CountLaws.{none_pass}
 use Rattle.hall_command.proofs.PlainLemmas.{or_false}
 

@@ -29,7 +29,7 @@ use Rattle.hall_command.specs.Causes.{is_deployed, is_number, when}
 use Rattle.hall_command.specs.Effect.{Effect, about, edited, moved_to_pool, raised}
 use Rattle.hall_command.specs.View.{by_mac, with_interfaces}
 use Rattle.hall_command.proofs.ActionLemmas.{same_rows_of}
-use Rattle.hall_command.proofs.AllowedLemmas.{IsAllowed, first_none, unless_none, when_none}
+use Rattle.hall_command.specs.AllowedLaws.{IsAllowed, first_none, unless_none, when_none}
 use Rattle.hall_command.proofs.OtherRowLemmas.{each_put, stand_gone, stand_put}
 
 -- ---- a machine's lock and pool

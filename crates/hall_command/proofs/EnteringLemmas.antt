@@ -40,7 +40,7 @@ use Rattle.hall_command.specs.Effect.{acted, machine_effect, prepared}
 use Rattle.hall_command.specs.View.{image_arch, of_machine, with_live, machine_view}
 use Rattle.hall_command.specs.declared.view.CommandView.{CommandView}
 use Rattle.hall_command.proofs.ActionLemmas.{WorksIn, act_sound, acted_rows, begins, entering, erasing_by, has_erase, is_this, live_found, work_of}
-use Rattle.hall_command.proofs.AllowedLemmas.{IsAllowed, first_none, unless_none}
+use Rattle.hall_command.specs.AllowedLaws.{IsAllowed, first_none, unless_none}
 
 -- ---- what a machine works with in its new status
 

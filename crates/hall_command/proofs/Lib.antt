@@ -1,6 +1,5 @@
 pub mod ActionLemmas
 pub mod AddMachineLemmas
-pub mod AllowedLemmas
 pub mod CommandRows
 pub mod DeleteLemmas
 pub mod EditLemmas

@@ -30,7 +30,7 @@ use Rattle.hall_command.specs.Effect.{Effect, about, effect, machine_effect, mac
 use Rattle.hall_command.specs.View.{command_view, has_pool, image_arch, machine_view, machine_view_if}
 use Rattle.hall_command.proofs.ActionLemmas.{same_rows_of}
 use Rattle.hall_command.proofs.AddMachineLemmas.{add_machine_sound}
-use Rattle.hall_command.proofs.AllowedLemmas.{IsAllowed, allowed, first_none, unless_none, when_none}
+use Rattle.hall_command.specs.AllowedLaws.{IsAllowed, allowed, first_none, unless_none, when_none}
 use Rattle.hall_command.proofs.DeleteLemmas.{without_machine_sound}
 use Rattle.hall_command.proofs.EditLemmas.{add_interface_sound, lock_sound, pool_set_sound, remove_interface_sound, unlock_sound}
 use Rattle.hall_command.proofs.EnteringLemmas.{abort_sound, allocate_sound, break_sound, commission_sound, deploy_sound, exit_rescue_sound, fix_sound, override_sound, release_erasing_sound, release_sound, rescue_sound, test_sound}

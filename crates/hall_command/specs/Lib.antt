@@ -1,3 +1,4 @@
+pub mod AllowedLaws
 pub mod Causes
 pub mod Command
 pub mod Effect

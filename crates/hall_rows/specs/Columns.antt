@@ -1,5 +1,6 @@
 -- What the tables of a hall store of each row: truth values are 0 and 1, kinds are their numbers, and what may be missing is NULL.
-use Rattle.std.specs.Prelude.{ℕ, pos, Bool, true, false, List, [], ◌∷◌, ◌++◌, drop, Option, Some, None}
+use Rattle.std.specs.Prelude.{◌≡◌, ◌==◌, ℕ, pos, Bool, true, false, List, [], ◌∷◌, ◌++◌, drop, Option, Some, None}
+use Rattle.std.specs.List.{slice_split}
 use Rattle.sqlite.specs.declared.types.Value.{Value}
 use Rattle.sqlite.specs.declared.types.Value.TheVariants.{Null, Int, Text, Blob}
 use Rattle.sqlite.specs.Order.{Row}
@@ -36,6 +37,15 @@ abbrev pub joined : List (List ℕ) → List ℕ
 joined [] = []
 joined (word ∷ []) = word
 joined (word ∷ next ∷ words) = word ++ 32 ∷ joined (next ∷ words)
+
+-- the words of such a text
+abbrev pub words_in : List ℕ → List (List ℕ)
+words_in [] = []
+words_in (octet ∷ octets) = slice_split (λ o. o == 32) (octet ∷ octets)
+
+-- the text of its arguments gives them back
+abbrev pub HasWords : BootImage → Type 0
+HasWords i = words_in (joined i.args) ≡ i.args
 
 -- ---- columns after the rowid; the column of an INTEGER PRIMARY KEY is stored as NULL
 

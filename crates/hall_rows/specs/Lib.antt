@@ -5,5 +5,6 @@ pub mod HoldingLaws
 pub mod ListedLaws
 pub mod NamedLaws
 pub mod NumberedLaws
+pub mod PairLaws
 pub mod Spelling
 pub mod SpellingLaws

@@ -71,7 +71,7 @@ module _ {K X : Type 0} (keys : Keys K) (key_of : X → K) where
   above x xs z all h = all_has (λ y. keys.cmp (key_of x) (key_of y) ≡ Less) xs z all h
 
   -- rising lists with the same members are the same
-  same_lists : (xs ys : List X) → AreRising xs → AreRising ys → ((z : X) → Has xs z → Has ys z) → ((z : X) → Has ys z → Has xs z) → xs ≡ ys
+  pub same_lists : (xs ys : List X) → AreRising xs → AreRising ys → ((z : X) → Has xs z → Has ys z) → ((z : X) → Has ys z → Has xs z) → xs ≡ ys
   same_lists [] [] up rise into back = refl
   same_lists [] (y ∷ ys) up rise into back = absurd (back y (inl refl))
   same_lists (x ∷ xs) [] up rise into back = absurd (into x (inl refl))

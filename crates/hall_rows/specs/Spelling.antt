@@ -1,12 +1,12 @@
 -- Which rows of the tables spell a hall, table by table.
-use Rattle.std.specs.Prelude.{◌≡◌, ◌==◌, ◌&&◌, ℕ, zero, suc, pos, Bool, List, [], ◌∷◌, map, filter, Option, option_map, option_and_then, IsPermutation}
+use Rattle.std.specs.Prelude.{◌≡◌, ◌==◌, ◌&&◌, ℕ, zero, suc, pos, Bool, List, [], ◌∷◌, map, filter, Option, Some, option_map, option_and_then, IsPermutation}
 use Rattle.std.specs.Str.{bytes_eq}
 use Rattle.sqlite.specs.Order.{Row}
 use Rattle.sqlite.specs.Tree.{Trees}
 use Rattle.sqlite.specs.Effect.{Database}
 use Rattle.sqlite_catalog.specs.Listing.{IsSound}
 use Rattle.sqlite_keyed.specs.Keyed.{IsKeyedBy}
-use Rattle.hall_types.specs.Rows.{Keys, Rows, numbers, at, listed, how_many}
+use Rattle.hall_types.specs.Rows.{Keys, Rows, numbers, texts, at, listed, how_many}
 use Rattle.hall_types.specs.Keyed.{StandUnder}
 use Rattle.hall_types.specs.Kinds.{arch_number}
 use Rattle.hall_types.specs.Status.{status_number}
@@ -15,7 +15,7 @@ use Rattle.hall_types.specs.Image.{BootImage}
 use Rattle.hall_types.specs.declared.machine.Machine.{Machine}
 use Rattle.sql_steps.specs.Rows.{Entry, row_of, rowid_of, item_of}
 use Rattle.hall_schema.specs.Tables.{hall_schema}
-use Rattle.hall_rows.specs.Columns.{CountRow, Wipe, operator_columns, pool_columns, member_columns, image_columns, live_columns, machine_columns, interface_columns, boot_columns, order_columns, receipt_columns, count_columns, wipe_columns, numbers_row}
+use Rattle.hall_rows.specs.Columns.{CountRow, HasWords, Wipe, operator_columns, pool_columns, member_columns, image_columns, live_columns, machine_columns, interface_columns, boot_columns, order_columns, receipt_columns, count_columns, wipe_columns, numbers_row}
 
 -- ---- one table
 
@@ -31,6 +31,11 @@ pub record IsNamed {K X : Type 0} {keys : Keys K} (key_of : X → K) (columns : 
   pub keyed : IsKeyedBy rowid_of entries
   pub same : IsPermutation (listed rows) (map item_of entries)
   pub under : StandUnder key_of rows
+
+-- The table of images. It stores the arguments of an image as one text, which gives them back.
+pub record AreImages (stored : List Row) (rows : Rows texts BootImage) : Type 0 where
+  pub named : IsNamed (λ (i : BootImage). i.name) image_columns stored rows
+  pub words : (name : List ℕ) (i : BootImage) → at rows name ≡ Some i → HasWords i
 
 -- how many machines each pool has in each status, by the status's number
 abbrev pub Counts : Type 0
@@ -69,7 +74,7 @@ pub record AreTables (db : Trees) (c : Content) : Type 0 where
   pub operators : IsNamed (λ o. o.name) operator_columns (db 1) c.hall.operators
   pub pools : IsNamed (λ p. p.name) pool_columns (db 4) c.hall.pools
   pub members : IsNamed (λ m. pair m.pool m.operator) member_columns (db 6) c.hall.members
-  pub images : IsNamed (λ (i : BootImage). i.name) image_columns (db 8) c.hall.images
+  pub images : AreImages (db 8) c.hall.images
   pub lives : IsNumbered (λ l. arch_number l.arch) live_columns (db 10) c.hall.lives
   pub machines : IsNumbered (λ m. m.id) machine_columns (db 11) c.hall.machines
   pub interfaces : IsNamed (λ i. i.mac) interface_columns (db 13) c.hall.interfaces

@@ -18,8 +18,8 @@ use Rattle.hall_types.specs.declared.receipt.Receipt.{Receipt}
 use Rattle.hall_types.specs.declared.number.Numbers.{Numbers}
 use Rattle.sql_steps.specs.Statements.{SetsRows}
 use Rattle.hall_schema.specs.Tables.{hall_schema}
-use Rattle.hall_rows.specs.Columns.{Wipe, operator_columns, pool_columns, member_columns, image_columns, live_columns, machine_columns, interface_columns, boot_columns, order_columns, receipt_columns, wipe_columns, numbers_row}
-use Rattle.hall_rows.specs.Spelling.{IsNumbered, IsNamed, AreCounts, Counts, Content, AreTables, Spells}
+use Rattle.hall_rows.specs.Columns.{Wipe, operator_columns, pool_columns, member_columns, live_columns, machine_columns, interface_columns, boot_columns, order_columns, receipt_columns, wipe_columns, numbers_row}
+use Rattle.hall_rows.specs.Spelling.{IsNumbered, IsNamed, AreImages, AreCounts, Counts, Content, AreTables, Spells}
 
 module _ (old new : Database) (c : Content) (spells : Spells old c) where
   abbrev was : AreTables old.trees c
@@ -39,7 +39,7 @@ module _ (old new : Database) (c : Content) (spells : Spells old c) where
       operators = subst (λ rows. IsNamed (λ o. o.name) operator_columns rows c.hall.operators) (sym (set.others.1.0 (λ e. cc))) was.operators;
       pools = subst (λ rows. IsNamed (λ p. p.name) pool_columns rows c.hall.pools) (sym (set.others.1.1.0 (λ e. cc))) was.pools;
       members = subst (λ rows. IsNamed (λ m. pair m.pool m.operator) member_columns rows c.hall.members) (sym (set.others.1.1.1.0 (λ e. cc))) was.members;
-      images = subst (λ rows. IsNamed (λ (i : BootImage). i.name) image_columns rows c.hall.images) (sym (set.others.1.1.1.1.0 (λ e. cc))) was.images;
+      images = subst (λ rows. AreImages rows c.hall.images) (sym (set.others.1.1.1.1.0 (λ e. cc))) was.images;
       lives = subst (λ rows. IsNumbered (λ l. arch_number l.arch) live_columns rows c.hall.lives) (sym (set.others.1.1.1.1.1.0 (λ e. cc))) was.lives;
       machines = subst (λ rows. IsNumbered (λ m. m.id) machine_columns rows c.hall.machines) (sym (set.others.1.1.1.1.1.1.0 (λ e. cc))) was.machines;
       interfaces = subst (λ rows. IsNamed (λ i. i.mac) interface_columns rows c.hall.interfaces) (sym (set.others.1.1.1.1.1.1.1.0 (λ e. cc))) was.interfaces;
@@ -62,7 +62,7 @@ module _ (old new : Database) (c : Content) (spells : Spells old c) where
       operators = subst (λ rows. IsNamed (λ o. o.name) operator_columns rows x) (sym set.table) now;
       pools = subst (λ rows. IsNamed (λ p. p.name) pool_columns rows c.hall.pools) (sym (set.others.1.1.0 (λ e. cc))) was.pools;
       members = subst (λ rows. IsNamed (λ m. pair m.pool m.operator) member_columns rows c.hall.members) (sym (set.others.1.1.1.0 (λ e. cc))) was.members;
-      images = subst (λ rows. IsNamed (λ (i : BootImage). i.name) image_columns rows c.hall.images) (sym (set.others.1.1.1.1.0 (λ e. cc))) was.images;
+      images = subst (λ rows. AreImages rows c.hall.images) (sym (set.others.1.1.1.1.0 (λ e. cc))) was.images;
       lives = subst (λ rows. IsNumbered (λ l. arch_number l.arch) live_columns rows c.hall.lives) (sym (set.others.1.1.1.1.1.0 (λ e. cc))) was.lives;
       machines = subst (λ rows. IsNumbered (λ m. m.id) machine_columns rows c.hall.machines) (sym (set.others.1.1.1.1.1.1.0 (λ e. cc))) was.machines;
       interfaces = subst (λ rows. IsNamed (λ i. i.mac) interface_columns rows c.hall.interfaces) (sym (set.others.1.1.1.1.1.1.1.0 (λ e. cc))) was.interfaces;
@@ -85,7 +85,7 @@ module _ (old new : Database) (c : Content) (spells : Spells old c) where
       operators = subst (λ rows. IsNamed (λ o. o.name) operator_columns rows c.hall.operators) (sym (set.others.1.0 (λ e. cc))) was.operators;
       pools = subst (λ rows. IsNamed (λ p. p.name) pool_columns rows x) (sym set.table) now;
       members = subst (λ rows. IsNamed (λ m. pair m.pool m.operator) member_columns rows c.hall.members) (sym (set.others.1.1.1.0 (λ e. cc))) was.members;
-      images = subst (λ rows. IsNamed (λ (i : BootImage). i.name) image_columns rows c.hall.images) (sym (set.others.1.1.1.1.0 (λ e. cc))) was.images;
+      images = subst (λ rows. AreImages rows c.hall.images) (sym (set.others.1.1.1.1.0 (λ e. cc))) was.images;
       lives = subst (λ rows. IsNumbered (λ l. arch_number l.arch) live_columns rows c.hall.lives) (sym (set.others.1.1.1.1.1.0 (λ e. cc))) was.lives;
       machines = subst (λ rows. IsNumbered (λ m. m.id) machine_columns rows c.hall.machines) (sym (set.others.1.1.1.1.1.1.0 (λ e. cc))) was.machines;
       interfaces = subst (λ rows. IsNamed (λ i. i.mac) interface_columns rows c.hall.interfaces) (sym (set.others.1.1.1.1.1.1.1.0 (λ e. cc))) was.interfaces;
@@ -108,7 +108,7 @@ module _ (old new : Database) (c : Content) (spells : Spells old c) where
       operators = subst (λ rows. IsNamed (λ o. o.name) operator_columns rows c.hall.operators) (sym (set.others.1.0 (λ e. cc))) was.operators;
       pools = subst (λ rows. IsNamed (λ p. p.name) pool_columns rows c.hall.pools) (sym (set.others.1.1.0 (λ e. cc))) was.pools;
       members = subst (λ rows. IsNamed (λ m. pair m.pool m.operator) member_columns rows x) (sym set.table) now;
-      images = subst (λ rows. IsNamed (λ (i : BootImage). i.name) image_columns rows c.hall.images) (sym (set.others.1.1.1.1.0 (λ e. cc))) was.images;
+      images = subst (λ rows. AreImages rows c.hall.images) (sym (set.others.1.1.1.1.0 (λ e. cc))) was.images;
       lives = subst (λ rows. IsNumbered (λ l. arch_number l.arch) live_columns rows c.hall.lives) (sym (set.others.1.1.1.1.1.0 (λ e. cc))) was.lives;
       machines = subst (λ rows. IsNumbered (λ m. m.id) machine_columns rows c.hall.machines) (sym (set.others.1.1.1.1.1.1.0 (λ e. cc))) was.machines;
       interfaces = subst (λ rows. IsNamed (λ i. i.mac) interface_columns rows c.hall.interfaces) (sym (set.others.1.1.1.1.1.1.1.0 (λ e. cc))) was.interfaces;
@@ -121,7 +121,7 @@ module _ (old new : Database) (c : Content) (spells : Spells old c) where
   }
 
   -- the table `images` changes
-  pub sets_images : (stored : List Row) (x : Rows texts BootImage) → Sets 8 stored → IsNamed (λ (i : BootImage). i.name) image_columns stored x → Spells new (record c { hall = record c.hall { images = x } })
+  pub sets_images : (stored : List Row) (x : Rows texts BootImage) → Sets 8 stored → AreImages stored x → Spells new (record c { hall = record c.hall { images = x } })
   sets_images stored x set now = record {
     schema = set.same_schema;
     tables = record {
@@ -131,7 +131,7 @@ module _ (old new : Database) (c : Content) (spells : Spells old c) where
       operators = subst (λ rows. IsNamed (λ o. o.name) operator_columns rows c.hall.operators) (sym (set.others.1.0 (λ e. cc))) was.operators;
       pools = subst (λ rows. IsNamed (λ p. p.name) pool_columns rows c.hall.pools) (sym (set.others.1.1.0 (λ e. cc))) was.pools;
       members = subst (λ rows. IsNamed (λ m. pair m.pool m.operator) member_columns rows c.hall.members) (sym (set.others.1.1.1.0 (λ e. cc))) was.members;
-      images = subst (λ rows. IsNamed (λ (i : BootImage). i.name) image_columns rows x) (sym set.table) now;
+      images = subst (λ rows. AreImages rows x) (sym set.table) now;
       lives = subst (λ rows. IsNumbered (λ l. arch_number l.arch) live_columns rows c.hall.lives) (sym (set.others.1.1.1.1.1.0 (λ e. cc))) was.lives;
       machines = subst (λ rows. IsNumbered (λ m. m.id) machine_columns rows c.hall.machines) (sym (set.others.1.1.1.1.1.1.0 (λ e. cc))) was.machines;
       interfaces = subst (λ rows. IsNamed (λ i. i.mac) interface_columns rows c.hall.interfaces) (sym (set.others.1.1.1.1.1.1.1.0 (λ e. cc))) was.interfaces;
@@ -154,7 +154,7 @@ module _ (old new : Database) (c : Content) (spells : Spells old c) where
       operators = subst (λ rows. IsNamed (λ o. o.name) operator_columns rows c.hall.operators) (sym (set.others.1.0 (λ e. cc))) was.operators;
       pools = subst (λ rows. IsNamed (λ p. p.name) pool_columns rows c.hall.pools) (sym (set.others.1.1.0 (λ e. cc))) was.pools;
       members = subst (λ rows. IsNamed (λ m. pair m.pool m.operator) member_columns rows c.hall.members) (sym (set.others.1.1.1.0 (λ e. cc))) was.members;
-      images = subst (λ rows. IsNamed (λ (i : BootImage). i.name) image_columns rows c.hall.images) (sym (set.others.1.1.1.1.0 (λ e. cc))) was.images;
+      images = subst (λ rows. AreImages rows c.hall.images) (sym (set.others.1.1.1.1.0 (λ e. cc))) was.images;
       lives = subst (λ rows. IsNumbered (λ l. arch_number l.arch) live_columns rows x) (sym set.table) now;
       machines = subst (λ rows. IsNumbered (λ m. m.id) machine_columns rows c.hall.machines) (sym (set.others.1.1.1.1.1.1.0 (λ e. cc))) was.machines;
       interfaces = subst (λ rows. IsNamed (λ i. i.mac) interface_columns rows c.hall.interfaces) (sym (set.others.1.1.1.1.1.1.1.0 (λ e. cc))) was.interfaces;
@@ -177,7 +177,7 @@ module _ (old new : Database) (c : Content) (spells : Spells old c) where
       operators = subst (λ rows. IsNamed (λ o. o.name) operator_columns rows c.hall.operators) (sym (set.others.1.0 (λ e. cc))) was.operators;
       pools = subst (λ rows. IsNamed (λ p. p.name) pool_columns rows c.hall.pools) (sym (set.others.1.1.0 (λ e. cc))) was.pools;
       members = subst (λ rows. IsNamed (λ m. pair m.pool m.operator) member_columns rows c.hall.members) (sym (set.others.1.1.1.0 (λ e. cc))) was.members;
-      images = subst (λ rows. IsNamed (λ (i : BootImage). i.name) image_columns rows c.hall.images) (sym (set.others.1.1.1.1.0 (λ e. cc))) was.images;
+      images = subst (λ rows. AreImages rows c.hall.images) (sym (set.others.1.1.1.1.0 (λ e. cc))) was.images;
       lives = subst (λ rows. IsNumbered (λ l. arch_number l.arch) live_columns rows c.hall.lives) (sym (set.others.1.1.1.1.1.0 (λ e. cc))) was.lives;
       machines = subst (λ rows. IsNumbered (λ m. m.id) machine_columns rows x) (sym set.table) now;
       interfaces = subst (λ rows. IsNamed (λ i. i.mac) interface_columns rows c.hall.interfaces) (sym (set.others.1.1.1.1.1.1.1.0 (λ e. cc))) was.interfaces;
@@ -200,7 +200,7 @@ module _ (old new : Database) (c : Content) (spells : Spells old c) where
       operators = subst (λ rows. IsNamed (λ o. o.name) operator_columns rows c.hall.operators) (sym (set.others.1.0 (λ e. cc))) was.operators;
       pools = subst (λ rows. IsNamed (λ p. p.name) pool_columns rows c.hall.pools) (sym (set.others.1.1.0 (λ e. cc))) was.pools;
       members = subst (λ rows. IsNamed (λ m. pair m.pool m.operator) member_columns rows c.hall.members) (sym (set.others.1.1.1.0 (λ e. cc))) was.members;
-      images = subst (λ rows. IsNamed (λ (i : BootImage). i.name) image_columns rows c.hall.images) (sym (set.others.1.1.1.1.0 (λ e. cc))) was.images;
+      images = subst (λ rows. AreImages rows c.hall.images) (sym (set.others.1.1.1.1.0 (λ e. cc))) was.images;
       lives = subst (λ rows. IsNumbered (λ l. arch_number l.arch) live_columns rows c.hall.lives) (sym (set.others.1.1.1.1.1.0 (λ e. cc))) was.lives;
       machines = subst (λ rows. IsNumbered (λ m. m.id) machine_columns rows c.hall.machines) (sym (set.others.1.1.1.1.1.1.0 (λ e. cc))) was.machines;
       interfaces = subst (λ rows. IsNamed (λ i. i.mac) interface_columns rows x) (sym set.table) now;
@@ -223,7 +223,7 @@ module _ (old new : Database) (c : Content) (spells : Spells old c) where
       operators = subst (λ rows. IsNamed (λ o. o.name) operator_columns rows c.hall.operators) (sym (set.others.1.0 (λ e. cc))) was.operators;
       pools = subst (λ rows. IsNamed (λ p. p.name) pool_columns rows c.hall.pools) (sym (set.others.1.1.0 (λ e. cc))) was.pools;
       members = subst (λ rows. IsNamed (λ m. pair m.pool m.operator) member_columns rows c.hall.members) (sym (set.others.1.1.1.0 (λ e. cc))) was.members;
-      images = subst (λ rows. IsNamed (λ (i : BootImage). i.name) image_columns rows c.hall.images) (sym (set.others.1.1.1.1.0 (λ e. cc))) was.images;
+      images = subst (λ rows. AreImages rows c.hall.images) (sym (set.others.1.1.1.1.0 (λ e. cc))) was.images;
       lives = subst (λ rows. IsNumbered (λ l. arch_number l.arch) live_columns rows c.hall.lives) (sym (set.others.1.1.1.1.1.0 (λ e. cc))) was.lives;
       machines = subst (λ rows. IsNumbered (λ m. m.id) machine_columns rows c.hall.machines) (sym (set.others.1.1.1.1.1.1.0 (λ e. cc))) was.machines;
       interfaces = subst (λ rows. IsNamed (λ i. i.mac) interface_columns rows c.hall.interfaces) (sym (set.others.1.1.1.1.1.1.1.0 (λ e. cc))) was.interfaces;
@@ -246,7 +246,7 @@ module _ (old new : Database) (c : Content) (spells : Spells old c) where
       operators = subst (λ rows. IsNamed (λ o. o.name) operator_columns rows c.hall.operators) (sym (set.others.1.0 (λ e. cc))) was.operators;
       pools = subst (λ rows. IsNamed (λ p. p.name) pool_columns rows c.hall.pools) (sym (set.others.1.1.0 (λ e. cc))) was.pools;
       members = subst (λ rows. IsNamed (λ m. pair m.pool m.operator) member_columns rows c.hall.members) (sym (set.others.1.1.1.0 (λ e. cc))) was.members;
-      images = subst (λ rows. IsNamed (λ (i : BootImage). i.name) image_columns rows c.hall.images) (sym (set.others.1.1.1.1.0 (λ e. cc))) was.images;
+      images = subst (λ rows. AreImages rows c.hall.images) (sym (set.others.1.1.1.1.0 (λ e. cc))) was.images;
       lives = subst (λ rows. IsNumbered (λ l. arch_number l.arch) live_columns rows c.hall.lives) (sym (set.others.1.1.1.1.1.0 (λ e. cc))) was.lives;
       machines = subst (λ rows. IsNumbered (λ m. m.id) machine_columns rows c.hall.machines) (sym (set.others.1.1.1.1.1.1.0 (λ e. cc))) was.machines;
       interfaces = subst (λ rows. IsNamed (λ i. i.mac) interface_columns rows c.hall.interfaces) (sym (set.others.1.1.1.1.1.1.1.0 (λ e. cc))) was.interfaces;
@@ -269,7 +269,7 @@ module _ (old new : Database) (c : Content) (spells : Spells old c) where
       operators = subst (λ rows. IsNamed (λ o. o.name) operator_columns rows c.hall.operators) (sym (set.others.1.0 (λ e. cc))) was.operators;
       pools = subst (λ rows. IsNamed (λ p. p.name) pool_columns rows c.hall.pools) (sym (set.others.1.1.0 (λ e. cc))) was.pools;
       members = subst (λ rows. IsNamed (λ m. pair m.pool m.operator) member_columns rows c.hall.members) (sym (set.others.1.1.1.0 (λ e. cc))) was.members;
-      images = subst (λ rows. IsNamed (λ (i : BootImage). i.name) image_columns rows c.hall.images) (sym (set.others.1.1.1.1.0 (λ e. cc))) was.images;
+      images = subst (λ rows. AreImages rows c.hall.images) (sym (set.others.1.1.1.1.0 (λ e. cc))) was.images;
       lives = subst (λ rows. IsNumbered (λ l. arch_number l.arch) live_columns rows c.hall.lives) (sym (set.others.1.1.1.1.1.0 (λ e. cc))) was.lives;
       machines = subst (λ rows. IsNumbered (λ m. m.id) machine_columns rows c.hall.machines) (sym (set.others.1.1.1.1.1.1.0 (λ e. cc))) was.machines;
       interfaces = subst (λ rows. IsNamed (λ i. i.mac) interface_columns rows c.hall.interfaces) (sym (set.others.1.1.1.1.1.1.1.0 (λ e. cc))) was.interfaces;
@@ -292,7 +292,7 @@ module _ (old new : Database) (c : Content) (spells : Spells old c) where
       operators = subst (λ rows. IsNamed (λ o. o.name) operator_columns rows c.hall.operators) (sym (set.others.1.0 (λ e. cc))) was.operators;
       pools = subst (λ rows. IsNamed (λ p. p.name) pool_columns rows c.hall.pools) (sym (set.others.1.1.0 (λ e. cc))) was.pools;
       members = subst (λ rows. IsNamed (λ m. pair m.pool m.operator) member_columns rows c.hall.members) (sym (set.others.1.1.1.0 (λ e. cc))) was.members;
-      images = subst (λ rows. IsNamed (λ (i : BootImage). i.name) image_columns rows c.hall.images) (sym (set.others.1.1.1.1.0 (λ e. cc))) was.images;
+      images = subst (λ rows. AreImages rows c.hall.images) (sym (set.others.1.1.1.1.0 (λ e. cc))) was.images;
       lives = subst (λ rows. IsNumbered (λ l. arch_number l.arch) live_columns rows c.hall.lives) (sym (set.others.1.1.1.1.1.0 (λ e. cc))) was.lives;
       machines = subst (λ rows. IsNumbered (λ m. m.id) machine_columns rows c.hall.machines) (sym (set.others.1.1.1.1.1.1.0 (λ e. cc))) was.machines;
       interfaces = subst (λ rows. IsNamed (λ i. i.mac) interface_columns rows c.hall.interfaces) (sym (set.others.1.1.1.1.1.1.1.0 (λ e. cc))) was.interfaces;
@@ -315,7 +315,7 @@ module _ (old new : Database) (c : Content) (spells : Spells old c) where
       operators = subst (λ rows. IsNamed (λ o. o.name) operator_columns rows c.hall.operators) (sym (set.others.1.0 (λ e. cc))) was.operators;
       pools = subst (λ rows. IsNamed (λ p. p.name) pool_columns rows c.hall.pools) (sym (set.others.1.1.0 (λ e. cc))) was.pools;
       members = subst (λ rows. IsNamed (λ m. pair m.pool m.operator) member_columns rows c.hall.members) (sym (set.others.1.1.1.0 (λ e. cc))) was.members;
-      images = subst (λ rows. IsNamed (λ (i : BootImage). i.name) image_columns rows c.hall.images) (sym (set.others.1.1.1.1.0 (λ e. cc))) was.images;
+      images = subst (λ rows. AreImages rows c.hall.images) (sym (set.others.1.1.1.1.0 (λ e. cc))) was.images;
       lives = subst (λ rows. IsNumbered (λ l. arch_number l.arch) live_columns rows c.hall.lives) (sym (set.others.1.1.1.1.1.0 (λ e. cc))) was.lives;
       machines = subst (λ rows. IsNumbered (λ m. m.id) machine_columns rows c.hall.machines) (sym (set.others.1.1.1.1.1.1.0 (λ e. cc))) was.machines;
       interfaces = subst (λ rows. IsNamed (λ i. i.mac) interface_columns rows c.hall.interfaces) (sym (set.others.1.1.1.1.1.1.1.0 (λ e. cc))) was.interfaces;

@@ -10,5 +10,5 @@ pub use kinds::{
 };
 pub use values::{
     digest_in, mac_in, name_in, name_value, number_in, number_value, octets_value, request_key_in,
-    small_in, small_value, stored_number, token_in, truth_in, truth_value, uuid_in,
+    small_in, small_value, stored_number, text_value, token_in, truth_in, truth_value, uuid_in,
 };

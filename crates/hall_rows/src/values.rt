@@ -146,6 +146,13 @@ pub fn name_value(name: &Name) -> ValueRef<'_>
     ValueRef::Text(name.text().as_bytes())
 }
 
+/// A text as a parameter.
+pub fn text_value(text: &str) -> ValueRef<'_>
+    ensures { owned result ≡ Text text.now }
+{
+    ValueRef::Text(text.as_bytes())
+}
+
 /// Octets as a parameter.
 pub fn octets_value(octets: &[u8]) -> ValueRef<'_>
     ensures { owned result ≡ Blob octets.now }

@@ -1,14 +1,16 @@
 -- What the statements on machines write: a row that still has its version, with RETURNING, and a row that goes after its children.
-use Rattle.std.proofs.Common.{◌≡◌, ◌⊎◌, ◌&&◌, ◌||◌, ◌==◌, inl, inr, ℕ, pos, List, [], ◌∷◌, map, length, Bool, true, false, Option, Some, None, Ok, refl, sym, ap, ap₂, subst, ◌∙◌, int_eq, IsPermutation, arith}
+use Rattle.std.proofs.Common.{◌≡◌, ◌⊎◌, ◌&&◌, ◌||◌, ◌==◌, inl, inr, ℕ, pos, List, [], ◌∷◌, map, length, take, Bool, true, false, Option, Some, None, Ok, refl, sym, ap, ap₂, subst, ◌∙◌, int_eq, IsPermutation, arith}
 use Rattle.std.specs.List.{list_any, AllByRecursion}
+use Rattle.std.proofs.lemmas.List.{take-map}
 use Rattle.sqlite.specs.declared.types.Value.TheVariants.{Null, Text, Blob}
 use Rattle.sqlite.specs.Order.{Row}
 use Rattle.sqlite.specs.Term.{lit}
 use Rattle.sqlite.specs.Cast.{cast}
 use Rattle.sqlite.specs.Kind.TheVariants as kind
 use Rattle.sqlite.specs.Edit.{row_at}
-use Rattle.sqlite.specs.Values.{bound_value}
+use Rattle.sqlite.specs.Values.{bound, bound_value}
 use Rattle.sqlite.specs.State.{State, ExecutesInside, Shown}
+use Rattle.sqlite_value.specs.declared.value.ValueRef.{ValueRef}
 use Rattle.sqlite_rules.specs.Lists.{Has}
 use Rattle.sqlite_keyed.proofs.ListLemmas.{filter_same, any_from_none}
 use Rattle.hall_types.specs.Rows.{numbers, listed, same_key}
@@ -166,3 +168,7 @@ bound_number (Some n) = refl
 pub bound_status : (o : Option Status) → bound_value (or_null (λ s. number (status_number s)) o) ≡ or_null (λ s. number (status_number s)) o
 bound_status None = refl
 bound_status (Some s) = refl
+
+-- the values of a row are all of those with the version but the last
+pub row_bound : (checked : List ValueRef) (m : Machine) (was : ℕ) → bound checked ≡ checked_values m was → bound (take 15 checked) ≡ machine_values m
+row_bound checked m was is = sym (take-map _ 15 checked) ∙ ap (take 15) is

@@ -6,5 +6,5 @@ mod machines;
 mod orders;
 
 pub use boots::{find_boot, put_boot, remove_boots};
-pub use machines::{remove_row, set_machine};
-pub use orders::{find_order, put_order, remove_orders};
+pub use machines::{add_machine, remove_row, set_machine};
+pub use orders::{find_order, put_order, remove_orders, waiting_orders};

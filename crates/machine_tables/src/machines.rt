@@ -1,5 +1,5 @@
-//! The table of machines: a row that changes while it still has its version, and a row that goes after its children.
-ghost use Rattle.std.specs.Prelude.{◌≡◌, ◌⊎◌, ◌<◌, ◌^◌, IfOk, IfErr, IfSome, OnOk, IsTrue, [], ◌∷◌, true};
+//! The table of machines: a new row, a row that changes while it still has its version, and a row that goes after its children.
+ghost use Rattle.std.specs.Prelude.{◌≡◌, ◌⊎◌, ◌<◌, ◌≤◌, ◌^◌, length, take, IfOk, IfErr, IfSome, OnOk, IsTrue, [], ◌∷◌, true};
 ghost use Rattle.sqlite.specs.declared.types.Value.TheVariants.{Blob, Text};
 ghost use Rattle.sqlite.specs.Held.{state};
 ghost use Rattle.sqlite.specs.State.{HasCleanDisk, ExecutesInside, KeepsCommit, Survives, Shown, FailsToQuery, IsTooLate};
@@ -7,14 +7,14 @@ ghost use Rattle.sqlite.specs.Values.{bound};
 ghost use Rattle.sqlite_value.specs.Value.{owned};
 ghost use Rattle.hall_types.specs.Hall.{Hall};
 ghost use Rattle.hall_types.specs.Status.{status_number};
-ghost use Rattle.hall_schema.specs.MachineStatements.{remove_machine_text, set_machine_text};
-ghost use Rattle.hall_rows.specs.Columns.{number, or_null};
+ghost use Rattle.hall_schema.specs.MachineStatements.{add_machine_text, remove_machine_text, set_machine_text};
+ghost use Rattle.hall_rows.specs.Columns.{machine_values, number, or_null};
 ghost use Rattle.hall_rows.specs.Holding.{IsWithin};
 ghost use Rattle.hall_rows.specs.Spelling.{Content};
 ghost use Rattle.machine_tables.specs.Machines.{HasNoChild, HasVersion, checked_values, with_machine, without_row};
 
 use hall_rows::{name_value, number_value, octets_value, small_value, truth_value};
-use hall_schema::{REMOVE_MACHINE, SET_MACHINE};
+use hall_schema::{ADD_MACHINE, REMOVE_MACHINE, SET_MACHINE};
 use hall_types::{Machine, MachineUuid, Name, Number, Status, Version, arch_number};
 use sqlite::types::ValueRef;
 use sqlite::{Alter, Error, Row, Transaction};
@@ -102,6 +102,38 @@ fn checked_params<'a>(
         optional_number(machine.waiting),
         number_value(was.get()),
     ]
+}
+
+// The values of the row alone, of those with the version.
+fn row_params<'b, 'a>(checked: &'b [ValueRef<'a>]) -> &'b [ValueRef<'a>]
+    requires { 15 ≤ length checked.now }
+    ensures { result.now ≡ take 15 checked.now }
+{
+    &checked[..15]
+}
+
+// What the insertion of a machine does.
+fn add_raw<S: Alter>(tx: &mut Transaction<'_, S>, machine: &Machine) -> Result<usize, Error>
+    requires { IfSome machine.now.deadline (λ moment. moment < 2 ^ 63) }
+    ensures same_reference { tx.new.conn.ghost_name ≡ tx.old.conn.ghost_name }
+    ensures runs { HasCleanDisk (state S.Store tx.new.conn.now) → IsTrue (state S.Store tx.old.conn.now).in_transaction → ExecutesInside 0 add_machine_text (machine_values machine.now) (state S.Store tx.old.conn.now) (state S.Store tx.new.conn.now) result }
+    ensures survives { Survives (state S.Store tx.old.conn.now) (state S.Store tx.new.conn.now) (λ _. ⊥) }
+{
+    let uuid = uuid_octets(machine.uuid);
+    let params = checked_params(machine, machine.version, &uuid);
+    tx.execute(ADD_MACHINE, row_params(&params))
+}
+
+/// The row of a new machine. How its disks are erased is in a table of its own.
+pub fn add_machine<S: Alter>(tx: &mut Transaction<'_, S>, machine: &Machine) -> Result<usize, Error>
+    requires { IfSome machine.now.deadline (λ moment. moment < 2 ^ 63) }
+    ensures same_reference { tx.new.conn.ghost_name ≡ tx.old.conn.ghost_name }
+    ensures made { HasCleanDisk (state S.Store tx.new.conn.now) → OnOk result ((before : Hall) (c : Content) → IsWithin (state S.Store tx.old.conn.now) before c → IsWithin (state S.Store tx.new.conn.now) before (with_machine c machine.now)) }
+    ensures mode { HasCleanDisk (state S.Store tx.new.conn.now) → OnOk result (IsTrue (state S.Store tx.old.conn.now).in_transaction → (state S.Store tx.new.conn.now).in_transaction ≡ true) }
+    ensures kept { HasCleanDisk (state S.Store tx.new.conn.now) → IsTrue (state S.Store tx.old.conn.now).in_transaction → KeepsCommit (state S.Store tx.old.conn.now) (state S.Store tx.new.conn.now) }
+    ensures survives { Survives (state S.Store tx.old.conn.now) (state S.Store tx.new.conn.now) (λ _. ⊥) }
+{
+    add_raw(tx, machine)
 }
 
 // What the change of a machine shows: one row if it still has the version, none if it hasn't.

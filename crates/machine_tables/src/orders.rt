@@ -5,16 +5,18 @@ ghost use Rattle.sqlite.specs.Held.{state};
 ghost use Rattle.sqlite.specs.State.{HasCleanDisk, ExecutesInside, KeepsCommit, Survives, CommitsShowing, Shown, FailsToQuery, IsTooLate};
 ghost use Rattle.hall_types.specs.Rows.{at};
 ghost use Rattle.hall_types.specs.Hall.{Hall};
-ghost use Rattle.hall_schema.specs.MachineStatements.{add_order_text, find_order_text, remove_orders_text, set_order_text};
+ghost use Rattle.hall_types.specs.Lookup.{waiting};
+ghost use Rattle.hall_schema.specs.MachineStatements.{add_order_text, find_order_text, list_waiting_orders_text, remove_orders_text, set_order_text};
 ghost use Rattle.hall_rows.specs.Columns.{number, order_values};
 ghost use Rattle.hall_rows.specs.Holding.{IsAsked, IsWithin};
 ghost use Rattle.hall_rows.specs.Spelling.{Content};
 ghost use Rattle.machine_tables.specs.Orders.{with_order, without_orders};
 
 use hall_rows::{number_in, number_value, order_kind_in, order_stage_in, small_value};
-use hall_schema::{ADD_ORDER, FIND_ORDER, REMOVE_ORDERS, SET_ORDER};
+use hall_schema::{ADD_ORDER, FIND_ORDER, LIST_WAITING_ORDERS, REMOVE_ORDERS, SET_ORDER};
 use hall_types::{Number, Order};
 use sqlite::{Alter, Connection, Error, Row, Transaction};
+use std::alloc::Global;
 
 // What the query of the order with a number answers.
 fn order_rows<S: Alter>(conn: &mut Connection<S>, id: Number) -> Result<Vec<Row>, Error>
@@ -67,6 +69,49 @@ pub fn find_order<S: Alter>(conn: &mut Connection<S>, id: Number) -> Result<Opti
 {
     match rows_of_order(conn, id) {
         Ok(rows) => first_order(&rows),
+        Err(error) => Err(error),
+    }
+}
+
+// Each row as an order.
+fn all_orders(alloc: Global, rows: &Vec<Row>) -> Result<Vec<Order>, Error>
+    ensures { IfOk result (λ orders. rows.now.items ≡ map order_values orders.items) }
+{
+    let mut orders = Vec::new(alloc);
+    'rows: for row in rows {
+        let order = order_of(row)?;
+        orders.push(order)?;
+    }
+    Ok(orders)
+}
+
+// What the query of the orders that wait answers.
+fn waiting_rows<S: Alter>(conn: &mut Connection<S>) -> Result<Vec<Row>, Error>
+    ensures ok { HasCleanDisk (state S.Store conn.new) → IfOk result (λ rows. Shown list_waiting_orders_text [] (state S.Store conn.old) (state S.Store conn.new) rows.items) }
+    ensures err { HasCleanDisk (state S.Store conn.new) → IfErr result (FailsToQuery list_waiting_orders_text [] (state S.Store conn.old) (state S.Store conn.new)) }
+    ensures survives { Survives (state S.Store conn.old) (state S.Store conn.new) (CommitsShowing list_waiting_orders_text [] (state S.Store conn.old)) }
+{
+    conn.query_all(LIST_WAITING_ORDERS, &[])
+}
+
+// The same, in the words of the hall.
+fn rows_of_waiting<S: Alter>(conn: &mut Connection<S>) -> Result<Vec<Row>, Error>
+    ensures clean { HasCleanDisk (state S.Store conn.new) → HasCleanDisk (state S.Store conn.old) }
+    ensures asked { HasCleanDisk (state S.Store conn.new) → IsAsked (state S.Store conn.old) (state S.Store conn.new) result (λ h rows. rows.items ≡ map order_values (waiting h)) }
+{
+    waiting_rows(conn)
+}
+
+/// The orders that wait, by number. `alloc` is for the answer.
+pub fn waiting_orders<S: Alter>(
+    conn: &mut Connection<S>,
+    alloc: Global,
+) -> Result<Vec<Order>, Error>
+    ensures clean { HasCleanDisk (state S.Store conn.new) → HasCleanDisk (state S.Store conn.old) }
+    ensures asked { HasCleanDisk (state S.Store conn.new) → IsAsked (state S.Store conn.old) (state S.Store conn.new) result (λ h orders. orders.items ≡ waiting h) }
+{
+    match rows_of_waiting(conn) {
+        Ok(rows) => all_orders(alloc, &rows),
         Err(error) => Err(error),
     }
 }

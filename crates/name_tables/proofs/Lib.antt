@@ -1,2 +1,3 @@
+pub mod MemberLemmas
 pub mod OperatorLemmas
 pub mod PoolLemmas

@@ -1,8 +1,10 @@
-//! The tables of operators, pools, members, images, live images and receipts: each read and each write of a row.
+//! The tables of operators, pools and members: each read and each write of a row.
 #![tactic(auto)]
 
+mod members;
 mod operators;
 mod pools;
 
-pub use operators::{find_operator, put_operator};
+pub use members::{add_member, find_member};
+pub use operators::{find_operator, find_operator_with_digest, put_operator};
 pub use pools::{add_pool, find_pool};

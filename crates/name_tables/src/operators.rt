@@ -1,20 +1,22 @@
 //! The table of operators.
-ghost use Rattle.std.specs.Prelude.{◌≡◌, ◌⊎◌, IfOk, IfErr, OnOk, IsTrue, MatchBool, map, [], ◌∷◌, Option, None, true};
+ghost use Rattle.std.specs.Prelude.{◌≡◌, ◌⊎◌, IfOk, IfErr, OnOk, IsTrue, MatchBool, List, map, filter, slice_get, [], ◌∷◌, None, true};
 ghost use Rattle.std.specs.Option.{option_to_list};
-ghost use Rattle.sqlite.specs.declared.types.Value.TheVariants.{Text};
+ghost use Rattle.std.specs.Str.{bytes_eq};
+ghost use Rattle.sqlite.specs.declared.types.Value.TheVariants.{Blob, Text};
 ghost use Rattle.sqlite.specs.Held.{state};
 ghost use Rattle.sqlite.specs.State.{HasCleanDisk, ExecutesInside, KeepsCommit, Survives, CommitsShowing, Shown, FailsToQuery, IsTooLate};
-ghost use Rattle.hall_types.specs.Rows.{at};
+ghost use Rattle.hall_types.specs.Lookup.{operator_with_digest};
+ghost use Rattle.hall_types.specs.Rows.{at, listed};
 ghost use Rattle.hall_types.specs.Hall.{Hall};
-ghost use Rattle.hall_schema.specs.NameStatements.{add_operator_text, find_operator_text, set_operator_text};
+ghost use Rattle.hall_schema.specs.NameStatements.{add_operator_text, find_digest_text, find_operator_text, set_operator_text};
 ghost use Rattle.hall_rows.specs.Columns.{operator_columns};
 ghost use Rattle.hall_rows.specs.Holding.{IsAsked, IsWithin};
 ghost use Rattle.hall_rows.specs.Spelling.{Content};
 ghost use Rattle.name_tables.specs.Operators.{with_operator};
 
-use hall_rows::{digest_in, name_in, role_in, truth_in};
-use hall_schema::{ADD_OPERATOR, FIND_OPERATOR, SET_OPERATOR};
-use hall_types::{Name, Operator};
+use hall_rows::{digest_in, name_in, octets_value, role_in, truth_in};
+use hall_schema::{ADD_OPERATOR, FIND_DIGEST, FIND_OPERATOR, SET_OPERATOR};
+use hall_types::{Digest, Name, Operator};
 use sqlite::{Alter, Connection, Error, Row, Transaction, params};
 
 // What the query of the operator with a name answers.
@@ -53,7 +55,7 @@ fn operator_of(row: &Row) -> Result<Operator, Error>
 }
 
 fn first_operator(rows: &Vec<Row>) -> Result<Option<Operator>, Error>
-    ensures { IfOk result (λ found. (operator : Option _) → rows.now.items ≡ map operator_columns (option_to_list operator) → found ≡ operator) }
+    ensures { IfOk result (λ found. (operators : List _) → rows.now.items ≡ map operator_columns operators → found ≡ slice_get operators 0) }
 {
     match rows.first() {
         None => Ok(None),
@@ -70,6 +72,38 @@ pub fn find_operator<S: Alter>(
     ensures asked { HasCleanDisk (state S.Store conn.new) → IsAsked (state S.Store conn.old) (state S.Store conn.new) result (λ h operator. operator ≡ at h.operators name.now) }
 {
     match rows_of_operator(conn, name) {
+        Ok(rows) => first_operator(&rows),
+        Err(error) => Err(error),
+    }
+}
+
+// What the query of the operators with a digest answers.
+fn digest_rows<S: Alter>(conn: &mut Connection<S>, digest: &Digest) -> Result<Vec<Row>, Error>
+    ensures ok { HasCleanDisk (state S.Store conn.new) → IfOk result (λ rows. Shown find_digest_text (Blob digest.now ∷ []) (state S.Store conn.old) (state S.Store conn.new) rows.items) }
+    ensures err { HasCleanDisk (state S.Store conn.new) → IfErr result (FailsToQuery find_digest_text (Blob digest.now ∷ []) (state S.Store conn.old) (state S.Store conn.new)) }
+    ensures survives { Survives (state S.Store conn.old) (state S.Store conn.new) (CommitsShowing find_digest_text (Blob digest.now ∷ []) (state S.Store conn.old)) }
+{
+    let octets = digest.octets();
+    conn.query_all(FIND_DIGEST, &[octets_value(&octets)])
+}
+
+// The same, in the words of the hall.
+fn rows_of_digest<S: Alter>(conn: &mut Connection<S>, digest: &Digest) -> Result<Vec<Row>, Error>
+    ensures clean { HasCleanDisk (state S.Store conn.new) → HasCleanDisk (state S.Store conn.old) }
+    ensures asked { HasCleanDisk (state S.Store conn.new) → IsAsked (state S.Store conn.old) (state S.Store conn.new) result (λ h rows. rows.items ≡ map operator_columns (filter (λ o. bytes_eq o.digest digest.now) (listed h.operators))) }
+{
+    digest_rows(conn, digest)
+}
+
+/// The operator whose token has this digest, if there is one.
+pub fn find_operator_with_digest<S: Alter>(
+    conn: &mut Connection<S>,
+    digest: &Digest,
+) -> Result<Option<Operator>, Error>
+    ensures clean { HasCleanDisk (state S.Store conn.new) → HasCleanDisk (state S.Store conn.old) }
+    ensures asked { HasCleanDisk (state S.Store conn.new) → IsAsked (state S.Store conn.old) (state S.Store conn.new) result (λ h operator. operator ≡ operator_with_digest h digest.now) }
+{
+    match rows_of_digest(conn, digest) {
         Ok(rows) => first_operator(&rows),
         Err(error) => Err(error),
     }

@@ -40,3 +40,9 @@ allowed v m o version command is =
     let after_barred = first_none (when (is_barred m command) cause.Locked) _ after_stale.1 in
     let after_own = first_none (first_of (own v m command)) _ after_barred.1 in
     record { found = after_missing.0; unlocked = when_none (is_barred m command) cause.Locked after_barred.0; own = after_own.0 }
+
+-- its operator may act
+pub may_act : (v : CommandView) (m : Machine) (o : Operator) (version : Option ℕ) (command : MachineCommand) → first_of (causes_at (Some m) v o version command) ≡ None → forbidden o m v.is_member (action_of command) ≡ None
+may_act v m o version command is =
+    let after_missing = first_none (missing v m command) _ is in
+    (first_none (forbidden o m v.is_member (action_of command)) _ after_missing.1).0

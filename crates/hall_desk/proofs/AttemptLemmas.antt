@@ -1,0 +1,142 @@
+-- Attempts: what is carried out, what is answered without the hall, and what is missed.
+use Rattle.std.proofs.Common.{◌≡◌, ℕ, List, ◌∷◌, Result, Ok, Err, refl, sym, subst, inl, inr}
+use Rattle.std.specs.Prelude.{◌≢◌, ◌⊎◌, IfOk}
+use Rattle.dhcp_frame.specs.Message.{Message, IsFrame}
+use Rattle.dhcp_frame.specs.declared.fault.FrameFault.{FrameFault}
+use Rattle.pxe_vendor.specs.Client.{IsClient}
+use Rattle.pxe_vendor.specs.Place.{Site}
+use Rattle.pxe_vendor.specs.declared.clients.Client.{Client}
+use Rattle.pxe_vendor.specs.declared.serve.NotServed.{NotServed}
+use Rattle.pxe_vendor.specs.declared.serve.NotServed.TheVariants.{Memory}
+use Rattle.hall_types.specs.Hall.{Hall, applied, second}
+use Rattle.hall_events.specs.Reply.{Content, refused}
+use Rattle.hall_events.specs.declared.event.Event.{Event}
+use Rattle.boot_desk.specs.Sound.{IsSound}
+use Rattle.hall_machine.specs.Decision.{decision_of}
+use Rattle.hall_request.specs.Request.{IsEvent}
+use Rattle.hall_request.specs.declared.fault.HttpFault.{HttpFault}
+use Rattle.hall_request.specs.declared.fault.HttpFault.TheVariants.{Memory as NoMemory}
+use Rattle.hall_store.specs.Rules.{AllKeep}
+use Rattle.hall_desk.specs.Attempt.{IsAnswered, IsAttempt}
+use Rattle.hall_desk.specs.Octets.{asks, answered, IsFrom, Means, missed_answer, refusal_of, response_answer}
+use Rattle.hall_desk.specs.Plan.{IsCarriedOut}
+use Rattle.hall_desk.specs.declared.arrival.Answer.{Answer}
+use Rattle.hall_desk.specs.declared.arrival.Input.{Input}
+use Rattle.hall_desk.specs.declared.arrival.Input.TheVariants.{Request}
+use Rattle.hall_store.specs.declared.store.Unavailable.{Unavailable}
+
+-- the rows of every decision keep the tables' rules and a sound hall
+pub record AreRules : Type 0 where
+  pub keep : (site : Site) (h : Hall) (e : Event) (moment : ℕ) (fresh : List ℕ) → IsSound h → h.schema ≡ second → AllKeep (decision_of site h e moment fresh).rows h
+  pub sound : (site : Site) (h : Hall) (e : Event) (moment : ℕ) (fresh : List ℕ) → IsSound h → h.schema ≡ second → IsSound (applied (decision_of site h e moment fresh).rows h)
+
+module _ {S : Type 0} (holds : S → Hall → Type 0) (leaves : S → List Hall → Type 0) where
+  -- an arrival that asks the hall
+  pub attempt_asked : AreRules → ((s : S) (h : Hall) → holds s h → h.schema ≡ second)
+      → (old new : S) (site : Site) (input : Input) (moment : ℕ) (fresh : List ℕ) (e : Event) (say : Content → Answer) → Means site input (asks e say)
+      → (r : Result Answer Unavailable)
+      → IsCarriedOut holds leaves old new r (λ h. (decision_of site h e moment fresh).rows) (λ h a. a ≡ say (decision_of site h e moment fresh).content)
+      → IsAttempt holds leaves old new site input moment fresh r
+  attempt_asked rules schema old new site input moment fresh e say means (Ok a) c = record {
+    came = λ h held sound. record {
+      next = applied (decision_of site h e moment fresh).rows h;
+      come = record { meaning = asks e say; means = means; leads = (c.answer h held, refl) };
+      held = c.made h held (rules.keep site h e moment fresh sound (schema old h held));
+      sound = rules.sound site h e moment fresh sound (schema old h held);
+      settled = λ left. c.settled h held (rules.keep site h e moment fresh sound (schema old h held)) left;
+    };
+    missed = tt;
+    crash = λ h held sound hs left. record {
+      next = applied (decision_of site h e moment fresh).rows h;
+      answer = say (decision_of site h e moment fresh).content;
+      step = inl (record { meaning = asks e say; means = means; leads = (refl, refl) });
+      left = c.crash h held (rules.keep site h e moment fresh sound (schema old h held)) hs left;
+    };
+  }
+  attempt_asked rules schema old new site input moment fresh e say means (Err error) c = record {
+    came = tt;
+    missed = c.same;
+    crash = λ h held sound hs left. record {
+      next = applied (decision_of site h e moment fresh).rows h;
+      answer = say (decision_of site h e moment fresh).content;
+      step = inl (record { meaning = asks e say; means = means; leads = (refl, refl) });
+      left = c.crash h held (rules.keep site h e moment fresh sound (schema old h held)) hs left;
+    };
+  }
+
+  module _ (wider : (s : S) (h : Hall) (hs : List Hall) → leaves s hs → leaves s (h ∷ hs)) (s : S) (site : Site) (input : Input) (moment : ℕ) (fresh : List ℕ) where
+    -- one that is answered without the hall
+    pub attempt_answered : (a : Answer) → Means site input (answered a)
+        → IsAttempt holds leaves s s site input moment fresh {E = Unavailable} (Ok a)
+    attempt_answered a means = record {
+      came = λ h held sound. record {
+        next = h;
+        come = record { meaning = answered a; means = means; leads = (refl, refl) };
+        held = held;
+        sound = sound;
+        settled = λ left. left;
+      };
+      missed = tt;
+      crash = λ h held sound hs left. record {
+        next = h;
+        answer = a;
+        step = inl (record { meaning = answered a; means = means; leads = (refl, refl) });
+        left = wider s h hs left;
+      };
+    }
+
+    -- one that counts as not having come
+    pub attempt_missed : (e : Unavailable) → IsAttempt holds leaves s s site input moment fresh (Err e)
+    attempt_missed e = record {
+      came = tt;
+      missed = λ h held. held;
+      crash = λ h held sound hs left. record {
+        next = h;
+        answer = missed_answer input;
+        step = inr (record { answer = refl; same = refl });
+        left = wider s h hs left;
+      };
+    }
+
+  -- a request that makes no event
+  pub attempt_refused : (wider : (s : S) (h : Hall) (hs : List Hall) → leaves s hs → leaves s (h ∷ hs))
+      → (s : S) (site : Site) (octets : List ℕ) (moment : ℕ) (fresh : List ℕ) (fault : HttpFault) → IsEvent octets (Err fault) → fault ≢ NoMemory
+      → (r : Result Answer Unavailable) → IfOk r (λ a. a ≡ response_answer (refused (refusal_of fault)))
+      → IsAttempt holds leaves s s site (Request octets) moment fresh r
+  attempt_refused wider s site octets moment fresh fault first known (Ok a) is =
+      attempt_answered wider s site (Request octets) moment fresh a (record { why = fault; first = first; known = known; answer = is })
+  attempt_refused wider s site octets moment fresh fault first known (Err error) is = attempt_missed wider s site (Request octets) moment fresh error
+
+-- ---- datagrams without a client
+
+abbrev frame_ok : Message → Result Message FrameFault
+frame_ok message = Ok message
+
+abbrev client_ok : Client → Result Client NotServed
+client_ok client = Ok client
+
+abbrev client_err : NotServed → Result Client NotServed
+client_err cause = Err cause
+
+pub no_frame : (octets : List ℕ) (fault : FrameFault)
+    → ((message : Message) → IsFrame octets message → Err fault ≡ Ok message) → (message : Message) (client : Client) → IsFrom octets message client → ⊥
+no_frame octets fault only message client is = let e = only message is.carries in cc
+
+pub no_client : (octets : List ℕ) (read : Message) (cause : NotServed)
+    → ((other : Message) → IsFrame octets other → frame_ok read ≡ frame_ok other)
+    → ((client : Client) → IsClient read client → (client_err cause ≡ client_ok client) ⊎ (client_err cause ≡ client_err Memory)) → (cause ≡ Memory → ⊥)
+    → (message : Message) (client : Client) → IsFrom octets message client → ⊥
+no_client octets read cause only clients other message client is =
+    let e = only message is.carries in
+    let same : read ≡ message = cc in
+    elim (clients client (subst (λ (m : Message). IsClient m client) (sym same) is.sent)) [ inl gone ↦ absurd cc | inr memory ↦ other cc ]
+
+-- ---- answers
+
+module _ {S : Type 0} (holds : S → Hall → Type 0) (leaves : S → List Hall → Type 0) (old new : S) (site : Site) (input : Input) (moment : ℕ) (fresh : List ℕ) where
+  pub answered_ok : (a : Answer) → IsAttempt holds leaves old new site input moment fresh {E = Unavailable} (Ok a) → IsAnswered holds leaves old new site input moment fresh a
+  answered_ok a it = record { step = λ h held sound. inl (it.came h held sound); crash = it.crash }
+
+  pub answered_err : (e : Unavailable) (a : Answer) → a ≡ missed_answer input → IsAttempt holds leaves old new site input moment fresh (Err e)
+      → IsAnswered holds leaves old new site input moment fresh a
+  answered_err e a is it = record { step = λ h held sound. inr (record { answer = is; same = refl }, it.missed h held); crash = it.crash }

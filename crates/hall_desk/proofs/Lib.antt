@@ -1,0 +1,3 @@
+pub mod AttemptLemmas
+pub mod ListingLemmas
+pub mod RunLemmas

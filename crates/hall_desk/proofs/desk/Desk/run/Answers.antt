@@ -1,0 +1,43 @@
+use Rattle.std.proofs.Common.{rules, arith, ◌≡◌, ◌<◌, List, [], refl, sym, ◌∙◌, length, take, subst}
+use Rattle.std.proofs.lemmas.Grind.{common_steps}
+use Rattle.std.proofs.lemmas.List.{take_more}
+use Rattle.hall_desk.specs.Attempt.{IsRan}
+use Rattle.hall_desk.specs.Desk.{site_of, store_of}
+use Rattle.hall_desk.specs.declared.arrival.Answer.{Answer}
+use Rattle.hall_desk.specs.declared.arrival.Arrival.{Arrival}
+use Rattle.hall_desk.proofs.RunLemmas.{ran_more, ran_none}
+use Rattle.hall_desk.proofs.desk.Desk.run.Goals as goal
+
+pub loop-arrival-init : goal.loop-arrival-init
+loop-arrival-init g c = record {
+  clean = λ clean. clean;
+  site = refl;
+  ran = λ clean h held sound.
+      subst (λ (answers : List Answer). IsRan g.S.HallStore.holds (store_of c.args.self.now) (site_of c.args.self.now) h [] answers) (sym c.in_ok-answers.ensures.items)
+      (ran_none g.S.HallStore.holds g.S.HallStore.leaves (site_of c.args.self.now) (store_of c.args.self.now) h held sound);
+  count = search rules;
+  room = search rules;
+}
+
+pub loop-arrival-preserved : goal.loop-arrival-preserved
+loop-arrival-preserved g c =
+    let here : c.loop-arrival.arrival-index < length c.args.arrivals.now = c.loop-arrival-test.true in
+    let before = c.loop-arrival.invariant in
+    record {
+      clean = λ clean. before.clean (c.answer-answer.ensures.clean clean);
+      site = c.answer-answer.ensures.site ∙ before.site;
+      ran = λ clean h held sound.
+          rw (take_more c.args.arrivals.now c.loop-arrival.arrival-index c.arrival-item.result here, sym c.arrival-item.is, c.push.ensures.items, c.if-is_err.ensures.negation)
+          (ran_more g.S.HallStore.holds g.S.HallStore.leaves (site_of c.args.self.now) (site_of c.loop-arrival.self) before.site
+          (store_of c.loop-arrival.self) (store_of c.answer-answer.new.self) h
+          (take c.loop-arrival.arrival-index c.args.arrivals.now) c.loop-arrival.answers.items c.arrival-item.result c.answer-answer.result
+          (before.ran (c.answer-answer.ensures.clean clean) h held sound) (c.answer-answer.ensures.answer clean));
+      count = grind (arith, common_steps);
+      room = omega (arith, before.room, c.push.ensures.capacity);
+    }
+
+pub returns-clause-run : goal.returns-clause-run
+returns-clause-run g c = λ clean h held sound.
+    let whole : take c.loop-arrival.arrival-index c.args.arrivals.now ≡ c.args.arrivals.now = grind (arith, common_steps) in
+    subst (λ (arrivals : List Arrival). IsRan g.S.HallStore.holds (store_of c.loop-arrival.self) (site_of c.args.self.now) h arrivals c.loop-arrival.answers.items) whole
+    (c.loop-arrival.invariant.ran clean h held sound)

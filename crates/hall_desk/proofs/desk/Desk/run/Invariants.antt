@@ -1,0 +1,18 @@
+use Rattle.std.proofs.Common.{◌≡◌, ◌≤◌, take, length, vec_len}
+use Rattle.std.specs.Prelude.{vec_capacity}
+use Rattle.hall_types.specs.Hall.{Hall}
+use Rattle.boot_desk.specs.Sound.{IsSound}
+use Rattle.hall_desk.specs.Attempt.{IsRan}
+use Rattle.hall_desk.specs.Desk.{site_of, store_of}
+use Rattle.hall_desk.proofs.desk.Desk.run.Given as goal
+
+-- what was answered so far is a run, and there is room for the rest
+abbrev pub invariant-loop-arrival : goal.invariant-loop-arrival
+invariant-loop-arrival g l = record {
+  clean : g.S.HallStore.is_clean (store_of l.self) → g.S.HallStore.is_clean (store_of l.fn.self);
+  site : site_of l.self ≡ site_of l.fn.self;
+  ran : g.S.HallStore.is_clean (store_of l.self) → (h : Hall) → g.S.HallStore.holds (store_of l.fn.self) h → IsSound h
+      → IsRan g.S.HallStore.holds (store_of l.self) (site_of l.fn.self) h (take l.arrival-index l.arrivals) l.answers.items;
+  count : vec_len l.answers ≡ l.arrival-index;
+  room : length l.arrivals ≤ vec_capacity l.answers;
+}

@@ -1,0 +1,44 @@
+-- What carrying an arrival out promises, over any store.
+use Rattle.std.specs.Prelude.{◌⊎◌, ℕ, List, [], ◌∷◌, Result, IfOk, OnErr}
+use Rattle.pxe_vendor.specs.Place.{Site}
+use Rattle.hall_types.specs.Hall.{Hall}
+use Rattle.boot_desk.specs.Sound.{IsSound}
+use Rattle.hall_desk.specs.Octets.{HasCome, HasMissed, IsArrivalStep, IsArrivalRun}
+use Rattle.hall_desk.specs.declared.arrival.Answer.{Answer}
+use Rattle.hall_desk.specs.declared.arrival.Arrival.{Arrival}
+use Rattle.hall_desk.specs.declared.arrival.Input.{Input}
+
+-- `holds` says which hall a store has, and `leaves` that a stop leaves one of these halls
+module _ {S : Type 0} (holds : S → Hall → Type 0) (leaves : S → List Hall → Type 0) (old new : S) (site : Site) (input : Input) (moment : ℕ) (fresh : List ℕ) where
+  -- what came is in the store: the next hall is sound, and if a stop left the hall before alone, it leaves that one alone
+  pub record IsKept (h : Hall) (a : Answer) : Type 0 where
+    pub next : Hall
+    pub come : HasCome site h input moment fresh a next
+    pub held : holds new next
+    pub sound : IsSound next
+    pub settled : leaves old (h ∷ []) → leaves new (next ∷ [])
+
+  -- a stop leaves what it left before, or the hall that one step leads to, whatever was answered
+  pub record IsTorn (h : Hall) (hs : List Hall) : Type 0 where
+    pub next : Hall
+    pub answer : Answer
+    pub step : IsArrivalStep site h input moment fresh answer next
+    pub left : leaves new (next ∷ hs)
+
+  -- An arrival is carried out, and its answer given; or it counts as not having come.
+  pub record IsAttempt {E : Type 0} (r : Result Answer E) : Type 0 where
+    pub came : IfOk r (λ a. (h : Hall) → holds old h → IsSound h → IsKept h a)
+    pub missed : OnErr r ((h : Hall) → holds old h → holds new h)
+    pub crash : (h : Hall) → holds old h → IsSound h → (hs : List Hall) → leaves old hs → IsTorn h hs
+
+  -- An arrival is answered.
+  pub record IsAnswered (a : Answer) : Type 0 where
+    pub step : (h : Hall) → holds old h → IsSound h → IsKept h a ⊎ (HasMissed h input a h × holds new h)
+    pub crash : (h : Hall) → holds old h → IsSound h → (hs : List Hall) → leaves old hs → IsTorn h hs
+
+-- A run leads from this hall, each arrival with its answer, to a sound one that the store has.
+pub record IsRan {S : Type 0} (holds : S → Hall → Type 0) (store : S) (site : Site) (h : Hall) (arrivals : List Arrival) (answers : List Answer) : Type 0 where
+  pub end : Hall
+  pub run : IsArrivalRun site h arrivals answers end
+  pub held : holds store end
+  pub sound : IsSound end

@@ -1,0 +1,4 @@
+pub mod Attempt
+pub mod Desk
+pub mod Octets
+pub mod Plan

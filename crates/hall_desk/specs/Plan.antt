@@ -1,0 +1,31 @@
+-- What is planned for an event, and what writing it promises, over any store.
+use Rattle.std.specs.Prelude.{◌≡◌, List, [], ◌∷◌, Result, IfOk, OnOk, OnErr}
+use Rattle.hall_types.specs.Hall.{Hall, applied, second}
+use Rattle.hall_types.specs.declared.change.RowWrite.{RowWrite}
+use Rattle.hall_events.specs.Reply.{reply_of}
+use Rattle.hall_events.specs.declared.reply.Reply.{Reply}
+use Rattle.hall_store.specs.Rules.{AllKeep}
+use Rattle.hall_machine.specs.Decision.{Decided}
+
+-- the rows and the answer are those of the decision
+pub record IsPlanOf (decided : Decided) (rows : List RowWrite) (reply : Reply) : Type 0 where
+  pub writes : rows ≡ decided.rows
+  pub answers : reply ≡ reply_of second decided.content
+
+abbrev pub Plans : Decided → List RowWrite × Reply → Type 0
+Plans decided planned = IsPlanOf decided planned.0 planned.1
+
+-- `holds` says which hall a store has, and `leaves` that a stop leaves one of these halls
+module _ {S : Type 0} (holds : S → Hall → Type 0) (leaves : S → List Hall → Type 0) (old new : S) {Y E : Type 0} (r : Result Y E) where
+  -- Reads, and then a write of these rows if there are any. An answer is right for the hall before.
+  pub record IsCarriedOut (rows : Hall → List RowWrite) (Right : Hall → Y → Type 0) : Type 0 where
+    -- the answer is right for the hall that the store had
+    pub answer : IfOk r (λ y. (h : Hall) → holds old h → Right h y)
+    -- once it is answered, all of the rows are written, if they keep the tables' rules
+    pub made : OnOk r ((h : Hall) → holds old h → AllKeep (rows h) h → holds new (applied (rows h) h))
+    -- a refusal writes none
+    pub same : OnErr r ((h : Hall) → holds old h → holds new h)
+    -- a stop leaves what it left before, or the hall with all of the rows
+    pub crash : (h : Hall) → holds old h → AllKeep (rows h) h → (hs : List Hall) → leaves old hs → leaves new (applied (rows h) h ∷ hs)
+    -- once it is answered, a stop leaves the hall with all of the rows alone, if it left the hall before alone
+    pub settled : OnOk r ((h : Hall) → holds old h → AllKeep (rows h) h → leaves old (h ∷ []) → leaves new (applied (rows h) h ∷ []))

@@ -1,0 +1,16 @@
+//! The desk: what comes is decided on a hall's rows, written to the store, and answered.
+#![tactic(auto)]
+
+mod arrival;
+mod attempts;
+mod carrying;
+mod desk;
+mod listing;
+mod octets;
+mod planning;
+mod plans;
+mod requests;
+mod writing;
+
+pub use arrival::{Answer, Arrival, Input};
+pub use desk::Desk;

@@ -1,0 +1,79 @@
+//! The list of all machines.
+ghost use Rattle.std.specs.Prelude.{◌≡◌, ◌==◌, filter, fold, map, IfOk, OnOk, ℕ};
+ghost use Rattle.std.specs.List.Sorted.{IsNonDecreasingBy};
+ghost use Rattle.hall_types.specs.Hall.{second};
+ghost use Rattle.hall_types.specs.Rows.{listed as rows_of};
+ghost use Rattle.hall_events.specs.Reply.{listed, listing, machine_list, reply_of, with_machine};
+ghost use Rattle.hall_machine.specs.Decision.{listed_of, says};
+ghost use Rattle.hall_views.specs.Look.{IsLook};
+ghost use Rattle.hall_desk.specs.Plan.{Plans};
+
+use crate::requests::said;
+use hall_events::{MachineList, Reply};
+use hall_store::{HallStore, Unavailable};
+use hall_types::{Change, Interface, Machine, Number};
+use std::alloc::{AllocError, Global};
+
+// Sorts interfaces by machine; those of one machine keep their order.
+fn sort_by_machine(interfaces: &mut Vec<Interface>) -> Result<(), AllocError>
+    ensures sorted { OnOk result (IsNonDecreasingBy (λ i. i.machine) interfaces.new.items) }
+    ensures same { OnOk result ((id : ℕ) → filter (λ i. i.machine == id) interfaces.new.items ≡ filter (λ i. i.machine == id) interfaces.old.items) }
+{
+    interfaces.sort_by_key(|interface| interface.machine.get())
+}
+
+// The interfaces of a machine among those that are sorted by machine.
+fn own_interfaces(interfaces: &[Interface], id: Number) -> &[Interface]
+    requires { IsNonDecreasingBy (λ i. i.machine) interfaces.now }
+    ensures { result.now ≡ filter (λ i. i.machine == id) interfaces.now }
+{
+    let first = interfaces.partition_point(|interface| interface.machine.get() < id.get());
+    let (_, rest) = interfaces.split_at(first);
+    let count = rest.partition_point(|interface| interface.machine.get() <= id.get());
+    let (own, _) = rest.split_at(count);
+    own
+}
+
+// The answer with machines, each with its interfaces, which are sorted by machine.
+fn sorted_reply(
+    alloc: Global,
+    machines: &[Machine],
+    interfaces: &[Interface],
+) -> Result<Reply, AllocError>
+    requires { IsNonDecreasingBy (λ i. i.machine) interfaces.now }
+    ensures { IfOk result (λ reply. reply ≡ reply_of second
+        (machine_list (map (λ m. listed m (filter (λ i. i.machine == m.id) interfaces.now)) machines.now))) }
+{
+    let mut list = MachineList::new(alloc)?;
+    for machine in machines {
+        list.push(alloc, machine, own_interfaces(interfaces, machine.id))?;
+    }
+    list.finish()
+}
+
+// The answer with machines, each with its interfaces.
+fn machine_list_reply(
+    alloc: Global,
+    machines: &[Machine],
+    interfaces: &mut Vec<Interface>,
+) -> Result<Reply, AllocError>
+    ensures { IfOk result (λ reply. reply ≡ reply_of second
+        (machine_list (map (λ m. listed m (filter (λ i. i.machine == m.id) interfaces.old.items)) machines.now))) }
+{
+    sort_by_machine(interfaces)?;
+    sorted_reply(alloc, machines, interfaces)
+}
+
+/// The answer with all machines, by number, each with its interfaces, by address.
+pub(crate) fn list_machines<S: HallStore>(
+    alloc: Global,
+    store: &mut S,
+) -> Result<(Change, Reply), Unavailable>
+    ensures clean { S.HallStore.is_clean store.new → S.HallStore.is_clean store.old }
+    ensures look { S.HallStore.is_clean store.new → IsLook S.HallStore.holds S.HallStore.leaves store.old store.new result
+        (λ h planned. Plans (says (machine_list (map (listed_of h) (rows_of h.machines)))) planned) }
+{
+    let machines = store.machines(alloc)?;
+    let mut interfaces = store.interfaces(alloc)?;
+    said(alloc, machine_list_reply(alloc, &machines, &mut interfaces))
+}

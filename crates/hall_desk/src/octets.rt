@@ -1,0 +1,92 @@
+//! Answers in octets.
+ghost use Rattle.std.specs.Prelude.{◌≡◌, IfOk, IsTrue};
+ghost use Rattle.hall_events.specs.Reply.{reply_of};
+ghost use Rattle.hall_http.specs.Response.{IsStatus};
+ghost use Rattle.hall_types.specs.Hall.{second};
+ghost use Rattle.hall_events.specs.Reply as content;
+ghost use Rattle.hall_events.specs.Reply.{Content};
+ghost use Rattle.hall_desk.specs.Octets.{refusal_of, response_answer};
+ghost use Rattle.pxe_vendor.specs.Place.{Site};
+ghost use Rattle.hall_types.specs.Hall.{Hall};
+ghost use Rattle.hall_machine.specs.Decision.{framed};
+ghost use Rattle.hall_desk.specs.Octets.{frame_answer};
+
+use crate::arrival::Answer;
+use boot_desk::Decision;
+use dhcp_frame::Frame;
+use hall_events::Reply;
+use hall_http::{HttpFault, bytes_of};
+use hall_store::Unavailable;
+use hall_types::Refusal;
+use pxe_vendor::{Client, Octets, Place, boot_reply};
+use std::alloc::Global;
+
+// Whether a status is one of those of responses.
+fn is_status(status: u16) -> bool
+    ensures { IsTrue result → IsStatus status }
+{
+    matches!(
+        status,
+        200 | 400 | 401 | 403 | 404 | 405 | 409 | 410 | 411 | 412 | 413 | 423 | 503
+    )
+}
+
+/// The response with an answer by HTTP. `Unavailable` if memory is wanting, or a receipt kept a status that no response
+/// has.
+pub(crate) fn response(alloc: Global, reply: &Reply) -> Result<Answer, Unavailable>
+    ensures { (said : Content) → reply.now ≡ reply_of second said → IfOk result (λ answer. answer ≡ response_answer said) }
+{
+    let Reply::Http { status, .. } = reply else {
+        return Err(Unavailable);
+    };
+    if !is_status(*status) {
+        return Err(Unavailable);
+    }
+    match bytes_of(alloc, reply) {
+        Ok(octets) => Ok(Answer::Octets(Octets::from(octets))),
+        Err(_) => Err(Unavailable),
+    }
+}
+
+// The refusal of a request that makes no event.
+fn refusal_of(fault: HttpFault) -> Refusal
+    ensures { result ≡ refusal_of fault }
+{
+    match fault {
+        HttpFault::BadRequest => Refusal::BadRequest,
+        HttpFault::NoRoute => Refusal::NoRoute,
+        HttpFault::WrongMethod => Refusal::WrongMethod,
+        HttpFault::NeedLength => Refusal::NeedLength,
+        HttpFault::TooLarge => Refusal::TooLarge,
+        HttpFault::Memory => Refusal::Unavailable,
+    }
+}
+
+/// The response to a request that makes no event.
+pub(crate) fn fault_response(alloc: Global, fault: HttpFault) -> Result<Answer, Unavailable>
+    ensures { IfOk result (λ answer. answer ≡ response_answer (content.refused (refusal_of fault))) }
+{
+    match Reply::refused(alloc, refusal_of(fault)) {
+        Ok(reply) => response(alloc, &reply),
+        Err(_) => Err(Unavailable),
+    }
+}
+
+/// The answer to a client's frame.
+pub(crate) fn client_answer(
+    alloc: Global,
+    decision: Decision,
+    frame: &Frame<'_>,
+    client: &Client,
+    place: &Place,
+) -> Result<Answer, Unavailable>
+    ensures { (h : Hall) → IfOk result (λ answer. answer ≡ frame_answer place.now frame.now client.now (framed decision place.now h client.now).content) }
+{
+    if let Decision::Silent(_) = decision {
+        return Ok(Answer::Silence);
+    }
+    match boot_reply(alloc, frame, client, place) {
+        Ok(octets) => Ok(Answer::Octets(Octets::from(octets))),
+        Err(_) => Err(Unavailable),
+    }
+}

@@ -1,0 +1,55 @@
+//! What is planned for every event.
+ghost use Rattle.hall_machine.specs.Decision.{decision_of};
+ghost use Rattle.hall_views.specs.Look.{IsLook};
+ghost use Rattle.hall_desk.specs.Plan.{Plans};
+
+use crate::plans::{plan_frame, plan_quiet, plan_report, plan_script};
+use crate::requests::{
+    plan_command, plan_machines, plan_one_machine, plan_order_answer, plan_orders,
+};
+use hall_events::{Event, Reply};
+use hall_store::{HallStore, Unavailable};
+use hall_types::{Change, Moment, Token};
+use pxe_vendor::Place;
+use std::alloc::Global;
+
+/// What is planned for an event: the rows to write, and the answer. The store's hall isn't changed.
+#[tactic(auto, unfolding(hall_machine::specs::Decision::decision_of))]
+pub(crate) fn planned<S: HallStore>(
+    alloc: Global,
+    store: &mut S,
+    place: &Place,
+    event: &Event,
+    moment: Moment,
+    fresh: Token,
+) -> Result<(Change, Reply), Unavailable>
+    ensures clean { S.HallStore.is_clean store.new → S.HallStore.is_clean store.old }
+    ensures look { S.HallStore.is_clean store.new → IsLook S.HallStore.holds S.HallStore.leaves store.old store.new result
+        (λ h its. Plans (decision_of place.now h event.now moment fresh) its) }
+{
+    match event {
+        Event::Frame { port, client } => plan_frame(alloc, store, place, *port, client),
+        Event::Script { mac } => plan_script(alloc, store, place, *mac, moment, fresh),
+        Event::Report {
+            boot,
+            token,
+            progress,
+        } => plan_report(alloc, store, *boot, *token, *progress, moment),
+        Event::Orders { bearer } => plan_orders(alloc, store, *bearer),
+        Event::OrderAnswer {
+            bearer,
+            order,
+            outcome,
+        } => plan_order_answer(alloc, store, *bearer, *order, *outcome, moment),
+        Event::Machines { bearer } => plan_machines(alloc, store, *bearer),
+        Event::OneMachine { bearer, machine } => {
+            plan_one_machine(alloc, store, *bearer, *machine)
+        }
+        Event::Command {
+            bearer,
+            key,
+            command,
+        } => plan_command(alloc, store, *bearer, *key, command, moment),
+        Event::Quiet => plan_quiet(alloc, store, moment),
+    }
+}

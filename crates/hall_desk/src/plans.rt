@@ -1,0 +1,219 @@
+//! What is planned for each event.
+ghost use Rattle.std.specs.Prelude.{◌≡◌, [], IfOk, option_copied};
+ghost use Rattle.pxe_vendor.specs.Place.{Site};
+ghost use Rattle.hall_types.specs.Hall.{Hall, second};
+ghost use Rattle.hall_types.specs.Lookup.{next_expired};
+ghost use Rattle.hall_events.specs.Reply.{nothing, reply_of};
+ghost use Rattle.boot_desk.specs.Decided.{Decides};
+ghost use Rattle.boot_desk.specs.Expiry.{swept};
+ghost use Rattle.boot_desk.specs.Fetch.{Fetched};
+ghost use Rattle.boot_desk.specs.FrameEvent as event;
+ghost use Rattle.boot_desk.specs.OrderAnswer.{answered};
+ghost use Rattle.boot_desk.specs.Report.{Judged, reported};
+ghost use Rattle.boot_desk.specs.Views as view;
+ghost use Rattle.hall_machine.specs.Decision as made;
+ghost use Rattle.hall_machine.specs.Decision.{framed, given_if, judged, refuses, verdict_content};
+ghost use Rattle.hall_views.specs.Look.{IsLook};
+ghost use Rattle.hall_desk.specs.Plan.{Plans};
+
+use boot_desk::{Decision, DeskFault, Verdict, enlist, fetch, frame, order_answer, report, sweep};
+use hall_events::Reply;
+use hall_store::{HallStore, Unavailable};
+use hall_types::{Change, MacAddress, Moment, Number, Outcome, Port, Progress, Refusal, Token};
+use hall_views::{expired_view, frame_view, order_view, report_view, view_at};
+use ipxe_script::Script;
+use pxe_vendor::{Client, Place, boot_file};
+use std::alloc::Global;
+
+// An answer without rows to write.
+fn no_rows(alloc: Global) -> Change
+    ensures { result ≡ [] }
+{
+    Change::from(Vec::new(alloc))
+}
+
+/// The refusal for a cause.
+pub(crate) fn refused(alloc: Global, cause: Refusal) -> Result<(Change, Reply), Unavailable>
+    ensures { IfOk result (λ planned. Plans (refuses cause) planned) }
+{
+    match Reply::refused(alloc, cause) {
+        Ok(reply) => Ok((no_rows(alloc), reply)),
+        Err(_) => Err(Unavailable),
+    }
+}
+
+// ---- clients
+
+/// How a client's frame at a port is answered, with the rows that enlist the client.
+pub(crate) fn plan_client<S: HallStore>(
+    alloc: Global,
+    store: &mut S,
+    port: Port,
+    client: &Client,
+) -> Result<(Change, Decision), Unavailable>
+    ensures clean { S.HallStore.is_clean store.new → S.HallStore.is_clean store.old }
+    ensures look { S.HallStore.is_clean store.new → IsLook S.HallStore.holds S.HallStore.leaves store.old store.new result
+        (λ h planned. (planned.1 ≡ event.frame_decision (event.frame_view h client.now) port client.now)
+        × ((site : Site) → planned.0 ≡ (framed (event.frame_decision (event.frame_view h client.now) port client.now) site h client.now).rows)) }
+{
+    let view = frame_view(store, client)?;
+    let decision = frame(&view, port, client);
+    let change = match decision {
+        Decision::Enlist => match enlist(alloc, client, view.numbers) {
+            Ok(change) => change,
+            Err(_) => return Err(Unavailable),
+        },
+        Decision::Loader | Decision::ScriptUrl | Decision::Silent(_) => no_rows(alloc),
+    };
+    Ok((change, decision))
+}
+
+// The answer with a client's boot file, or none.
+#[tactic(auto, unfolding(hall_events::specs::Reply::reply_of))]
+fn client_reply(
+    alloc: Global,
+    decision: Decision,
+    client: &Client,
+    place: &Place,
+) -> Result<Reply, Unavailable>
+    ensures { (h : Hall) → IfOk result (λ reply. reply ≡ reply_of second (framed decision place.now h client.now).content) }
+{
+    if let Decision::Silent(_) = decision {
+        return Ok(Reply::Nothing);
+    }
+    match boot_file(alloc, client, place) {
+        Ok(file) => Ok(Reply::boot_file(file)),
+        Err(_) => Err(Unavailable),
+    }
+}
+
+pub(crate) fn plan_frame<S: HallStore>(
+    alloc: Global,
+    store: &mut S,
+    place: &Place,
+    port: Port,
+    client: &Client,
+) -> Result<(Change, Reply), Unavailable>
+    ensures clean { S.HallStore.is_clean store.new → S.HallStore.is_clean store.old }
+    ensures look { S.HallStore.is_clean store.new → IsLook S.HallStore.holds S.HallStore.leaves store.old store.new result
+        (λ h planned. Plans (framed (event.frame_decision (event.frame_view h client.now) port client.now) place.now h client.now) planned) }
+{
+    let (change, decision) = plan_client(alloc, store, port, client)?;
+    let reply = client_reply(alloc, decision, client, place)?;
+    Ok((change, reply))
+}
+
+// ---- machines
+
+// The answer with the script that was given.
+fn script_plan(
+    alloc: Global,
+    given: Result<(Change, Script), DeskFault>,
+) -> Result<(Change, Reply), Unavailable>
+    ensures { (fetched : Fetched) → Decides given fetched → IfOk result (λ planned. Plans (made.given fetched) planned) }
+{
+    match given {
+        Ok((change, script)) => match Reply::script(alloc, &script) {
+            Ok(reply) => Ok((change, reply)),
+            Err(_) => Err(Unavailable),
+        },
+        Err(DeskFault::Refused(cause)) => refused(alloc, cause),
+        Err(DeskFault::Memory) => Err(Unavailable),
+    }
+}
+
+pub(crate) fn plan_script<S: HallStore>(
+    alloc: Global,
+    store: &mut S,
+    place: &Place,
+    mac: MacAddress,
+    moment: Moment,
+    fresh: Token,
+) -> Result<(Change, Reply), Unavailable>
+    ensures clean { S.HallStore.is_clean store.new → S.HallStore.is_clean store.old }
+    ensures look { S.HallStore.is_clean store.new → IsLook S.HallStore.holds S.HallStore.leaves store.old store.new result
+        (λ h planned. Plans (given_if place.now.host (view.view_at h mac) moment fresh) planned) }
+{
+    match view_at(alloc, store, mac)? {
+        Some(view) => script_plan(alloc, fetch(alloc, &view, place, moment, fresh)),
+        None => refused(alloc, Refusal::NoMachine),
+    }
+}
+
+// The answer that says whether it counted.
+fn verdict_reply(alloc: Global, verdict: Verdict) -> Result<Reply, Unavailable>
+    ensures { IfOk result (λ reply. reply ≡ reply_of second (verdict_content verdict)) }
+{
+    let reply = match verdict {
+        Verdict::Counted => Reply::counted(alloc),
+        Verdict::Repeat => Reply::repeated(alloc),
+    };
+    match reply {
+        Ok(reply) => Ok(reply),
+        Err(_) => Err(Unavailable),
+    }
+}
+
+// The answer with the verdict.
+fn verdict_plan(
+    alloc: Global,
+    judgement: Result<(Change, Verdict), DeskFault>,
+) -> Result<(Change, Reply), Unavailable>
+    ensures { (its : Judged) → Decides judgement its → IfOk result (λ planned. Plans (judged its) planned) }
+{
+    match judgement {
+        Ok((change, verdict)) => Ok((change, verdict_reply(alloc, verdict)?)),
+        Err(DeskFault::Refused(cause)) => refused(alloc, cause),
+        Err(DeskFault::Memory) => Err(Unavailable),
+    }
+}
+
+pub(crate) fn plan_report<S: HallStore>(
+    alloc: Global,
+    store: &mut S,
+    boot: Number,
+    token: Token,
+    progress: Progress,
+    moment: Moment,
+) -> Result<(Change, Reply), Unavailable>
+    ensures clean { S.HallStore.is_clean store.new → S.HallStore.is_clean store.old }
+    ensures look { S.HallStore.is_clean store.new → IsLook S.HallStore.holds S.HallStore.leaves store.old store.new result
+        (λ h planned. Plans (judged (reported (view.report_view h boot) token progress moment)) planned) }
+{
+    let view = report_view(alloc, store, boot)?;
+    verdict_plan(alloc, report(alloc, view.as_ref(), token, progress, moment))
+}
+
+/// The answer to an order, of a sender that may answer.
+pub(crate) fn judge_answer<S: HallStore>(
+    alloc: Global,
+    store: &mut S,
+    order: Number,
+    outcome: Outcome,
+    moment: Moment,
+) -> Result<(Change, Reply), Unavailable>
+    ensures clean { S.HallStore.is_clean store.new → S.HallStore.is_clean store.old }
+    ensures look { S.HallStore.is_clean store.new → IsLook S.HallStore.holds S.HallStore.leaves store.old store.new result
+        (λ h planned. Plans (judged (answered (view.order_view h order) outcome moment)) planned) }
+{
+    let view = order_view(alloc, store, order)?;
+    verdict_plan(alloc, order_answer(alloc, view.as_ref(), outcome, moment))
+}
+
+/// A quiet moment: the machine whose deadline comes first expires, if it is due.
+#[tactic(auto, unfolding(hall_events::specs::Reply::reply_of))]
+pub(crate) fn plan_quiet<S: HallStore>(
+    alloc: Global,
+    store: &mut S,
+    moment: Moment,
+) -> Result<(Change, Reply), Unavailable>
+    ensures clean { S.HallStore.is_clean store.new → S.HallStore.is_clean store.old }
+    ensures look { S.HallStore.is_clean store.new → IsLook S.HallStore.holds S.HallStore.leaves store.old store.new result
+        (λ h planned. Plans (record { rows = swept (view.machine_view h (next_expired h moment)) moment; content = nothing }) planned) }
+{
+    let view = expired_view(alloc, store, moment)?;
+    match sweep(alloc, view.as_ref(), moment) {
+        Ok(change) => Ok((change, Reply::Nothing)),
+        Err(_) => Err(Unavailable),
+    }
+}

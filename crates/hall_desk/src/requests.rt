@@ -1,0 +1,258 @@
+//! What is planned for what operators and the power program ask.
+ghost use Rattle.std.specs.Prelude.{◌≡◌, [], map, IfOk, Ok, None};
+ghost use Rattle.hall_types.specs.Hall.{pair};
+ghost use Rattle.hall_types.specs.Lookup.{waiting};
+ghost use Rattle.hall_types.specs.Rows.{at, listed};
+ghost use Rattle.boot_desk.specs.Decided.{Decides};
+ghost use Rattle.boot_desk.specs.OrderAnswer.{answered};
+ghost use Rattle.boot_desk.specs.Views as view;
+ghost use Rattle.hall_command.specs.Command as commands;
+ghost use Rattle.hall_command.specs.Command.{replied};
+ghost use Rattle.hall_command.specs.Effect.{Effect};
+ghost use Rattle.hall_machine.specs.Decision.{commanded, if_role, judged, listed_if, listed_of, may_answer, may_see_machines, may_see_orders, says};
+ghost use Rattle.hall_events.specs.Reply.{machine_list, waiting_orders};
+ghost use Rattle.hall_views.specs.Look.{IsLook};
+ghost use Rattle.hall_desk.specs.Plan.{Plans};
+
+use crate::listing::list_machines;
+use crate::plans::{judge_answer, refused};
+use boot_desk::DeskFault;
+use hall_command::{command, may_send, repeated};
+use hall_events::{HallCommand, Reply};
+use hall_store::{HallStore, Unavailable};
+use hall_types::{Change, Digest, Moment, Number, Operator, Outcome, Refusal, RequestKey, Role};
+use hall_views::{command_view, sender};
+use std::alloc::{AllocError, Global};
+
+// ---- commands
+
+// The answer to a command.
+fn command_plan(
+    alloc: Global,
+    decided: Result<(Change, Reply), DeskFault>,
+) -> Result<(Change, Reply), Unavailable>
+    ensures { (effect : Effect) → Decides decided (replied effect) → IfOk result (λ planned. Plans (commanded effect) planned) }
+{
+    match decided {
+        Ok(planned) => Ok(planned),
+        Err(DeskFault::Refused(cause)) => refused(alloc, cause),
+        Err(DeskFault::Memory) => Err(Unavailable),
+    }
+}
+
+// A command whose key has no receipt.
+fn plan_new_command<S: HallStore>(
+    alloc: Global,
+    store: &mut S,
+    by: &Operator,
+    key: RequestKey,
+    wish: &HallCommand,
+    moment: Moment,
+) -> Result<(Change, Reply), Unavailable>
+    ensures clean { S.HallStore.is_clean store.new → S.HallStore.is_clean store.old }
+    ensures look { S.HallStore.is_clean store.new → IsLook S.HallStore.holds S.HallStore.leaves store.old store.new result
+        (λ h planned. Plans (commanded (commands.keyed h by.now None key wish.now moment)) planned) }
+{
+    if !may_send(by.role, wish) {
+        return refused(alloc, Refusal::RoleNeeded);
+    }
+    let view = command_view(alloc, store, by, wish)?;
+    command_plan(alloc, command(alloc, &view, by, key, wish, moment))
+}
+
+// A command of an operator that is known.
+fn plan_keyed<S: HallStore>(
+    alloc: Global,
+    store: &mut S,
+    by: &Operator,
+    key: RequestKey,
+    wish: &HallCommand,
+    moment: Moment,
+) -> Result<(Change, Reply), Unavailable>
+    ensures clean { S.HallStore.is_clean store.new → S.HallStore.is_clean store.old }
+    ensures look { S.HallStore.is_clean store.new → IsLook S.HallStore.holds S.HallStore.leaves store.old store.new result
+        (λ h planned. Plans (commanded (commands.keyed h by.now (at h.receipts (pair by.now.name key)) key wish.now moment)) planned) }
+{
+    match store.receipt(alloc, &by.name, key)? {
+        Some(receipt) => command_plan(alloc, repeated(alloc, &receipt, wish)),
+        None => plan_new_command(alloc, store, by, key, wish, moment),
+    }
+}
+
+#[tactic(auto, unfolding(hall_command::specs::Command::command_decision))]
+pub(crate) fn plan_command<S: HallStore>(
+    alloc: Global,
+    store: &mut S,
+    bearer: Option<Digest>,
+    key: RequestKey,
+    wish: &HallCommand,
+    moment: Moment,
+) -> Result<(Change, Reply), Unavailable>
+    ensures clean { S.HallStore.is_clean store.new → S.HallStore.is_clean store.old }
+    ensures look { S.HallStore.is_clean store.new → IsLook S.HallStore.holds S.HallStore.leaves store.old store.new result
+        (λ h planned. Plans (commanded (commands.command_decision h bearer key wish.now moment)) planned) }
+{
+    match sender(store, bearer)? {
+        Some(by) if by.enabled => plan_keyed(alloc, store, &by, key, wish, moment),
+        Some(_) | None => refused(alloc, Refusal::UnknownToken),
+    }
+}
+
+// ---- orders and listings
+
+// The power program and admins see the orders.
+fn may_see_orders(role: Role) -> bool
+    ensures { result ≡ may_see_orders role }
+{
+    match role {
+        Role::Admin | Role::Power => true,
+        Role::User => false,
+    }
+}
+
+// The power program alone answers orders.
+fn may_answer(role: Role) -> bool
+    ensures { result ≡ may_answer role }
+{
+    match role {
+        Role::Power => true,
+        Role::Admin | Role::User => false,
+    }
+}
+
+// Users and admins see machines.
+fn may_see_machines(role: Role) -> bool
+    ensures { result ≡ may_see_machines role }
+{
+    match role {
+        Role::Admin | Role::User => true,
+        Role::Power => false,
+    }
+}
+
+// An answer that writes nothing.
+pub(crate) fn said(
+    alloc: Global,
+    reply: Result<Reply, AllocError>,
+) -> Result<(Change, Reply), Unavailable>
+    ensures { IfOk result (λ planned. (planned.0 ≡ []) × (reply ≡ Ok planned.1)) }
+{
+    match reply {
+        Ok(reply) => Ok((Change::from(Vec::new(alloc)), reply)),
+        Err(AllocError) => Err(Unavailable),
+    }
+}
+
+fn list_orders<S: HallStore>(alloc: Global, store: &mut S) -> Result<(Change, Reply), Unavailable>
+    ensures clean { S.HallStore.is_clean store.new → S.HallStore.is_clean store.old }
+    ensures look { S.HallStore.is_clean store.new → IsLook S.HallStore.holds S.HallStore.leaves store.old store.new result
+        (λ h planned. Plans (says (waiting_orders (waiting h))) planned) }
+{
+    let orders = store.waiting_orders(alloc)?;
+    said(alloc, Reply::orders(alloc, &orders))
+}
+
+pub(crate) fn plan_orders<S: HallStore>(
+    alloc: Global,
+    store: &mut S,
+    bearer: Option<Digest>,
+) -> Result<(Change, Reply), Unavailable>
+    ensures clean { S.HallStore.is_clean store.new → S.HallStore.is_clean store.old }
+    ensures look { S.HallStore.is_clean store.new → IsLook S.HallStore.holds S.HallStore.leaves store.old store.new result
+        (λ h planned. Plans (if_role may_see_orders (commands.sender h bearer) (says (waiting_orders (waiting h)))) planned) }
+{
+    match sender(store, bearer)? {
+        Some(by) if by.enabled => {
+            if may_see_orders(by.role) {
+                list_orders(alloc, store)
+            } else {
+                refused(alloc, Refusal::RoleNeeded)
+            }
+        }
+        Some(_) | None => refused(alloc, Refusal::UnknownToken),
+    }
+}
+
+pub(crate) fn plan_order_answer<S: HallStore>(
+    alloc: Global,
+    store: &mut S,
+    bearer: Option<Digest>,
+    order: Number,
+    outcome: Outcome,
+    moment: Moment,
+) -> Result<(Change, Reply), Unavailable>
+    ensures clean { S.HallStore.is_clean store.new → S.HallStore.is_clean store.old }
+    ensures look { S.HallStore.is_clean store.new → IsLook S.HallStore.holds S.HallStore.leaves store.old store.new result
+        (λ h planned. Plans (if_role may_answer (commands.sender h bearer) (judged (answered (view.order_view h order) outcome moment))) planned) }
+{
+    match sender(store, bearer)? {
+        Some(by) if by.enabled => {
+            if may_answer(by.role) {
+                judge_answer(alloc, store, order, outcome, moment)
+            } else {
+                refused(alloc, Refusal::RoleNeeded)
+            }
+        }
+        Some(_) | None => refused(alloc, Refusal::UnknownToken),
+    }
+}
+
+// One machine with its interfaces, by address.
+fn list_one<S: HallStore>(
+    alloc: Global,
+    store: &mut S,
+    id: Number,
+) -> Result<(Change, Reply), Unavailable>
+    ensures clean { S.HallStore.is_clean store.new → S.HallStore.is_clean store.old }
+    ensures look { S.HallStore.is_clean store.new → IsLook S.HallStore.holds S.HallStore.leaves store.old store.new result
+        (λ h planned. Plans (listed_if h (at h.machines id)) planned) }
+{
+    let Some(machine) = store.machine(id)? else {
+        return refused(alloc, Refusal::NoMachine);
+    };
+    let interfaces = store.interfaces_of(alloc, machine.id)?;
+    said(alloc, Reply::one_machine(alloc, &machine, &interfaces))
+}
+
+pub(crate) fn plan_one_machine<S: HallStore>(
+    alloc: Global,
+    store: &mut S,
+    bearer: Option<Digest>,
+    id: Number,
+) -> Result<(Change, Reply), Unavailable>
+    ensures clean { S.HallStore.is_clean store.new → S.HallStore.is_clean store.old }
+    ensures look { S.HallStore.is_clean store.new → IsLook S.HallStore.holds S.HallStore.leaves store.old store.new result
+        (λ h planned. Plans (if_role may_see_machines (commands.sender h bearer) (listed_if h (at h.machines id))) planned) }
+{
+    match sender(store, bearer)? {
+        Some(by) if by.enabled => {
+            if may_see_machines(by.role) {
+                list_one(alloc, store, id)
+            } else {
+                refused(alloc, Refusal::RoleNeeded)
+            }
+        }
+        Some(_) | None => refused(alloc, Refusal::UnknownToken),
+    }
+}
+
+pub(crate) fn plan_machines<S: HallStore>(
+    alloc: Global,
+    store: &mut S,
+    bearer: Option<Digest>,
+) -> Result<(Change, Reply), Unavailable>
+    ensures clean { S.HallStore.is_clean store.new → S.HallStore.is_clean store.old }
+    ensures look { S.HallStore.is_clean store.new → IsLook S.HallStore.holds S.HallStore.leaves store.old store.new result
+        (λ h planned. Plans (if_role may_see_machines (commands.sender h bearer) (says (machine_list (map (listed_of h) (listed h.machines))))) planned) }
+{
+    match sender(store, bearer)? {
+        Some(by) if by.enabled => {
+            if may_see_machines(by.role) {
+                list_machines(alloc, store)
+            } else {
+                refused(alloc, Refusal::RoleNeeded)
+            }
+        }
+        Some(_) | None => refused(alloc, Refusal::UnknownToken),
+    }
+}

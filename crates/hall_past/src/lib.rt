@@ -1,0 +1,9 @@
+//! What holds of the whole past of a hall, in each run of the hall machine from a new hall.
+#![tactic(auto)]
+
+mod laws;
+
+pub use laws::{
+    deploying_is_commanded, entries_by_table, erasing_is_released, local_boots, numbers_once,
+    orders_and_answers, own_boots, reports_count_once, request_keys,
+};

@@ -1,0 +1,3 @@
+pub mod ImageLemmas
+pub mod LiveLemmas
+pub mod WordLemmas

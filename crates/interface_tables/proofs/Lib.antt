@@ -1,0 +1,2 @@
+pub mod InterfaceLemmas
+pub mod WipeLemmas

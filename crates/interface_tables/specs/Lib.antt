@@ -1,0 +1,3 @@
+pub mod Interfaces
+pub mod WipeLaws
+pub mod Wipes

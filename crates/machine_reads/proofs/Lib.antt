@@ -1,0 +1,5 @@
+pub mod AskedLemmas
+pub mod ExpiryLemmas
+pub mod JoinLemmas
+pub mod MachineLemmas
+pub mod RowLemmas
