@@ -3,10 +3,9 @@
 //! a line for each arrival: its answer's octets in hexadecimal, `silence` or `unavailable`.
 #![tactic(auto)]
 
-mod line;
 mod replay;
 
-use replay::{ReplayFault, replay};
+use replay::replay;
 use std::process::ExitCode;
 
 fn main(rt: HostRuntime) -> ExitCode {

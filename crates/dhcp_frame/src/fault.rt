@@ -21,8 +21,8 @@ pub enum FrameFault {
     /// Option 52 of the options field isn't one octet of 1 to 3 (RFC 2132 section 9.3).
     #[error("option 52 is not one octet of 1 to 3")]
     BadOverload = 5,
-    /// An option lacks its length octet, or its length is more than its area has left (RFC 2132
-    /// section 2).
+    /// An option lacks its length octet, or its length is more than its area has left
+    /// (RFC 2132 section 2).
     #[error("an option is cut")]
     CutOption = 6,
 }

@@ -1,3 +1,4 @@
 pub mod AttemptLemmas
 pub mod ListingLemmas
 pub mod RunLemmas
+pub mod ServedLemmas

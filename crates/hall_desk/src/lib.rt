@@ -9,8 +9,11 @@ mod listing;
 mod octets;
 mod planning;
 mod plans;
+mod reading;
 mod requests;
+mod serving;
 mod writing;
 
 pub use arrival::{Answer, Arrival, Input};
 pub use desk::Desk;
+pub use serving::Served;

@@ -246,12 +246,12 @@ keeps site h event.Quiet moment fresh = λ is. absurd (not_refused nothing refl 
 
 -- ---- steps
 
-pub keeps_hall : (site : Site) (s : HallStep) (content : Content) → IsStep site s → s.answer ≡ Some content → IsRefusal content → s.after ≡ s.before
-keeps_hall site s content (inl came) answer refusal =
-    let content_is = some_is content (decision_of site s.before s.arrival.event s.arrival.moment s.arrival.fresh).content (sym answer ∙ came.answer) in
-    let rows = keeps site s.before s.arrival.event s.arrival.moment s.arrival.fresh (subst IsRefusal content_is refusal) in
+pub keeps_hall : (s : HallStep) (content : Content) → IsStep s → s.answer ≡ Some content → IsRefusal content → s.after ≡ s.before
+keeps_hall s content (inl came) answer refusal =
+    let content_is = some_is content (decision_of s.arrival.site s.before s.arrival.event s.arrival.moment s.arrival.fresh).content (sym answer ∙ came.answer) in
+    let rows = keeps s.arrival.site s.before s.arrival.event s.arrival.moment s.arrival.fresh (subst IsRefusal content_is refusal) in
     came.after ∙ ap (λ (rows : List RowWrite). applied rows s.before) rows
-keeps_hall site s content (inr missed) answer refusal = missed.after
+keeps_hall s content (inr missed) answer refusal = missed.after
 
 pub keeps_silence : (site : Site) (h : Hall) (port : Port) (client : Client) (moment : ℕ) (fresh : List ℕ)
     → (decision_of site h (event.Frame port client) moment fresh).content ≡ nothing → (decision_of site h (event.Frame port client) moment fresh).rows ≡ []

@@ -6,8 +6,9 @@ use Rattle.hall_events.specs.Reply.{Content}
 use Rattle.hall_events.specs.declared.event.Event.{Event}
 use Rattle.hall_machine.specs.Decision.{decision_of}
 
--- an event, with the moment and the fresh octets that it came with
+-- an event, with the place that was served, the moment and the fresh octets that it came with
 pub record Arrival : Type 0 where
+  pub site : Site
   pub event : Event
   pub moment : ℕ
   pub fresh : List ℕ
@@ -20,9 +21,9 @@ pub record Step : Type 0 where
   pub after : Hall
 
 -- the arrival came: the answer is the decision's, and its rows are written
-pub record Came (site : Site) (s : Step) : Type 0 where
-  pub answer : s.answer ≡ Some (decision_of site s.before s.arrival.event s.arrival.moment s.arrival.fresh).content
-  pub after : s.after ≡ applied (decision_of site s.before s.arrival.event s.arrival.moment s.arrival.fresh).rows s.before
+pub record Came (s : Step) : Type 0 where
+  pub answer : s.answer ≡ Some (decision_of s.arrival.site s.before s.arrival.event s.arrival.moment s.arrival.fresh).content
+  pub after : s.after ≡ applied (decision_of s.arrival.site s.before s.arrival.event s.arrival.moment s.arrival.fresh).rows s.before
 
 -- the arrival counts as not having come
 pub record Missed (s : Step) : Type 0 where
@@ -30,10 +31,10 @@ pub record Missed (s : Step) : Type 0 where
   pub after : s.after ≡ s.before
 
 -- the one free choice of the hall machine
-abbrev pub IsStep : Site → Step → Type 0
-IsStep site s = Came site s ⊎ Missed s
+abbrev pub IsStep : Step → Type 0
+IsStep s = Came s ⊎ Missed s
 
 -- steps that lead from one hall to another, each from the hall that the one before left
-abbrev pub IsRun : Site → Hall → List Step → Hall → Type 0
-IsRun site h [] end = end ≡ h
-IsRun site h (s ∷ steps) end = (s.before ≡ h) × IsStep site s × IsRun site s.after steps end
+abbrev pub IsRun : Hall → List Step → Hall → Type 0
+IsRun h [] end = end ≡ h
+IsRun h (s ∷ steps) end = (s.before ≡ h) × IsStep s × IsRun s.after steps end

@@ -18,6 +18,6 @@ pub fn refusals_change_nothing()
         → IsRefusal (decision_of site h event moment fresh).content → (decision_of site h event moment fresh).rows ≡ [] }
     ensures silences { (site : Site) (h : Hall) (port : Port) (client : Client) (moment : ℕ) (fresh : List ℕ)
         → (decision_of site h (Frame port client) moment fresh).content ≡ nothing → (decision_of site h (Frame port client) moment fresh).rows ≡ [] }
-    ensures hall { (site : Site) (s : Step) (content : Content)
-        → IsStep site s → s.answer ≡ Some content → IsRefusal content → s.after ≡ s.before }
+    ensures hall { (s : Step) (content : Content)
+        → IsStep s → s.answer ≡ Some content → IsRefusal content → s.after ≡ s.before }
 {}

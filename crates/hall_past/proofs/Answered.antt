@@ -1,7 +1,6 @@
 -- A step that was answered so came, and its rows are the decision's.
 use Rattle.std.proofs.Common.{◌≡◌, sym, ap, ◌∙◌, inl, inr}
 use Rattle.std.proofs.lemmas.Option.{none-some}
-use Rattle.pxe_vendor.specs.Place.{Site}
 use Rattle.hall_types.specs.Hall.{applied}
 use Rattle.hall_events.specs.Reply.{Content}
 use Rattle.hall_events.specs.declared.event.Event.{Event}
@@ -11,15 +10,15 @@ use Rattle.hall_machine.specs.Step.{IsStep, Step}
 use Rattle.hall_past.specs.Past.{WasAnswered}
 
 -- the event's decision was answered, and its rows were written
-pub record CameSo (site : Site) (s : Step) (e : Event) (content : Content) : Type 0 where
-  pub content_is : (decision_of site s.before e s.arrival.moment s.arrival.fresh).content ≡ content
-  pub after : s.after ≡ applied (decision_of site s.before e s.arrival.moment s.arrival.fresh).rows s.before
+pub record CameSo (s : Step) (e : Event) (content : Content) : Type 0 where
+  pub content_is : (decision_of s.arrival.site s.before e s.arrival.moment s.arrival.fresh).content ≡ content
+  pub after : s.after ≡ applied (decision_of s.arrival.site s.before e s.arrival.moment s.arrival.fresh).rows s.before
 
-pub came_so : (site : Site) (s : Step) (e : Event) (content : Content) → IsStep site s → WasAnswered s e content → CameSo site s e content
-came_so site s e content (inl came) was = record {
+pub came_so : (s : Step) (e : Event) (content : Content) → IsStep s → WasAnswered s e content → CameSo s e content
+came_so s e content (inl came) was = record {
   content_is =
-      ap (λ x. (decision_of site s.before x s.arrival.moment s.arrival.fresh).content) (sym was.event)
-      ∙ some_is (decision_of site s.before s.arrival.event s.arrival.moment s.arrival.fresh).content content (sym came.answer ∙ was.answer);
-  after = came.after ∙ ap (λ x. applied (decision_of site s.before x s.arrival.moment s.arrival.fresh).rows s.before) was.event;
+      ap (λ x. (decision_of s.arrival.site s.before x s.arrival.moment s.arrival.fresh).content) (sym was.event)
+      ∙ some_is (decision_of s.arrival.site s.before s.arrival.event s.arrival.moment s.arrival.fresh).content content (sym came.answer ∙ was.answer);
+  after = came.after ∙ ap (λ x. applied (decision_of s.arrival.site s.before x s.arrival.moment s.arrival.fresh).rows s.before) was.event;
 }
-came_so site s e content (inr missed) was = absurd (none-some content (sym missed.answer ∙ was.answer))
+came_so s e content (inr missed) was = absurd (none-some content (sym missed.answer ∙ was.answer))

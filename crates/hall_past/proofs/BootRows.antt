@@ -2,7 +2,6 @@
 use Rattle.std.proofs.Common.{◌≡◌, ℕ, List, sym, ap, ◌∙◌, inl, inr}
 use Rattle.std.specs.Prelude.{Some, true, false, not, ◌==◌}
 use Rattle.std.proofs.lemmas.Option.{none-some}
-use Rattle.pxe_vendor.specs.Place.{Site}
 use Rattle.hall_types.specs.Hall.{Hall}
 use Rattle.hall_types.specs.Kinds.{stage_after}
 use Rattle.hall_types.specs.Rows.{at, put}
@@ -109,10 +108,10 @@ pub record CountedAt (s : Step) (content : Content) (number : ℕ) (token : List
 same_report : (a b : ℕ) (t u : List ℕ) (p q : Progress) → event.Report a t p ≡ event.Report b u q → (a ≡ b) × (t ≡ u) × (p ≡ q)
 same_report a b t u p q e = (cc, cc, cc)
 
-pub counted_report : (site : Site) (s : Step) → StepDoes site s → (number : ℕ) (token : List ℕ) (its : Progress) → s.arrival.event ≡ event.Report number token its → s.answer ≡ Some counted
-    → CountedAt s (decided site s).content number token its
-counted_report site s (missed answer after) number token its is counts = absurd (none-some counted (sym answer ∙ counts))
-counted_report site s (did answer after writes effect) number token its is counts =
-    let c = counted_effect s.before s.arrival.event s.arrival.moment s.arrival.fresh (decided site s).content s.after number token its is (some_is (decided site s).content counted (sym answer ∙ counts)) effect in
+pub counted_report : (s : Step) → StepDoes s → (number : ℕ) (token : List ℕ) (its : Progress) → s.arrival.event ≡ event.Report number token its → s.answer ≡ Some counted
+    → CountedAt s (decided s).content number token its
+counted_report s (missed answer after) number token its is counts = absurd (none-some counted (sym answer ∙ counts))
+counted_report s (did answer after writes effect) number token its is counts =
+    let c = counted_effect s.before s.arrival.event s.arrival.moment s.arrival.fresh (decided s).content s.after number token its is (some_is (decided s).content counted (sym answer ∙ counts)) effect in
     let same = same_report c.boot.number number c.cause.token token c.progress its (sym c.cause.event_is ∙ is) in
     record { at_boot = c; number_is = same.0; token_is = c.cause.token_is ∙ same.1; progress_is = same.2 }

@@ -2,7 +2,6 @@
 use Rattle.std.proofs.Common.{◌≡◌, ℕ, List, refl, sym, ap, ◌∙◌, inl, inr}
 use Rattle.std.specs.Prelude.{Option, Some, None, true}
 use Rattle.std.proofs.lemmas.Slice.Eq.{bytes_eq-Decides}
-use Rattle.pxe_vendor.specs.Place.{Site}
 use Rattle.hall_types.specs.Rows.{at}
 use Rattle.hall_types.specs.declared.change.RowWrite.{RowWrite}
 use Rattle.hall_types.specs.declared.kinds.Erase.{Erase}
@@ -28,7 +27,7 @@ use Rattle.hall_past.proofs.MachineRows.{is_changed}
 
 -- a refusal leaves the hall as it was
 abbrev pub RefusalsStay : Type 0
-RefusalsStay = (site : Site) (s : Step) (content : Content) → IsStep site s → s.answer ≡ Some content → IsRefusal content → s.after ≡ s.before
+RefusalsStay = (s : Step) (content : Content) → IsStep s → s.answer ≡ Some content → IsRefusal content → s.after ≡ s.before
 
 same_action : (a b : Action) → By a ≡ By b → a ≡ b
 same_action a b e = cc
@@ -46,16 +45,16 @@ by_command s e moment rows content x action signal = by x.first x.cause
     by (order_first o outcome) cause = let e = sym cause.1 ∙ signal in cc
 
 -- the command was accepted
-pub accepts : RefusalsStay → (site : Site) (s : Step) → IsStep site s → IsSound s.before → (moment : ℕ) (rows : List RowWrite) (content : Content) (x : IsEntering s.before s.arrival.event moment rows content) (id : ℕ) (m : Machine)
+pub accepts : RefusalsStay → (s : Step) → IsStep s → IsSound s.before → (moment : ℕ) (rows : List RowWrite) (content : Content) (x : IsEntering s.before s.arrival.event moment rows content) (id : ℕ) (m : Machine)
     → id ≡ x.machine.id → m ≡ x.new.machine → at s.after.machines id ≡ Some m → s.answer ≡ Some content
     → (c : IsCommanded s.before s.arrival.event x.machine x.entering x.signal) → IsAccepted c.operator.name c.key (OnMachine id c.version c.command) content s
-accepts stay site s step sound moment rows content x id m same its is answer c = record {
+accepts stay s step sound moment rows content x id m same its is answer c = record {
   bearer = c.bearer;
   by = c.operator;
   known = c.sender_is;
   named = refl;
   answered = record { event = c.event_is ∙ ap (λ n. event.Command c.bearer c.key (OnMachine n c.version c.command)) (sym same); answer = answer };
-  accepted = λ refusal. is_changed s sound s.arrival.event moment rows content x id m same its is (stay site s content step answer refusal);
+  accepted = λ refusal. is_changed s sound s.arrival.event moment rows content x id m same its is (stay s content step answer refusal);
   changes = is_changed s sound s.arrival.event moment rows content x id m same its is;
 }
 

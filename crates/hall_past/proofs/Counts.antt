@@ -2,7 +2,6 @@
 use Rattle.std.proofs.Common.{◌≡◌, ◌+◌, ◌≤◌, ℕ, List, [], ◌∷◌, ◌++◌, refl, sym, ap, subst, ◌∙◌, inl, inr, arith}
 use Rattle.std.specs.Prelude.{Some, Bool, true, false, is_some}
 use Rattle.std.proofs.lemmas.Bool.{both_ways}
-use Rattle.pxe_vendor.specs.Place.{Site}
 use Rattle.hall_types.specs.Hall.{Hall}
 use Rattle.hall_types.specs.Kinds.{stage_after}
 use Rattle.hall_types.specs.Rows.{at}
@@ -64,34 +63,34 @@ verdict_any n (s ∷ past) (inl (inl done)) = inl (report.Done, done)
 verdict_any n (s ∷ past) (inl (inr failed)) = inl (report.Failed, failed)
 verdict_any n (s ∷ past) (inr rest) = inr (verdict_any n past rest)
 
-module _ (site : Site) (past : List Step) (s : Step) (sound : IsSound s.before) (old : KnowsCounts past s.before) where
+module _ (past : List Step) (s : Step) (sound : IsSound s.before) (old : KnowsCounts past s.before) where
   -- a boot whose number was issued is none that is issued now
   not_issued : (n number : ℕ) → n ≡ number → number ≡ s.before.last.boot + 1 → SomeOf (CountsAny n) past → ⊥
   not_issued n number same next some = omega (arith, same, next, old.issued n some)
 
   -- what the past says of a boot holds of it after the step
-  any_stays : StepDoes site s → (n : ℕ) → SomeOf (CountsAny n) past → (b : Boot) → at s.after.boots n ≡ Some b → is_offered b.stage ≡ false
+  any_stays : StepDoes s → (n : ℕ) → SomeOf (CountsAny n) past → (b : Boot) → at s.after.boots n ≡ Some b → is_offered b.stage ≡ false
   any_stays (missed answer after) n some b is = old.any n some b (ap (λ (h : Hall). at h.boots n) (sym after) ∙ is)
-  any_stays (did answer after writes effect) n some b is = by (boot_was s.before s.arrival.event s.arrival.moment s.arrival.fresh (decided site s).content s.after effect n b is)
+  any_stays (did answer after writes effect) n some b is = by (boot_was s.before s.arrival.event s.arrival.moment s.arrival.fresh (decided s).content s.after effect n b is)
     where
-      by : BootWas s.before s.arrival.event s.arrival.fresh (decided site s).content s.after n b → is_offered b.stage ≡ false
+      by : BootWas s.before s.arrival.event s.arrival.fresh (decided s).content s.after n b → is_offered b.stage ≡ false
       by (same_boot there) = old.any n some b there
       by (issued_now rows x number its machines) = absurd (not_issued n x.number number (next_is s.before.last.boot x.number x.next) some)
       by (reported_now m k p cause there its) = ap (λ (y : Boot). is_offered y.stage) its ∙ no_offer p
 
-  verdict_stays : StepDoes site s → (n : ℕ) → SomeOf (CountsVerdict n) past → (b : Boot) → at s.after.boots n ≡ Some b → is_verdict b.stage ≡ true
+  verdict_stays : StepDoes s → (n : ℕ) → SomeOf (CountsVerdict n) past → (b : Boot) → at s.after.boots n ≡ Some b → is_verdict b.stage ≡ true
   verdict_stays (missed answer after) n some b is = old.verdict n some b (ap (λ (h : Hall). at h.boots n) (sym after) ∙ is)
-  verdict_stays (did answer after writes effect) n some b is = by (boot_was s.before s.arrival.event s.arrival.moment s.arrival.fresh (decided site s).content s.after effect n b is)
+  verdict_stays (did answer after writes effect) n some b is = by (boot_was s.before s.arrival.event s.arrival.moment s.arrival.fresh (decided s).content s.after effect n b is)
     where
-      by : BootWas s.before s.arrival.event s.arrival.fresh (decided site s).content s.after n b → is_verdict b.stage ≡ true
+      by : BootWas s.before s.arrival.event s.arrival.fresh (decided s).content s.after n b → is_verdict b.stage ≡ true
       by (same_boot there) = old.verdict n some b there
       by (issued_now rows x number its machines) = absurd (not_issued n x.number number (next_is s.before.last.boot x.number x.next) (verdict_any n past some))
       by (reported_now m k p cause there its) = absurd (both_ways (is_verdict k.stage) (takes_open k.stage p cause.takes) (old.verdict n some k there))
 
-  module _ (does : StepDoes site s) where
+  module _ (does : StepDoes s) where
     -- the boot of which a report counts now
-    reported : (n : ℕ) (p : Progress) → (c : CountsReport n p s) → CountedAt s (decided site s).content n c.0 p
-    reported n p c = counted_report site s does n c.0 p c.1.event c.1.answer
+    reported : (n : ℕ) (p : Progress) → (c : CountsReport n p s) → CountedAt s (decided s).content n c.0 p
+    reported n p c = counted_report s does n c.0 p c.1.event c.1.answer
 
     row_now : (n : ℕ) (p : Progress) → CountsReport n p s → (b : Boot) → at s.after.boots n ≡ Some b → b.stage ≡ stage_after p
     row_now n p c b is =
@@ -109,33 +108,33 @@ module _ (site : Site) (past : List Step) (s : Step) (sound : IsSound s.before) 
     issued_then : IsSound s.after → (n : ℕ) → CountsAny n s → n ≤ s.after.last.boot
     issued_then later n c = let r = reported n c.0 c.1 in later.last_boot n (ap (λ o. is_some o) (ap (at s.after.boots) (sym r.number_is) ∙ r.at_boot.after))
 
-pub counts_step : (site : Site) (past : List Step) (s : Step) → Unit {0} → IsStep site s → IsSound s.before → IsSound s.after → KnowsCounts past s.before → KnowsCounts (past ++ (s ∷ [])) s.after
-counts_step site past s given step sound later old =
-    let does = step_does site s step sound in
+pub counts_step : (past : List Step) (s : Step) → Unit {0} → IsStep s → IsSound s.before → IsSound s.after → KnowsCounts past s.before → KnowsCounts (past ++ (s ∷ [])) s.after
+counts_step past s given step sound later old =
+    let does = step_does s step sound in
     record {
-      any = λ n some b is. elim (some_of_more (CountsAny n) past s some) [ inl was ↦ any_stays site past s sound old does n was b is | inr now ↦ any_now site past s sound old does n now b is ];
-      verdict = λ n some b is. elim (some_of_more (CountsVerdict n) past s some) [ inl was ↦ verdict_stays site past s sound old does n was b is | inr now ↦ verdict_now site past s sound old does n now b is ];
-      issued = λ n some. elim (some_of_more (CountsAny n) past s some) [ inl was ↦ boot_grows site s does n (old.issued n was) | inr now ↦ issued_then site past s sound old does later n now ];
+      any = λ n some b is. elim (some_of_more (CountsAny n) past s some) [ inl was ↦ any_stays past s sound old does n was b is | inr now ↦ any_now past s sound old does n now b is ];
+      verdict = λ n some b is. elim (some_of_more (CountsVerdict n) past s some) [ inl was ↦ verdict_stays past s sound old does n was b is | inr now ↦ verdict_now past s sound old does n now b is ];
+      issued = λ n some. elim (some_of_more (CountsAny n) past s some) [ inl was ↦ boot_grows s does n (old.issued n was) | inr now ↦ issued_then past s sound old does later n now ];
     }
 
-pub started_first : (site : Site) (past : List Step) (s : Step) → IsStep site s → IsSound s.before → KnowsCounts past s.before → CountsStartedFirst past s
-started_first site past s step sound old n c =
-    let r = reported site past s sound old (step_does site s step sound) n report.Started c in
+pub started_first : (past : List Step) (s : Step) → IsStep s → IsSound s.before → KnowsCounts past s.before → CountsStartedFirst past s
+started_first past s step sound old n c =
+    let r = reported past s sound old (step_does s step sound) n report.Started c in
     let b = r.at_boot.boot in
     let there : at s.before.boots n ≡ Some b = ap (at s.before.boots) (sym r.number_is) ∙ r.at_boot.cause.recorded in
     let offered = takes_started b.stage (subst (Takes b.stage) r.progress_is r.at_boot.cause.takes) in
     none_from (CountsAny n) past (λ some. both_ways (is_offered b.stage) (old.any n some b there) offered)
 
-verdict_first : (site : Site) (past : List Step) (s : Step) → IsStep site s → IsSound s.before → KnowsCounts past s.before → (n : ℕ) (p : Progress) → CountsReport n p s → SomeOf (CountsVerdict n) past → ⊥
-verdict_first site past s step sound old n p c some =
-    let r = reported site past s sound old (step_does site s step sound) n p c in
+verdict_first : (past : List Step) (s : Step) → IsStep s → IsSound s.before → KnowsCounts past s.before → (n : ℕ) (p : Progress) → CountsReport n p s → SomeOf (CountsVerdict n) past → ⊥
+verdict_first past s step sound old n p c some =
+    let r = reported past s sound old (step_does s step sound) n p c in
     let b = r.at_boot.boot in
     let there : at s.before.boots n ≡ Some b = ap (at s.before.boots) (sym r.number_is) ∙ r.at_boot.cause.recorded in
     both_ways (is_verdict b.stage) (takes_open b.stage r.at_boot.progress r.at_boot.cause.takes) (old.verdict n some b there)
 
-pub verdict_once : (site : Site) (past : List Step) (s : Step) → IsStep site s → IsSound s.before → KnowsCounts past s.before → CountsVerdictOnce past s
-verdict_once site past s step sound old n (inl c) = none_from (CountsVerdict n) past (verdict_first site past s step sound old n report.Done c)
-verdict_once site past s step sound old n (inr c) = none_from (CountsVerdict n) past (verdict_first site past s step sound old n report.Failed c)
+pub verdict_once : (past : List Step) (s : Step) → IsStep s → IsSound s.before → KnowsCounts past s.before → CountsVerdictOnce past s
+verdict_once past s step sound old n (inl c) = none_from (CountsVerdict n) past (verdict_first past s step sound old n report.Done c)
+verdict_once past s step sound old n (inr c) = none_from (CountsVerdict n) past (verdict_first past s step sound old n report.Failed c)
 
 pub new_counts : (h : Hall) → KnowsCounts [] h
 new_counts h = record { any = λ n none b is. absurd none; verdict = λ n none b is. absurd none; issued = λ n none. absurd none }

@@ -1,7 +1,6 @@
 -- A script that deploys is given after a deploy, and boots the image that this deploy named.
 use Rattle.std.proofs.Common.{◌≡◌, ℕ, List, [], ◌∷◌, ◌++◌, refl, sym, ap, subst, ◌∙◌}
 use Rattle.std.specs.Prelude.{Option, Some, Ok}
-use Rattle.pxe_vendor.specs.Place.{Site}
 use Rattle.ipxe_script.specs.Purpose.{IsDeploying}
 use Rattle.ipxe_script.specs.Script.{IsScript, spelling}
 use Rattle.ipxe_script.specs.declared.command.Command.{Command}
@@ -68,7 +67,7 @@ image_kept : (status : Status) → status ≡ Deploying → (image : Option (Lis
 unfolding keeps_owner
 image_kept status is image = ap (λ x. kept (keeps_owner x) image) is
 
-module _ (site : Site) (stay : RefusalsStay) (past : List Step) (s : Step) (step : IsStep site s) (sound : IsSound s.before) (later : IsSound s.after) where
+module _ (stay : RefusalsStay) (past : List Step) (s : Step) (step : IsStep s) (sound : IsSound s.before) (later : IsSound s.after) where
   same_machine : ImagesMove s.before s.arrival.event s.after → (id : ℕ) (k m : Machine) → at s.before.machines id ≡ Some k → at s.after.machines id ≡ Some m → IsSettled k m → WasDeployed past s.before id k → WasDeployed (past ++ (s ∷ [])) s.after id m
   same_machine move id k m was is settled d = record {
     entry = last_kept (IsEntry id) past s (no_entry s id k m was is settled.status) d.entry;
@@ -93,7 +92,7 @@ module _ (site : Site) (stay : RefusalsStay) (past : List Step) (s : Step) (step
       version = c.version;
       content = content;
       accepted = subst (λ (o : MachineCommand). IsAccepted c.operator.name c.key (OnMachine id c.version o) content s) command
-          (accepts stay site s step sound s.arrival.moment rows content x id m same its is answer c);
+          (accepts stay s step sound s.arrival.moment rows content x id m same its is answer c);
       machine = x.machine;
       found = ap (at s.before.machines) same ∙ x.found;
       owner = owner_named c.operator x.machine (owner_deploys c.operator x.machine c.member (ap (λ (a : Action). permission_for (who_acts a) c.operator x.machine c.member) (sym by.1) ∙ c.may));
@@ -129,33 +128,33 @@ module _ (site : Site) (stay : RefusalsStay) (past : List Step) (s : Step) (step
       row : (image : BootImage) × (at s.after.images name ≡ Some image)
       row = some_of (at s.after.images name) (later.machine_images id m is name has)
 
-  deployed_after : StepDoes site s → KnowsDeploys past s.before → (id : ℕ) (m : Machine) → at s.after.machines id ≡ Some m → m.status ≡ Deploying → WasDeployed (past ++ (s ∷ [])) s.after id m
+  deployed_after : StepDoes s → KnowsDeploys past s.before → (id : ℕ) (m : Machine) → at s.after.machines id ≡ Some m → m.status ≡ Deploying → WasDeployed (past ++ (s ∷ [])) s.after id m
   deployed_after (missed answer after) old id m is deploys =
       let was : at s.before.machines id ≡ Some m = ap (λ (h : Hall). at h.machines id) (sym after) ∙ is in
       same_machine (same_images (ap (λ (h : Hall). h.images) after)) id m m was is (settled_same m m refl) (old.deployed id m was deploys)
-  deployed_after (did answer after writes effect) old id m is deploys = by (machine_was s.before sound s.arrival.event s.arrival.moment s.arrival.fresh (decided site s).content id m s.after effect is)
+  deployed_after (did answer after writes effect) old id m is deploys = by (machine_was s.before sound s.arrival.event s.arrival.moment s.arrival.fresh (decided s).content id m s.after effect is)
     where
       unlike : New ≡ Deploying → ⊥
       unlike e = cc
 
       move : ImagesMove s.before s.arrival.event s.after
-      move = subst (ImagesMove s.before s.arrival.event) (sym after) (images_move s.before s.arrival.event s.arrival.moment s.arrival.fresh (decided site s) writes)
+      move = subst (ImagesMove s.before s.arrival.event) (sym after) (images_move s.before s.arrival.event s.arrival.moment s.arrival.fresh (decided s) writes)
 
-      by : MachineWas s.before s.arrival.event s.arrival.moment (decided site s).content id m → WasDeployed (past ++ (s ∷ [])) s.after id m
+      by : MachineWas s.before s.arrival.event s.arrival.moment (decided s).content id m → WasDeployed (past ++ (s ∷ [])) s.after id m
       by (was_settled k was settled) = same_machine move id k m was is settled (old.deployed id k was (sym settled.status ∙ deploys))
       by (was_made event none new) = absurd (unlike (ap (λ (y : Machine). y.status) (sym new) ∙ deploys))
-      by (has_entered rows x same its) = deploy_now move rows (decided site s).content x id m same its is answer deploys
+      by (has_entered rows x same its) = deploy_now move rows (decided s).content x id m same its is answer deploys
 
-pub deploys_step : (site : Site) → RefusalsStay → (past : List Step) (s : Step) → BringsNoHallWord s → IsStep site s → IsSound s.before → IsSound s.after → KnowsDeploys past s.before → KnowsDeploys (past ++ (s ∷ [])) s.after
-deploys_step site stay past s brings step sound later old =
-    let does = step_does site s step sound in
-    record { words = words_step site s brings does old.words; deployed = deployed_after site stay past s step sound later does old }
+pub deploys_step : RefusalsStay → (past : List Step) (s : Step) → BringsNoHallWord s → IsStep s → IsSound s.before → IsSound s.after → KnowsDeploys past s.before → KnowsDeploys (past ++ (s ∷ [])) s.after
+deploys_step stay past s brings step sound later old =
+    let does = step_does s step sound in
+    record { words = words_step s brings does old.words; deployed = deployed_after stay past s step sound later does old }
 
-pub deploys_rightly : DeployingTexts → (site : Site) (past : List Step) (s : Step) → IsStep site s → IsSound s.before → KnowsDeploys past s.before → DeploysRightly site past s
-deploys_rightly texts site past s step sound old mac commands was whole deploys =
-    let g = was_given site s mac commands step was in
+pub deploys_rightly : DeployingTexts → (past : List Step) (s : Step) → IsStep s → IsSound s.before → KnowsDeploys past s.before → DeploysRightly past s
+deploys_rightly texts past s step sound old mac commands was whole deploys =
+    let g = was_given s mac commands step was in
     let v = view_of s.before g.machine in
-    let says = texts site.host v s.arrival.moment s.arrival.fresh g.rows commands (view_words s.before g.machine old.words) whole g.is deploys in
+    let says = texts s.arrival.site.host v s.arrival.moment s.arrival.fresh g.rows commands (view_words s.before g.machine old.words) whole g.is deploys in
     let d = old.deployed g.machine.id g.machine (machine_there s.before sound mac g.machine g.asks) says.0 in
     let same : says.1.image ≡ d.image = some_is says.1.image d.image (sym says.1.image_is ∙ (ap (row_at s.before.images) d.has ∙ d.recorded)) in
     record {
@@ -167,5 +166,5 @@ deploys_rightly texts site past s step sound old mac commands was whole deploys 
       image = d.image;
       deploy = d.deploy;
       boot = says.1.boot;
-      boots = says.1.is ∙ ap (work_script site.host purpose.Deploy g.machine.erase says.1.boot) same;
+      boots = says.1.is ∙ ap (work_script s.arrival.site.host purpose.Deploy g.machine.erase says.1.boot) same;
     }

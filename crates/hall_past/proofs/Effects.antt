@@ -1,7 +1,6 @@
 -- What a step does to the machines, the boots, the orders and the last numbers.
 use Rattle.std.specs.Prelude.{◌≡◌, ℕ, not, ◌==◌, true, List, [], ◌∷◌, Some, None}
 use Rattle.std.proofs.Common.{refl, sym, ap, subst, inl, inr, ◌∙◌}
-use Rattle.pxe_vendor.specs.Place.{Site}
 use Rattle.hall_types.specs.ChangeLaws.{applied_append}
 use Rattle.hall_types.specs.Hall.{Hall, applied}
 use Rattle.hall_types.specs.Kinds.{stage_after}
@@ -121,18 +120,18 @@ decision_effect h e moment fresh d (with_receipt own w x) =
 
 -- ---- steps
 
-abbrev pub decided : Site → Step → Decided
-decided site s = decision_of site s.before s.arrival.event s.arrival.moment s.arrival.fresh
+abbrev pub decided : Step → Decided
+decided s = decision_of s.arrival.site s.before s.arrival.event s.arrival.moment s.arrival.fresh
 
 -- a step came and did this, or it missed
-pub data StepDoes (site : Site) (s : Step) : Type 0 where
-  did : s.answer ≡ Some (decided site s).content → s.after ≡ applied (decided site s).rows s.before
-      → WritesAll s.before s.arrival.event s.arrival.moment s.arrival.fresh (decided site s)
-      → Effect s.before s.arrival.event s.arrival.moment s.arrival.fresh (decided site s).content s.after → StepDoes site s
-  missed : s.answer ≡ None → s.after ≡ s.before → StepDoes site s
+pub data StepDoes (s : Step) : Type 0 where
+  did : s.answer ≡ Some (decided s).content → s.after ≡ applied (decided s).rows s.before
+      → WritesAll s.before s.arrival.event s.arrival.moment s.arrival.fresh (decided s)
+      → Effect s.before s.arrival.event s.arrival.moment s.arrival.fresh (decided s).content s.after → StepDoes s
+  missed : s.answer ≡ None → s.after ≡ s.before → StepDoes s
 
-pub step_does : (site : Site) (s : Step) → IsStep site s → IsSound s.before → StepDoes site s
-step_does site s (inl came) sound =
-    let w = decision_writes site s.before sound s.arrival.event s.arrival.moment s.arrival.fresh in
-    did came.answer came.after w (subst (λ g. Effect s.before s.arrival.event s.arrival.moment s.arrival.fresh (decided site s).content g) (sym came.after) (decision_effect s.before s.arrival.event s.arrival.moment s.arrival.fresh (decided site s) w))
-step_does site s (inr none) sound = missed none.answer none.after
+pub step_does : (s : Step) → IsStep s → IsSound s.before → StepDoes s
+step_does s (inl came) sound =
+    let w = decision_writes s.arrival.site s.before sound s.arrival.event s.arrival.moment s.arrival.fresh in
+    did came.answer came.after w (subst (λ g. Effect s.before s.arrival.event s.arrival.moment s.arrival.fresh (decided s).content g) (sym came.after) (decision_effect s.before s.arrival.event s.arrival.moment s.arrival.fresh (decided s) w))
+step_does s (inr none) sound = missed none.answer none.after

@@ -1,7 +1,6 @@
 -- A script that erases is given after a release that erases.
 use Rattle.std.proofs.Common.{◌≡◌, ℕ, List, [], ◌∷◌, ◌++◌, refl, sym, ap, subst, ◌∙◌}
 use Rattle.std.specs.Prelude.{Option, Some, Ok}
-use Rattle.pxe_vendor.specs.Place.{Site}
 use Rattle.ipxe_script.specs.Purpose.{IsErasing}
 use Rattle.ipxe_script.specs.Script.{IsScript, spelling}
 use Rattle.ipxe_script.specs.declared.command.Command.{Command}
@@ -61,7 +60,7 @@ kind_kept : (status : Status) → status ≡ DiskErasing → (erase : Option Era
 unfolding keeps_erase
 kind_kept status is erase = ap (λ x. kept (keeps_erase x) erase) is
 
-module _ (site : Site) (stay : RefusalsStay) (past : List Step) (s : Step) (step : IsStep site s) (sound : IsSound s.before) where
+module _ (stay : RefusalsStay) (past : List Step) (s : Step) (step : IsStep s) (sound : IsSound s.before) where
   same_machine : (id : ℕ) (k m : Machine) → at s.before.machines id ≡ Some k → at s.after.machines id ≡ Some m → IsSettled k m → Released past id k → Released (past ++ (s ∷ [])) id m
   same_machine id k m was is settled r = (last_kept (IsEntry id) past s (no_entry s id k m was is settled.status) r.0, r.1, settled.erase ∙ r.2, r.3)
 
@@ -103,37 +102,37 @@ module _ (site : Site) (stay : RefusalsStay) (past : List Step) (s : Step) (step
         version = c.version;
         content = content;
         accepted = subst (λ (o : MachineCommand). IsAccepted c.operator.name c.key (OnMachine id c.version o) content s) command
-            (accepts stay site s step sound s.arrival.moment rows content x id m same its is answer c);
+            (accepts stay s step sound s.arrival.moment rows content x id m same its is answer c);
         machine = x.machine;
         found = ap (at s.before.machines) same ∙ x.found;
         owner = owner_named c.operator x.machine (owner_releases_erasing c.operator x.machine c.member (ap (λ (a : Action). permission_for (who_acts a) c.operator x.machine c.member) (sym by.1) ∙ c.may));
       }
 
-  released_after : StepDoes site s → KnowsReleases past s.before → (id : ℕ) (m : Machine) → at s.after.machines id ≡ Some m → m.status ≡ DiskErasing → Released (past ++ (s ∷ [])) id m
+  released_after : StepDoes s → KnowsReleases past s.before → (id : ℕ) (m : Machine) → at s.after.machines id ≡ Some m → m.status ≡ DiskErasing → Released (past ++ (s ∷ [])) id m
   released_after (missed answer after) old id m is erases =
       let was : at s.before.machines id ≡ Some m = ap (λ (h : Hall). at h.machines id) (sym after) ∙ is in
       same_machine id m m was is (settled_same m m refl) (old.released id m was erases)
-  released_after (did answer after writes effect) old id m is erases = by (machine_was s.before sound s.arrival.event s.arrival.moment s.arrival.fresh (decided site s).content id m s.after effect is)
+  released_after (did answer after writes effect) old id m is erases = by (machine_was s.before sound s.arrival.event s.arrival.moment s.arrival.fresh (decided s).content id m s.after effect is)
     where
       unlike : New ≡ DiskErasing → ⊥
       unlike e = cc
 
-      by : MachineWas s.before s.arrival.event s.arrival.moment (decided site s).content id m → Released (past ++ (s ∷ [])) id m
+      by : MachineWas s.before s.arrival.event s.arrival.moment (decided s).content id m → Released (past ++ (s ∷ [])) id m
       by (was_settled k was settled) = same_machine id k m was is settled (old.released id k was (sym settled.status ∙ erases))
       by (was_made event none new) = absurd (unlike (ap (λ (y : Machine). y.status) (sym new) ∙ erases))
-      by (has_entered rows x same its) = release_now rows (decided site s).content x id m same its is answer erases
+      by (has_entered rows x same its) = release_now rows (decided s).content x id m same its is answer erases
 
-pub releases_step : (site : Site) → RefusalsStay → (past : List Step) (s : Step) → BringsNoHallWord s → IsStep site s → IsSound s.before → IsSound s.after → KnowsReleases past s.before → KnowsReleases (past ++ (s ∷ [])) s.after
-releases_step site stay past s brings step sound later old =
-    let does = step_does site s step sound in
-    record { words = words_step site s brings does old.words; released = released_after site stay past s step sound does old }
+pub releases_step : RefusalsStay → (past : List Step) (s : Step) → BringsNoHallWord s → IsStep s → IsSound s.before → IsSound s.after → KnowsReleases past s.before → KnowsReleases (past ++ (s ∷ [])) s.after
+releases_step stay past s brings step sound later old =
+    let does = step_does s step sound in
+    record { words = words_step s brings does old.words; released = released_after stay past s step sound does old }
 
-pub erases_rightly : ErasingTexts → (site : Site) (past : List Step) (s : Step) → IsStep site s → IsSound s.before → KnowsReleases past s.before → ErasesRightly past s
-erases_rightly texts site past s step sound old mac commands was whole erases =
-    let g = was_given site s mac commands step was in
+pub erases_rightly : ErasingTexts → (past : List Step) (s : Step) → IsStep s → IsSound s.before → KnowsReleases past s.before → ErasesRightly past s
+erases_rightly texts past s step sound old mac commands was whole erases =
+    let g = was_given s mac commands step was in
     let v = view_of s.before g.machine in
     let words = view_words s.before g.machine old.words in
-    let status = texts.status site.host v s.arrival.moment s.arrival.fresh g.rows commands words whole g.is erases in
+    let status = texts.status s.arrival.site.host v s.arrival.moment s.arrival.fresh g.rows commands words whole g.is erases in
     let r = old.released g.machine.id g.machine (machine_there s.before sound mac g.machine g.asks) status in
     record {
       machine = g.machine;
@@ -142,5 +141,5 @@ erases_rightly texts site past s step sound old mac commands was whole erases =
       entry = r.0;
       kind = r.1;
       release = r.3;
-      named = texts.kept site.host v s.arrival.moment s.arrival.fresh g.rows commands r.1 words whole g.is erases r.2;
+      named = texts.kept s.arrival.site.host v s.arrival.moment s.arrival.fresh g.rows commands r.1 words whole g.is erases r.2;
     }

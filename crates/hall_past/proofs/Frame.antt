@@ -1,7 +1,6 @@
 -- Laws of the past from an invariant: what holds of the past and the hall is kept by each step, and gives the law at each step.
 use Rattle.std.proofs.Common.{◌≡◌, ◌⊎◌, List, [], ◌∷◌, ◌++◌, refl, sym, ap, subst, ◌∙◌, inl, inr, append_assoc, append-nil}
 use Rattle.std.specs.List.{AllByRecursion}
-use Rattle.pxe_vendor.specs.Place.{Site}
 use Rattle.hall_types.specs.Hall.{Hall, second}
 use Rattle.boot_desk.specs.Sound.{IsSound}
 use Rattle.hall_machine.specs.Step.{IsRun, IsStep, Step}
@@ -43,15 +42,15 @@ last_kept P past s not_so l = record {
 
 -- sound halls of the second schema stay so at each step
 abbrev pub KeepSound : Type 0
-KeepSound = (site : Site) (s : Step) → IsStep site s → IsSound s.before → s.before.schema ≡ second → IsSound s.after × (s.after.schema ≡ second)
+KeepSound = (s : Step) → IsStep s → IsSound s.before → s.before.schema ≡ second → IsSound s.after × (s.after.schema ≡ second)
 
-run_split : (site : Site) (past later : List Step) (s : Step) (h end : Hall) → IsRun site h (past ++ (s ∷ later)) end → IsRun site h past s.before × IsStep site s
-run_split site [] later s h end run = (run.0, run.1)
-run_split site (x ∷ past) later s h end run = let rest = run_split site past later s x.after end run.2 in ((run.0, run.1, rest.0), rest.1)
+run_split : (past later : List Step) (s : Step) (h end : Hall) → IsRun h (past ++ (s ∷ later)) end → IsRun h past s.before × IsStep s
+run_split [] later s h end run = (run.0, run.1)
+run_split (x ∷ past) later s h end run = let rest = run_split past later s x.after end run.2 in ((run.0, run.1, rest.0), rest.1)
 
 -- An invariant of the past and the hall, which each step keeps. Every hall is sound, and the steps are as a premise says.
-module _ (site : Site) (keep : KeepSound) (Given : Step → Type 0) (I : List Step → Hall → Type 0)
-    (keeps : (past : List Step) (s : Step) → Given s → IsStep site s → IsSound s.before → IsSound s.after → I past s.before → I (past ++ (s ∷ [])) s.after) where
+module _ (keep : KeepSound) (Given : Step → Type 0) (I : List Step → Hall → Type 0)
+    (keeps : (past : List Step) (s : Step) → Given s → IsStep s → IsSound s.before → IsSound s.after → I past s.before → I (past ++ (s ∷ [])) s.after) where
   record Holds (past : List Step) (h : Hall) : Type 0 where
     sound : IsSound h
     in_second : h.schema ≡ second
@@ -61,19 +60,19 @@ module _ (site : Site) (keep : KeepSound) (Given : Step → Type 0) (I : List St
   all_split [] later s all = (tt, all.0)
   all_split (x ∷ past) later s all = let rest = all_split past later s all.1 in ((all.0, rest.0), rest.1)
 
-  run_holds : (past steps : List Step) (h end : Hall) → AllByRecursion Given steps → Holds past h → IsRun site h steps end → Holds (past ++ steps) end
+  run_holds : (past steps : List Step) (h end : Hall) → AllByRecursion Given steps → Holds past h → IsRun h steps end → Holds (past ++ steps) end
   run_holds past [] h end given start run = subst (λ xs. Holds xs end) (sym (append-nil past)) (subst (Holds past) (sym run) start)
   run_holds past (s ∷ steps) h end given start run =
       let here = subst (Holds past) (sym run.0) start in
-      let next = keep site s run.1 here.sound here.in_second in
+      let next = keep s run.1 here.sound here.in_second in
       subst (λ xs. Holds xs end) (append_assoc past (s ∷ []) steps)
       (run_holds (past ++ (s ∷ [])) steps s.after end given.1
       (record { sound = next.0; in_second = next.1; holds = keeps past s given.0 run.1 here.sound next.0 here.holds }) run.2)
 
-  pub at_each : (P : List Step → Step → Type 0) → ((past : List Step) (s : Step) → IsStep site s → IsSound s.before → I past s.before → P past s)
-      → (steps : List Step) (h end : Hall) → AllByRecursion Given steps → IsSound h → h.schema ≡ second → I [] h → IsRun site h steps end → AtEachStep P steps
+  pub at_each : (P : List Step → Step → Type 0) → ((past : List Step) (s : Step) → IsStep s → IsSound s.before → I past s.before → P past s)
+      → (steps : List Step) (h end : Hall) → AllByRecursion Given steps → IsSound h → h.schema ≡ second → I [] h → IsRun h steps end → AtEachStep P steps
   at_each P gives steps h end given sound in_second start run past s later are =
-      let parts = run_split site past later s h end (subst (λ xs. IsRun site h xs end) are run) in
+      let parts = run_split past later s h end (subst (λ xs. IsRun h xs end) are run) in
       let all = all_split past later s (subst (AllByRecursion Given) are given) in
       let here = run_holds [] past h s.before all.0 (record { sound = sound; in_second = in_second; holds = start }) parts.0 in
       gives past s parts.1 here.sound here.holds

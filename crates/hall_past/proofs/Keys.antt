@@ -64,18 +64,18 @@ pub record Left (name key : List ℕ) (command : HallCommand) (content : Content
   pub says : is_done content ≡ true
   pub there : at s.after.receipts (pair name key) ≡ Some (receipt_of operator key command content)
 
-accepted_left : (site : Site) (s : Step) → StepDoes site s → (name key : List ℕ) (command : HallCommand) (content : Content) → IsAccepted name key command content s → Left name key command content s
-accepted_left site s (missed answer after) name key command content a = absurd (a.changes after)
-accepted_left site s (did answer after writes effect) name key command content a = by (receipts_move s (decided site s) after writes)
+accepted_left : (s : Step) → StepDoes s → (name key : List ℕ) (command : HallCommand) (content : Content) → IsAccepted name key command content s → Left name key command content s
+accepted_left s (missed answer after) name key command content a = absurd (a.changes after)
+accepted_left s (did answer after writes effect) name key command content a = by (receipts_move s (decided s) after writes)
   where
-    by : ReceiptsMove s (decided site s) → Left name key command content s
+    by : ReceiptsMove s (decided s) → Left name key command content s
     by (same_keys quiet same) = absurd (a.changes (quiet (ap is_command a.answered.event)))
     by (new_key own x move) =
         let same = same_command x.bearer a.bearer x.key key x.command command (sym x.event_is ∙ a.answered.event) in
         let operator : x.operator ≡ a.by = some_is x.operator a.by (sym x.sender_is ∙ (ap (sender s.before) same.0 ∙ a.known)) in
         let named : x.operator.name ≡ name = ap (λ (o : Operator). o.name) operator ∙ a.named in
         let at_key : pair x.operator.name x.key ≡ pair name key = ap (λ n. pair n x.key) named ∙ ap (pair name) same.1 in
-        let says : (decided site s).content ≡ content = some_is (decided site s).content content (sym answer ∙ a.answered.answer) in
+        let says : (decided s).content ≡ content = some_is (decided s).content content (sym answer ∙ a.answered.answer) in
         record {
           operator = x.operator;
           named = named;
@@ -84,22 +84,22 @@ accepted_left site s (did answer after writes effect) name key command content a
           there =
               ap (at s.after.receipts) (sym at_key)
               ∙ (ap (λ rows. at rows (pair x.operator.name x.key)) move
-              ∙ (at-put-same s.before.receipts (pair x.operator.name x.key) (receipt_of x.operator x.key x.command (decided site s).content)
-              ∙ (ap (λ k. Some (receipt_of x.operator k x.command (decided site s).content)) same.1
-              ∙ (ap (λ c. Some (receipt_of x.operator key c (decided site s).content)) same.2
+              ∙ (at-put-same s.before.receipts (pair x.operator.name x.key) (receipt_of x.operator x.key x.command (decided s).content)
+              ∙ (ap (λ k. Some (receipt_of x.operator k x.command (decided s).content)) same.1
+              ∙ (ap (λ c. Some (receipt_of x.operator key c (decided s).content)) same.2
               ∙ ap (λ c. Some (receipt_of x.operator key command c)) says))));
         }
 
 -- a receipt stays
-receipt_stays : (site : Site) (s : Step) → StepDoes site s → (key : List (List ℕ)) (r : Receipt) → at s.before.receipts key ≡ Some r → at s.after.receipts key ≡ Some r
-receipt_stays site s (missed answer after) key r is = ap (λ (h : Hall). at h.receipts key) after ∙ is
-receipt_stays site s (did answer after writes effect) key r is = by (receipts_move s (decided site s) after writes)
+receipt_stays : (s : Step) → StepDoes s → (key : List (List ℕ)) (r : Receipt) → at s.before.receipts key ≡ Some r → at s.after.receipts key ≡ Some r
+receipt_stays s (missed answer after) key r is = ap (λ (h : Hall). at h.receipts key) after ∙ is
+receipt_stays s (did answer after writes effect) key r is = by (receipts_move s (decided s) after writes)
   where
-    by : ReceiptsMove s (decided site s) → at s.after.receipts key ≡ Some r
+    by : ReceiptsMove s (decided s) → at s.after.receipts key ≡ Some r
     by (same_keys quiet same) = ap (λ rows. at rows key) same ∙ is
     by (new_key own x move) =
         ap (λ rows. at rows key) move
-        ∙ (at-put-other s.before.receipts (pair x.operator.name x.key) (receipt_of x.operator x.key x.command (decided site s).content) key (λ same. none-some r (sym x.new ∙ (ap (at s.before.receipts) (sym same) ∙ is))) ∙ is)
+        ∙ (at-put-other s.before.receipts (pair x.operator.name x.key) (receipt_of x.operator x.key x.command (decided s).content) key (λ same. none-some r (sym x.new ∙ (ap (at s.before.receipts) (sym same) ∙ is))) ∙ is)
 
 -- the answer that a receipt keeps is the first one
 stored_same : (content : Content) → is_done content ≡ true → reply_of second (stored 200 (body_of (reply_of second content))) ≡ reply_of second content
@@ -126,23 +126,23 @@ pub record KeepsReceipts (past : List Step) (h : Hall) : Type 0 where
   pub first : (name key : List ℕ) (command : HallCommand) (content : Content) → SomeOf (IsAccepted name key command content) past
       → (o : Operator) × (is_done content ≡ true) × (at h.receipts (pair name key) ≡ Some (receipt_of o key command content))
 
-pub keys_step : (site : Site) (past : List Step) (s : Step) → Unit {0} → IsStep site s → IsSound s.before → IsSound s.after → KeepsReceipts past s.before → KeepsReceipts (past ++ (s ∷ [])) s.after
-keys_step site past s given step sound later old =
-    let does = step_does site s step sound in
+pub keys_step : (past : List Step) (s : Step) → Unit {0} → IsStep s → IsSound s.before → IsSound s.after → KeepsReceipts past s.before → KeepsReceipts (past ++ (s ∷ [])) s.after
+keys_step past s given step sound later old =
+    let does = step_does s step sound in
     record {
       any = λ name key some. elim (some_of_more (AcceptsKey name key) past s some) [
-        | inl was ↦ (let r = old.any name key was in (r.0, receipt_stays site s does (pair name key) r.0 r.1))
-        | inr now ↦ (let l = accepted_left site s does name key now.0 now.1 now.2 in (receipt_of l.operator key now.0 now.1, l.there))
+        | inl was ↦ (let r = old.any name key was in (r.0, receipt_stays s does (pair name key) r.0 r.1))
+        | inr now ↦ (let l = accepted_left s does name key now.0 now.1 now.2 in (receipt_of l.operator key now.0 now.1, l.there))
       ];
       first = λ name key command content some. elim (some_of_more (IsAccepted name key command content) past s some) [
-        | inl was ↦ (let r = old.first name key command content was in (r.0, r.1, receipt_stays site s does (pair name key) (receipt_of r.0 key command content) r.2))
-        | inr now ↦ (let l = accepted_left site s does name key command content now in (l.operator, l.says, l.there))
+        | inl was ↦ (let r = old.first name key command content was in (r.0, r.1, receipt_stays s does (pair name key) (receipt_of r.0 key command content) r.2))
+        | inr now ↦ (let l = accepted_left s does name key command content now in (l.operator, l.says, l.there))
       ];
     }
 
-pub accepts_once : (site : Site) (past : List Step) (s : Step) → IsStep site s → IsSound s.before → KeepsReceipts past s.before → AcceptsOnce past s
-accepts_once site past s step sound old name key a =
-    let l = accepted_left site s (step_does site s step sound) name key a.0 a.1 a.2 in
+pub accepts_once : (past : List Step) (s : Step) → IsStep s → IsSound s.before → KeepsReceipts past s.before → AcceptsOnce past s
+accepts_once past s step sound old name key a =
+    let l = accepted_left s (step_does s step sound) name key a.0 a.1 a.2 in
     none_from (AcceptsKey name key) past (λ some. let r = old.any name key some in none-some r.0 (sym l.new ∙ r.1))
 
 -- ---- a later request
@@ -174,13 +174,13 @@ command_of : (site : Site) (h : Hall) (bearer : Option (List ℕ)) (key : List �
 unfolding decision_of
 command_of site h bearer key command moment fresh = refl
 
-pub repeats_first : (site : Site) (past : List Step) (s : Step) → IsStep site s → IsSound s.before → KeepsReceipts past s.before → RepeatsFirst past s
-repeats_first site past s step sound old name key first content some bearer o command again known named was =
-    let came = came_so site s (event.Command bearer key command) again step was in
+pub repeats_first : (past : List Step) (s : Step) → IsStep s → IsSound s.before → KeepsReceipts past s.before → RepeatsFirst past s
+repeats_first past s step sound old name key first content some bearer o command again known named was =
+    let came = came_so s (event.Command bearer key command) again step was in
     let kept = old.first name key first content some in
     let there : at s.before.receipts (pair o.name key) ≡ Some (receipt_of kept.0 key first content) = ap (λ n. at s.before.receipts (pair n key)) named ∙ kept.2 in
     let its = decision_again s.before bearer o key first command content s.arrival.moment kept.0 kept.1 known there in
-    let is = command_of site s.before bearer key command s.arrival.moment s.arrival.fresh in (
+    let is = command_of s.arrival.site s.before bearer key command s.arrival.moment s.arrival.fresh in (
       subst (IsAnsweredAgain o first content command) (ap (λ (d : Decided). d.content) (sym is) ∙ came.content_is) its.0,
       came.after ∙ ap (λ ws. applied ws s.before) (ap (λ (d : Decided). d.rows) is ∙ its.1),
     )

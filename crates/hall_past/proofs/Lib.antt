@@ -18,3 +18,4 @@ pub mod OrderLemmas
 pub mod OwnBoots
 pub mod PastRows
 pub mod Scripts
+mod WrongSteps

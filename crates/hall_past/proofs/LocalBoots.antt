@@ -25,9 +25,9 @@ asked_decision site h mac m moment fresh asks =
 abbrev pub DeployedBoots : Type 0
 DeployedBoots = (host : List ℕ) (v : BootView) (moment : ℕ) (fresh : List ℕ) → v.machine.status ≡ Deployed → fetched host v moment fresh ≡ Ok ([], local_script v.machine.arch)
 
-pub boots_locally : DeployedBoots → (site : Site) (past : List Step) (s : Step) → IsStep site s → BootsLocally past s
-boots_locally law site past s step mac m content was asks deployed =
-    let came = came_so site s (event.Script mac) content step was in
-    let is : decision_of site s.before (event.Script mac) s.arrival.moment s.arrival.fresh ≡ given (Ok ([], local_script m.arch)) =
-    asked_decision site s.before mac m s.arrival.moment s.arrival.fresh asks ∙ ap given (law site.host (view_of s.before m) s.arrival.moment s.arrival.fresh deployed) in
+pub boots_locally : DeployedBoots → (past : List Step) (s : Step) → IsStep s → BootsLocally past s
+boots_locally law past s step mac m content was asks deployed =
+    let came = came_so s (event.Script mac) content step was in
+    let is : decision_of s.arrival.site s.before (event.Script mac) s.arrival.moment s.arrival.fresh ≡ given (Ok ([], local_script m.arch)) =
+    asked_decision s.arrival.site s.before mac m s.arrival.moment s.arrival.fresh asks ∙ ap given (law s.arrival.site.host (view_of s.before m) s.arrival.moment s.arrival.fresh deployed) in
     (sym came.content_is ∙ ap (λ (d : Decided). d.content) is, came.after ∙ ap (λ (d : Decided). applied d.rows s.before) is)

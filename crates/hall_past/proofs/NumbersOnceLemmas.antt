@@ -2,7 +2,6 @@
 use Rattle.std.proofs.Common.{◌≡◌, ◌≤◌, ◌+◌, ℕ, List, [], ◌∷◌, ◌++◌, sym, ap, ◌∙◌, inl, inr, arith}
 use Rattle.std.specs.Prelude.{Some, None, is_some, not, ◌==◌}
 use Rattle.std.proofs.lemmas.Option.{none-some}
-use Rattle.pxe_vendor.specs.Place.{Site}
 use Rattle.hall_types.specs.Hall.{Hall}
 use Rattle.hall_types.specs.Rows.{Keys, Rows, at, put}
 use Rattle.hall_types.specs.RowLaws.{gone_found, put_cases, where_found}
@@ -132,9 +131,9 @@ pub record IsGivenOut (past : List Step) (h : Hall) : Type 0 where
   pub boots : (n : ℕ) → SomeOf (MakesBoot n) past → n ≤ h.last.boot
   pub orders : (n : ℕ) → SomeOf (MakesOrder n) past → n ≤ h.last.order
 
-step_grows : (site : Site) (s : Step) → StepDoes site s → Grow s.before s.after
-step_grows site s (did answer after writes effect) = effect_grows s.before _ _ _ _ s.after effect
-step_grows site s (missed answer after) = record {
+step_grows : (s : Step) → StepDoes s → Grow s.before s.after
+step_grows s (did answer after writes effect) = effect_grows s.before _ _ _ _ s.after effect
+step_grows s (missed answer after) = record {
   machine = le_is _ _ (ap (λ (h : Hall). h.last.machine) after);
   boot = le_is _ _ (ap (λ (h : Hall). h.last.boot) after);
   order = le_is _ _ (ap (λ (h : Hall). h.last.order) after);
@@ -143,43 +142,43 @@ step_grows site s (missed answer after) = record {
 le_more : (n a b : ℕ) → n ≤ a → a ≤ b → n ≤ b
 le_more n a b p q = omega (arith, p, q)
 
-pub given_step : (site : Site) (past : List Step) (s : Step) → Unit {0} → IsStep site s → IsSound s.before → IsSound s.after → IsGivenOut past s.before → IsGivenOut (past ++ (s ∷ [])) s.after
-given_step site past s given is sound later old =
-    let grows = step_grows site s (step_does site s is sound) in
+pub given_step : (past : List Step) (s : Step) → Unit {0} → IsStep s → IsSound s.before → IsSound s.after → IsGivenOut past s.before → IsGivenOut (past ++ (s ∷ [])) s.after
+given_step past s given is sound later old =
+    let grows = step_grows s (step_does s is sound) in
     record {
       machines = λ id some. elim (some_of_more (MakesMachine id) past s some) [ inl was ↦ le_more _ _ _ (old.machines id was) grows.machine | inr now ↦ later.last_machine id (ap (λ o. is_some o) now.2) ];
       boots = λ n some. elim (some_of_more (MakesBoot n) past s some) [ inl was ↦ le_more _ _ _ (old.boots n was) grows.boot | inr now ↦ later.last_boot n (ap (λ o. is_some o) now.2) ];
       orders = λ n some. elim (some_of_more (MakesOrder n) past s some) [ inl was ↦ le_more _ _ _ (old.orders n was) grows.order | inr now ↦ later.last_order n (ap (λ o. is_some o) now.2) ];
     }
 
-machine_new : (site : Site) (s : Step) → StepDoes site s → (id : ℕ) → MakesMachine id s → id ≤ s.before.last.machine → ⊥
-machine_new site s (did answer after writes effect) id made le = machine_above s.before _ _ _ _ s.after effect id made.0 made.1 made.2 le
-machine_new site s (missed answer after) id made le = none-some made.0 (sym made.1 ∙ (ap (λ (h : Hall). at h.machines id) (sym after) ∙ made.2))
+machine_new : (s : Step) → StepDoes s → (id : ℕ) → MakesMachine id s → id ≤ s.before.last.machine → ⊥
+machine_new s (did answer after writes effect) id made le = machine_above s.before _ _ _ _ s.after effect id made.0 made.1 made.2 le
+machine_new s (missed answer after) id made le = none-some made.0 (sym made.1 ∙ (ap (λ (h : Hall). at h.machines id) (sym after) ∙ made.2))
 
-boot_new : (site : Site) (s : Step) → StepDoes site s → (n : ℕ) → MakesBoot n s → n ≤ s.before.last.boot → ⊥
-boot_new site s (did answer after writes effect) n made le = boot_above s.before _ _ _ _ s.after effect n made.0 made.1 made.2 le
-boot_new site s (missed answer after) n made le = none-some made.0 (sym made.1 ∙ (ap (λ (h : Hall). at h.boots n) (sym after) ∙ made.2))
+boot_new : (s : Step) → StepDoes s → (n : ℕ) → MakesBoot n s → n ≤ s.before.last.boot → ⊥
+boot_new s (did answer after writes effect) n made le = boot_above s.before _ _ _ _ s.after effect n made.0 made.1 made.2 le
+boot_new s (missed answer after) n made le = none-some made.0 (sym made.1 ∙ (ap (λ (h : Hall). at h.boots n) (sym after) ∙ made.2))
 
-order_new : (site : Site) (s : Step) → IsSound s.before → StepDoes site s → (n : ℕ) → MakesOrder n s → n ≤ s.before.last.order → ⊥
-order_new site s sound (did answer after writes effect) n made le = order_above s.before sound _ _ _ _ s.after effect n made.0 made.1 made.2 le
-order_new site s sound (missed answer after) n made le = none-some made.0 (sym made.1 ∙ (ap (λ (h : Hall). at h.orders n) (sym after) ∙ made.2))
+order_new : (s : Step) → IsSound s.before → StepDoes s → (n : ℕ) → MakesOrder n s → n ≤ s.before.last.order → ⊥
+order_new s sound (did answer after writes effect) n made le = order_above s.before sound _ _ _ _ s.after effect n made.0 made.1 made.2 le
+order_new s sound (missed answer after) n made le = none-some made.0 (sym made.1 ∙ (ap (λ (h : Hall). at h.orders n) (sym after) ∙ made.2))
 
-pub numbers_once : (site : Site) (past : List Step) (s : Step) → IsStep site s → IsSound s.before → IsGivenOut past s.before → NumbersOnce past s
-numbers_once site past s is sound old =
-    let does = step_does site s is sound in
+pub numbers_once : (past : List Step) (s : Step) → IsStep s → IsSound s.before → IsGivenOut past s.before → NumbersOnce past s
+numbers_once past s is sound old =
+    let does = step_does s is sound in
     record {
-      machines = λ id made. none_from (MakesMachine id) past (λ some. machine_new site s does id made (old.machines id some));
-      boots = λ n made. none_from (MakesBoot n) past (λ some. boot_new site s does n made (old.boots n some));
-      orders = λ n made. none_from (MakesOrder n) past (λ some. order_new site s sound does n made (old.orders n some));
+      machines = λ id made. none_from (MakesMachine id) past (λ some. machine_new s does id made (old.machines id some));
+      boots = λ n made. none_from (MakesBoot n) past (λ some. boot_new s does n made (old.boots n some));
+      orders = λ n made. none_from (MakesOrder n) past (λ some. order_new s sound does n made (old.orders n some));
     }
 
 pub new_given : (h : Hall) → IsGivenOut [] h
 new_given h = record { machines = λ id none. absurd none; boots = λ n none. absurd none; orders = λ n none. absurd none }
 
 -- a number of a boot that was issued is one after each step
-pub boot_grows : (site : Site) (s : Step) → StepDoes site s → (n : ℕ) → n ≤ s.before.last.boot → n ≤ s.after.last.boot
-boot_grows site s does n le = le_more n _ _ le (step_grows site s does).boot
+pub boot_grows : (s : Step) → StepDoes s → (n : ℕ) → n ≤ s.before.last.boot → n ≤ s.after.last.boot
+boot_grows s does n le = le_more n _ _ le (step_grows s does).boot
 
 -- so is one of an order
-pub order_grows : (site : Site) (s : Step) → StepDoes site s → (n : ℕ) → n ≤ s.before.last.order → n ≤ s.after.last.order
-order_grows site s does n le = le_more n _ _ le (step_grows site s does).order
+pub order_grows : (s : Step) → StepDoes s → (n : ℕ) → n ≤ s.before.last.order → n ≤ s.after.last.order
+order_grows s does n le = le_more n _ _ le (step_grows s does).order

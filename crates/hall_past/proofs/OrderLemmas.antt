@@ -3,7 +3,6 @@ use Rattle.std.proofs.Common.{◌≡◌, ◌+◌, ◌≤◌, ◌⊎◌, ℕ, Lis
 use Rattle.std.specs.Prelude.{Option, Some, None, true, false, is_some, not, ◌==◌}
 use Rattle.std.proofs.lemmas.Bool.{both_ways}
 use Rattle.std.proofs.lemmas.Option.{none-some}
-use Rattle.pxe_vendor.specs.Place.{Site}
 use Rattle.hall_types.specs.Hall.{Hall}
 use Rattle.hall_types.specs.Lookup.{waits}
 use Rattle.hall_types.specs.Rows.{at, put}
@@ -54,8 +53,8 @@ one_waits h s = record {
 
 -- ---- orders are queued at entries
 
-pub queues_at_entries : RefusalsStay → (site : Site) (past : List Step) (s : Step) → IsStep site s → IsSound s.before → QueuesAtEntries past s
-queues_at_entries stay site past s step sound n o none some = by_step (step_does site s step sound)
+pub queues_at_entries : RefusalsStay → (past : List Step) (s : Step) → IsStep s → IsSound s.before → QueuesAtEntries past s
+queues_at_entries stay past s step sound n o none some = by_step (step_does s step sound)
   where
     by_entry : (rows : List RowWrite) (content : Content) (x : IsEntering s.before s.arrival.event s.arrival.moment rows content) → s.answer ≡ Some content → s.after.machines ≡ put x.new.machine.id x.new.machine s.before.machines
         → OrderWas s.before x.first x.new n o → IsQueuedAtEntry o s
@@ -68,7 +67,7 @@ queues_at_entries stay site past s step sound n o none some = by_step (step_does
         let own : o.machine ≡ x.new.machine.id = facts.machine ∙ sym (entered-id x.entering x.step s.arrival.moment s.before.last x.new x.enters) in
         let machine : o.machine ≡ x.machine.id = own ∙ new_id s.before s.arrival.event s.arrival.moment rows content x in
         let row : at s.after.machines o.machine ≡ Some x.new.machine = ap (λ rows. at rows o.machine) machines ∙ (ap (at (put x.new.machine.id x.new.machine s.before.machines)) own ∙ at-put-same s.before.machines x.new.machine.id x.new.machine) in
-        let taken = row_taken stay site s step sound rows content x o.machine x.new.machine machine refl row answer in
+        let taken = row_taken stay s step sound rows content x o.machine x.new.machine machine refl row answer in
         record {
           waits = facts.stage;
           entry = is_entry s sound s.arrival.event s.arrival.moment rows content x o.machine x.new.machine machine refl row;
@@ -90,9 +89,9 @@ queues_at_entries stay site past s step sound n o none some = by_step (step_does
     by content answer (edits command rows x has) = unmoved (ap (λ x. at x n) (sym has.orders) ∙ some)
     by content answer (goes command id has) = unmoved (where_found (λ (x : Order). not (x.machine == id)) s.before.orders n o (ap (λ x. at x n) (sym has.orders) ∙ some)).0
 
-    by_step : StepDoes site s → IsQueuedAtEntry o s
+    by_step : StepDoes s → IsQueuedAtEntry o s
     by_step (missed answer after) = unmoved (ap (λ (h : Hall). at h.orders n) (sym after) ∙ some)
-    by_step (did answer after writes effect) = by (decided site s).content answer effect
+    by_step (did answer after writes effect) = by (decided s).content answer effect
 
 -- ---- where an order comes from
 
@@ -127,17 +126,17 @@ order_now h s e moment fresh content g (goes command id has) n o is = same_order
 
 -- ---- an order that doesn't wait
 
-pub waits_no_more : (site : Site) (past : List Step) (s : Step) → IsStep site s → IsSound s.before → WaitsNoMore past s
-waits_no_more site past s step sound n k o was idle is wait = by_step (step_does site s step sound)
+pub waits_no_more : (past : List Step) (s : Step) → IsStep s → IsSound s.before → WaitsNoMore past s
+waits_no_more past s step sound n k o was idle is wait = by_step (step_does s step sound)
   where
     by : OrderNow s.before n o → ⊥
     by (same_order there) = idle (ap (λ (y : Order). y.stage) (some_is k o (sym was ∙ there)) ∙ wait)
     by (new_order number) = omega (arith, number, sound.last_order n (ap (λ y. is_some y) was))
     by (settled_order fails) = both_ways (waits o.stage) fails (ap waits wait)
 
-    by_step : StepDoes site s → ⊥
+    by_step : StepDoes s → ⊥
     by_step (missed answer after) = by (same_order (ap (λ (h : Hall). at h.orders n) (sym after) ∙ is))
-    by_step (did answer after writes effect) = by (order_now s.before sound s.arrival.event s.arrival.moment s.arrival.fresh (decided site s).content s.after effect n o is)
+    by_step (did answer after writes effect) = by (order_now s.before sound s.arrival.event s.arrival.moment s.arrival.fresh (decided s).content s.after effect n o is)
 
 -- ---- an answer that counted
 
@@ -197,10 +196,10 @@ module _ (h : Hall) (s : IsSound h) (e : Event) (moment : ℕ) (fresh : List ℕ
   answered_effect (edits command rows x has) = absurd (no_answer e bearer n its is command)
   answered_effect (goes command id has) = absurd (no_answer e bearer n its is command)
 
-answered_at : (site : Site) (s : Step) → StepDoes site s → IsSound s.before → (n : ℕ) (its : Outcome) → CountsAnswer n its s → Answered s.before s.after n
-answered_at site s (missed answer after) sound n its c = absurd (none-some counted (sym answer ∙ c.1.answer))
-answered_at site s (did answer after writes effect) sound n its c =
-    answered_effect s.before sound s.arrival.event s.arrival.moment s.arrival.fresh (decided site s).content s.after c.0 n its c.1.event (some_is (decided site s).content counted (sym answer ∙ c.1.answer)) effect
+answered_at : (s : Step) → StepDoes s → IsSound s.before → (n : ℕ) (its : Outcome) → CountsAnswer n its s → Answered s.before s.after n
+answered_at s (missed answer after) sound n its c = absurd (none-some counted (sym answer ∙ c.1.answer))
+answered_at s (did answer after writes effect) sound n its c =
+    answered_effect s.before sound s.arrival.event s.arrival.moment s.arrival.fresh (decided s).content s.after c.0 n its c.1.event (some_is (decided s).content counted (sym answer ∙ c.1.answer)) effect
 
 -- ---- the invariant
 
@@ -213,7 +212,7 @@ pub record KnowsAnswers (past : List Step) (h : Hall) : Type 0 where
   pub settled : (n : ℕ) → SomeOf (Settles n) past → (o : Order) → at h.orders n ≡ Some o → waits o.stage ≡ false
   pub issued : (n : ℕ) → SomeOf (Settles n) past → n ≤ h.last.order
 
-module _ (site : Site) (past : List Step) (s : Step) (sound : IsSound s.before) (old : KnowsAnswers past s.before) (does : StepDoes site s) where
+module _ (past : List Step) (s : Step) (sound : IsSound s.before) (old : KnowsAnswers past s.before) (does : StepDoes s) where
   settled_stays : (n : ℕ) → SomeOf (Settles n) past → (o : Order) → at s.after.orders n ≡ Some o → waits o.stage ≡ false
   settled_stays n some o is = by_step does
     where
@@ -222,24 +221,24 @@ module _ (site : Site) (past : List Step) (s : Step) (sound : IsSound s.before) 
       by (new_order number) = absurd (omega (arith, number, old.issued n some))
       by (settled_order fails) = fails
 
-      by_step : StepDoes site s → waits o.stage ≡ false
+      by_step : StepDoes s → waits o.stage ≡ false
       by_step (missed answer after) = old.settled n some o (ap (λ (h : Hall). at h.orders n) (sym after) ∙ is)
-      by_step (did answer after writes effect) = by (order_now s.before sound s.arrival.event s.arrival.moment s.arrival.fresh (decided site s).content s.after effect n o is)
+      by_step (did answer after writes effect) = by (order_now s.before sound s.arrival.event s.arrival.moment s.arrival.fresh (decided s).content s.after effect n o is)
 
   settled_now : (n : ℕ) → Settles n s → (o : Order) → at s.after.orders n ≡ Some o → waits o.stage ≡ false
-  settled_now n (inl c) o is = (answered_at site s does sound n c.0 c.1).after o is
+  settled_now n (inl c) o is = (answered_at s does sound n c.0 c.1).after o is
   settled_now n (inr w) o is = ap (λ (y : Order). waits y.stage) (some_is o w.1 (sym is ∙ w.4)) ∙ ap waits w.5
 
   issued_now : IsSound s.after → (n : ℕ) → Settles n s → n ≤ s.after.last.order
-  issued_now later n (inl c) = later.last_order n (answered_at site s does sound n c.0 c.1).there
+  issued_now later n (inl c) = later.last_order n (answered_at s does sound n c.0 c.1).there
   issued_now later n (inr w) = later.last_order n (ap (λ o. is_some o) w.4)
 
-pub answers_step : (site : Site) (past : List Step) (s : Step) → Unit {0} → IsStep site s → IsSound s.before → IsSound s.after → KnowsAnswers past s.before → KnowsAnswers (past ++ (s ∷ [])) s.after
-answers_step site past s given step sound later old =
-    let does = step_does site s step sound in
+pub answers_step : (past : List Step) (s : Step) → Unit {0} → IsStep s → IsSound s.before → IsSound s.after → KnowsAnswers past s.before → KnowsAnswers (past ++ (s ∷ [])) s.after
+answers_step past s given step sound later old =
+    let does = step_does s step sound in
     record {
-      settled = λ n some o is. elim (some_of_more (Settles n) past s some) [ inl was ↦ settled_stays site past s sound old does n was o is | inr now ↦ settled_now site past s sound old does n now o is ];
-      issued = λ n some. elim (some_of_more (Settles n) past s some) [ inl was ↦ order_grows site s does n (old.issued n was) | inr now ↦ issued_now site past s sound old does later n now ];
+      settled = λ n some o is. elim (some_of_more (Settles n) past s some) [ inl was ↦ settled_stays past s sound old does n was o is | inr now ↦ settled_now past s sound old does n now o is ];
+      issued = λ n some. elim (some_of_more (Settles n) past s some) [ inl was ↦ order_grows s does n (old.issued n was) | inr now ↦ issued_now past s sound old does later n now ];
     }
 
 some_counts : (n : ℕ) (past : List Step) → SomeOf (CountsSome n) past → SomeOf (Settles n) past
@@ -252,9 +251,9 @@ some_withdraws n [] some = some
 some_withdraws n (s ∷ past) (inl w) = inl (inr w)
 some_withdraws n (s ∷ past) (inr rest) = inr (some_withdraws n past rest)
 
-pub answers_once : (site : Site) (past : List Step) (s : Step) → IsStep site s → IsSound s.before → KnowsAnswers past s.before → CountsAnswerOnce past s
-answers_once site past s step sound old n c =
-    let a = answered_at site s (step_does site s step sound) sound n c.0 c.1 in
+pub answers_once : (past : List Step) (s : Step) → IsStep s → IsSound s.before → KnowsAnswers past s.before → CountsAnswerOnce past s
+answers_once past s step sound old n c =
+    let a = answered_at s (step_does s step sound) sound n c.0 c.1 in
     let there : at s.before.orders n ≡ Some a.order = ap (at s.before.orders) (sym a.number) ∙ a.recorded in (
       none_from (CountsSome n) past (λ some. both_ways (waits a.order.stage) (old.settled n (some_counts n past some) a.order there) (ap waits a.waited)),
       none_from (Withdraws n) past (λ some. both_ways (waits a.order.stage) (old.settled n (some_withdraws n past some) a.order there) (ap waits a.waited)),

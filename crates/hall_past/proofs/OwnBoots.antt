@@ -2,7 +2,6 @@
 use Rattle.std.proofs.Common.{◌≡◌, ◌≤◌, ℕ, List, [], ◌∷◌, ◌++◌, refl, sym, ap, subst, ◌∙◌, inl, inr, arith}
 use Rattle.std.specs.Prelude.{Option, Some, None, is_some}
 use Rattle.std.proofs.lemmas.Option.{none-some}
-use Rattle.pxe_vendor.specs.Place.{Site}
 use Rattle.hall_types.specs.Hall.{Hall}
 use Rattle.hall_types.specs.Rows.{at, put}
 use Rattle.hall_types.specs.RowLaws.{at-put-same, gone_found, put_cases}
@@ -50,7 +49,7 @@ current_issued h s id n m there current =
     let b = (s.machines id m there).boot n current in
     s.last_boot n (ap (λ o. is_some o) (ap (row_at h.boots) (sym current) ∙ b.1))
 
-module _ (site : Site) (past : List Step) (s : Step) (sound : IsSound s.before) (old : OwnsBoots past s.before) where
+module _ (past : List Step) (s : Step) (sound : IsSound s.before) (old : OwnsBoots past s.before) where
   -- it goes on being the own boot where no boot is issued for the machine, and there is no other entry
   goes_on : (id n : ℕ) → Own past s.before id n → (IssuesFor id s → ⊥) → (IsOtherEntry id s → ⊥) → ((b : Boot) → at s.after.boots n ≡ Some b → (k : Boot) × (at s.before.boots n ≡ Some k) × (b.token ≡ k.token)) → Own (past ++ (s ∷ [])) s.after id n
   goes_on id n o no_issue no_entry tokens = record {
@@ -156,8 +155,8 @@ module _ (site : Site) (past : List Step) (s : Step) (sound : IsSound s.before) 
           put_same x.after.id x.machine x.after (ap (at s.before.machines) (ap (λ (y : Machine). y.id) x.same) ∙ x.found) (ap (λ (y : Machine). y.status) x.same) (ap (λ (y : Machine). y.boot) x.same) (ap (λ x. at x id) (sym has.machines) ∙ is)
       by (goes command other has) = same (gone_found s.before.machines other id m (ap (λ x. at x id) (sym has.machines) ∙ is)).1
 
-  own_later : StepDoes site s → (id n : ℕ) (m : Machine) → at s.after.machines id ≡ Some m → m.boot ≡ Some n → Own (past ++ (s ∷ [])) s.after id n
-  own_later (did answer after writes effect) id n m is current = own_after (decided site s).content effect id n m is current
+  own_later : StepDoes s → (id n : ℕ) (m : Machine) → at s.after.machines id ≡ Some m → m.boot ≡ Some n → Own (past ++ (s ∷ [])) s.after id n
+  own_later (did answer after writes effect) id n m is current = own_after (decided s).content effect id n m is current
   own_later (missed answer after) id n m is current =
       let was : at s.before.machines id ≡ Some m = ap (λ (h : Hall). at h.machines id) (sym after) ∙ is in
       goes_on id n (old.owns id n m was current)
@@ -165,12 +164,12 @@ module _ (site : Site) (past : List Step) (s : Step) (sound : IsSound s.before) 
       (λ e. no_entry s id m m was is refl e.0)
       (λ b there. (b, ap (λ (h : Hall). at h.boots n) (sym after) ∙ there, refl))
 
-pub owns_step : (site : Site) (past : List Step) (s : Step) → Unit {0} → IsStep site s → IsSound s.before → IsSound s.after → OwnsBoots past s.before → OwnsBoots (past ++ (s ∷ [])) s.after
-owns_step site past s given step sound later old = record { owns = own_later site past s sound old (step_does site s step sound) }
+pub owns_step : (past : List Step) (s : Step) → Unit {0} → IsStep s → IsSound s.before → IsSound s.after → OwnsBoots past s.before → OwnsBoots (past ++ (s ∷ [])) s.after
+owns_step past s given step sound later old = record { owns = own_later past s sound old (step_does s step sound) }
 
-pub counts_own : (site : Site) (past : List Step) (s : Step) → IsStep site s → IsSound s.before → OwnsBoots past s.before → CountsOwnBoot past s
-counts_own site past s step sound old number token progress was =
-    let c = counted_report site s (step_does site s step sound) number token progress was.event was.answer in
+pub counts_own : (past : List Step) (s : Step) → IsStep s → IsSound s.before → OwnsBoots past s.before → CountsOwnBoot past s
+counts_own past s step sound old number token progress was =
+    let c = counted_report s (step_does s step sound) number token progress was.event was.answer in
     let b = c.at_boot.boot in
     let o = old.owns c.at_boot.machine.id b.number c.at_boot.machine c.at_boot.found c.at_boot.cause.current in
     (o.boot, o.number ∙ c.number_is, sym (o.token b c.at_boot.cause.recorded) ∙ c.token_is, subst (λ i. IsOwnBoot i o.boot past) (sym o.machine) o.own)

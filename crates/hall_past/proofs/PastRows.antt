@@ -56,27 +56,27 @@ abbrev before : Hall
 before = new_hall second (codes "ada") (1 ∷ 2 ∷ 3 ∷ [])
 
 abbrev frame : Arrival
-frame = record { event = event.Frame port.Discover client; moment = 1000; fresh = [] }
+frame = record { site = site; event = event.Frame port.Discover client; moment = 1000; fresh = [] }
 
 -- the step in which an arrival comes to a hall
 abbrev came : Hall → Arrival → Step
 came h a = record {
   before = h;
   arrival = a;
-  answer = Some (decision_of site h a.event a.moment a.fresh).content;
-  after = applied (decision_of site h a.event a.moment a.fresh).rows h;
+  answer = Some (decision_of a.site h a.event a.moment a.fresh).content;
+  after = applied (decision_of a.site h a.event a.moment a.fresh).rows h;
 }
 
 abbrev first : Step
 first = came before frame
 
 abbrev asks : Arrival
-asks = record { event = event.Script (2 ∷ 0 ∷ 0 ∷ 0 ∷ 0 ∷ 1 ∷ []); moment = 1001; fresh = [] }
+asks = record { site = site; event = event.Script (2 ∷ 0 ∷ 0 ∷ 0 ∷ 0 ∷ 1 ∷ []); moment = 1001; fresh = [] }
 
 abbrev then : Step
 then = came first.after asks
 
-is_run : IsRun site before (first ∷ then ∷ []) then.after
+is_run : IsRun before (first ∷ then ∷ []) then.after
 is_run = (refl, inl (record { answer = refl; after = refl }), (refl, inl (record { answer = refl; after = refl }), refl))
 
 -- nothing is known of the client
@@ -140,7 +140,7 @@ abbrev adds_pool : HallCommand
 adds_pool = AddPool (codes "lab")
 
 abbrev adds : Arrival
-adds = record { event = event.Command (Some digest) key adds_pool; moment = 1000; fresh = [] }
+adds = record { site = site; event = event.Command (Some digest) key adds_pool; moment = 1000; fresh = [] }
 
 no_pool : at before.pools (codes "lab") ≡ None
 no_pool =

@@ -57,9 +57,9 @@ module _ (site : Site) (h : Hall) (mac : List ℕ) (moment : ℕ) (fresh : List 
   given_to says = by_interface (at h.interfaces mac) refl says
 
 -- at a step that was answered so
-pub was_given : (site : Site) (s : Step) (mac : List ℕ) (commands : List Command) → IsStep site s → WasAnswered s (event.Script mac) (script commands)
-    → IsGiven site s.before mac s.arrival.moment s.arrival.fresh commands
-was_given site s mac commands is was = given_to site s.before mac s.arrival.moment s.arrival.fresh commands (came_so site s (event.Script mac) (script commands) is was).content_is
+pub was_given : (s : Step) (mac : List ℕ) (commands : List Command) → IsStep s → WasAnswered s (event.Script mac) (script commands)
+    → IsGiven s.arrival.site s.before mac s.arrival.moment s.arrival.fresh commands
+was_given s mac commands is was = given_to s.arrival.site s.before mac s.arrival.moment s.arrival.fresh commands (came_so s (event.Script mac) (script commands) is was).content_is
 
 -- the machine stands under its number
 pub machine_there : (h : Hall) → IsSound h → (mac : List ℕ) (m : Machine) → IsMachineAt h mac m → at h.machines m.id ≡ Some m
@@ -71,9 +71,9 @@ machine_there h s mac m asks = ap (at h.machines) (s.keyed.machines asks.interfa
 pub record HaveNoHallWords (h : Hall) : Type 0 where
   pub images : (name : List ℕ) (i : BootImage) → at h.images name ≡ Some i → has_hall_word i.args ≡ false
 
-pub words_step : (site : Site) (s : Step) → BringsNoHallWord s → StepDoes site s → HaveNoHallWords s.before → HaveNoHallWords s.after
-words_step site s brings (missed answer after) old = subst HaveNoHallWords (sym after) old
-words_step site s brings (did answer after writes effect) old =
+pub words_step : (s : Step) → BringsNoHallWord s → StepDoes s → HaveNoHallWords s.before → HaveNoHallWords s.after
+words_step s brings (missed answer after) old = subst HaveNoHallWords (sym after) old
+words_step s brings (did answer after writes effect) old =
     record { images = λ name i is. by name i (images_move s.before s.arrival.event s.arrival.moment s.arrival.fresh _ writes) (ap (λ (h : Hall). at h.images name) (sym after) ∙ is) }
   where
     by : {g : Hall} (name : List ℕ) (i : BootImage) → ImagesMove s.before s.arrival.event g → at g.images name ≡ Some i → has_hall_word i.args ≡ false

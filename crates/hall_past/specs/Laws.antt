@@ -1,7 +1,6 @@
 -- The laws of the past, each for a step with the steps before it.
 use Rattle.std.specs.Prelude.{◌≡◌, ◌≢◌, ◌⊎◌, ℕ, false, true, List, Option, Some, None}
 use Rattle.std.specs.List.{AllByRecursion}
-use Rattle.pxe_vendor.specs.Place.{Site}
 use Rattle.ipxe_script.specs.Purpose.{IsDeploying, IsErasing}
 use Rattle.ipxe_script.specs.Script.{IsScript, spelling}
 use Rattle.ipxe_script.specs.declared.command.Command.{Command}
@@ -117,10 +116,10 @@ pub record IsRightlyDeployed (host mac : List ℕ) (commands : List Command) (pa
   pub boots : commands ≡ work_script host purpose.Deploy machine.erase boot image
 
 -- each script whose text has a kernel write an image to a disk answers a request for a machine that is rightly deployed
-abbrev pub DeploysRightly : Site → List Step → Step → Type 0
-DeploysRightly site past s =
+abbrev pub DeploysRightly : List Step → Step → Type 0
+DeploysRightly past s =
     (mac : List ℕ) (commands : List Command) → WasAnswered s (event.Script mac) (script commands) → IsScript commands → IsDeploying (spelling commands)
-    → IsRightlyDeployed site.host mac commands past s.before
+    → IsRightlyDeployed s.arrival.site.host mac commands past s.before
 
 -- ---- counting
 

@@ -1,6 +1,5 @@
 //! The laws of the past.
 ghost use Rattle.std.specs.Prelude.{◌≡◌, ℕ, List};
-ghost use Rattle.pxe_vendor.specs.Place.{Site};
 ghost use Rattle.hall_types.specs.Hall.{Hall, new_hall, second};
 ghost use Rattle.hall_machine.specs.Step.{IsRun, Step};
 ghost use Rattle.hall_past.specs.Laws.{AcceptsOnce, BootsLocally, BringNoHallWords, CountsAnswerOnce, CountsOwnBoot, CountsStartedFirst, CountsVerdictOnce, DeploysRightly, EntersByTable, ErasesRightly, NumbersOnce, QueuesAtEntries, RepeatsFirst, WaitsForOne, WaitsNoMore};
@@ -12,8 +11,8 @@ use hall_steps::steps_keep_halls_sound;
 
 /// A Deployed machine that asks for its script is told to boot its own disk, and nothing changes.
 pub fn local_boots()
-    ensures { (site : Site) (admin digest : List ℕ) (end : Hall) (steps : List Step)
-        → IsRun site (new_hall second admin digest) steps end → AtEachStep BootsLocally steps }
+    ensures { (admin digest : List ℕ) (end : Hall) (steps : List Step)
+        → IsRun (new_hall second admin digest) steps end → AtEachStep BootsLocally steps }
 {
     new_halls_are_sound();
     steps_keep_halls_sound();
@@ -22,8 +21,8 @@ pub fn local_boots()
 
 /// No number of a machine, a boot or an order is issued twice, not even once its row is gone.
 pub fn numbers_once()
-    ensures { (site : Site) (admin digest : List ℕ) (end : Hall) (steps : List Step)
-        → IsRun site (new_hall second admin digest) steps end → AtEachStep NumbersOnce steps }
+    ensures { (admin digest : List ℕ) (end : Hall) (steps : List Step)
+        → IsRun (new_hall second admin digest) steps end → AtEachStep NumbersOnce steps }
 {
     new_halls_are_sound();
     steps_keep_halls_sound();
@@ -33,8 +32,8 @@ pub fn numbers_once()
 /// an accepted release with erasing, by the operator who was its owner just before; and the text names the kind of erasing
 /// that this release named. The images that arrivals bring have no argument that begins `hall.`: none can be made with one.
 pub fn erasing_is_released()
-    ensures { (site : Site) (admin digest : List ℕ) (end : Hall) (steps : List Step)
-        → BringNoHallWords steps → IsRun site (new_hall second admin digest) steps end → AtEachStep ErasesRightly steps }
+    ensures { (admin digest : List ℕ) (end : Hall) (steps : List Step)
+        → BringNoHallWords steps → IsRun (new_hall second admin digest) steps end → AtEachStep ErasesRightly steps }
 {
     new_halls_are_sound();
     steps_keep_halls_sound();
@@ -46,8 +45,8 @@ pub fn erasing_is_released()
 /// made by an accepted deploy, by the operator who was its owner just before; and the script boots the kernel and the
 /// initrd of the image that this deploy named, as it was recorded then.
 pub fn deploying_is_commanded()
-    ensures { (site : Site) (admin digest : List ℕ) (end : Hall) (steps : List Step)
-        → BringNoHallWords steps → IsRun site (new_hall second admin digest) steps end → AtEachStep (DeploysRightly site) steps }
+    ensures { (admin digest : List ℕ) (end : Hall) (steps : List Step)
+        → BringNoHallWords steps → IsRun (new_hall second admin digest) steps end → AtEachStep DeploysRightly steps }
 {
     new_halls_are_sound();
     steps_keep_halls_sound();
@@ -58,8 +57,8 @@ pub fn deploying_is_commanded()
 /// A report counts only if its number and its token are those of its machine's own boot: the last one that was issued for
 /// the machine, with no entry since but the one from Entering rescue into Rescue.
 pub fn own_boots()
-    ensures { (site : Site) (admin digest : List ℕ) (end : Hall) (steps : List Step)
-        → IsRun site (new_hall second admin digest) steps end → AtEachStep CountsOwnBoot steps }
+    ensures { (admin digest : List ℕ) (end : Hall) (steps : List Step)
+        → IsRun (new_hall second admin digest) steps end → AtEachStep CountsOwnBoot steps }
 {
     new_halls_are_sound();
     steps_keep_halls_sound();
@@ -67,10 +66,10 @@ pub fn own_boots()
 
 /// Of a boot at most one report that it has started counts, before all its other reports, and at most one verdict.
 pub fn reports_count_once()
-    ensures started { (site : Site) (admin digest : List ℕ) (end : Hall) (steps : List Step)
-        → IsRun site (new_hall second admin digest) steps end → AtEachStep CountsStartedFirst steps }
-    ensures verdict { (site : Site) (admin digest : List ℕ) (end : Hall) (steps : List Step)
-        → IsRun site (new_hall second admin digest) steps end → AtEachStep CountsVerdictOnce steps }
+    ensures started { (admin digest : List ℕ) (end : Hall) (steps : List Step)
+        → IsRun (new_hall second admin digest) steps end → AtEachStep CountsStartedFirst steps }
+    ensures verdict { (admin digest : List ℕ) (end : Hall) (steps : List Step)
+        → IsRun (new_hall second admin digest) steps end → AtEachStep CountsVerdictOnce steps }
 {
     new_halls_are_sound();
     steps_keep_halls_sound();
@@ -79,8 +78,8 @@ pub fn reports_count_once()
 /// Each entry of a machine is its making, or a row of the life cycle's table, whose signal an accepted command gave, a
 /// counted report of a boot of this machine, a counted answer to an order of it, its deadline, or a fourth boot.
 pub fn entries_by_table()
-    ensures { (site : Site) (admin digest : List ℕ) (end : Hall) (steps : List Step)
-        → IsRun site (new_hall second admin digest) steps end → AtEachStep EntersByTable steps }
+    ensures { (admin digest : List ℕ) (end : Hall) (steps : List Step)
+        → IsRun (new_hall second admin digest) steps end → AtEachStep EntersByTable steps }
 {
     new_halls_are_sound();
     steps_keep_halls_sound();
@@ -91,10 +90,10 @@ pub fn entries_by_table()
 /// as the first one was if it is the same command, and `KeyReused` if it is another (`UnknownToken` once the operator is
 /// disabled), and changes nothing.
 pub fn request_keys()
-    ensures once { (site : Site) (admin digest : List ℕ) (end : Hall) (steps : List Step)
-        → IsRun site (new_hall second admin digest) steps end → AtEachStep AcceptsOnce steps }
-    ensures again { (site : Site) (admin digest : List ℕ) (end : Hall) (steps : List Step)
-        → IsRun site (new_hall second admin digest) steps end → AtEachStep RepeatsFirst steps }
+    ensures once { (admin digest : List ℕ) (end : Hall) (steps : List Step)
+        → IsRun (new_hall second admin digest) steps end → AtEachStep AcceptsOnce steps }
+    ensures again { (admin digest : List ℕ) (end : Hall) (steps : List Step)
+        → IsRun (new_hall second admin digest) steps end → AtEachStep RepeatsFirst steps }
 {
     new_halls_are_sound();
     steps_keep_halls_sound();
@@ -104,14 +103,14 @@ pub fn request_keys()
 /// machine, with the kind of that entry's row, and never waits again once it doesn't. An answer counts at most once for each
 /// order, and never after the order was withdrawn.
 pub fn orders_and_answers()
-    ensures waits { (site : Site) (admin digest : List ℕ) (end : Hall) (steps : List Step)
-        → IsRun site (new_hall second admin digest) steps end → WaitsForOne end }
-    ensures queued { (site : Site) (admin digest : List ℕ) (end : Hall) (steps : List Step)
-        → IsRun site (new_hall second admin digest) steps end → AtEachStep QueuesAtEntries steps }
-    ensures again { (site : Site) (admin digest : List ℕ) (end : Hall) (steps : List Step)
-        → IsRun site (new_hall second admin digest) steps end → AtEachStep WaitsNoMore steps }
-    ensures answered { (site : Site) (admin digest : List ℕ) (end : Hall) (steps : List Step)
-        → IsRun site (new_hall second admin digest) steps end → AtEachStep CountsAnswerOnce steps }
+    ensures waits { (admin digest : List ℕ) (end : Hall) (steps : List Step)
+        → IsRun (new_hall second admin digest) steps end → WaitsForOne end }
+    ensures queued { (admin digest : List ℕ) (end : Hall) (steps : List Step)
+        → IsRun (new_hall second admin digest) steps end → AtEachStep QueuesAtEntries steps }
+    ensures again { (admin digest : List ℕ) (end : Hall) (steps : List Step)
+        → IsRun (new_hall second admin digest) steps end → AtEachStep WaitsNoMore steps }
+    ensures answered { (admin digest : List ℕ) (end : Hall) (steps : List Step)
+        → IsRun (new_hall second admin digest) steps end → AtEachStep CountsAnswerOnce steps }
 {
     new_halls_are_sound();
     steps_keep_halls_sound();

@@ -1,3 +1,4 @@
 pub mod DecidedLemmas
+pub mod RouteLemmas
 mod RouteRows
 pub mod TargetLemmas

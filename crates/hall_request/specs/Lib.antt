@@ -7,3 +7,4 @@ pub mod Head
 pub mod Request
 pub mod Resource
 pub mod Target
+pub mod WordLaws

@@ -1,10 +1,10 @@
 -- What a request's target names, in the words of `matchit`.
-use Rattle.std.specs.Prelude.{ℕ, List, [], ◌∷◌, codes, fold, Option, Some, None, Result, Ok, Err}
+use Rattle.std.specs.Prelude.{◌≡◌, ◌≢◌, false, ℕ, List, [], ◌∷◌, codes, fold, Option, Some, None, Result, Ok, Err}
 use Rattle.matchit.specs.Rows.{RowsOf}
 use Rattle.matchit.specs.Route.{Scan, parse_route}
 use Rattle.matchit.specs.Order.{placed}
 use Rattle.matchit.specs.Router.{RouteOf, route_from}
-use Rattle.matchit.specs.Seek.{first}
+use Rattle.matchit.specs.Seek.{first, has_slash}
 use Rattle.matchit.specs.declared.error.InsertError.{InsertError}
 use Rattle.hall_request.specs.declared.resource.Resource.{Resource}
 use Rattle.hall_request.specs.declared.resource.Resource.TheVariants.{Script, Report, Orders, Order, Machines, Machine, Commands}
@@ -50,3 +50,8 @@ method_of Order = codes "POST"
 method_of Machines = codes "GET"
 method_of Machine = codes "GET"
 method_of Commands = codes "POST"
+
+-- a segment of a target: it isn't empty and has no slash
+pub record IsSegment (text : List ℕ) : Type 0 where
+  pub some : text ≢ []
+  pub one : has_slash text ≡ false

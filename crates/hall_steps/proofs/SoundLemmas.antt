@@ -153,16 +153,16 @@ module _ (k : KeepSound) where
 
   -- ---- steps and runs
 
-  pub step_keeps : (site : Site) (x : Step) → IsStep site x → IsSound x.before → x.before.schema ≡ second → IsSound x.after × (x.after.schema ≡ second)
-  step_keeps site x (inl came) s in_second =
-      let rows = (decision_of site x.before x.arrival.event x.arrival.moment x.arrival.fresh).rows in (
-        subst IsSound (sym came.after) (decision_keeps site x.before x.arrival.event x.arrival.moment x.arrival.fresh s in_second),
+  pub step_keeps : (x : Step) → IsStep x → IsSound x.before → x.before.schema ≡ second → IsSound x.after × (x.after.schema ≡ second)
+  step_keeps x (inl came) s in_second =
+      let rows = (decision_of x.arrival.site x.before x.arrival.event x.arrival.moment x.arrival.fresh).rows in (
+        subst IsSound (sym came.after) (decision_keeps x.arrival.site x.before x.arrival.event x.arrival.moment x.arrival.fresh s in_second),
         ap (λ (h : Hall). h.schema) came.after ∙ schema_stays rows x.before ∙ in_second,
       )
-  step_keeps site x (inr missed) s in_second = (subst IsSound (sym missed.after) s, ap (λ (h : Hall). h.schema) missed.after ∙ in_second)
+  step_keeps x (inr missed) s in_second = (subst IsSound (sym missed.after) s, ap (λ (h : Hall). h.schema) missed.after ∙ in_second)
 
-  pub run_keeps : (site : Site) (h end : Hall) (steps : List Step) → IsRun site h steps end → IsSound h → h.schema ≡ second → IsSound end × (end.schema ≡ second)
-  run_keeps site h end [] run s in_second = (subst IsSound (sym run) s, ap (λ (h : Hall). h.schema) run ∙ in_second)
-  run_keeps site h end (x ∷ steps) run s in_second =
-      let next = step_keeps site x run.1 (subst IsSound (sym run.0) s) (ap (λ (h : Hall). h.schema) run.0 ∙ in_second) in
-      run_keeps site x.after end steps run.2 next.0 next.1
+  pub run_keeps : (h end : Hall) (steps : List Step) → IsRun h steps end → IsSound h → h.schema ≡ second → IsSound end × (end.schema ≡ second)
+  run_keeps h end [] run s in_second = (subst IsSound (sym run) s, ap (λ (h : Hall). h.schema) run ∙ in_second)
+  run_keeps h end (x ∷ steps) run s in_second =
+      let next = step_keeps x run.1 (subst IsSound (sym run.0) s) (ap (λ (h : Hall). h.schema) run.0 ∙ in_second) in
+      run_keeps x.after end steps run.2 next.0 next.1

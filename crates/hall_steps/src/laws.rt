@@ -18,12 +18,12 @@ pub fn steps_keep_halls_sound()
         → IsSound h → h.schema ≡ second → IsSound (applied (decision_of site h event moment fresh).rows h) }
     ensures schema { (site : Site) (h : Hall) (event : Event) (moment : ℕ) (fresh : List ℕ)
         → (applied (decision_of site h event moment fresh).rows h).schema ≡ h.schema }
-    ensures step { (site : Site) (s : Step)
-        → IsStep site s → IsSound s.before → s.before.schema ≡ second → IsSound s.after × (s.after.schema ≡ second) }
-    ensures run { (site : Site) (h end : Hall) (steps : List Step)
-        → IsRun site h steps end → IsSound h → h.schema ≡ second → IsSound end × (end.schema ≡ second) }
-    ensures from_new { (site : Site) (admin digest : List ℕ) (end : Hall) (steps : List Step)
-        → IsRun site (new_hall second admin digest) steps end → IsSound end × (end.schema ≡ second) }
+    ensures step { (s : Step)
+        → IsStep s → IsSound s.before → s.before.schema ≡ second → IsSound s.after × (s.after.schema ≡ second) }
+    ensures run { (h end : Hall) (steps : List Step)
+        → IsRun h steps end → IsSound h → h.schema ≡ second → IsSound end × (end.schema ≡ second) }
+    ensures from_new { (admin digest : List ℕ) (end : Hall) (steps : List Step)
+        → IsRun (new_hall second admin digest) steps end → IsSound end × (end.schema ≡ second) }
 {
     new_halls_are_sound();
     decisions_keep_halls_sound();

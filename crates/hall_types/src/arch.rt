@@ -8,8 +8,8 @@ use pxe_vendor::Arch;
 
 const ARCHS: [Arch; 4] = [Arch::Bios, Arch::Uefi32, Arch::Uefi64, Arch::Arm64];
 
-/// An architecture's number in tables, 0 to 3. It is not the number that a client sends (RFC 4578
-/// section 2.1).
+/// An architecture's number in tables, 0 to 3. It is not the number that a client sends
+/// (RFC 4578 section 2.1).
 #[tactic(auto, unfolding(crate::specs::Kinds::arch_number))]
 pub fn arch_number(arch: Arch) -> u8
     ensures { result ≡ arch_number arch }

@@ -1,6 +1,8 @@
 -- What the statements on machines write: a row that still has its version, with RETURNING, and a row that goes after its children.
-use Rattle.std.proofs.Common.{◌≡◌, ◌⊎◌, ◌&&◌, ◌||◌, ◌==◌, inl, inr, ℕ, pos, List, [], ◌∷◌, map, length, take, Bool, true, false, Option, Some, None, Ok, refl, sym, ap, ap₂, subst, ◌∙◌, int_eq, IsPermutation, arith}
+use Rattle.std.proofs.Common.{◌≡◌, ◌⊎◌, ◌&&◌, ◌||◌, ◌==◌, inl, inr, ℕ, pos, List, [], ◌∷◌, map, length, take, Bool, true, false, Option, Some, None, Ok, refl, sym, ap, ap₂, subst, ◌∙◌, int_eq, is_some, slice_get, IsPermutation, arith}
+use Rattle.std.specs.Prelude.{find}
 use Rattle.std.specs.List.{list_any, AllByRecursion}
+use Rattle.std.specs.Option.{option_to_list}
 use Rattle.std.proofs.lemmas.List.{take-map}
 use Rattle.sqlite.specs.declared.types.Value.TheVariants.{Null, Text, Blob}
 use Rattle.sqlite.specs.Order.{Row}
@@ -12,8 +14,10 @@ use Rattle.sqlite.specs.Values.{bound, bound_value}
 use Rattle.sqlite.specs.State.{State, ExecutesInside, Shown}
 use Rattle.sqlite_value.specs.declared.value.ValueRef.{ValueRef}
 use Rattle.sqlite_rules.specs.Lists.{Has}
-use Rattle.sqlite_keyed.proofs.ListLemmas.{filter_same, any_from_none}
-use Rattle.hall_types.specs.Rows.{numbers, listed, same_key}
+use Rattle.sqlite_keyed.specs.Keyed.{has_key}
+use Rattle.sqlite_keyed.proofs.ListLemmas.{filter_same, slice_get-filter, any_from_none}
+use Rattle.hall_types.specs.Keyed.{StandUnder}
+use Rattle.hall_types.specs.Rows.{Rows, numbers, at, listed, same_key}
 use Rattle.hall_types.specs.RowLaws.{key-same, same_number}
 use Rattle.hall_types.specs.Kinds.{arch_number}
 use Rattle.hall_types.specs.Status.{status_number}
@@ -34,6 +38,7 @@ use Rattle.hall_schema.specs.Tables.{hall_schema, machines_table, interfaces_tab
 use Rattle.hall_schema.specs.CascadeLaws.{never_follows, machines_go_alone}
 use Rattle.hall_rows.specs.Columns.{Wipe, number, truth_number, or_null, machine_columns, machine_values, interface_columns, boot_columns, order_columns, wipe_columns}
 use Rattle.hall_rows.specs.Spelling.{Content}
+use Rattle.hall_rows.specs.ListedLaws.{listed_with_key}
 use Rattle.hall_rows.specs.SpellingLaws.{sets_machines}
 use Rattle.hall_rows.specs.Holding.{IsWithin}
 use Rattle.hall_rows.specs.HoldingLaws.{within, shown_within}
@@ -56,7 +61,26 @@ optional_text (Some t) = refl
 
 -- ---- a new row, and a row that still has its version
 
-pub adds_machine : (old new : State) (before : Hall) (c : Content) → IsWithin old before c → (m : Machine) (count : ℕ) → ExecutesInside 0 add_machine_text (machine_values m) old new (Ok count) → IsWithin new before (with_machine c m)
+-- the number of a machine that is new was free
+was_free : (rows : Rows numbers Machine) (id : ℕ) → StandUnder (λ (m : Machine). m.id) rows → has_key (λ (m : Machine). pos m.id) (listed rows) (pos id) ≡ false → at rows id ≡ None
+was_free rows id under free = none (at rows id) (sym (ap is_some found) ∙ free)
+  where
+    first : (o : Option Machine) → slice_get (option_to_list o) 0 ≡ o
+    first None = refl
+    first (Some m) = refl
+
+    found : find (λ (m : Machine). int_eq (pos m.id) (pos id)) (listed rows) ≡ at rows id
+    found =
+        sym (slice_get-filter (λ (m : Machine). int_eq (pos m.id) (pos id)) (listed rows))
+        ∙ ap (λ l. slice_get l 0) (filter_same _ _ (λ (m : Machine). number_key m.id id) (listed rows) ∙ listed_with_key numbers (λ (m : Machine). m.id) rows under id)
+        ∙ first (at rows id)
+
+    none : (o : Option Machine) → is_some o ≡ false → o ≡ None
+    none None e = refl
+    none (Some m) e = cc
+
+pub adds_machine : (old new : State) (before : Hall) (c : Content) → IsWithin old before c → (m : Machine) (count : ℕ) → ExecutesInside 0 add_machine_text (machine_values m) old new (Ok count)
+    → IsWithin new before (with_machine c m) × (at c.hall.machines m.id ≡ None)
 adds_machine old new before c held m count ran =
     let it = adds_numbered (λ (x : Machine). x.id) machine_columns (old.now.trees 11) c.hall.machines held.spelt.tables.machines hall_schema 6 machines_table refl old new held.spelt.schema refl add_machine_text (machine_values m)
     (parameter 0 ∷ lit Null ∷ parameter 1 ∷ parameter 2 ∷ parameter 3 ∷ parameter 4 ∷ parameter 5 ∷ parameter 6 ∷ parameter 7 ∷ parameter 8 ∷ parameter 9 ∷ parameter 10 ∷ parameter 11 ∷ parameter 12 ∷ parameter 13 ∷ parameter 14 ∷ []) 16 add_machine_is count ran.0 m (number m.id ∷ machine_columns m) refl
@@ -76,7 +100,7 @@ adds_machine old new before c held m count ran =
       value.cast-Int (pos m.boots),
       optional_number m.waiting,
     ) refl) in
-    within add_machine_text (machine_values m) old new before c _ count held ran (sets_machines old.now new.now c held.spelt it.0 _ it.1 it.2)
+    (within add_machine_text (machine_values m) old new before c _ count held ran (sets_machines old.now new.now c held.spelt it.0 _ it.1 it.2), was_free c.hall.machines m.id held.spelt.tables.machines.under it.3)
 
 -- the row is changed where its version is the one that was read, and one row comes back for it; else none comes back
 pub sets_machine : (old new : State) (before : Hall) (c : Content) → IsWithin old before c → (m : Machine) (was : ℕ) (rows : List Row) → Shown set_machine_text (checked_values m was) old new rows

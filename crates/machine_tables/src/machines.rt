@@ -1,11 +1,12 @@
 //! The table of machines: a new row, a row that changes while it still has its version, and a row that goes after its children.
-ghost use Rattle.std.specs.Prelude.{◌≡◌, ◌⊎◌, ◌<◌, ◌≤◌, ◌^◌, length, take, IfOk, IfErr, IfSome, OnOk, IsTrue, [], ◌∷◌, true};
+ghost use Rattle.std.specs.Prelude.{◌≡◌, ◌⊎◌, ◌<◌, ◌≤◌, ◌^◌, length, take, IfOk, IfErr, IfSome, OnOk, IsTrue, [], ◌∷◌, None, true};
 ghost use Rattle.sqlite.specs.declared.types.Value.TheVariants.{Blob, Text};
 ghost use Rattle.sqlite.specs.Held.{state};
 ghost use Rattle.sqlite.specs.State.{HasCleanDisk, ExecutesInside, KeepsCommit, Survives, Shown, FailsToQuery, IsTooLate};
 ghost use Rattle.sqlite.specs.Values.{bound};
 ghost use Rattle.sqlite_value.specs.Value.{owned};
 ghost use Rattle.hall_types.specs.Hall.{Hall};
+ghost use Rattle.hall_types.specs.Rows.{at};
 ghost use Rattle.hall_types.specs.Status.{status_number};
 ghost use Rattle.hall_schema.specs.MachineStatements.{add_machine_text, remove_machine_text, set_machine_text};
 ghost use Rattle.hall_rows.specs.Columns.{machine_values, number, or_null};
@@ -124,11 +125,12 @@ fn add_raw<S: Alter>(tx: &mut Transaction<'_, S>, machine: &Machine) -> Result<u
     tx.execute(ADD_MACHINE, row_params(&params))
 }
 
-/// The row of a new machine. How its disks are erased is in a table of its own.
+/// The row of a new machine; an error if it is there already. How its disks are erased is in a table of its own.
 pub fn add_machine<S: Alter>(tx: &mut Transaction<'_, S>, machine: &Machine) -> Result<usize, Error>
     requires { IfSome machine.now.deadline (λ moment. moment < 2 ^ 63) }
     ensures same_reference { tx.new.conn.ghost_name ≡ tx.old.conn.ghost_name }
     ensures made { HasCleanDisk (state S.Store tx.new.conn.now) → OnOk result ((before : Hall) (c : Content) → IsWithin (state S.Store tx.old.conn.now) before c → IsWithin (state S.Store tx.new.conn.now) before (with_machine c machine.now)) }
+    ensures new { HasCleanDisk (state S.Store tx.new.conn.now) → OnOk result ((before : Hall) (c : Content) → IsWithin (state S.Store tx.old.conn.now) before c → at c.hall.machines machine.now.id ≡ None) }
     ensures mode { HasCleanDisk (state S.Store tx.new.conn.now) → OnOk result (IsTrue (state S.Store tx.old.conn.now).in_transaction → (state S.Store tx.new.conn.now).in_transaction ≡ true) }
     ensures kept { HasCleanDisk (state S.Store tx.new.conn.now) → IsTrue (state S.Store tx.old.conn.now).in_transaction → KeepsCommit (state S.Store tx.old.conn.now) (state S.Store tx.new.conn.now) }
     ensures survives { Survives (state S.Store tx.old.conn.now) (state S.Store tx.new.conn.now) (λ _. ⊥) }

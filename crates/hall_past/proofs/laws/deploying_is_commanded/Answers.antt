@@ -9,9 +9,9 @@ use Rattle.hall_past.proofs.Deploying.{KnowsDeploys, deploys_rightly, deploys_st
 use Rattle.hall_past.proofs.laws.deploying_is_commanded.Goals as goal
 
 pub returns : goal.returns
-returns c = λ site admin digest end steps words run.
-    at_each site c.steps_keep_halls_sound.ensures.step BringsNoHallWord KnowsDeploys (deploys_step site c.refusals_change_nothing.ensures.hall)
-    (DeploysRightly site) (deploys_rightly c.deploying_texts.ensures site)
+returns c = λ admin digest end steps words run.
+    at_each c.steps_keep_halls_sound.ensures.step BringsNoHallWord KnowsDeploys (deploys_step c.refusals_change_nothing.ensures.hall)
+    DeploysRightly (deploys_rightly c.deploying_texts.ensures)
     steps (new_hall second admin digest) end words (c.new_halls_are_sound.ensures second admin digest) refl
     (record {
       words = record { images = λ name i is. absurd (none-some i (sym (at-no_rows texts name _ refl) ∙ is)) };

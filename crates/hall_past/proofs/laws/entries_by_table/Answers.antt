@@ -6,7 +6,7 @@ use Rattle.hall_past.proofs.Frame.{anything, at_each}
 use Rattle.hall_past.proofs.laws.entries_by_table.Goals as goal
 
 pub returns : goal.returns
-returns c = λ site admin digest end steps run.
-    at_each site c.steps_keep_halls_sound.ensures.step (λ s. Unit {0}) (λ past h. Unit {0}) (λ past s given is sound later old. tt)
-    EntersByTable (λ past s is sound old. enters_by_table c.refusals_change_nothing.ensures.hall site past s is sound)
+returns c = λ admin digest end steps run.
+    at_each c.steps_keep_halls_sound.ensures.step (λ s. Unit {0}) (λ past h. Unit {0}) (λ past s given is sound later old. tt)
+    EntersByTable (λ past s is sound old. enters_by_table c.refusals_change_nothing.ensures.hall past s is sound)
     steps (new_hall second admin digest) end (anything steps) (c.new_halls_are_sound.ensures second admin digest) refl tt run

@@ -6,7 +6,7 @@ use Rattle.hall_past.proofs.LocalBoots.{boots_locally}
 use Rattle.hall_past.proofs.laws.local_boots.Goals as goal
 
 pub returns : goal.returns
-returns c = λ site admin digest end steps run.
-    at_each site c.steps_keep_halls_sound.ensures.step (λ s. Unit {0}) (λ past h. Unit {0}) (λ past s given is sound later old. tt)
-    BootsLocally (λ past s is sound old. boots_locally c.local_boot.ensures.deployed site past s is)
+returns c = λ admin digest end steps run.
+    at_each c.steps_keep_halls_sound.ensures.step (λ s. Unit {0}) (λ past h. Unit {0}) (λ past s given is sound later old. tt)
+    BootsLocally (λ past s is sound old. boots_locally c.local_boot.ensures.deployed past s is)
     steps (new_hall second admin digest) end (anything steps) (c.new_halls_are_sound.ensures second admin digest) refl tt run

@@ -6,6 +6,6 @@ use Rattle.hall_past.proofs.NumbersOnceLemmas.{IsGivenOut, given_step, new_given
 use Rattle.hall_past.proofs.laws.numbers_once.Goals as goal
 
 pub returns : goal.returns
-returns c = λ site admin digest end steps run.
-    at_each site c.steps_keep_halls_sound.ensures.step (λ s. Unit {0}) IsGivenOut (given_step site) NumbersOnce (numbers_once site)
+returns c = λ admin digest end steps run.
+    at_each c.steps_keep_halls_sound.ensures.step (λ s. Unit {0}) IsGivenOut (given_step) NumbersOnce (numbers_once)
     steps (new_hall second admin digest) end (anything steps) (c.new_halls_are_sound.ensures second admin digest) refl (new_given (new_hall second admin digest)) run

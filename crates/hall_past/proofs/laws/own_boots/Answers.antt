@@ -9,7 +9,7 @@ use Rattle.hall_past.proofs.OwnBoots.{OwnsBoots, counts_own, owns_step}
 use Rattle.hall_past.proofs.laws.own_boots.Goals as goal
 
 pub returns : goal.returns
-returns c = λ site admin digest end steps run.
-    at_each site c.steps_keep_halls_sound.ensures.step (λ s. Unit {0}) OwnsBoots (owns_step site) CountsOwnBoot (counts_own site)
+returns c = λ admin digest end steps run.
+    at_each c.steps_keep_halls_sound.ensures.step (λ s. Unit {0}) OwnsBoots (owns_step) CountsOwnBoot (counts_own)
     steps (new_hall second admin digest) end (anything steps) (c.new_halls_are_sound.ensures second admin digest) refl
     (record { owns = λ id n m is. absurd (none-some m (sym (at-no_rows numbers id _ refl) ∙ is)) }) run

@@ -28,5 +28,5 @@ pub returns-clause-run : goal.returns-clause-run
 returns-clause-run c = run_keeps (laws c)
 
 pub returns-clause-from_new : goal.returns-clause-from_new
-returns-clause-from_new c = λ site admin digest end steps run.
-    run_keeps (laws c) site (new_hall second admin digest) end steps run (c.new_halls_are_sound.ensures second admin digest) refl
+returns-clause-from_new c = λ admin digest end steps run.
+    run_keeps (laws c) (new_hall second admin digest) end steps run (c.new_halls_are_sound.ensures second admin digest) refl

@@ -11,7 +11,14 @@ returns-clause-made g c clean =
     let old = state g.S.Store c.args.tx.now.conn.now in
     let new = state g.S.Store c.add_raw.new.tx.conn.now in
     on_made add_machine_text (machine_values c.args.machine.now) old new c.add_raw.result _ (c.add_raw.ensures.runs clean)
-    (λ count ran. λ before was held. adds_machine old new before was held c.args.machine.now count (ran (rw held.mode refl)))
+    (λ count ran. λ before was held. (adds_machine old new before was held c.args.machine.now count (ran (rw held.mode refl))).0)
+
+pub returns-clause-new : goal.returns-clause-new
+returns-clause-new g c clean =
+    let old = state g.S.Store c.args.tx.now.conn.now in
+    let new = state g.S.Store c.add_raw.new.tx.conn.now in
+    on_made add_machine_text (machine_values c.args.machine.now) old new c.add_raw.result _ (c.add_raw.ensures.runs clean)
+    (λ count ran. λ before was held. (adds_machine old new before was held c.args.machine.now count (ran (rw held.mode refl))).1)
 
 pub returns-clause-mode : goal.returns-clause-mode
 returns-clause-mode g c clean = execute_mode (state g.S.Store c.args.tx.now.conn.now) (state g.S.Store c.add_raw.new.tx.conn.now) _ _ c.add_raw.result (c.add_raw.ensures.runs clean)

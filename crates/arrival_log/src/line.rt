@@ -1,5 +1,5 @@
 //! The lines of a log.
-use hall_desk::{Arrival, Input};
+use hall_desk::{Answer, Arrival, Input};
 use hall_types::{Digest, Moment, Name, Port, Token};
 use hex::FromHex;
 use pxe_vendor::Octets;
@@ -46,7 +46,11 @@ pub fn admin(line: &str) -> Result<(Name, Digest), LineFault> {
     }
 }
 
+// A moment in decimal digits, without a sign or a leading zero.
 fn moment(word: &str) -> Result<Moment, LineFault> {
+    if word.starts_with('+') || (word.len() > 1 && word.starts_with('0')) {
+        return Err(LineFault::Moment);
+    }
     let Ok(seconds) = word.parse::<u64>() else {
         return Err(LineFault::Moment);
     };
@@ -118,4 +122,16 @@ pub fn arrival(alloc: Global, line: &str) -> Result<Arrival, LineFault> {
         fresh,
         input: input(kind, octets)?,
     })
+}
+
+/// The line of an answer, with its line feed: its octets in hexadecimal, `silence` or `unavailable`.
+pub fn answer_line(alloc: Global, answer: &Answer) -> Result<String, LineFault> {
+    let line = match answer {
+        Answer::Octets(octets) => hex::encode(alloc, octets.as_slice()),
+        Answer::Unavailable => String::from_str(alloc, "unavailable"),
+        Answer::Silence => String::from_str(alloc, "silence"),
+    };
+    let mut line = line.map_err(|_| LineFault::Memory)?;
+    line.push('\n').map_err(|_| LineFault::Memory)?;
+    Ok(line)
 }

@@ -1,0 +1,17 @@
+use Rattle.std.proofs.Common.{arith, inr}
+use Rattle.std.proofs.lemmas.Grind.{common_steps}
+use Rattle.hall_desk.proofs.ServedLemmas.{consumes_then, reads_whole}
+use Rattle.hall_desk.proofs.reading.read_request.Goals as goal
+
+pub returns-then-decided-clause-reads : goal.returns-then-decided-clause-reads
+returns-then-decided-clause-reads g c =
+    reads_whole _ _ _ _ c.whole-then-decided.ensures
+    (rw (c.extend-is_added.ensures c.if-is_added.true) (consumes_then _ _ _ _ _ c.loop-turn.invariant.0 c.in-Some.ensures.octets.0))
+    (inr (c.in-Ok.ensures c.if-decided.true))
+
+pub loop-turn-preserved : goal.loop-turn-preserved
+loop-turn-preserved g c = (
+  rw (c.extend-is_added.ensures c.if-is_added.true) (consumes_then _ _ _ _ _ c.loop-turn.invariant.0 c.in-Some.ensures.octets.0),
+  grind (arith, common_steps),
+  grind (arith, common_steps),
+)

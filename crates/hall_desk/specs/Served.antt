@@ -1,0 +1,58 @@
+-- What serving one request over a reader and a writer did.
+use Rattle.std.specs.Prelude.{◌≡◌, ◌<◌, ◌⊎◌, ℕ, List, ◌++◌, take, length, Option, Some, Bool, true}
+use Rattle.std.specs.Io.KnownBytes.{Consumes, IsAtEnd}
+use Rattle.pxe_vendor.specs.Place.{Site}
+use Rattle.hall_types.specs.Hall.{Hall}
+use Rattle.hall_request.specs.Decided.{IsDecided}
+use Rattle.hall_desk.specs.Attempt.{IsAnswered}
+use Rattle.hall_desk.specs.Octets.{octets_of}
+use Rattle.hall_desk.specs.declared.arrival.Answer.{Answer}
+use Rattle.hall_desk.specs.declared.arrival.Input.TheVariants.{Request}
+use Rattle.hall_desk.specs.declared.reading.Reading.{Reading}
+use Rattle.hall_desk.specs.declared.reading.Reading.TheVariants as reading
+use Rattle.hall_desk.specs.declared.serving.Served.{Served}
+use Rattle.hall_desk.specs.declared.serving.Served.TheVariants.{Answered, ReadFailed, WriteFailed}
+
+-- `before` is what the writer held before, and `after` what it holds then
+module _ {S : Type 0} (holds : S → Hall → Type 0) (leaves : S → List Hall → Type 0) (old new : S) (site : Site) (moment : ℕ) (fresh : List ℕ) where
+  -- the request that the input is was answered, and the answer was written, or its first octets; or nothing was changed or written
+  abbrev pub IsServed : List ℕ → List ℕ → Served → Option (List ℕ) → Type 0
+  IsServed input before Answered after =
+      (a : Answer) × IsAnswered holds leaves old new site (Request input) moment fresh a × (after ≡ Some (before ++ octets_of a))
+  IsServed input before ReadFailed after = (new ≡ old) × (after ≡ Some before)
+  IsServed input before (WriteFailed n) after =
+      (a : Answer) × IsAnswered holds leaves old new site (Request input) moment fresh a × (n < length (octets_of a)) × (after ≡ Some (before ++ take n (octets_of a)))
+
+-- a read failed, or 4,096 reads gave octets
+abbrev pub IfReadFailed : Served → Bool → ℕ → Type 0
+IfReadFailed Answered failed takes = Unit {0}
+IfReadFailed ReadFailed failed takes = (failed ≡ true) ⊎ (takes ≡ 4096)
+IfReadFailed (WriteFailed n) failed takes = Unit {0}
+
+-- a write failed
+abbrev pub IfWriteFailed : Served → Bool → Type 0
+IfWriteFailed Answered failed = Unit {0}
+IfWriteFailed ReadFailed failed = Unit {0}
+IfWriteFailed (WriteFailed n) failed = failed ≡ true
+
+-- the octets are the whole input, or they are its front and decide the request
+abbrev pub Reads : Reading → Option (List ℕ) → Option (List ℕ) → Type 0
+Reads (reading.Whole octets) old new = Consumes old new octets × (IsAtEnd new ⊎ IsDecided octets)
+Reads reading.NoMemory old new = Unit {0}
+Reads reading.Failed old new = Unit {0}
+
+abbrev pub IfFailed : Reading → Bool → ℕ → Type 0
+IfFailed (reading.Whole octets) failed takes = Unit {0}
+IfFailed reading.NoMemory failed takes = Unit {0}
+IfFailed reading.Failed failed takes = (failed ≡ true) ⊎ (takes ≡ 4096)
+
+-- how much of an answer was written
+abbrev pub IsSent : List ℕ → List ℕ → Served → Option (List ℕ) → Type 0
+IsSent octets before Answered after = after ≡ Some (before ++ octets)
+IsSent octets before ReadFailed after = ⊥
+IsSent octets before (WriteFailed n) after = (n < length octets) × (after ≡ Some (before ++ take n octets))
+
+abbrev pub IsWritten : Served → Type 0
+IsWritten Answered = Unit {0}
+IsWritten ReadFailed = ⊥
+IsWritten (WriteFailed n) = Unit {0}

@@ -1,0 +1,4 @@
+mod MakingLemmas
+mod TransactionLemmas
+mod LookLemmas
+mod OpenLemmas

@@ -1,0 +1,27 @@
+//! Why a file can't be a hall's.
+use thiserror::Error;
+
+/// Why a new hall can't be made.
+#[derive(Clone, Copy, Debug, PartialEq, Eq, Error)]
+pub enum CreateFault {
+    /// The file has a table, an index or a view with the name of one of a hall's tables.
+    #[error("the file already has one of a hall's tables")]
+    NotEmpty,
+    /// Memory or the disk failed, or the file has other tables.
+    #[error("the file can't be written now")]
+    Unavailable,
+}
+
+/// Why the hall of a file can't be opened.
+#[derive(Clone, Copy, Debug, PartialEq, Eq, Error)]
+pub enum OpenFault {
+    /// A hall's table is missing, or a column of it, or the one row that names its schema.
+    #[error("the file isn't a hall's")]
+    NotAHall,
+    /// The tables are those of another schema.
+    #[error("the hall's tables are of another version")]
+    OtherVersion,
+    /// Memory or the disk failed.
+    #[error("the file can't be read now")]
+    Unavailable,
+}

@@ -1,0 +1,15 @@
+//! The file of a hall: its tables are made, or looked at before they are used.
+#![tactic(auto)]
+
+mod creating;
+mod fault;
+mod looking;
+mod making;
+mod opening;
+
+pub use creating::create_tables;
+pub use fault::{CreateFault, OpenFault};
+pub use opening::look_at_tables;
+
+#[cfg(test)]
+mod tests;

@@ -1,0 +1,5 @@
+pub mod AskingLemmas
+pub mod CountLemmas
+pub mod ExpiryLemmas
+pub mod StoreLemmas
+pub mod WritingLemmas

@@ -1,0 +1,8 @@
+use Rattle.std.proofs.Common.{◌≡◌, ◌+◌, drop}
+use Rattle.std.specs.List.{sum_by}
+use Rattle.hall_sql.proofs.counting.machines_in.Given as goal
+
+-- with the counts that are left it is the sum of all
+abbrev pub invariant-counts : goal.invariant-counts
+invariant-counts l =
+    l.machines + sum_by (λ count. count.machines) (drop l.count-index l.counts) ≡ sum_by (λ count. count.machines) l.counts

@@ -1,0 +1,20 @@
+use Rattle.std.proofs.Common.{subst, sym, arith}
+use Rattle.std.specs.List.{AllByRecursion}
+use Rattle.hall_sql.specs.Expiring.{PutsNoEarlier}
+use Rattle.hall_sql.proofs.ExpiryLemmas.{lower_puts, next_item, no_item}
+use Rattle.hall_sql.proofs.expiring.earliest_after.Goals as goal
+
+pub writes-preserved : goal.writes-preserved
+writes-preserved c = (
+  omega (arith, c.earliest_with-known.ensures.lower, c.writes.invariant.0),
+  λ moment low rest.
+      c.writes.invariant.1 moment (omega (arith, low, c.earliest_with-known.ensures.lower))
+      (subst (AllByRecursion (PutsNoEarlier moment))
+      (sym (next_item c.args.writes.now c.writes.write-index c.write-item.result c.writes-test.true c.write-item.is))
+      (lower_puts moment c.earliest_with-known.result c.write-item.result low c.earliest_with-known.ensures.put, rest)),
+)
+
+pub returns-clause-put : goal.returns-clause-put
+returns-clause-put c =
+    c.writes.invariant.1 c.writes.known (omega arith)
+    (subst (AllByRecursion (PutsNoEarlier c.writes.known)) (sym (no_item c.args.writes.now c.writes.write-index (omega (arith, c.writes-test.false)))) tt)

@@ -1,0 +1,10 @@
+use Rattle.std.proofs.Common.{refl}
+use Rattle.hall_sql.proofs.StoreLemmas.{is_true}
+use Rattle.hall_sql.proofs.store.SqlStore.pass.Goals as goal
+
+pub returns-in-Ok-clause-passed : goal.returns-in-Ok-clause-passed
+returns-in-Ok-clause-passed g c clean = rw c.in-Ok.is (refl, refl)
+
+pub returns-in-Err-clause-passed : goal.returns-in-Err-clause-passed
+returns-in-Err-clause-passed g c clean =
+    rw c.in-Err.is (refl, (λ going. c.is_running.ensures.same clean (is_true c.is_running.result going)), c.is_running.ensures.survives, refl)

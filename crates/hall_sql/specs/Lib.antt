@@ -1,0 +1,3 @@
+pub mod Applying
+pub mod Expiring
+pub mod Store

@@ -1,0 +1,62 @@
+//! Reads of the tables as answers of a store.
+ghost use Rattle.std.specs.Prelude.{◌≡◌, option_map};
+ghost use Rattle.sqlite.specs.Held.{state};
+ghost use Rattle.sqlite.specs.State.{HasCleanDisk};
+ghost use Rattle.hall_types.specs.Lookup.{is_image_used};
+ghost use Rattle.hall_types.specs.Rows.{at};
+ghost use Rattle.hall_rows.specs.Holding.{IsAsked};
+ghost use Rattle.hall_sql.specs.Store.{LeavesCommitted, Passes};
+
+use crate::store::SqlStore;
+use hall_store::Unavailable;
+use hall_types::{MacAddress, Name, Number};
+use image_tables::is_live;
+use interface_tables::find_interface;
+use machine_reads::has_machine_with_image;
+use sql_steps::is_running;
+use sqlite::{Alter, Connection, Error};
+
+impl<S: Alter> SqlStore<S> {
+    // Passes an answer of the connection on. After a refusal the store goes on if the connection is still open, and is
+    // stopped for good if it isn't.
+    pub(crate) fn pass<Y>(&mut self, answer: Result<Y, Error>) -> Result<Y, Unavailable>
+        ensures clean { HasCleanDisk (state S.Store self.new.conn) → HasCleanDisk (state S.Store self.old.conn) }
+        ensures passed { HasCleanDisk (state S.Store self.new.conn) → Passes S.Store self.old self.new answer result }
+        ensures settled { LeavesCommitted (state S.Store self.new.conn) }
+    {
+        match answer {
+            Ok(answer) => Ok(answer),
+            Err(_) => {
+                self.stopped = !is_running(&mut self.conn);
+                Err(Unavailable)
+            }
+        }
+    }
+}
+
+/// The number of the machine that an address is recorded with.
+pub(crate) fn machine_at<S: Alter>(
+    conn: &mut Connection<S>,
+    mac: MacAddress,
+) -> Result<Option<Number>, Error>
+    ensures clean { HasCleanDisk (state S.Store conn.new) → HasCleanDisk (state S.Store conn.old) }
+    ensures asked { HasCleanDisk (state S.Store conn.new) → IsAsked (state S.Store conn.old) (state S.Store conn.new) result (λ h answer. answer ≡ option_map (λ i. i.machine) (at h.interfaces mac)) }
+{
+    match find_interface(conn, mac) {
+        Ok(Some(interface)) => Ok(Some(interface.machine)),
+        Ok(None) => Ok(None),
+        Err(error) => Err(error),
+    }
+}
+
+/// Whether an image is an architecture's live image or a machine's image.
+pub(crate) fn is_image_used<S: Alter>(conn: &mut Connection<S>, name: &Name) -> Result<bool, Error>
+    ensures clean { HasCleanDisk (state S.Store conn.new) → HasCleanDisk (state S.Store conn.old) }
+    ensures asked { HasCleanDisk (state S.Store conn.new) → IsAsked (state S.Store conn.old) (state S.Store conn.new) result (λ h answer. answer ≡ is_image_used h name.now) }
+{
+    match is_live(conn, name) {
+        Ok(true) => Ok(true),
+        Ok(false) => has_machine_with_image(conn, name),
+        Err(error) => Err(error),
+    }
+}

@@ -1,0 +1,10 @@
+//! A hall in SQLite: the store whose tables are those of a database.
+#![tactic(auto)]
+
+mod applying;
+mod asking;
+mod counting;
+mod expiring;
+mod store;
+
+pub use store::SqlStore;

@@ -1,0 +1,6 @@
+pub mod BetweenLemmas
+pub mod CountLemmas
+pub mod MachineLemmas
+pub mod RemovalLemmas
+pub mod ResultLemmas
+pub mod WriteLemmas
