@@ -28,6 +28,3 @@ pub use reporting::report;
 pub use sweeping::sweep;
 pub use texts::script_text;
 pub use views::{BootView, OrderView, ReportView};
-
-#[cfg(test)]
-mod tests;

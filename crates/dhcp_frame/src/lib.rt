@@ -15,6 +15,3 @@ pub use fault::{FrameFault, WriteFault};
 pub use frame::{Frame, read};
 pub use joined::JoinedValue;
 pub use reply::{DhcpOption, MAX_FILE_LEN, MAX_VALUE_LEN, ReplyFields, write};
-
-#[cfg(test)]
-mod tests;

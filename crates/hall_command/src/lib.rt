@@ -14,6 +14,3 @@ pub use commanding::{command, repeated};
 pub use laws::commands_keep_halls_sound;
 pub use sending::may_send;
 pub use view::CommandView;
-
-#[cfg(test)]
-mod tests;

@@ -16,6 +16,3 @@ pub use event::Event;
 pub use laws::{different_answers, one_text};
 pub use machine_list::MachineList;
 pub use reply::{BodyKind, Reply};
-
-#[cfg(test)]
-mod tests;

@@ -9,6 +9,3 @@ pub use hall_request::{HttpFault, event_of, is_decided};
 pub use laws::{answers_have_responses, one_response, unavailable_is_a_refusal};
 pub use noted::Noted;
 pub use response::{UNAVAILABLE, bytes_of};
-
-#[cfg(test)]
-mod tests;

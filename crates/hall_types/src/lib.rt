@@ -57,6 +57,3 @@ pub use status::Status;
 pub use text::Text;
 pub use token::Token;
 pub use version::Version;
-
-#[cfg(test)]
-mod tests;

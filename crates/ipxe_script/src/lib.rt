@@ -18,6 +18,3 @@ pub use reading::read;
 pub use script::Script;
 pub use word::{MAX_WORD_LEN, Uri, Word};
 pub use words::Words;
-
-#[cfg(test)]
-mod tests;

@@ -16,6 +16,3 @@ pub use laws::{
 };
 pub use signal::Signal;
 pub use step::{Step, next};
-
-#[cfg(test)]
-mod tests;

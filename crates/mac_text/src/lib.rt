@@ -2,7 +2,5 @@
 #![tactic(auto)]
 
 mod address;
-#[cfg(test)]
-mod tests;
 
 pub use address::{one_reading, print, read};

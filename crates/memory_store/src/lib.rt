@@ -15,6 +15,3 @@ mod versions;
 mod writing;
 
 pub use memory::MemoryStore;
-
-#[cfg(test)]
-mod tests;

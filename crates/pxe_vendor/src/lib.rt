@@ -18,6 +18,3 @@ pub use file::{boot_file, loader_file, script_url};
 pub use octets::Octets;
 pub use place::{Place, PlaceFault};
 pub use serve::{NotServed, client, one_client};
-
-#[cfg(test)]
-mod tests;

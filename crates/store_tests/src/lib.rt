@@ -1,0 +1,5 @@
+//! Tests of the stores.
+#![tactic(auto)]
+
+#[cfg(test)]
+mod memory;
