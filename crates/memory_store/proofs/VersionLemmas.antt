@@ -1,5 +1,5 @@
 -- The versions of machines after row writes.
-use Rattle.std.proofs.Common.{◌≡◌, ◌≢◌, ◌==◌, ◌<◌, ◌++◌, ◌+◌, ℕ, List, [], ◌∷◌, Option, Some, None, true, false, length, take, get_or, option_map, refl, sym, ap, arith, ◌∙◌}
+use Rattle.std.proofs.Common.{◌≡◌, ◌≢◌, ◌==◌, ◌<◌, ◌++◌, ◌+◌, ℕ, List, [], ◌∷◌, Option, Some, None, true, false, length, take, drop, get_or, option_map, refl, sym, ap, arith, ◌∙◌}
 use Rattle.std.proofs.lemmas.Bool.Decides.{nat_tests}
 use Rattle.std.proofs.lemmas.Grind.{common_steps}
 use Rattle.hall_types.specs.Hall.{Hall, applied, written}
@@ -42,3 +42,11 @@ versions_last (v ∷ ws) w h all last = (all.0, versions_last ws w (written v h)
 
 pub take_next : {A : Type 0} (xs : List A) (i : ℕ) (x : A) → i < length xs → x ≡ get_or xs i x → take (i + 1) xs ≡ take i xs ++ x ∷ []
 take_next xs i x low is = grind (arith, common_steps)
+
+-- a row write in the midst of others has its version after those before it
+pub versions_in : (before : List RowWrite) (w : RowWrite) (after : List RowWrite) (h : Hall) → HaveVersions (before ++ w ∷ after) h → HasVersion w (applied before h)
+versions_in [] w after h all = all.0
+versions_in (v ∷ before) w after h all = versions_in before w after (written v h) all.1
+
+pub split_here : {A : Type 0} (xs : List A) (i : ℕ) (x : A) → i < length xs → x ≡ get_or xs i x → xs ≡ take i xs ++ x ∷ drop (i + 1) xs
+split_here xs i x low is = grind (arith, common_steps)

@@ -38,7 +38,8 @@ impl MemoryStore {
 
     // Whether a row write has its version after some others.
     fn has_version(&self, before: &[RowWrite], write: &RowWrite) -> bool
-        ensures { (h : Hall) → IsHeld self.now h → IsTrue result → HasVersion write.now (applied before.now h) }
+        ensures has { (h : Hall) → IsHeld self.now h → IsTrue result → HasVersion write.now (applied before.now h) }
+        ensures only { (h : Hall) → IsHeld self.now h → HasVersion write.now (applied before.now h) → IsTrue result }
     {
         match write {
             RowWrite::PutMachine { machine, was } => {
@@ -50,7 +51,8 @@ impl MemoryStore {
 
     /// Whether each row write has its version after those before it.
     pub(crate) fn have_versions(&self, writes: &[RowWrite]) -> bool
-        ensures { (h : Hall) → IsHeld self.now h → IsTrue result → HaveVersions writes.now h }
+        ensures have { (h : Hall) → IsHeld self.now h → IsTrue result → HaveVersions writes.now h }
+        ensures only { (h : Hall) → IsHeld self.now h → HaveVersions writes.now h → IsTrue result }
     {
         'writes: for i in 0..writes.len() {
             if !self.has_version(&writes[..i], &writes[i]) {
