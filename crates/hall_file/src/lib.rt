@@ -10,6 +10,3 @@ mod opening;
 pub use creating::create_tables;
 pub use fault::{CreateFault, OpenFault};
 pub use opening::look_at_tables;
-
-#[cfg(test)]
-mod tests;

@@ -1,3 +1,4 @@
 pub mod Applying
 pub mod Expiring
+pub mod Opening
 pub mod Store

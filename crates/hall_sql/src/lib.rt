@@ -5,6 +5,8 @@ mod applying;
 mod asking;
 mod counting;
 mod expiring;
+mod opening;
 mod store;
 
+pub use opening::Refused;
 pub use store::SqlStore;

@@ -1,4 +1,4 @@
-use super::*;
+use hall_file::*;
 use hall_types::{BadName, Digest, Name};
 use sqlite::{Alter, Connection, Error};
 use std::test::Fail;

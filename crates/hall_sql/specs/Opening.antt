@@ -1,0 +1,16 @@
+-- What making a store over a connection answers, and what it hands back.
+use Rattle.std.specs.Prelude.{Result, Ok, Err}
+use Rattle.sqlite.specs.Held.{Held}
+use Rattle.hall_sql.specs.Store.{connection}
+use Rattle.hall_sql.specs.declared.opening.Refused.{Refused}
+use Rattle.hall_sql.specs.declared.store.SqlStore.{SqlStore}
+
+-- the connection, in the store or beside the fault
+abbrev pub connection_of : {S F : Type 0} → Result (SqlStore S) (Refused S F) → Held S
+connection_of (Ok store) = connection store
+connection_of (Err refused) = refused.connection
+
+-- the answer without the connection
+abbrev pub outcome : {S F : Type 0} → Result (SqlStore S) (Refused S F) → Result (Unit {0}) F
+outcome (Ok store) = Ok tt
+outcome (Err refused) = Err refused.fault

@@ -1,0 +1,86 @@
+//! A connection becomes a store: of a new hall, or of the hall that the file has.
+ghost use Rattle.std.specs.Prelude.{◌≡◌, ◌↔◌, IsTrue, IfOk, IfErr, Err, [], ◌∷◌};
+ghost use Rattle.sqlite.specs.Held.{state};
+ghost use Rattle.sqlite.specs.State.{HasCleanDisk, Survives};
+ghost use Rattle.hall_types.specs.Hall.{Hall, new_hall, second};
+ghost use Rattle.hall_rows.specs.Holding.{IsHeld};
+ghost use Rattle.hall_rows.specs.Spelling.{SpellHall};
+ghost use Rattle.hall_file.specs.Creating.{KeepsTables, MayLeaveBesides, is_a_name_taken};
+ghost use Rattle.hall_file.specs.Opening.{IsAnswered};
+ghost use Rattle.hall_sql.specs.Opening.{connection_of, outcome};
+ghost use Rattle.hall_sql.specs.Store.{connection};
+
+use crate::store::SqlStore;
+use hall_file::{CreateFault, OpenFault, create_tables, look_at_tables};
+use hall_store::HallStore;
+use hall_types::{Digest, Name};
+use sqlite::{Alter, Connection};
+use std::alloc::Global;
+
+/// A connection over which no store was made, as the refusal left it, and the fault.
+#[derive(Drop)]
+pub struct Refused<S: Alter, F> {
+    pub connection: Connection<S>,
+    pub fault: F,
+}
+
+impl<S: Alter> SqlStore<S> {
+    /// Makes the tables of a new hall of the second schema, with this enabled admin, this digest of its token and the pool
+    /// `default`, and answers its store. `alloc` is for what the store reads for itself.
+    ///
+    /// # Errors
+    ///
+    /// `NotEmpty` where a table, an index or a view has the name of one of a hall's tables, else `Unavailable`. A refusal
+    /// leaves the tables as they were.
+    pub fn create(
+        alloc: Global,
+        mut conn: Connection<S>,
+        admin: Name,
+        digest: Digest,
+    ) -> Result<SqlStore<S>, Refused<S, CreateFault>>
+        ensures clean { HasCleanDisk (state S.Store (connection_of result)) → HasCleanDisk (state S.Store conn) }
+        ensures held { IfOk result (λ store. ⟦<SqlStore<S> as HallStore>⟧.is_clean store → ⟦<SqlStore<S> as HallStore>⟧.holds store (new_hall second admin digest)) }
+        ensures settled { IfOk result (λ store. ⟦<SqlStore<S> as HallStore>⟧.is_clean store → ⟦<SqlStore<S> as HallStore>⟧.leaves store (new_hall second admin digest ∷ [])) }
+        ensures made { IfOk result (λ store. HasCleanDisk (state S.Store (connection store)) → IsHeld (state S.Store (connection store)) (new_hall second admin digest)) }
+        ensures taken { (outcome result ≡ Err CreateFault.NotEmpty) ↔ IsTrue (is_a_name_taken (state S.Store conn).now.schema) }
+        ensures refused { IfErr result (λ refused. HasCleanDisk (state S.Store refused.connection) → KeepsTables (state S.Store conn) (state S.Store refused.connection)) }
+        ensures crash { HasCleanDisk (state S.Store (connection_of result)) → MayLeaveBesides (new_hall second admin digest) (state S.Store conn) (state S.Store (connection_of result)) }
+    {
+        match create_tables(&mut conn, admin, digest) {
+            Ok(()) => Ok(SqlStore::over(alloc, conn)),
+            Err(fault) => Err(Refused {
+                connection: conn,
+                fault,
+            }),
+        }
+    }
+
+    /// The store of the hall that the connection's tables spell. Nothing is written. `alloc` is for what the store reads
+    /// for itself.
+    ///
+    /// # Errors
+    ///
+    /// `NotAHall` where a table, a column or the one row that names the schema is missing, `OtherVersion` where that row
+    /// names another schema than the second, and `Unavailable` where memory or the disk failed.
+    pub fn open(
+        alloc: Global,
+        mut conn: Connection<S>,
+    ) -> Result<SqlStore<S>, Refused<S, OpenFault>>
+        ensures clean { HasCleanDisk (state S.Store (connection_of result)) → HasCleanDisk (state S.Store conn) }
+        ensures held { IfOk result (λ store. ⟦<SqlStore<S> as HallStore>⟧.is_clean store → (h : Hall) → SpellHall (state S.Store conn).now.trees h → ⟦<SqlStore<S> as HallStore>⟧.holds store h) }
+        ensures settled { IfOk result (λ store. ⟦<SqlStore<S> as HallStore>⟧.is_clean store → (h : Hall) → SpellHall (state S.Store conn).now.trees h → ⟦<SqlStore<S> as HallStore>⟧.leaves store (h ∷ [])) }
+        ensures opened { IfOk result (λ store. HasCleanDisk (state S.Store (connection store)) → (h : Hall) → SpellHall (state S.Store conn).now.trees h → IsHeld (state S.Store (connection store)) h) }
+        ensures refused { IfErr result (λ refused. HasCleanDisk (state S.Store refused.connection) → IsTrue (state S.Store conn).is_open → (h : Hall) → SpellHall (state S.Store conn).now.trees h → refused.fault ≡ OpenFault.Unavailable) }
+        ensures answered { HasCleanDisk (state S.Store (connection_of result)) → IsAnswered (state S.Store conn).now (outcome result) }
+        ensures kept { HasCleanDisk (state S.Store (connection_of result)) → KeepsTables (state S.Store conn) (state S.Store (connection_of result)) }
+        ensures survives { Survives (state S.Store conn) (state S.Store (connection_of result)) (λ _. ⊥) }
+    {
+        if let Err(fault) = look_at_tables(&mut conn) {
+            return Err(Refused {
+                connection: conn,
+                fault,
+            });
+        }
+        Ok(SqlStore::over(alloc, conn))
+    }
+}
