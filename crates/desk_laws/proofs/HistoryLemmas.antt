@@ -1,6 +1,6 @@
 -- Exchanges as steps of the hall machine.
-use Rattle.std.proofs.Common.{◌≡◌, ◌⊎◌, ℕ, List, [], ◌∷◌, ◌++◌, Result, Ok, Err, Some, refl, sym, ap, subst, ◌∙◌, inl, inr}
-use Rattle.std.specs.Prelude.{IfOk}
+use Rattle.std.proofs.Common.{◌≡◌, ◌⊎◌, ℕ, List, [], ◌∷◌, ◌++◌, Result, Ok, Err, Option, Some, None, refl, sym, ap, subst, ◌∙◌, inl, inr}
+use Rattle.std.specs.Prelude.{IfOk, IfSome}
 use Rattle.pxe_vendor.specs.Place.{Site}
 use Rattle.hall_types.specs.Hall.{Hall, applied, new_hall, second}
 use Rattle.boot_desk.specs.Sound.{IsSound}
@@ -14,11 +14,14 @@ use Rattle.hall_desk.specs.declared.arrival.Answer.{Answer}
 use Rattle.hall_desk.specs.declared.arrival.Arrival.{Arrival}
 use Rattle.hall_desk.specs.declared.arrival.Input.{Input}
 use Rattle.hall_desk.specs.declared.arrival.Input.TheVariants as input
+use Rattle.hall_desk.specs.Served.{IsServed}
+use Rattle.hall_desk.specs.declared.serving.Served.{Served}
+use Rattle.hall_desk.specs.declared.serving.Served.TheVariants as serving
 use Rattle.hall_events.specs.declared.event.Event.{Event}
 use Rattle.hall_events.specs.declared.event.Event.TheVariants as event
 use Rattle.hall_past.specs.Laws.{BringsNoHallWord, BringNoHallWords}
 use Rattle.hall_request.specs.WordLaws.{IsFreeEvent, event_free}
-use Rattle.desk_laws.specs.History.{AllLead, AreStepsOf, Exchange, HasHistory, IsAside, IsAsked, IsHistory, Leads, exchanges}
+use Rattle.desk_laws.specs.History.{AllLead, AreStepsOf, Exchange, HasHistory, HasServed, IsAside, IsAsked, IsHistory, Leads, exchanges}
 
 put_aside : (x : Exchange) (xs : List Exchange) (steps : List Step) → IsAside x → AreStepsOf xs steps → AreStepsOf (x ∷ xs) steps
 put_aside x xs [] aside are = (aside, are)
@@ -125,6 +128,24 @@ module _ (its : AreHistoryLaws) {S : Type 0} (holds : S → Hall → Type 0) (le
           → HasHistory holds new (new_hall second admin digest) (past ++ exchanges site (arrival ∷ []) (a ∷ []))
       by (inl kept) = goes kept.next kept.held (inl kept.come)
       by (inr missed) = goes h missed.1 (inr missed.0)
+
+  pub after_serving : (octets before : List ℕ) (moment : ℕ) (fresh : List ℕ) (served : Served) (after : Option (List ℕ)) → IsServed holds leaves old new site moment fresh octets before served after
+      → HasServed holds new (new_hall second admin digest) past site octets moment fresh served
+  after_serving octets before moment fresh serving.Answered after it =
+      (it.0, after_answer (record { moment = moment; fresh = fresh; input = input.Request octets }) it.0 it.1)
+  after_serving octets before moment fresh serving.ReadFailed after it =
+      record { end = h; held = subst (λ store. holds store h) (sym it.0) held; history = its.laws admin digest past h led }
+  after_serving octets before moment fresh (serving.WriteFailed count) after it =
+      (it.0, after_answer (record { moment = moment; fresh = fresh; input = input.Request octets }) it.0 it.1)
+
+pub after_served : AreHistoryLaws → {S : Type 0} (holds : S → Hall → Type 0) (leaves : S → List Hall → Type 0) (old new : S) (site : Site) (moment : ℕ) (fresh : List ℕ) (served : Served) (octets before after : Option (List ℕ))
+    → IfSome octets (λ octets. IfSome before (λ before. IsServed holds leaves old new site moment fresh octets before served after))
+    → IfSome octets (λ octets. IfSome before (λ before. (admin digest : List ℕ) (past : List Exchange) (h : Hall) → AllLead (new_hall second admin digest) past h → holds old h
+    → HasServed holds new (new_hall second admin digest) past site octets moment fresh served))
+after_served its holds leaves old new site moment fresh served None before after it = tt
+after_served its holds leaves old new site moment fresh served (Some octets) None after it = tt
+after_served its holds leaves old new site moment fresh served (Some octets) (Some before) after it =
+    λ admin digest past h led held. after_serving its holds leaves old new site admin digest past h led held octets before moment fresh served after it
 
 pub after_runs : AreHistoryLaws → {S X E : Type 0} (holds : S → Hall → Type 0) (leaves : S → List Hall → Type 0) (old new : S) (site : Site) (items : X → List Answer) (arrivals : List Arrival) (r : Result X E)
     → IfOk r (λ x. (h : Hall) → holds old h → IsSound h → IsRan holds new site h arrivals (items x))

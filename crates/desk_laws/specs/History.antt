@@ -1,5 +1,5 @@
 -- What came to a hall since it was new, in octets, and the steps of the hall machine that it was.
-use Rattle.std.specs.Prelude.{◌≡◌, ◌⊎◌, List, [], ◌∷◌, ◌++◌, Option, Some}
+use Rattle.std.specs.Prelude.{◌≡◌, ◌⊎◌, ℕ, List, [], ◌∷◌, ◌++◌, Option, Some}
 use Rattle.pxe_vendor.specs.Place.{Site}
 use Rattle.hall_types.specs.Hall.{Hall}
 use Rattle.boot_desk.specs.Sound.{IsSound}
@@ -9,6 +9,9 @@ use Rattle.hall_machine.specs.Step.{IsRun, Step}
 use Rattle.hall_desk.specs.Octets.{IsArrivalStep, Meaning, Means, answered, asks, missed_answer}
 use Rattle.hall_desk.specs.declared.arrival.Answer.{Answer}
 use Rattle.hall_desk.specs.declared.arrival.Arrival.{Arrival}
+use Rattle.hall_desk.specs.declared.arrival.Input.TheVariants.{Request}
+use Rattle.hall_desk.specs.declared.serving.Served.{Served}
+use Rattle.hall_desk.specs.declared.serving.Served.TheVariants.{Answered, ReadFailed, WriteFailed}
 use Rattle.hall_past.specs.Laws.{AcceptsOnce, BootsLocally, CountsAnswerOnce, CountsOwnBoot, CountsStartedFirst, CountsVerdictOnce, DeploysRightly, EntersByTable, ErasesRightly, NumbersOnce, QueuesAtEntries, RepeatsFirst, WaitsForOne, WaitsNoMore}
 use Rattle.hall_past.specs.Past.{AtEachStep}
 
@@ -88,3 +91,14 @@ pub record HasHistory {S : Type 0} (holds : S → Hall → Type 0) (store : S) (
   pub end : Hall
   pub held : holds store end
   pub history : IsHistory h xs end
+
+-- the store has the history to which a request led that was served: it is the last exchange, unless its reads failed
+module _ {S : Type 0} (holds : S → Hall → Type 0) (store : S) (h : Hall) (past : List Exchange) (site : Site) (octets : List ℕ) (moment : ℕ) (fresh : List ℕ) where
+  -- the request with this answer
+  abbrev pub exchanged : Answer → Exchange
+  exchanged a = record { site = site; arrival = record { moment = moment; fresh = fresh; input = Request octets }; answer = a }
+
+  abbrev pub HasServed : Served → Type 0
+  HasServed Answered = (a : Answer) × HasHistory holds store h (past ++ (exchanged a ∷ []))
+  HasServed ReadFailed = HasHistory holds store h past
+  HasServed (WriteFailed after) = (a : Answer) × HasHistory holds store h (past ++ (exchanged a ∷ []))

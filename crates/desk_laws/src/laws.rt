@@ -1,5 +1,5 @@
 //! Laws of histories in octets.
-ghost use Rattle.std.specs.Prelude.{List, ◌++◌};
+ghost use Rattle.std.specs.Prelude.{ℕ, List, ◌++◌};
 ghost use Rattle.pxe_vendor.specs.Place.{Site};
 ghost use Rattle.hall_types.specs.Hall.{Hall, new_hall, second};
 ghost use Rattle.hall_machine.specs.Step.{IsRun, Step};
@@ -31,7 +31,7 @@ pub fn runs_go_on()
 /// Whatever came to a hall since it was new, it is a run of the hall machine that keeps all laws of the past, and leads to
 /// a sound hall. That no image has an argument that begins `hall.` is no premise here: no octets bring one.
 pub fn histories_keep_the_laws()
-    ensures { (admin digest : List _) (xs : List Exchange) (end : Hall) → AllLead (new_hall second admin digest) xs end
+    ensures { (admin digest : List ℕ) (xs : List Exchange) (end : Hall) → AllLead (new_hall second admin digest) xs end
         → IsHistory (new_hall second admin digest) xs end }
 {
     exchanges_are_steps();

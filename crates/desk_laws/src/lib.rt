@@ -4,5 +4,5 @@
 mod calls;
 mod laws;
 
-pub use calls::{answer_in_history, run_in_history};
+pub use calls::{answer_in_history, run_in_history, serve_in_history};
 pub use laws::{exchanges_are_steps, histories_keep_the_laws, runs_go_on};
