@@ -1,7 +1,8 @@
 //! A store that fails at each of its calls in turn.
-use crate::playing::{Played, play, same_answer, same_tables};
+use crate::budgets::lower_memory;
+use crate::playing::{Played, is_missed, play, same_answer, same_tables};
 use arrival_log::{LineFault, LogFault, admin, answer_line, arrival, next_line};
-use hall_desk::{Answer, Arrival, Input};
+use hall_desk::{Answer, Arrival};
 use hall_store::Unavailable;
 use hall_types::{Digest, Name};
 use std::alloc::Global;
@@ -17,6 +18,8 @@ pub enum ProbeFault {
     Unavailable,
     #[error("where call {0} fails, something else than one arrival is missed")]
     Differs(u64),
+    #[error("with budget {0} of memory, the others aren't answered as without those that are missed")]
+    Budget(u64),
 }
 
 impl From<LogFault> for ProbeFault {
@@ -33,10 +36,10 @@ impl From<Unavailable> for ProbeFault {
 
 /// A log: who the administrator of the new hall is, and what comes.
 #[derive(Drop)]
-struct Log {
-    admin: Name,
-    digest: Digest,
-    arrivals: Vec<Arrival>,
+pub struct Log {
+    pub admin: Name,
+    pub digest: Digest,
+    pub arrivals: Vec<Arrival>,
 }
 
 fn read_log<R: Read + Drop>(alloc: Global, reader: R) -> Result<Log, LogFault> {
@@ -79,16 +82,6 @@ fn first_other(answers: &[Answer], others: &[Answer]) -> Option<usize> {
     None
 }
 
-// Whether an arrival is answered as one that counts as not having come.
-fn is_missed(arrival: &Arrival, answer: &Answer) -> bool {
-    match (&arrival.input, answer) {
-        (Input::Datagram { .. }, Answer::Silence) => true,
-        (Input::Request(_), Answer::Unavailable) => true,
-        (Input::Quiet, Answer::Unavailable) => true,
-        _ => false,
-    }
-}
-
 // Whether the answers but one are the others.
 fn same_but_one(answers: &[Answer], at: usize, others: &[Answer]) -> bool {
     if at >= answers.len() {
@@ -106,7 +99,7 @@ fn same_but_one(answers: &[Answer], at: usize, others: &[Answer]) -> bool {
 // Whether, where a call fails, one arrival is missed and all else is as without it, or nothing is seen.
 fn misses_one(alloc: Global, log: &Log, whole: &Played, call: u64) -> Result<bool, Unavailable> {
     let arrivals = log.arrivals.as_slice();
-    let played = play(alloc, log.admin, log.digest, arrivals, None, Some(call))?;
+    let played = play(alloc, log.admin, log.digest, arrivals, &[], Some(call))?;
     let Some(at) = first_other(played.answers.as_slice(), whole.answers.as_slice()) else {
         return Ok(same_tables(&played.tables, &whole.tables));
     };
@@ -116,7 +109,7 @@ fn misses_one(alloc: Global, log: &Log, whole: &Played, call: u64) -> Result<boo
     if !is_missed(arrival, answer) {
         return Ok(false);
     }
-    let without = play(alloc, log.admin, log.digest, arrivals, Some(at), None)?;
+    let without = play(alloc, log.admin, log.digest, arrivals, &[at], None)?;
     Ok(
         same_but_one(played.answers.as_slice(), at, without.answers.as_slice())
             && same_tables(&played.tables, &without.tables),
@@ -140,7 +133,7 @@ fn write_answers<W: Write>(
 }
 
 /// Plays a log over a store that fails at no call, and writes the answers; then over stores that fail at each of its calls
-/// in turn, and writes how many there were.
+/// in turn, and with memory that ends ever earlier, and writes how many calls and budgets there were.
 pub fn fail_each_call<R: Read + Drop, W: Write>(
     alloc: Global,
     reader: R,
@@ -152,7 +145,7 @@ pub fn fail_each_call<R: Read + Drop, W: Write>(
         log.admin,
         log.digest,
         log.arrivals.as_slice(),
-        None,
+        &[],
         None,
     )?;
     write_answers(alloc, writer, whole.answers.as_slice())?;
@@ -162,6 +155,11 @@ pub fn fail_each_call<R: Read + Drop, W: Write>(
         }
     }
     let Ok(line) = format!(in alloc; "{} calls failed in turn\n", whole.calls) else {
+        return Err(ProbeFault::Log(LogFault::Memory));
+    };
+    write_text(writer, line.as_str())?;
+    let budgets = lower_memory(alloc, &log)?;
+    let Ok(line) = format!(in alloc; "{budgets} budgets of memory\n") else {
         return Err(ProbeFault::Log(LogFault::Memory));
     };
     write_text(writer, line.as_str())?;

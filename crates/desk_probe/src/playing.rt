@@ -1,5 +1,5 @@
 //! Playing arrivals, and comparing what they lead to.
-use hall_desk::{Answer, Arrival, Desk};
+use hall_desk::{Answer, Arrival, Desk, Input};
 use hall_store::{Count, HallStore, Probe, Unavailable};
 use hall_types::{Boot, Digest, Interface, Machine, Name, Number, Numbers, Order};
 use memory_store::MemoryStore;
@@ -86,13 +86,13 @@ pub fn same_answer(one: &Answer, other: &Answer) -> bool {
     one.octets() == other.octets()
 }
 
-/// Plays arrivals on a new hall, leaving out one of them if it is said which; the store fails at a call if it is said which.
+/// Plays arrivals on a new hall, leaving out some of them; the store fails at a call if it is said which.
 pub fn play(
     alloc: Global,
     admin: Name,
     digest: Digest,
     arrivals: &[Arrival],
-    without: Option<usize>,
+    without: &[usize],
     fails_at: Option<u64>,
 ) -> Result<Played, Unavailable> {
     let store = MemoryStore::create(alloc, admin, digest).map_err(|_| Unavailable)?;
@@ -103,7 +103,7 @@ pub fn play(
     let mut desk = Desk::new(Probe::new(store, fails_at), place);
     let mut answers = Vec::new(alloc);
     for (at, arrival) in arrivals.iter().enumerate() {
-        if without != Some(at) {
+        if !without.contains(&at) {
             let answer = desk.answer(alloc, arrival);
             answers.push(answer).map_err(|_| Unavailable)?;
         }
@@ -117,4 +117,14 @@ pub fn play(
         tables,
         calls,
     })
+}
+
+/// Whether an arrival is answered as one that counts as not having come.
+pub fn is_missed(arrival: &Arrival, answer: &Answer) -> bool {
+    match (&arrival.input, answer) {
+        (Input::Datagram { .. }, Answer::Silence) => true,
+        (Input::Request(_), Answer::Unavailable) => true,
+        (Input::Quiet, Answer::Unavailable) => true,
+        _ => false,
+    }
 }

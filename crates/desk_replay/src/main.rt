@@ -1,8 +1,10 @@
 //! Plays a log of arrivals on a new hall in memory. Standard input has a line `ADMIN DIGEST`, and then an arrival a line:
 //! `discover MOMENT FRESH HEX`, `boot MOMENT FRESH HEX`, `request MOMENT FRESH HEX` or `quiet MOMENT`. Standard output has
-//! a line for each arrival: its answer's octets in hexadecimal, `silence` or `unavailable`.
+//! a line for each arrival: its answer's octets in hexadecimal, `silence` or `unavailable`; and last, how much the desk read
+//! of its store.
 #![tactic(auto)]
 
+mod asking;
 mod replay;
 
 use replay::replay;

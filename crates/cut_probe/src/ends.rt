@@ -1,0 +1,73 @@
+//! A reader and a writer that fail where they are told to.
+use std::io::{Error, ErrorKind, Read, Result as IoResult, Write};
+
+/// A reader of so many octets a call at most, which fails at a call if it is said which, the first being 1.
+#[derive(Drop)]
+pub struct Slow<'a> {
+    rest: &'a [u8],
+    step: usize,
+    calls: u64,
+    fails_at: Option<u64>,
+}
+
+impl<'a> Slow<'a> {
+    pub fn new(octets: &'a [u8], step: usize, fails_at: Option<u64>) -> Slow<'a> {
+        Slow {
+            rest: octets,
+            step,
+            calls: 0,
+            fails_at,
+        }
+    }
+}
+
+impl<'a> Read for Slow<'a> {
+    fn read(&mut self, buf: &mut [u8]) -> IoResult<usize> {
+        self.calls = self.calls.saturating_add(1);
+        if self.fails_at == Some(self.calls) {
+            return Err(Error::from(ErrorKind::Other));
+        }
+        let count = self.rest.len().min(self.step).min(buf.len());
+        let (taken, rest) = self.rest.split_at(count);
+        buf.split_at_mut(count).0.copy_from_slice(taken);
+        self.rest = rest;
+        Ok(count)
+    }
+}
+
+/// A writer that takes so many octets and then fails.
+#[derive(Drop)]
+pub struct Short {
+    taken: Vec<u8>,
+    room: usize,
+}
+
+impl Short {
+    pub fn new(taken: Vec<u8>, room: usize) -> Short {
+        Short { taken, room }
+    }
+
+    pub fn into_taken(self) -> Vec<u8> {
+        self.taken
+    }
+}
+
+impl Write for Short {
+    fn write(&mut self, octets: &[u8]) -> IoResult<usize> {
+        let count = octets.len().min(self.room);
+        if count == 0 && !octets.is_empty() {
+            return Err(Error::from(ErrorKind::Other));
+        }
+        match self.taken.extend_from_slice(octets.split_at(count).0) {
+            Ok(()) => {
+                self.room -= count;
+                Ok(count)
+            }
+            Err(_) => Err(Error::from(ErrorKind::OutOfMemory)),
+        }
+    }
+
+    fn flush(&mut self) -> IoResult<()> {
+        Ok(())
+    }
+}

@@ -1,0 +1,140 @@
+//! Memory that ends ever earlier.
+use crate::failing::{Log, ProbeFault};
+use crate::playing::{Played, is_missed, play, same_answer, same_tables};
+use hall_desk::Answer;
+use std::alloc::{AllocError, Global};
+
+const MAX_BLOCKS: usize = 1_000_000;
+
+const BUDGETS: u64 = 1_000;
+
+// What a budget has more than the one before it.
+const STEP: usize = 200;
+
+// Takes all that the heap gives, in blocks of halving sizes, so many at most.
+fn take_all(alloc: Global, most: usize) -> Result<Vec<Vec<u8>>, AllocError> {
+    let mut held = Vec::with_capacity(alloc, most)?;
+    for shift in 0..37u32 {
+        let size = (1usize << 40) >> shift;
+        for _ in 0..200_000u32 {
+            if held.len() >= most {
+                return Ok(held);
+            }
+            match Vec::with_capacity(alloc, size) {
+                Ok(block) => held.push(block)?,
+                Err(_) => break,
+            }
+        }
+    }
+    Ok(held)
+}
+
+// The log where memory ends after so many octets; nothing where it ended before the first arrival or after the last.
+fn play_within(alloc: Global, log: &Log, octets: usize) -> Option<Played> {
+    let Ok(budget) = Vec::<u8>::with_capacity(alloc, octets) else {
+        return None;
+    };
+    let Ok(held) = take_all(alloc, 8_000) else {
+        return None;
+    };
+    drop(budget);
+    let played = play(
+        alloc,
+        log.admin,
+        log.digest,
+        log.arrivals.as_slice(),
+        &[],
+        None,
+    );
+    drop(held);
+    played.ok()
+}
+
+// The places of the arrivals that were missed.
+fn missed(alloc: Global, log: &Log, answers: &[Answer]) -> Result<Vec<usize>, AllocError> {
+    let mut missed = Vec::new(alloc);
+    for (at, (arrival, answer)) in log.arrivals.iter().zip(answers.iter()).enumerate() {
+        if is_missed(arrival, answer) {
+            missed.push(at)?;
+        }
+    }
+    Ok(missed)
+}
+
+// Whether the answers but those at the places are the others.
+fn same_but(answers: &[Answer], places: &[usize], others: &[Answer]) -> bool {
+    let mut left = others;
+    for (at, answer) in answers.iter().enumerate() {
+        if !places.contains(&at) {
+            let Some((other, after)) = left.split_first() else {
+                return false;
+            };
+            if !same_answer(answer, other) {
+                return false;
+            }
+            left = after;
+        }
+    }
+    left.is_empty()
+}
+
+// Whether all but the missed ones are answered as without them, and lead to the same tables.
+fn misses_some(alloc: Global, log: &Log, played: &Played) -> Result<bool, AllocError> {
+    let places = missed(alloc, log, played.answers.as_slice())?;
+    let without = play(
+        alloc,
+        log.admin,
+        log.digest,
+        log.arrivals.as_slice(),
+        places.as_slice(),
+        None,
+    );
+    let Ok(without) = without else {
+        return Err(AllocError);
+    };
+    Ok(
+        same_but(
+            played.answers.as_slice(),
+            places.as_slice(),
+            without.answers.as_slice(),
+        ) && same_tables(&played.tables, &without.tables),
+    )
+}
+
+// The first budget with which something else happens, if there is one.
+fn first_wrong(alloc: Global, log: &Log) -> Result<Option<u64>, AllocError> {
+    for budget in 0..BUDGETS {
+        let octets = (budget as usize).saturating_mul(STEP);
+        if let Some(played) = play_within(alloc, log, octets) {
+            if !misses_some(alloc, log, &played)? {
+                return Ok(Some(budget));
+            }
+        }
+    }
+    Ok(None)
+}
+
+// Some octets, which are given back once all else is taken.
+fn reserve(alloc: Global) -> Result<Vec<Vec<u8>>, AllocError> {
+    let mut reserve = Vec::with_capacity(alloc, 40)?;
+    for _ in 0..40u32 {
+        let block: Vec<u8> = Vec::with_capacity(alloc, 100_000)?;
+        reserve.push(block)?;
+    }
+    Ok(reserve)
+}
+
+/// Plays a log with memory that ends ever later: those arrivals for which it is wanting count as not having come, and all
+/// others are answered as without them. How many times it ended.
+pub fn lower_memory(alloc: Global, log: &Log) -> Result<u64, ProbeFault> {
+    let reserve = reserve(alloc).map_err(|_| ProbeFault::Unavailable)?;
+    let held = take_all(alloc, MAX_BLOCKS).map_err(|_| ProbeFault::Unavailable)?;
+    drop(reserve);
+    let wrong = first_wrong(alloc, log);
+    drop(held);
+    match wrong {
+        Ok(None) => Ok(BUDGETS),
+        Ok(Some(budget)) => Err(ProbeFault::Budget(budget)),
+        Err(_) => Err(ProbeFault::Unavailable),
+    }
+}
