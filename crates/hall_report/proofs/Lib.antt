@@ -1,0 +1,5 @@
+pub mod ExportLemmas
+pub mod InterfaceLemmas
+pub mod RecordLemmas
+pub mod RowLemmas
+pub mod TextLemmas

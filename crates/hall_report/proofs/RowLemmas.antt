@@ -1,0 +1,29 @@
+-- The rows of an import, one after the other.
+use Rattle.std.proofs.Common.{◌≡◌, ◌<◌, ◌+◌, ℕ, List, [], ◌∷◌, ◌++◌, Some, Result, Ok, Err, length, drop, map, get_or, refl, sym, ap, ◌∙◌, append_assoc, add-one, drop-cons, suc}
+use Rattle.csv.specs.Records.{Row, fields_of}
+use Rattle.hall_report.specs.Import.{row_of, rows_from, with_ok}
+use Rattle.hall_report.specs.declared.fault.ImportFault.{ImportFault}
+use Rattle.hall_report.specs.declared.row.ImportRow.{ImportRow}
+
+regrouped : (rows : List ImportRow) (row : ImportRow) (later : Result (List ImportRow) ImportFault)
+    → with_ok (λ more. (rows ++ row ∷ []) ++ more) later ≡ with_ok (λ more. rows ++ more) (with_ok (λ more. row ∷ more) later)
+regrouped rows row (Ok more) = ap Ok (append_assoc rows (row ∷ []) more)
+regrouped rows row (Err fault) = refl
+
+-- a good record's row stands before the later ones
+good_row : (number : ℕ) (fields : List (List ℕ)) (row : ImportRow) (rows : List ImportRow) (later : List (List (List ℕ)))
+    → row_of fields ≡ Some row
+    → with_ok (λ more. (rows ++ row ∷ []) ++ more) (rows_from (number + 1) later) ≡ with_ok (λ more. rows ++ more) (rows_from number (fields ∷ later))
+unfolding rows_from
+good_row number fields row rows later good = rw good (regrouped rows row (rows_from (number + 1) later))
+
+-- the rows so far with one more
+pub more_rows : (later : List Row) (place : ℕ) (one : Row) (row : ImportRow) (rows new : List ImportRow) (all : Result (List ImportRow) ImportFault)
+    → place < length later → one ≡ get_or later place one → Some row ≡ row_of (fields_of one) → new ≡ rows ++ row ∷ []
+    → with_ok (λ more. rows ++ more) (rows_from (place + 1) (map fields_of (drop place later))) ≡ all
+    → with_ok (λ more. new ++ more) (rows_from (place + 1 + 1) (map fields_of (drop (place + 1) later))) ≡ all
+more_rows later place one row rows new all inside at good pushed so_far =
+    let here : drop place later ≡ one ∷ drop (place + 1) later =
+    rw add-one (drop-cons later place one inside ∙ ap (λ (first : Row). first ∷ drop (suc place) later) (sym at)) in
+    rw pushed (good_row (place + 1) (fields_of one) row rows (map fields_of (drop (place + 1) later)) (sym good)
+    ∙ ap (λ (values : List Row). with_ok (λ more. rows ++ more) (rows_from (place + 1) (map fields_of values))) (sym here) ∙ so_far)

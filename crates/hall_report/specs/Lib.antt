@@ -1,0 +1,5 @@
+pub mod Columns
+pub mod Export
+pub mod Import
+pub mod Lines
+pub mod Steps

@@ -1,0 +1,40 @@
+//! The texts of a machine's members.
+ghost use Rattle.std.specs.Prelude.{◌≡◌, ◌++◌, IfOk, OnOk, string_bytes};
+ghost use Rattle.hall_report.specs.Lines.{macs_text, uuid_text, yes_no};
+
+use hall_types::{Interface, MachineUuid};
+use std::alloc::{AllocError, Global};
+use uuid::Uuid;
+
+/// A truth value, as `yes` or `no`.
+pub(crate) fn yes_no(truth: bool) -> &'static str
+    ensures { result.now ≡ yes_no truth }
+{
+    if truth { "yes" } else { "no" }
+}
+
+/// A UUID with hyphens, in lower case.
+pub(crate) fn uuid_text(alloc: Global, uuid: MachineUuid) -> Result<String, AllocError>
+    ensures { IfOk result (λ text. string_bytes text ≡ uuid_text uuid) }
+{
+    let mut buffer = Uuid::encode_buffer();
+    let text = Uuid::from_bytes(uuid.octets())
+        .hyphenated()
+        .encode_lower(&mut buffer);
+    String::from_str(alloc, text)
+}
+
+/// The addresses of interfaces, one space apart.
+pub(crate) fn macs_text(alloc: Global, interfaces: &[Interface]) -> Result<String, AllocError>
+    ensures { IfOk result (λ text. string_bytes text ≡ macs_text interfaces.now) }
+{
+    let Some((first, others)) = interfaces.split_first() else {
+        return Ok(String::new(alloc));
+    };
+    let mut text = mac_text::print(alloc, &first.mac.octets())?;
+    for interface in others {
+        text.push(' ')?;
+        text.push_str(mac_text::print(alloc, &interface.mac.octets())?.as_str())?;
+    }
+    Ok(text)
+}

@@ -1,0 +1,194 @@
+//! The rows of an import.
+ghost use Rattle.std.specs.Prelude.{◌≡◌, ◌==◌, ◌∷◌, ◌++◌, [], map, OnOk, option_copied};
+ghost use Rattle.std.specs.List.{list_all};
+ghost use Rattle.csv.specs.Records.{fields_of};
+ghost use Rattle.uuid.specs.Text.{parsed};
+ghost use Rattle.hall_report.specs.Import.{Answers, arch_at, is_blank, key_at, mac_at, name_of, pool_at, row_in, row_of, rows_from, text_at, text_of, uuid_at, uuid_of, with_ok};
+
+use crate::fault::ImportFault;
+use csv::ByteRecord;
+use hall_types::{MacAddress, MachineUuid, Name, RequestKey};
+use pxe_vendor::Arch;
+use std::alloc::{AllocError, Global};
+use uuid::Uuid;
+
+/// A machine to be added, with the key of the request that adds it.
+#[derive(Clone, Copy, Debug, PartialEq, Eq)]
+pub struct ImportRow {
+    pub key: RequestKey,
+    pub mac: MacAddress,
+    pub arch: Arch,
+    pub uuid: Option<MachineUuid>,
+    pub pool: Name,
+}
+
+/// How many fields a record has.
+pub(crate) const FIELDS: usize = 5;
+
+// The octets, if they are UTF-8.
+fn text_of(octets: &[u8]) -> Option<&str>
+    ensures { option_copied result ≡ text_of octets.now }
+{
+    match std::str::from_utf8(octets) {
+        Ok(text) => Some(text),
+        Err(_) => None,
+    }
+}
+
+fn text_at(values: &ByteRecord, place: usize) -> Option<&str>
+    ensures { option_copied result ≡ text_at place (fields_of values.now) }
+{
+    match values.get(place) {
+        Some(field) => text_of(field),
+        None => None,
+    }
+}
+
+// The octets of a UUID, in one of its four spellings.
+fn parsed(text: &str) -> Option<[u8; 16]>
+    ensures { result ≡ parsed text.now }
+{
+    match Uuid::parse_str(text) {
+        Ok(uuid) => Some(uuid.into_bytes()),
+        Err(_) => None,
+    }
+}
+
+fn are_all(octets: &[u8], one: u8) -> bool
+    ensures { result ≡ list_all (λ octet. octet == one) octets.now }
+{
+    octets.iter().all(|octet| *octet == one)
+}
+
+fn is_blank(octets: &[u8]) -> bool
+    ensures { result ≡ is_blank octets.now }
+{
+    are_all(octets, 0) || are_all(octets, 255)
+}
+
+fn uuid_of(text: &str) -> Option<Option<MachineUuid>>
+    ensures { result ≡ uuid_of text.now }
+{
+    if text.is_empty() {
+        return Some(None);
+    }
+    match parsed(text) {
+        Some(octets) => {
+            if is_blank(&octets) {
+                None
+            } else {
+                Some(Some(MachineUuid::from(octets)))
+            }
+        }
+        None => None,
+    }
+}
+
+fn name_of(text: &str) -> Option<Name>
+    ensures { result ≡ name_of text.now }
+{
+    Name::new(text).ok()
+}
+
+fn key_at(values: &ByteRecord) -> Option<RequestKey>
+    ensures { result ≡ key_at (fields_of values.now) }
+{
+    match text_at(values, 0) {
+        Some(text) => match parsed(text) {
+            Some(octets) => Some(RequestKey::from(octets)),
+            None => None,
+        },
+        None => None,
+    }
+}
+
+fn mac_at(values: &ByteRecord) -> Option<MacAddress>
+    ensures { result ≡ mac_at (fields_of values.now) }
+{
+    match text_at(values, 1) {
+        Some(text) => match mac_text::read(text.as_bytes()) {
+            Some(octets) => Some(MacAddress::from(octets)),
+            None => None,
+        },
+        None => None,
+    }
+}
+
+fn arch_at(values: &ByteRecord) -> Option<Arch>
+    ensures { result ≡ arch_at (fields_of values.now) }
+{
+    match text_at(values, 2) {
+        Some(text) => text.parse().ok(),
+        None => None,
+    }
+}
+
+fn uuid_at(values: &ByteRecord) -> Option<Option<MachineUuid>>
+    ensures { result ≡ uuid_at (fields_of values.now) }
+{
+    match text_at(values, 3) {
+        Some(text) => uuid_of(text),
+        None => None,
+    }
+}
+
+fn pool_at(values: &ByteRecord) -> Option<Name>
+    ensures { result ≡ pool_at (fields_of values.now) }
+{
+    match text_at(values, 4) {
+        Some(text) => name_of(text),
+        None => None,
+    }
+}
+
+fn row_in(values: &ByteRecord) -> Option<ImportRow>
+    ensures { result ≡ row_in (fields_of values.now) }
+{
+    let key = key_at(values)?;
+    let mac = mac_at(values)?;
+    let arch = arch_at(values)?;
+    let uuid = uuid_at(values)?;
+    let pool = pool_at(values)?;
+    Some(ImportRow {
+        key,
+        mac,
+        arch,
+        uuid,
+        pool,
+    })
+}
+
+// The row of a record, if it has five fields and each is good.
+fn row_of(values: &ByteRecord) -> Option<ImportRow>
+    ensures { result ≡ row_of (fields_of values.now) }
+{
+    if values.len() == FIELDS {
+        row_in(values)
+    } else {
+        None
+    }
+}
+
+// It names the UUID's type, which the proof of `push` does not find by itself.
+fn push_row(rows: &mut Vec<ImportRow>, row: ImportRow) -> Result<(), AllocError>
+    ensures { OnOk result (rows.new.items ≡ rows.old.items ++ row ∷ []) }
+{
+    let _uuid: Option<MachineUuid> = row.uuid;
+    rows.push(row)?;
+    Ok(())
+}
+
+/// The rows of the records after a header.
+#[tactic(auto, unfolding(crate::specs::Import::rows_from))]
+pub(crate) fn rows_of(alloc: Global, later: &[ByteRecord]) -> Result<Vec<ImportRow>, ImportFault>
+    ensures { Answers (with_ok (λ rows. rows.items) result) (rows_from 1 (map fields_of later.now)) }
+{
+    let mut rows = Vec::new(alloc);
+    for (place, values) in later.iter().enumerate() {
+        match row_of(values) {
+            Some(row) => push_row(&mut rows, row)?,
+            None => return Err(ImportFault::BadRow(place as u64 + 1)),
+        }
+    }
+    Ok(rows)
+}
