@@ -1,0 +1,54 @@
+//! Handing what came to the desk.
+ghost use Rattle.std.specs.Prelude.{◌≡◌};
+ghost use Rattle.hall_desk.specs.Attempt.{IsAnswered};
+ghost use Rattle.hall_desk.specs.Desk.{site_of, store_of};
+ghost use Rattle.hall_desk.specs.declared.arrival.Input.TheVariants as input;
+
+use crate::turn::Stamp;
+use hall_desk::{Answer, Arrival, Desk, Input};
+use hall_store::HallStore;
+use hall_types::Port;
+use pxe_vendor::Octets;
+use std::alloc::{AllocError, Global};
+
+/// Hands over what came, at the moment of a stamp and with its fresh octets.
+pub(crate) fn hand<S: HallStore>(
+    alloc: Global,
+    desk: &mut Desk<S>,
+    stamp: Stamp,
+    input: Input,
+) -> Answer
+    ensures clean { S.HallStore.is_clean (store_of desk.new) → S.HallStore.is_clean (store_of desk.old) }
+    ensures site { site_of desk.new ≡ site_of desk.old }
+    ensures answered { S.HallStore.is_clean (store_of desk.new) → IsAnswered S.HallStore.holds S.HallStore.leaves (store_of desk.old) (store_of desk.new)
+        (site_of desk.old) input stamp.moment stamp.fresh result }
+{
+    let arrival = Arrival {
+        moment: stamp.moment,
+        fresh: stamp.fresh,
+        input,
+    };
+    desk.answer(alloc, &arrival)
+}
+
+/// Hands a datagram over. Without memory for its octets it counts as not having come.
+pub(crate) fn hand_datagram<S: HallStore>(
+    alloc: Global,
+    desk: &mut Desk<S>,
+    stamp: Stamp,
+    port: Port,
+    octets: &[u8],
+) -> Answer
+    ensures clean { S.HallStore.is_clean (store_of desk.new) → S.HallStore.is_clean (store_of desk.old) }
+    ensures site { site_of desk.new ≡ site_of desk.old }
+    ensures answered { S.HallStore.is_clean (store_of desk.new) → IsAnswered S.HallStore.holds S.HallStore.leaves (store_of desk.old) (store_of desk.new)
+        (site_of desk.old) (input.Datagram port octets.now) stamp.moment stamp.fresh result }
+{
+    match Vec::from_slice(alloc, octets) {
+        Ok(octets) => {
+            let octets = Octets::from(octets);
+            hand(alloc, desk, stamp, Input::Datagram { port, octets })
+        }
+        Err(AllocError) => Answer::Silence,
+    }
+}

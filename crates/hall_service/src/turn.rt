@@ -1,0 +1,91 @@
+//! What a turn did, and what one needs.
+use hall_types::{Moment, Port, Token};
+use std::net::SocketAddr;
+
+/// What a turn needs from outside.
+#[derive(Clone, Copy)]
+pub struct Stamp {
+    /// When what comes is handed to the desk.
+    pub moment: Moment,
+    /// 16 fresh octets, the token of a boot that is issued.
+    pub fresh: Token,
+    /// Milliseconds on a clock that never goes back, for the time that a connection has.
+    pub millis: u64,
+}
+
+/// Where stamps come from: clocks, and a source of random octets.
+pub trait Source {
+    /// The stamp of the next turn, and nothing where a clock or the random octets failed.
+    fn stamp(&mut self) -> Option<Stamp>;
+}
+
+/// What was handed to the desk.
+#[derive(Clone, Copy, Debug, PartialEq, Eq)]
+pub enum Kind {
+    Datagram(Port),
+    Request,
+    Quiet,
+}
+
+/// What the desk answered.
+#[derive(Clone, Copy, Debug, PartialEq, Eq)]
+pub enum Said {
+    Silence,
+    Unavailable,
+    /// A reply's frame.
+    Frame { len: usize },
+    /// A response by HTTP, with its status code (RFC 9110 section 15).
+    Response { status: u16, len: usize },
+}
+
+/// An arrival, for a log. It has no token and no key.
+#[derive(Clone, Copy, Debug, PartialEq, Eq)]
+pub struct Handover {
+    pub kind: Kind,
+    /// Where it came from. A quiet moment comes from nowhere.
+    pub from: Option<SocketAddr>,
+    /// How many octets came.
+    pub len: usize,
+    pub said: Said,
+}
+
+/// Why a connection was closed.
+#[derive(Clone, Copy, Debug, PartialEq, Eq)]
+pub enum Close {
+    /// The client has taken all of its answer.
+    Answered,
+    /// The request was undecided, or the answer stood still, for two seconds.
+    Late,
+    /// A read or a write failed.
+    Failed,
+}
+
+/// What a turn did.
+#[derive(Clone, Copy, Debug, PartialEq, Eq)]
+pub enum Turn {
+    /// Something came and was handed to the desk.
+    Handed(Handover),
+    /// So too, and the answer to a datagram couldn't be sent.
+    Unsent(Handover),
+    /// A connection was accepted, and the oldest closed for it if there were too many.
+    Accepted {
+        from: SocketAddr,
+        instead_of: Option<SocketAddr>,
+    },
+    /// A connection gave octets of its request, or took some of its answer.
+    Moved(SocketAddr),
+    /// A connection was closed.
+    Closed {
+        from: SocketAddr,
+        cause: Close,
+    },
+    /// A place that might have had something had nothing.
+    Nothing,
+    /// A datagram couldn't be received, or a connection not be accepted. It is tried again at a quiet turn.
+    Failed,
+}
+
+/// What the turns of a service are told to.
+pub trait TurnLog {
+    fn note(&mut self, moment: Moment, turn: &Turn);
+}

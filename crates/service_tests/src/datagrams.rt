@@ -1,0 +1,77 @@
+use crate::clients::*;
+use hall_service::{Kind, Said, Turn};
+use hall_types::Port;
+use std::alloc::Global;
+use std::io::Write;
+use std::test::Fail;
+
+/// Octets given as hexadecimal, each part with this many zeros after it.
+pub fn octets(alloc: Global, parts: &[(&str, usize)]) -> Result<Vec<u8>, Fail> {
+    let mut octets = Vec::new(alloc);
+    for (digits, zeros) in parts {
+        octets.extend_from_slice(&hex::decode(alloc, *digits)?)?;
+        for _ in 0..*zeros {
+            octets.push(0)?;
+        }
+    }
+    Ok(octets)
+}
+
+/// A DISCOVER of 52:54:00:12:34:56, an x86-64 UEFI machine, in 306 octets (RFC 2131 section 2, PXE 2.1).
+pub const DISCOVER: [(&str, usize); 5] = [
+    ("010106001122334400008000", 16),
+    ("525400123456", 10),
+    ("", 64),
+    ("", 128),
+    (
+        "638253633501013c20505845436c69656e743a417263683a30303030373a554e44493a3030333031365d0200075e0301031061110000112233445566778899aabbccddeeffff",
+        0,
+    ),
+];
+
+/// The OFFER to it, in 300 octets.
+pub const OFFER: [(&str, usize); 5] = [
+    ("020106001122334400008000", 8),
+    ("c0000202", 4),
+    ("525400123456", 74),
+    ("697078652d7838365f36342e656669", 113),
+    (
+        "638253633501023604c00002013c09505845436c69656e7461110000112233445566778899aabbccddeeff2b04060108ffff",
+        14,
+    ),
+];
+
+#[test]
+fn empty_datagram_gets_silence(rt: HostRuntime) -> Result<(), Fail> {
+    let mut service = service(&rt)?;
+    let asker = asker(&rt)?;
+    asker.send_to(&[], service.sockets().boot_address()?)?;
+    service.wait();
+    match service.turn(at(&rt, 0)) {
+        Turn::Handed(handover) => {
+            assert_eq!(&rt; handover.kind, Kind::Datagram(Port::Boot));
+            assert_eq!(&rt; handover.len, 0);
+            assert_eq!(&rt; handover.said, Said::Silence);
+            assert_eq!(&rt; handover.from, Some(asker.local_addr()?));
+        }
+        _ => assert!(&rt; false),
+    }
+    Ok(())
+}
+
+#[test]
+fn flood_on_one_socket_starves_no_other(rt: HostRuntime) -> Result<(), Fail> {
+    let alloc = rt.alloc();
+    let mut service = service(&rt)?;
+    let asker = asker(&rt)?;
+    for _ in 0..50 {
+        asker.send_to(b"flood", service.sockets().discover_address()?)?;
+    }
+    let mut client = connect(&rt, &service)?;
+    client.write_all(REQUEST)?;
+    for _ in 0..16 {
+        service.wait();
+        service.turn(at(&rt, 0));
+    }
+    is_served(&rt, alloc, &mut client)
+}
