@@ -47,12 +47,12 @@ by_meaning h next end x xs (asks e say) means leads rest =
       after = next;
     } in (
       s ∷ rest.0,
-      (refl, inl (record { answer = refl; after = leads.1 }), rest.1),
+      (inl refl, inl (record { answer = refl; after = leads.1 }), rest.1),
       inl (record { event = e; say = say; means = means; arrived = refl; content = d.content; gave = refl; sent = leads.0 }, rest.2),
     )
 
 pub steps_of : (h : Hall) (xs : List Exchange) (end : Hall) → AllLead h xs end → Found h xs end
-steps_of h [] end led = ([], led, refl)
+steps_of h [] end led = ([], inl led, refl)
 steps_of h (x ∷ xs) end led = by led.1 (steps_of led.0 xs end led.2)
   where
     by : Leads h x led.0 → Found led.0 xs end → Found h (x ∷ xs) end

@@ -1,3 +1,4 @@
 pub mod Decision
+pub mod Migration
 pub mod Refusing
 pub mod Step

@@ -5,6 +5,7 @@ use Rattle.hall_types.specs.Hall.{Hall, applied}
 use Rattle.hall_events.specs.Reply.{Content}
 use Rattle.hall_events.specs.declared.event.Event.{Event}
 use Rattle.hall_machine.specs.Decision.{decision_of}
+use Rattle.hall_machine.specs.Migration.{Continues}
 
 -- an event, with the place that was served, the moment and the fresh octets that it came with
 pub record Arrival : Type 0 where
@@ -34,7 +35,7 @@ pub record Missed (s : Step) : Type 0 where
 abbrev pub IsStep : Step → Type 0
 IsStep s = Came s ⊎ Missed s
 
--- steps that lead from one hall to another, each from the hall that the one before left
+-- steps that lead from one hall to another, each from the hall that the one before left, which may have been migrated
 abbrev pub IsRun : Hall → List Step → Hall → Type 0
-IsRun h [] end = end ≡ h
-IsRun h (s ∷ steps) end = (s.before ≡ h) × IsStep s × IsRun s.after steps end
+IsRun h [] end = Continues h end
+IsRun h (s ∷ steps) end = Continues h s.before × IsStep s × IsRun s.after steps end

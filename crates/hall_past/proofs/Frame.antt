@@ -1,8 +1,9 @@
 -- Laws of the past from an invariant: what holds of the past and the hall is kept by each step, and gives the law at each step.
 use Rattle.std.proofs.Common.{◌≡◌, ◌⊎◌, List, [], ◌∷◌, ◌++◌, refl, sym, ap, subst, ◌∙◌, inl, inr, append_assoc, append-nil}
 use Rattle.std.specs.List.{AllByRecursion}
-use Rattle.hall_types.specs.Hall.{Hall, second}
+use Rattle.hall_types.specs.Hall.{Hall, first, second}
 use Rattle.boot_desk.specs.Sound.{IsSound}
+use Rattle.hall_machine.specs.Migration.{Continues}
 use Rattle.hall_machine.specs.Step.{IsRun, IsStep, Step}
 use Rattle.hall_past.specs.Past.{AtEachStep, Last, NoneOf, SomeOf}
 
@@ -56,14 +57,22 @@ module _ (keep : KeepSound) (Given : Step → Type 0) (I : List Step → Hall �
     in_second : h.schema ≡ second
     holds : I past h
 
+  -- a hall of the second schema isn't migrated
+  goes_on : (past : List Step) (h next : Hall) → Holds past h → Continues h next → Holds past next
+  goes_on past h next start (inl same) = subst (Holds past) (sym same) start
+  goes_on past h next start (inr migrated) = absurd (not_both (sym migrated.was ∙ start.in_second))
+    where
+      not_both : first ≡ second → ⊥
+      not_both e = cc
+
   all_split : (past later : List Step) (s : Step) → AllByRecursion Given (past ++ (s ∷ later)) → AllByRecursion Given past × Given s
   all_split [] later s all = (tt, all.0)
   all_split (x ∷ past) later s all = let rest = all_split past later s all.1 in ((all.0, rest.0), rest.1)
 
   run_holds : (past steps : List Step) (h end : Hall) → AllByRecursion Given steps → Holds past h → IsRun h steps end → Holds (past ++ steps) end
-  run_holds past [] h end given start run = subst (λ xs. Holds xs end) (sym (append-nil past)) (subst (Holds past) (sym run) start)
+  run_holds past [] h end given start run = subst (λ xs. Holds xs end) (sym (append-nil past)) (goes_on past h end start run)
   run_holds past (s ∷ steps) h end given start run =
-      let here = subst (Holds past) (sym run.0) start in
+      let here = goes_on past h s.before start run.0 in
       let next = keep s run.1 here.sound here.in_second in
       subst (λ xs. Holds xs end) (append_assoc past (s ∷ []) steps)
       (run_holds (past ++ (s ∷ [])) steps s.after end given.1

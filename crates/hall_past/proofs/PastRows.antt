@@ -77,7 +77,7 @@ abbrev then : Step
 then = came first.after asks
 
 is_run : IsRun before (first ∷ then ∷ []) then.after
-is_run = (refl, inl (record { answer = refl; after = refl }), (refl, inl (record { answer = refl; after = refl }), refl))
+is_run = (inl refl, inl (record { answer = refl; after = refl }), (inl refl, inl (record { answer = refl; after = refl }), inl refl))
 
 -- nothing is known of the client
 view_is : frame_view before client ≡ record { by_mac = None; by_uuid = None; machines = 0; numbers = before.last }

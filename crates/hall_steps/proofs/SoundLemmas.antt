@@ -4,7 +4,7 @@ use Rattle.std.proofs.Common.{refl, sym, ap, subst, inl, inr, ◌∙◌}
 use Rattle.ipxe_script.specs.declared.command.Command.{Command}
 use Rattle.pxe_vendor.specs.Place.{Site}
 use Rattle.pxe_vendor.specs.declared.clients.Client.{Client}
-use Rattle.hall_types.specs.Hall.{Hall, applied, second, written}
+use Rattle.hall_types.specs.Hall.{Hall, applied, first, second, written}
 use Rattle.hall_types.specs.Lookup.{next_expired, waiting}
 use Rattle.hall_types.specs.LookupLaws.{next_expired-is}
 use Rattle.hall_types.specs.Rows.{at, listed as rows_of}
@@ -35,6 +35,7 @@ use Rattle.boot_desk.specs.declared.frames.Decision.TheVariants.{Loader, ScriptU
 use Rattle.hall_command.specs.Command.{command_decision, sender}
 use Rattle.hall_command.specs.Effect.{Effect}
 use Rattle.hall_machine.specs.Decision.{Decided, commanded, decision_of, framed, given, given_if, if_role, judged, listed_if, listed_of, may_answer, may_see_machines, may_see_orders, refuses, says}
+use Rattle.hall_machine.specs.Migration.{Continues}
 use Rattle.hall_machine.specs.Step.{IsRun, IsStep, Step}
 
 -- what the decisions' own laws say of sound halls
@@ -161,8 +162,17 @@ module _ (k : KeepSound) where
       )
   step_keeps x (inr missed) s in_second = (subst IsSound (sym missed.after) s, ap (λ (h : Hall). h.schema) missed.after ∙ in_second)
 
+  -- a hall of the second schema isn't migrated
+  goes_on : (h next : Hall) → Continues h next → IsSound h → h.schema ≡ second → IsSound next × (next.schema ≡ second)
+  goes_on h next (inl same) s in_second = (subst IsSound (sym same) s, ap (λ (h : Hall). h.schema) same ∙ in_second)
+  goes_on h next (inr migrated) s in_second = absurd (not_both (sym migrated.was ∙ in_second))
+    where
+      not_both : first ≡ second → ⊥
+      not_both e = cc
+
   pub run_keeps : (h end : Hall) (steps : List Step) → IsRun h steps end → IsSound h → h.schema ≡ second → IsSound end × (end.schema ≡ second)
-  run_keeps h end [] run s in_second = (subst IsSound (sym run) s, ap (λ (h : Hall). h.schema) run ∙ in_second)
+  run_keeps h end [] run s in_second = goes_on h end run s in_second
   run_keeps h end (x ∷ steps) run s in_second =
-      let next = step_keeps x run.1 (subst IsSound (sym run.0) s) (ap (λ (h : Hall). h.schema) run.0 ∙ in_second) in
+      let here = goes_on h x.before run.0 s in_second in
+      let next = step_keeps x run.1 here.0 here.1 in
       run_keeps x.after end steps run.2 next.0 next.1
