@@ -4,7 +4,7 @@ ghost use Rattle.hall_desk.specs.Attempt.{IsAnswered};
 ghost use Rattle.hall_desk.specs.Desk.{site_of, store_of};
 ghost use Rattle.hall_desk.specs.declared.arrival.Input.TheVariants as input;
 
-use crate::turn::Stamp;
+use crate::turn::{Stamp, TurnLog};
 use hall_desk::{Answer, Arrival, Desk, Input};
 use hall_store::HallStore;
 use hall_types::Port;
@@ -12,9 +12,10 @@ use pxe_vendor::Octets;
 use std::alloc::{AllocError, Global};
 
 /// Hands over what came, at the moment of a stamp and with its fresh octets.
-pub(crate) fn hand<S: HallStore>(
+pub(crate) fn hand<S: HallStore, L: TurnLog>(
     alloc: Global,
     desk: &mut Desk<S>,
+    log: &mut L,
     stamp: Stamp,
     input: Input,
 ) -> Answer
@@ -28,13 +29,16 @@ pub(crate) fn hand<S: HallStore>(
         fresh: stamp.fresh,
         input,
     };
-    desk.answer(alloc, &arrival)
+    let answer = desk.answer(alloc, &arrival);
+    log.arrived(&arrival, &answer);
+    answer
 }
 
 /// Hands a datagram over. Without memory for its octets it counts as not having come.
-pub(crate) fn hand_datagram<S: HallStore>(
+pub(crate) fn hand_datagram<S: HallStore, L: TurnLog>(
     alloc: Global,
     desk: &mut Desk<S>,
+    log: &mut L,
     stamp: Stamp,
     port: Port,
     octets: &[u8],
@@ -47,7 +51,7 @@ pub(crate) fn hand_datagram<S: HallStore>(
     match Vec::from_slice(alloc, octets) {
         Ok(octets) => {
             let octets = Octets::from(octets);
-            hand(alloc, desk, stamp, Input::Datagram { port, octets })
+            hand(alloc, desk, log, stamp, Input::Datagram { port, octets })
         }
         Err(AllocError) => Answer::Silence,
     }

@@ -68,8 +68,9 @@ impl<S: HallStore> Service<S> {
     /// waited for.
     ///
     /// At most one arrival is handed to the desk, with the moment and the fresh octets of the stamp. A datagram's answer is
-    /// sent to where the datagram came from; that of a request waits until the client takes it.
-    pub fn turn(&mut self, stamp: Stamp) -> Turn
+    /// sent to where the datagram came from; that of a request waits until the client takes it. The log is told of the
+    /// arrival; the turn isn't noted.
+    pub fn turn<L: TurnLog>(&mut self, stamp: Stamp, log: &mut L) -> Turn
         ensures clean { S.HallStore.is_clean (store_of (desk_of self.new)) → S.HallStore.is_clean (store_of (desk_of self.old)) }
         ensures site { site_of (desk_of self.new) ≡ site_of (desk_of self.old) }
         ensures handed { S.HallStore.is_clean (store_of (desk_of self.new)) → IfHanded result (IsHanded S.HallStore.holds S.HallStore.leaves
@@ -80,21 +81,21 @@ impl<S: HallStore> Service<S> {
     {
         self.turns = (self.turns + 1) % 8;
         if self.turns == 0 {
-            return Turn::Handed(self.quiet(stamp));
+            return Turn::Handed(self.quiet(stamp, log));
         }
         if let Some(turn) = self.sockets.close_late(stamp.millis) {
             return turn;
         }
         match self.sockets.pick() {
-            None => Turn::Handed(self.quiet(stamp)),
-            Some(Origin::Port(port)) => self.datagram(port, stamp),
+            None => Turn::Handed(self.quiet(stamp, log)),
+            Some(Origin::Port(port)) => self.datagram(port, stamp, log),
             Some(Origin::Listener) => self.sockets.accept(self.alloc, stamp.millis),
-            Some(Origin::Connection(slot)) => self.connection(slot, stamp),
+            Some(Origin::Connection(slot)) => self.connection(slot, stamp, log),
         }
     }
 
     // Nothing came.
-    fn quiet(&mut self, stamp: Stamp) -> Handover
+    fn quiet<L: TurnLog>(&mut self, stamp: Stamp, log: &mut L) -> Handover
         ensures clean { S.HallStore.is_clean (store_of (desk_of self.new)) → S.HallStore.is_clean (store_of (desk_of self.old)) }
         ensures site { site_of (desk_of self.new) ≡ site_of (desk_of self.old) }
         ensures handed { S.HallStore.is_clean (store_of (desk_of self.new)) → IsHanded S.HallStore.holds S.HallStore.leaves
@@ -103,12 +104,12 @@ impl<S: HallStore> Service<S> {
         ensures turns { turns_of self.new ≡ turns_of self.old }
     {
         self.sockets.retry();
-        let answer = hand(self.alloc, &mut self.desk, stamp, Input::Quiet);
+        let answer = hand(self.alloc, &mut self.desk, log, stamp, Input::Quiet);
         handover(Kind::Quiet, None, 0, &answer)
     }
 
     // Receives a datagram, and sends its answer to where it came from.
-    fn datagram(&mut self, port: Port, stamp: Stamp) -> Turn
+    fn datagram<L: TurnLog>(&mut self, port: Port, stamp: Stamp, log: &mut L) -> Turn
         ensures clean { S.HallStore.is_clean (store_of (desk_of self.new)) → S.HallStore.is_clean (store_of (desk_of self.old)) }
         ensures site { site_of (desk_of self.new) ≡ site_of (desk_of self.old) }
         ensures handed { S.HallStore.is_clean (store_of (desk_of self.new)) → IfHanded result (IsHanded S.HallStore.holds S.HallStore.leaves
@@ -121,7 +122,7 @@ impl<S: HallStore> Service<S> {
             Err(turn) => return turn,
         };
         let octets = &self.sockets.buffer.as_slice()[..len];
-        let answer = hand_datagram(self.alloc, &mut self.desk, stamp, port, octets);
+        let answer = hand_datagram(self.alloc, &mut self.desk, log, stamp, port, octets);
         let handover = handover(Kind::Datagram(port), Some(from), len, &answer);
         if self.send(port, &answer, from) {
             Turn::Handed(handover)
@@ -139,7 +140,7 @@ impl<S: HallStore> Service<S> {
     }
 
     // Has a connection go on by one step.
-    fn connection(&mut self, slot: usize, stamp: Stamp) -> Turn
+    fn connection<L: TurnLog>(&mut self, slot: usize, stamp: Stamp, log: &mut L) -> Turn
         requires { slot < 64 }
         ensures clean { S.HallStore.is_clean (store_of (desk_of self.new)) → S.HallStore.is_clean (store_of (desk_of self.old)) }
         ensures site { site_of (desk_of self.new) ≡ site_of (desk_of self.old) }
@@ -154,7 +155,14 @@ impl<S: HallStore> Service<S> {
         };
         let from = connection.from();
         let buffer = self.sockets.buffer.as_mut_slice();
-        let step = advance(&mut connection, self.alloc, &mut self.desk, stamp, buffer);
+        let step = advance(
+            &mut connection,
+            self.alloc,
+            &mut self.desk,
+            log,
+            stamp,
+            buffer,
+        );
         match step {
             Step::Handed(handover) => {
                 self.sockets.keep(slot, connection);
@@ -199,7 +207,7 @@ impl<S: HallStore> Service<S> {
             return;
         };
         let moment = stamp.moment;
-        let turn = self.turn(stamp);
+        let turn = self.turn(stamp, log);
         log.note(moment, &turn);
     }
 

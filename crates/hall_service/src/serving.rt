@@ -11,7 +11,7 @@ ghost use Rattle.hall_service.specs.Turn.{Tells};
 use crate::connection::{Connection, Put, Taken};
 use crate::handing::hand;
 use crate::handover::handover;
-use crate::turn::{Handover, Kind, Stamp};
+use crate::turn::{Handover, Kind, Stamp, TurnLog};
 use hall_desk::{Answer, Desk, Input};
 use hall_store::HallStore;
 use std::alloc::Global;
@@ -31,10 +31,11 @@ pub(crate) enum Step {
 }
 
 // Hands the request over. Its answer waits then.
-fn hand_request<T, S: HallStore>(
+fn hand_request<T, S: HallStore, L: TurnLog>(
     connection: &mut Connection<T>,
     alloc: Global,
     desk: &mut Desk<S>,
+    log: &mut L,
     stamp: Stamp,
 ) -> Handover
     ensures clean { S.HallStore.is_clean (store_of desk.new) → S.HallStore.is_clean (store_of desk.old) }
@@ -46,7 +47,7 @@ fn hand_request<T, S: HallStore>(
     let from = connection.from();
     let octets = connection.request(alloc);
     let len = octets.as_slice().len();
-    let answer = hand(alloc, desk, stamp, Input::Request(octets));
+    let answer = hand(alloc, desk, log, stamp, Input::Request(octets));
     let handover = handover(Kind::Request, Some(from), len, &answer);
     connection.answer(answer, now);
     handover
@@ -67,10 +68,11 @@ fn refuse<T>(connection: &mut Connection<T>, alloc: Global, now: u64) -> Handove
 }
 
 // Reads once, and hands the request over once it is decided.
-fn take<T: Read, S: HallStore>(
+fn take<T: Read, S: HallStore, L: TurnLog>(
     connection: &mut Connection<T>,
     alloc: Global,
     desk: &mut Desk<S>,
+    log: &mut L,
     stamp: Stamp,
     buffer: &mut [u8],
 ) -> Step
@@ -84,7 +86,7 @@ fn take<T: Read, S: HallStore>(
     match connection.take(alloc, buffer) {
         Taken::Waits => Step::Waits,
         Taken::More => Step::Moved,
-        Taken::Whole => Step::Handed(hand_request(connection, alloc, desk, stamp)),
+        Taken::Whole => Step::Handed(hand_request(connection, alloc, desk, log, stamp)),
         Taken::NoMemory => Step::Handed(refuse(connection, alloc, now)),
         Taken::Failed => Step::Failed,
     }
@@ -104,10 +106,11 @@ fn put<T: Write>(connection: &mut Connection<T>, now: u64) -> Step
 
 /// Reads or writes once. A request that is decided is handed to the desk, and its answer waits then until the client takes
 /// it.
-pub(crate) fn advance<T: Read + Write, S: HallStore>(
+pub(crate) fn advance<T: Read + Write, S: HallStore, L: TurnLog>(
     connection: &mut Connection<T>,
     alloc: Global,
     desk: &mut Desk<S>,
+    log: &mut L,
     stamp: Stamp,
     buffer: &mut [u8],
 ) -> Step
@@ -121,6 +124,6 @@ pub(crate) fn advance<T: Read + Write, S: HallStore>(
     if connection.is_answered() {
         put(connection, now)
     } else {
-        take(connection, alloc, desk, stamp, buffer)
+        take(connection, alloc, desk, log, stamp, buffer)
     }
 }

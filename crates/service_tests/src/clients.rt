@@ -1,11 +1,11 @@
-use hall_desk::Desk;
+use hall_desk::{Answer, Arrival, Desk};
 use hall_service::{Addresses, Service, Sockets, Source, Stamp, Turn, TurnLog};
 use hall_types::{Digest, Moment, Name, Token};
 use hex::FromHex;
 use memory_store::MemoryStore;
 use pxe_vendor::Place;
 use std::alloc::Global;
-use std::io::{ErrorKind, Read};
+use std::io::{ErrorKind, Read, Write};
 use std::net::{IpAddr, Ipv4Addr, SocketAddr, TcpStream, UdpSocket};
 use std::process::Abort;
 use std::test::Fail;
@@ -55,7 +55,7 @@ pub fn settle(rt: &impl Abort, service: &mut Service<MemoryStore>, millis: u64) 
     let mut still = 0_u32;
     for _ in 0..10_000 {
         service.wait();
-        still = match service.turn(at(rt, millis)) {
+        still = match service.turn(at(rt, millis), &mut NoLog) {
             Turn::Handed(_) | Turn::Nothing => still.saturating_add(1),
             _ => 0,
         };
@@ -63,6 +63,38 @@ pub fn settle(rt: &impl Abort, service: &mut Service<MemoryStore>, millis: u64) 
             return;
         }
     }
+}
+
+/// One turn, once something came.
+pub fn turn(rt: &impl Abort, service: &mut Service<MemoryStore>) -> Turn {
+    service.wait();
+    service.turn(at(rt, 0), &mut NoLog)
+}
+
+/// So many turns.
+pub fn turns(rt: &impl Abort, service: &mut Service<MemoryStore>, count: u32) {
+    for _ in 0..count {
+        turn(rt, service);
+    }
+}
+
+/// How many connections are open.
+pub fn has_connections(rt: &impl Abort, service: &Service<MemoryStore>, count: usize) {
+    assert_eq!(rt; service.sockets().connections(), count);
+}
+
+/// A new client sends the request and is served.
+pub fn serves_another(
+    rt: &impl Abort,
+    net: &HostRuntime,
+    alloc: Global,
+    service: &mut Service<MemoryStore>,
+    millis: u64,
+) -> Result<(), Fail> {
+    let mut client = connect(net, service)?;
+    client.write_all(REQUEST)?;
+    settle(rt, service, millis);
+    is_served(rt, alloc, &mut client)
 }
 
 pub fn connect(rt: &HostRuntime, service: &Service<MemoryStore>) -> Result<TcpStream, Fail> {
@@ -124,14 +156,27 @@ impl Source for Hand {
     }
 }
 
-/// How many turns there were, and the last that was an arrival by HTTP.
+/// A log that keeps nothing.
+#[derive(Drop)]
+pub struct NoLog;
+
+impl TurnLog for NoLog {
+    fn note(&mut self, _moment: Moment, _turn: &Turn) {}
+}
+
+/// How many turns and arrivals there were, and the last that was an arrival by HTTP.
 #[derive(Drop)]
 pub struct Count {
     pub turns: u64,
+    pub arrivals: u64,
     pub request: Option<Turn>,
 }
 
 impl TurnLog for Count {
+    fn arrived(&mut self, _arrival: &Arrival, _answer: &Answer) {
+        self.arrivals = self.arrivals.saturating_add(1);
+    }
+
     fn note(&mut self, _moment: Moment, turn: &Turn) {
         self.turns = self.turns.saturating_add(1);
         if let Turn::Handed(handover) = turn

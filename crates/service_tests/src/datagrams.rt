@@ -1,8 +1,11 @@
 use crate::clients::*;
-use hall_service::{Kind, Said, Turn};
+use hall_service::{Kind, Said, Service, Turn};
 use hall_types::Port;
+use memory_store::MemoryStore;
 use std::alloc::Global;
 use std::io::Write;
+use std::net::{SocketAddr, UdpSocket};
+use std::process::Abort;
 use std::test::Fail;
 
 /// Octets given as hexadecimal, each part with this many zeros after it.
@@ -41,37 +44,51 @@ pub const OFFER: [(&str, usize); 5] = [
     ),
 ];
 
+// An empty datagram at the boot port was handed over, and is answered by silence.
+fn is_silence(rt: &impl Abort, turn: &Turn, asker: &UdpSocket) -> Result<(), Fail> {
+    let Turn::Handed(handover) = turn else {
+        assert!(rt; false, "nothing was handed over");
+        return Ok(());
+    };
+    assert_eq!(rt; handover.kind, Kind::Datagram(Port::Boot));
+    assert_eq!(rt; handover.len, 0);
+    assert_eq!(rt; handover.said, Said::Silence);
+    assert_eq!(rt; handover.from, Some(asker.local_addr()?));
+    Ok(())
+}
+
 #[test]
 fn empty_datagram_gets_silence(rt: HostRuntime) -> Result<(), Fail> {
     let mut service = service(&rt)?;
     let asker = asker(&rt)?;
     asker.send_to(&[], service.sockets().boot_address()?)?;
-    service.wait();
-    match service.turn(at(&rt, 0)) {
-        Turn::Handed(handover) => {
-            assert_eq!(&rt; handover.kind, Kind::Datagram(Port::Boot));
-            assert_eq!(&rt; handover.len, 0);
-            assert_eq!(&rt; handover.said, Said::Silence);
-            assert_eq!(&rt; handover.from, Some(asker.local_addr()?));
-        }
-        _ => assert!(&rt; false),
+    let turn = turn(&rt, &mut service);
+    is_silence(&rt, &turn, &asker)
+}
+
+fn flood(asker: &UdpSocket, target: SocketAddr) -> Result<(), Fail> {
+    for _ in 0..50 {
+        asker.send_to(b"flood", target)?;
     }
     Ok(())
 }
 
+fn is_served_beside(
+    rt: &impl Abort,
+    net: &HostRuntime,
+    alloc: Global,
+    service: &mut Service<MemoryStore>,
+) -> Result<(), Fail> {
+    let mut client = connect(net, service)?;
+    client.write_all(REQUEST)?;
+    turns(rt, service, 16);
+    is_served(rt, alloc, &mut client)
+}
+
 #[test]
 fn flood_on_one_socket_starves_no_other(rt: HostRuntime) -> Result<(), Fail> {
-    let alloc = rt.alloc();
     let mut service = service(&rt)?;
     let asker = asker(&rt)?;
-    for _ in 0..50 {
-        asker.send_to(b"flood", service.sockets().discover_address()?)?;
-    }
-    let mut client = connect(&rt, &service)?;
-    client.write_all(REQUEST)?;
-    for _ in 0..16 {
-        service.wait();
-        service.turn(at(&rt, 0));
-    }
-    is_served(&rt, alloc, &mut client)
+    flood(&asker, service.sockets().discover_address()?)?;
+    is_served_beside(&rt, &rt, rt.alloc(), &mut service)
 }
