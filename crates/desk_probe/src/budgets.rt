@@ -1,6 +1,7 @@
 //! Memory that ends ever earlier.
-use crate::failing::{Log, ProbeFault};
+use crate::log::Log;
 use crate::playing::{Played, is_missed, play, same_answer, same_tables};
+use crate::trials::ProbeFault;
 use hall_desk::Answer;
 use std::alloc::{AllocError, Global};
 

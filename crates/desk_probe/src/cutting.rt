@@ -1,38 +1,19 @@
 //! Requests and answers that are cut.
 use crate::ends::{Short, Slow};
-use arrival_log::{LineFault, LogFault, admin, arrival, next_line};
+use crate::log::Log;
+use crate::trials::ProbeFault;
+use arrival_log::LogFault;
 use hall_desk::{Answer, Arrival, Desk, Input, Served};
 use hall_http::Noted;
 use memory_store::MemoryStore;
 use pxe_vendor::Place;
 use std::alloc::Global;
-use std::io::{BufReader, Read, Write};
-use thiserror::Error;
-
-/// Why not each request was cut.
-#[derive(Clone, Copy, Debug, PartialEq, Eq, Error)]
-pub enum CutFault {
-    #[error("{0}")]
-    Log(LogFault),
-    #[error("line {line}: a request whose read {call} fails isn't ReadFailed, or something was written")]
-    Read { line: u64, call: u64 },
-    #[error("line {0}: one octet a call, the answer is another")]
-    Slow(u64),
-    #[error("line {line}: an answer cut after {after} octets isn't WriteFailed, or other octets were written")]
-    Write { line: u64, after: usize },
-}
-
-impl From<LogFault> for CutFault {
-    fn from(fault: LogFault) -> CutFault {
-        CutFault::Log(fault)
-    }
-}
 
 /// How many were cut.
 #[derive(Clone, Copy, Debug, PartialEq, Eq)]
-struct Cuts {
-    requests: u64,
-    answers: u64,
+pub struct Cuts {
+    pub requests: u64,
+    pub answers: u64,
 }
 
 // What is written for a request from a reader of so many octets a call, which may fail at one, by a writer with so much room.
@@ -64,11 +45,11 @@ fn cut_reads(
     arrival: &Arrival,
     octets: &[u8],
     line: u64,
-) -> Result<(), CutFault> {
+) -> Result<(), ProbeFault> {
     for call in 1..(octets.len() as u64).saturating_add(1) {
         let (served, written) = serve(alloc, desk, arrival, octets, 1, Some(call), usize::MAX);
         if served != Served::ReadFailed || !written.is_empty() {
-            return Err(CutFault::Read { line, call });
+            return Err(ProbeFault::Read { line, call });
         }
     }
     Ok(())
@@ -82,14 +63,14 @@ fn cut_writes(
     octets: &[u8],
     answer: &[u8],
     line: u64,
-) -> Result<(), CutFault> {
+) -> Result<(), ProbeFault> {
     for after in 0..answer.len() {
         let (served, written) = serve(alloc, desk, arrival, octets, usize::MAX, None, after);
         let failed = Served::WriteFailed {
             after: after as u64,
         };
         if served != failed || written.as_slice() != answer.split_at(after).0 {
-            return Err(CutFault::Write { line, after });
+            return Err(ProbeFault::Write { line, after });
         }
     }
     Ok(())
@@ -108,7 +89,7 @@ fn cut(
     arrival: &Arrival,
     line: u64,
     cuts: &mut Cuts,
-) -> Result<(), CutFault> {
+) -> Result<(), ProbeFault> {
     let answer = other.answer(alloc, arrival);
     let Input::Request(octets) = &arrival.input else {
         let _ = desk.answer(alloc, arrival);
@@ -116,13 +97,13 @@ fn cut(
     };
     let octets = octets.as_slice();
     let Answer::Octets(answer) = answer else {
-        return Err(CutFault::Slow(line));
+        return Err(ProbeFault::Slow(line));
     };
     let answer = answer.as_slice();
     cut_reads(alloc, desk, arrival, octets, line)?;
     let (served, written) = serve(alloc, desk, arrival, octets, 1, None, usize::MAX);
     if served != Served::Answered || written.as_slice() != answer {
-        return Err(CutFault::Slow(line));
+        return Err(ProbeFault::Slow(line));
     }
     cuts.requests = cuts.requests.saturating_add(1);
     if is_answered_alike(octets) {
@@ -132,60 +113,32 @@ fn cut(
     Ok(())
 }
 
-fn desk(alloc: Global, line: &str) -> Result<Desk<MemoryStore>, LogFault> {
-    let (name, digest) = admin(line).map_err(|cause| LogFault::Line { number: 1, cause })?;
-    let store = MemoryStore::create(alloc, name, digest).map_err(|_| LogFault::Memory)?;
-    let place = Place::new(alloc, [192, 0, 2, 1], [192, 0, 2, 2], "hall.example").map_err(
-        |_| LogFault::Memory,
-    )?;
-    Ok(Desk::new(store, place))
+fn desk(alloc: Global, log: &Log) -> Result<Desk<MemoryStore>, LogFault> {
+    let store = MemoryStore::create(alloc, log.admin, log.digest);
+    let store = store.map_err(|_| LogFault::Memory)?;
+    let place = Place::new(alloc, [192, 0, 2, 1], [192, 0, 2, 2], "hall.example");
+    Ok(Desk::new(store, place.map_err(|_| LogFault::Memory)?))
 }
 
-fn write_cuts<W: Write>(alloc: Global, writer: &mut W, cuts: Cuts) -> Result<(), LogFault> {
-    let line = format!(in alloc;
-        "{} requests and {} answers cut\n",
-        cuts.requests, cuts.answers
-    );
-    let line = line.map_err(|_| LogFault::Memory)?;
-    writer.write_all(line.as_bytes()).map_err(|_| LogFault::Io)
-}
-
-/// Cuts each request of a log, and the answers of those that may be sent again.
-pub fn cut_each_request<R: Read + Drop, W: Write>(
-    alloc: Global,
-    reader: R,
-    writer: &mut W,
-) -> Result<(), CutFault> {
-    let mut reader = BufReader::new(alloc, reader).map_err(|_| LogFault::Memory)?;
-    let Some(first) = next_line(alloc, &mut reader)? else {
-        return Err(CutFault::Log(LogFault::Line {
-            number: 1,
-            cause: LineFault::Words,
-        }));
-    };
-    let mut cut_desk = desk(alloc, first.as_str())?;
-    let mut whole_desk = desk(alloc, first.as_str())?;
+/// Cuts each request of a log, and the answers of those that may be sent again: from a reader that fails at each of its
+/// calls in turn, one octet a call, and to a writer that fails after each number of octets.
+pub fn cut_each_request(alloc: Global, log: &Log) -> Result<Cuts, ProbeFault> {
+    let mut cut_desk = desk(alloc, log)?;
+    let mut whole_desk = desk(alloc, log)?;
     let mut cuts = Cuts {
         requests: 0,
         answers: 0,
     };
-    for number in 2..u64::MAX {
-        let Some(line) = next_line(alloc, &mut reader)? else {
-            write_cuts(alloc, writer, cuts)?;
-            return Ok(());
-        };
-        let arrival = arrival(alloc, line.as_str()).map_err(|cause| LogFault::Line {
-            number,
-            cause,
-        })?;
+    for (at, arrival) in log.arrivals.iter().enumerate() {
+        let line = (at as u64).saturating_add(2);
         cut(
             alloc,
             &mut cut_desk,
             &mut whole_desk,
-            &arrival,
-            number,
+            arrival,
+            line,
             &mut cuts,
         )?;
     }
-    Err(CutFault::Log(LogFault::Io))
+    Ok(cuts)
 }
