@@ -1,7 +1,9 @@
-//! Tests of the store in SQLite: the tables of a hall's file, and stores made and opened over them.
+//! Tests of the store in SQLite: the worked hall's rows, by each call.
 #![tactic(auto)]
 
 #[cfg(test)]
-mod files;
+mod likeness;
 #[cfg(test)]
-mod sql;
+mod reads;
+#[cfg(test)]
+mod stores;

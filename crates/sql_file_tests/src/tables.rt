@@ -1,4 +1,5 @@
-use hall_file::*;
+//! The tables of a new hall, and files of other tables.
+use hall_file::{CreateFault, OpenFault, create_tables, look_at_tables};
 use hall_types::{BadName, Digest, Name};
 use sqlite::{Alter, Connection, Error};
 use std::test::Fail;
