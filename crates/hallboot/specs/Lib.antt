@@ -1,3 +1,0 @@
-pub mod Fault
-pub mod Input
-pub mod Run

@@ -1,0 +1,4 @@
+pub mod FrameInputLemmas
+pub mod FrameLemmas
+pub mod ImportLemmas
+pub mod LineLemmas

@@ -1,0 +1,7 @@
+pub mod Fault
+pub mod Frame
+pub mod FrameInput
+pub mod Import
+pub mod Report
+pub mod Request
+pub mod Values

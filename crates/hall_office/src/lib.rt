@@ -1,0 +1,28 @@
+//! What an operator does to a hall from a command line: one function for each thing, over the hall's store or desk, a reader
+//! and a writer.
+#![tactic(auto)]
+
+mod arrival_texts;
+mod exports;
+mod fault;
+mod frame_input;
+mod frames;
+mod import_line;
+mod imports;
+mod reports;
+mod requests;
+mod turn_lines;
+mod values;
+mod writing;
+
+pub use arrival_texts::arrival_text;
+pub use exports::export;
+pub use fault::Fault;
+pub use frame_input::{Input, one_reading, parse, read_input};
+pub use frames::{Exit, frame_run};
+pub use imports::{Imported, import};
+pub use reports::{What, report};
+pub use requests::request;
+pub use turn_lines::turn_line;
+pub use values::{count_of, digest_of, fresh_of, is_bearer_token, moment_of, what_of};
+pub use writing::write_text;

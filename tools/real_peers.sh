@@ -1,0 +1,151 @@
+#!/usr/bin/env bash
+# hallboot serve against programs of others: curl sends commands and asks for scripts, python3 sends datagrams, holds silent
+# connections and reads the export and the tables. Where the user is root and the programs are there, dhcrelay passes an OFFER on
+# to a client in another network namespace, and tshark decodes the replies.
+# Usage: tools/real_peers.sh     HALLBOOT=PROGRAM names a program that is built already.
+set -euo pipefail
+here=$(cd "$(dirname "$0")" && pwd)
+has() { type -P "$1" > /dev/null; }
+need() { has "$1" || { echo "real_peers: $1 is missing (Debian's package $2)" >&2; exit 1; }; }
+need curl curl; need python3 python3
+if [ -z "${HALLBOOT:-}" ]; then
+    cd "$here/../crates/hallboot"
+    built=$(mktemp)
+    rt run -- --help > "$built" 2>&1 || { cat "$built" >&2; rm -f "$built"; exit 1; }
+    rm -f "$built"
+    HALLBOOT=$PWD/out/hallboot
+fi
+export HALLBOOT
+
+work=$(mktemp -d)
+started=()
+ended() {
+    for process in "${started[@]}"; do kill -KILL "$process" 2> /dev/null || true; done
+    rm -rf "$work"
+}
+trap ended EXIT
+cd "$work"
+good() { echo "good: $*"; }
+bad() { echo "BAD: $*" >&2; [ ! -s err ] || cat err >&2; exit 1; }
+
+token=operators-secret-1
+digest=$(printf %s $token | python3 -c 'import hashlib, sys; print(hashlib.sha256(sys.stdin.buffer.read()).hexdigest())')
+key=00000000-0000-4000-8000-0000000000
+read -r discover boot http < <(python3 -c '
+import socket
+kept = [socket.socket(socket.AF_INET, kind) for kind in (socket.SOCK_DGRAM, socket.SOCK_DGRAM, socket.SOCK_STREAM)]
+for s in kept: s.bind(("127.0.0.1", 0))
+print(*(s.getsockname()[1] for s in kept))')
+desk=http://127.0.0.1:$http
+
+serve() {
+    : > ready
+    "$HALLBOOT" serve --db hall.db --discover 127.0.0.1:$discover --boot 127.0.0.1:$boot --http 127.0.0.1:$http \
+        --turns 1000000000000 --server 10.8.0.1 --next 10.8.0.2 --host 127.0.0.1:$http --log desk.log > ready 2> err & server=$!
+    started+=($server)
+    for ((i = 0; i < 600; i++)); do
+        if grep -q 'hall desk ready' ready; then return; fi
+        sleep 0.1
+    done
+    bad 'the desk is ready within a minute'
+}
+asked() { curl --silent --show-error --max-time 5 --write-out ' %{http_code}' "$@"; }
+post() { asked -H "Authorization: Bearer $token" --data "{\"key\":\"$key$1\",$2}" "$desk/commands"; }
+is() { [ "$2" = "$3" ] || bad "$1: $2"; }
+peer() { python3 "$here/peers.py" "$@" 127.0.0.1 $discover $boot $http; }
+
+"$HALLBOOT" init --db hall.db --admin ada --digest "$digest" > init.log
+serve
+
+for attempt in first second; do
+    is "curl, the $attempt time" "$(post 01 '"command":"add_pool","pool":"lab"')" '{} 200'
+done
+good 'curl: a command is answered 200 {}, and so is its repeat'
+
+peer frames || bad 'datagrams'
+good 'python3: an OFFER, an ACK, the URL for iPXE; silence for what is not the desk'"'"'s'
+
+is 'the script of a new machine' "$(asked "$desk/ipxe/52:54:00:12:34:56")" \
+    $'#!ipxe\necho This machine is held by the hall desk\npoweroff\n 200'
+is add_image "$(post 02 '"command":"add_image","image":"live","arch":"uefi64","kernel":"http://files.example/k","initrd":"http://files.example/i","args":["initrd=i"]')" '{} 200'
+is set_live "$(post 03 '"command":"set_live","image":"live"')" '{} 200'
+is commission "$(post 04 '"command":"commission","machine":1,"tests":false')" '{"id":1,"status":"Commissioning","version":2} 200'
+script=$(asked "$desk/ipxe/52%3A54%3A00%3A12%3A34%3A56")
+boot_token=$(sed -n 's/.*hall\.token=\([0-9a-f]*\).*/\1/p' <<< "$script")
+is 'the token has 32 digits' ${#boot_token} 32
+is 'the script of a commissioned machine' "$script" $'#!ipxe\nkernel http://files.example/k initrd=i hall.purpose=commission hall.boot=1 hall.token='"$boot_token hall.desk=$desk"$'\ninitrd http://files.example/i\nboot\n 200'
+is 'the report' "$(asked --data '{"stage":"started"}' "$desk/report/1/$boot_token")" '{"result":"counted"} 200'
+is 'another token' "$(asked --data '{"stage":"done"}' "$desk/report/1/${boot_token//[0-9]/a}")" '{"refusal":"NoBoot"} 404'
+is 'the last report' "$(asked --data '{"stage":"done"}' "$desk/report/1/$boot_token")" '{"result":"counted"} 200'
+case $(asked -H "Authorization: Bearer $token" "$desk/machines/1") in
+    *'"status":"Ready"'*) good 'curl: a machine gets its scripts, reports, and is Ready' ;;
+    *) bad 'the machine is Ready' ;;
+esac
+
+peer silent || bad 'silent connections'
+good 'python3: with 20 silent connections everybody else is answered at once, and the silent ones are closed after two seconds'
+peer many || bad 'the 65th connection'
+good 'python3: the 65th connection is answered, and the first of the 64 silent ones is closed for it'
+peer slow || bad 'slow connections'
+good 'python3: a request octet by octet, and a client that takes its answer slowly, are answered'
+
+# What was answered before SIGTERM is in the file.
+: > answered
+python3 "$here/peers.py" commands 127.0.0.1 $discover $boot $http $token > answered & sender=$!
+started+=($sender)
+for ((i = 0; i < 300; i++)); do
+    if [ "$(wc -l < answered)" -ge 20 ]; then break; fi
+    sleep 0.1
+done
+kill -TERM $server
+wait $server 2> ended.log && bad 'SIGTERM ends the desk'
+wait $sender || bad 'commands until SIGTERM'
+is 'messages of the desk' "$(cat err)" ''
+"$HALLBOOT" report --db hall.db > report.txt || bad 'the report after SIGTERM'
+"$HALLBOOT" export --db hall.db > machines.csv || bad 'the export after SIGTERM'
+python3 "$here/peers.py" compare answered machines.csv report.txt || bad 'an answered command is lost'
+good "SIGTERM: each of $(wc -l < answered) commands that were answered is in the file"
+
+python3 - "$token" "$digest" "$key" "$boot_token" << 'PYTHON' || bad 'the log'
+import re, sys
+source, moment = r"127\.0\.0\.1:\d+", r"[1-9]\d*"
+came = r"(discover|boot) [^:]*(:[0-9a-f]{2}){5} [a-z0-9]+( by iPXE)?( at the wrong port)?|(discover|boot) (malformed|not served), [^:]*"
+came += r"|(GET|POST) /[a-z]+\S*( \S+)?( of machine \d+)?|refused at once, [A-Za-z]+"
+said = r"silence|unavailable|\S+|\d\d\d (\{.*\}|\d+ octets)"
+line = re.compile(rf"{moment} ({source} ({came}): ({said})(, unsent)?"
+                  rf"|{source} accepted instead of (-|{source})|{source} closed (answered|late|failed)|- failed)")
+text = open("desk.log").read()
+lines = text.split("\n")
+assert lines.pop() == "", "the last line ends"
+for l in lines:
+    assert line.fullmatch(l), l
+for secret in sys.argv[1:]:
+    assert secret not in text, secret
+kinds = [l.split()[2] for l in lines]
+assert kinds.count("boot") == 2, kinds.count("boot")
+assert any(re.search(r" discover DISCOVER 52:54:00:12:34:56 uefi64: ipxe-x86_64.efi$", l) for l in lines)
+assert any(re.search(r" POST /commands commission of machine 1: 200 \{.id.:1,.status.:.Commissioning.,.version.:2\}$", l) for l in lines)
+assert any(re.search(r" closed late$", l) for l in lines) and any(re.search(r" accepted instead of 127", l) for l in lines)
+PYTHON
+good 'the log: each line has its form, and no token, key or digest is in it'
+
+serve
+is 'the same command after a new start' "$(post 01 '"command":"add_pool","pool":"lab"')" '{} 200'
+run=0
+"$HALLBOOT" report --db hall.db > report.txt 2> second || run=$?
+[ $run = 1 ] && [ "$(cat second)" = 'hallboot: Unavailable' ] || bad 'a second program on the file is refused'
+kill -TERM $server
+wait $server 2> ended.log || true
+good 'a new start goes on with the same file, which no second program may open'
+
+if has sqlite3; then
+    tables=$(sqlite3 hall.db 'PRAGMA integrity_check; SELECT name FROM pools ORDER BY name; SELECT operator, status, body FROM receipts ORDER BY rowid LIMIT 1')
+    is 'sqlite3 reads the tables' "$tables" $'ok\ndefault\nlab\nada|200|{}'
+    good 'sqlite3: whole file, pools, receipt'
+else
+    echo 'not tried: sqlite3 is missing'
+fi
+
+[ "$(id -u)" = 0 ] && has ip && has unshare && has nsenter || { echo 'not tried: network namespaces need root, ip, unshare and nsenter'; exit 0; }
+has dhcrelay || { echo 'not tried: dhcrelay is missing (isc-dhcp-relay)'; exit 0; }
+unshare --net --pid --fork --kill-child --mount-proc "$here/relayed_peer.sh" || bad 'a client behind dhcrelay'

@@ -1,0 +1,141 @@
+#!/usr/bin/env bash
+# The service beside dnsmasq as a proxyDHCP server and a bare UDP loop in C, with 10,000 machines in the file: OFFERs one by
+# one and with 32 in flight, the processor's share at rest, and the median time of a DISCOVER at rest, with 50 silent
+# connections, and with a flood of commands. Needs root, for network namespaces of its own; run it on a quiet machine.
+# Usage: tools/serve_speed.sh [COUNT]     HALLBOOT=PROGRAM names a program that is built already.
+set -euo pipefail
+here=$(cd "$(dirname "$0")" && pwd)
+need() { command -v "$1" > /dev/null || { echo "serve_speed: $1 is missing (Debian's package $2)" >&2; exit 1; }; }
+need cc gcc; need dnsmasq dnsmasq-base; need ip iproute2; need unshare util-linux; need nsenter util-linux; need awk mawk
+need setpriv util-linux; need getconf libc-bin
+[ "$(id -u)" = 0 ] || { echo "serve_speed: root is needed for network namespaces" >&2; exit 1; }
+
+if [ "${SERVE_SPEED_INSIDE:-}" != yes ]; then
+    if [ -z "${HALLBOOT:-}" ]; then
+        cd "$here/../crates/hallboot"
+        built=$(mktemp)
+        rt run -- --help > "$built" 2>&1 || { cat "$built" >&2; rm -f "$built"; exit 1; }
+        rm -f "$built"
+        HALLBOOT=$PWD/out/hallboot
+    fi
+    export HALLBOOT SERVE_SPEED_INSIDE=yes
+    exec unshare --net --pid --fork --kill-child --mount-proc "$here/serve_speed.sh" "$@"
+fi
+
+count=${1:-100000}
+work=$(mktemp -d)
+trap 'rm -rf "$work"' EXIT    # all processes of the namespace end with this one
+cd "$work"
+cc -O2 -Wall -o peer "$here/serve_speed.c"
+ended() {   # ended PROCESS: a message of no interest is dropped
+    kill "$1" 2> /dev/null || true
+    wait "$1" 2> /dev/null || true
+}
+
+# The desk is in this namespace at 10.9.0.1, its client in another one at 10.9.0.2.
+unshare --net sleep infinity & other=$!
+sleep 0.2
+ip link set lo up
+ip link add desk type veth peer name client
+ip link set client netns "$other"
+ip address add 10.9.0.1/24 dev desk
+ip link set desk up
+outside() { nsenter --target "$other" --net "$@"; }
+outside ip link set lo up
+outside ip address add 10.9.0.2/24 dev client
+outside ip link set client up
+
+offers() { outside ./peer offers 10.9.0.2 10.9.0.1 67 "$@"; }
+share() {   # share PROCESS: of one processor, in percent, over ten seconds
+    local before after
+    before=$(awk '{ sub(/.*\) /, ""); print $12 + $13 }' "/proc/$1/stat")
+    sleep 10
+    after=$(awk '{ sub(/.*\) /, ""); print $12 + $13 }' "/proc/$1/stat")
+    awk -v t=$((after - before)) -v h="$(getconf CLK_TCK)" 'BEGIN { printf "%.2f\n", t / h * 10 }'
+}
+
+./peer echo 10.9.0.1 67 & server=$!
+sleep 0.3
+read -r echo_one echo_median _ < <(offers "$count" 1 0)
+read -r echo_many _ _ < <(offers "$count" 32 0)
+read -r _ echo_rest _ < <(offers 500 1 20000)
+ended "$server"
+
+for ((i = 0; i < 10000; i++)); do
+    printf 'dhcp-host=52:54:00:00:%02x:%02x,set:known\n' $((i / 256)) $((i % 256))
+done > hosts.conf
+# dnsmasq walks its list of hosts for each DISCOVER, so it is measured without one too: that is what the desk is held against.
+dnsmasq_with() {
+    dnsmasq --conf-file="$1" --keep-in-foreground --port=0 --user=root --pid-file= --interface=desk --bind-interfaces \
+        --dhcp-range=10.9.0.0,proxy,255.255.255.0 --pxe-service=BC_EFI,hall,ipxe-x86_64.efi --dhcp-leasefile="$work/leases" \
+        --quiet-dhcp --log-facility="$work/dnsmasq.log" & server=$!
+    sleep 1
+}
+dnsmasq_with hosts.conf
+read -r hosts_one _ _ < <(offers $((count / 10)) 1 0)
+ended "$server"
+dnsmasq_with /dev/null
+read -r dns_one dns_median _ < <(offers "$count" 1 0)
+read -r dns_many _ _ < <(offers "$count" 32 0)
+read -r _ dns_rest _ < <(offers 500 1 20000)
+dns_share=$(share "$server")
+ended "$server"
+
+"$HALLBOOT" init --db hall.db --admin ada --digest ba7816bf8f01cfea414140de5dae2223b00361a396177a9cb410ff61f20015ad > init.log
+{
+    echo key,mac,arch,uuid,pool
+    for ((i = 0; i < 10000; i++)); do
+        printf '00000000-0000-4000-8000-%012x,52:54:00:00:%02x:%02x,uefi64,00000000-0000-4000-9000-%012x,default\n' \
+            "$i" $((i / 256)) $((i % 256)) "$i"
+    done
+} > machines.csv
+begin=$(date +%s%N)
+"$HALLBOOT" import --db hall.db --token abc --at 1000 machines.csv > import.log
+commit=$(awk -v t=$(($(date +%s%N) - begin)) 'BEGIN { printf "%.0f", t / 1e3 / 10000 }')
+
+"$HALLBOOT" serve --db hall.db --discover 10.9.0.1:67 --boot 10.9.0.1:4011 --http 10.9.0.1:80 --turns 1000000000000 \
+    --server 10.9.0.1 --next 10.9.0.1 --host 10.9.0.1 > serve.log & server=$!
+for ((i = 0; i < 200; i++)); do
+    if grep -q 'hall desk ready' serve.log; then break; fi
+    sleep 0.1
+done
+grep -q 'hall desk ready' serve.log || { echo "serve_speed: the desk isn't ready after 20 seconds" >&2; exit 1; }
+desk_share=$(share "$server")
+read -r desk_one desk_median _ < <(offers "$count" 1 0)
+read -r desk_many _ _ < <(offers "$count" 32 0)
+read -r _ desk_rest desk_rest99 < <(offers 500 1 20000)
+outside ./peer hold 10.9.0.1 80 50 & peer=$!
+sleep 0.5
+read -r _ held_rest held_rest99 < <(offers 500 1 20000)
+ended "$peer"
+outside setpriv --pdeathsig KILL ./peer flood 10.9.0.1 80 8 abc & peer=$!
+sleep 0.5
+read -r _ flood_rest flood_rest99 < <(offers 500 1 20000)
+ended "$peer"
+ended "$server"
+
+row() { printf '%-34s %12s %12s %12s\n' "$@"; }
+row '' 'bare C loop' dnsmasq desk
+row 'OFFERs a second, one by one' "$echo_one" "$dns_one" "$desk_one"
+row 'OFFERs a second, 32 in flight' "$echo_many" "$dns_many" "$desk_many"
+row 'median, one by one, us' "$echo_median" "$dns_median" "$desk_median"
+row 'median at rest, us' "$echo_rest" "$dns_rest" "$desk_rest"
+row 'processor at rest, percent' - "$dns_share" "$desk_share"
+row 'median, 50 silent connections, us' - - "$held_rest"
+row 'median, flood of commands, us' - - "$flood_rest"
+echo "99 of 100 within: $desk_rest99 us at rest, $held_rest99 us with silent connections, $flood_rest99 us in the flood"
+echo "dnsmasq with the 10,000 machines as hosts: $hosts_one OFFERs a second, one by one"
+echo "a command of the import, with its durable commit: $commit us"
+
+status=0
+want() {   # want VALUE <= BOUND TEXT
+    if awk -v a="$1" -v b="$2" 'BEGIN { exit !(a <= b) }'; then echo "good: $3"; else echo "MISSED: $3 ($1, bound $2)"; status=1; fi
+}
+limit=$(awk -v r="$desk_rest" -v c="$commit" 'BEGIN { print 1.2 * r + c }')
+want "$dns_one" "$desk_one" 'one by one, at least as many as dnsmasq'
+want "$dns_many" "$desk_many" '32 in flight, at least as many as dnsmasq'
+want "$desk_share" 1 'at rest under 1 percent of a processor'
+want "$desk_rest" 150 'at rest under 150 microseconds at the median'
+want "$held_rest" "$limit" 'with 50 silent connections, 1.2 times that and one commit'
+want "$flood_rest" "$limit" 'in a flood of commands, 1.2 times that and one commit'
+exit "$status"
