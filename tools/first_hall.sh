@@ -3,13 +3,7 @@
 # Usage: tools/first_hall.sh     HALLBOOT=PROGRAM names a program that is built already.
 set -euo pipefail
 here=$(cd "$(dirname "$0")" && pwd)
-if [ -z "${HALLBOOT:-}" ]; then
-    cd "$here/../crates/hallboot"
-    built=$(mktemp)
-    rt run -- --help > "$built" 2>&1 || { cat "$built" >&2; rm -f "$built"; exit 1; }
-    rm -f "$built"
-    HALLBOOT=$PWD/out/hallboot
-fi
+. "$here/program.sh"
 frame=$(tail -n 1 "$here/../crates/hallboot/stdin")
 work=$(mktemp -d)
 server=

@@ -3,13 +3,7 @@
 # out by hand. tools/real_peers.sh does serve. Usage: tools/program_rows.sh     HALLBOOT=PROGRAM names a program that is built already.
 set -euo pipefail
 here=$(cd "$(dirname "$0")" && pwd)
-if [ -z "${HALLBOOT:-}" ]; then
-    cd "$here/../crates/hallboot"
-    built=$(mktemp)
-    rt run -- --help > "$built" 2>&1 || { cat "$built" >&2; rm -f "$built"; exit 1; }
-    rm -f "$built"
-    HALLBOOT=$PWD/out/hallboot
-fi
+. "$here/program.sh"
 crate=$here/../crates/hallboot
 work=$(mktemp -d)
 trap 'rm -rf "$work"' EXIT

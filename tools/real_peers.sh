@@ -8,14 +8,7 @@ here=$(cd "$(dirname "$0")" && pwd)
 has() { type -P "$1" > /dev/null; }
 need() { has "$1" || { echo "real_peers: $1 is missing (Debian's package $2)" >&2; exit 1; }; }
 need curl curl; need python3 python3
-if [ -z "${HALLBOOT:-}" ]; then
-    cd "$here/../crates/hallboot"
-    built=$(mktemp)
-    rt run -- --help > "$built" 2>&1 || { cat "$built" >&2; rm -f "$built"; exit 1; }
-    rm -f "$built"
-    HALLBOOT=$PWD/out/hallboot
-fi
-export HALLBOOT
+. "$here/program.sh"
 
 work=$(mktemp -d)
 started=()

@@ -11,14 +11,8 @@ need setpriv util-linux; need getconf libc-bin
 [ "$(id -u)" = 0 ] || { echo "serve_speed: root is needed for network namespaces" >&2; exit 1; }
 
 if [ "${SERVE_SPEED_INSIDE:-}" != yes ]; then
-    if [ -z "${HALLBOOT:-}" ]; then
-        cd "$here/../crates/hallboot"
-        built=$(mktemp)
-        rt run -- --help > "$built" 2>&1 || { cat "$built" >&2; rm -f "$built"; exit 1; }
-        rm -f "$built"
-        HALLBOOT=$PWD/out/hallboot
-    fi
-    export HALLBOOT SERVE_SPEED_INSIDE=yes
+    . "$here/program.sh"
+    export SERVE_SPEED_INSIDE=yes
     exec unshare --net --pid --fork --kill-child --mount-proc "$here/serve_speed.sh" "$@"
 fi
 
