@@ -1,4 +1,5 @@
 pub mod AttemptLemmas
+pub mod FrameLemmas
 pub mod ListingLemmas
 pub mod RunLemmas
 pub mod ServedLemmas

@@ -1,7 +1,12 @@
 -- What is planned for an event, and what writing it promises, over any store.
 use Rattle.std.specs.Prelude.{◌≡◌, List, [], ◌∷◌, Result, IfOk, OnOk, OnErr}
+use Rattle.pxe_vendor.specs.declared.clients.Client.{Client}
 use Rattle.hall_types.specs.Hall.{Hall, applied, second}
 use Rattle.hall_types.specs.declared.change.RowWrite.{RowWrite}
+use Rattle.hall_types.specs.declared.number.Numbers.{Numbers}
+use Rattle.boot_desk.specs.FrameEvent.{enlisted}
+use Rattle.boot_desk.specs.declared.frames.Decision.{Decision}
+use Rattle.boot_desk.specs.declared.frames.Decision.TheVariants.{Enlist}
 use Rattle.hall_events.specs.Reply.{reply_of}
 use Rattle.hall_events.specs.declared.reply.Reply.{Reply}
 use Rattle.hall_store.specs.Rules.{AllKeep}
@@ -14,6 +19,11 @@ pub record IsPlanOf (decided : Decided) (rows : List RowWrite) (reply : Reply) :
 
 abbrev pub Plans : Decided → List RowWrite × Reply → Type 0
 Plans decided planned = IsPlanOf decided planned.0 planned.1
+
+-- the rows that a decision on a client's frame writes, after these last numbers
+abbrev pub rows_for : Decision → Client → Numbers → List RowWrite
+rows_for Enlist client numbers = enlisted client numbers
+rows_for other client numbers = []
 
 -- `holds` says which hall a store has, and `leaves` that a stop leaves one of these halls
 module _ {S : Type 0} (holds : S → Hall → Type 0) (leaves : S → List Hall → Type 0) (old new : S) {Y E : Type 0} (r : Result Y E) where

@@ -14,16 +14,18 @@ ghost use Rattle.boot_desk.specs.Views as view;
 ghost use Rattle.hall_machine.specs.Decision as made;
 ghost use Rattle.hall_machine.specs.Decision.{framed, given_if, judged, refuses, verdict_content};
 ghost use Rattle.hall_views.specs.Look.{IsLook};
-ghost use Rattle.hall_desk.specs.Plan.{Plans};
+ghost use Rattle.hall_desk.specs.Plan.{Plans, rows_for};
 
 use boot_desk::{Decision, DeskFault, Verdict, enlist, fetch, frame, order_answer, report, sweep};
 use hall_events::Reply;
 use hall_store::{HallStore, Unavailable};
-use hall_types::{Change, MacAddress, Moment, Number, Outcome, Port, Progress, Refusal, Token};
+use hall_types::{
+    Change, MacAddress, Moment, Number, Numbers, Outcome, Port, Progress, Refusal, Token,
+};
 use hall_views::{expired_view, frame_view, order_view, report_view, view_at};
 use ipxe_script::Script;
 use pxe_vendor::{Client, Place, boot_file};
-use std::alloc::Global;
+use std::alloc::{AllocError, Global};
 
 // An answer without rows to write.
 fn no_rows(alloc: Global) -> Change
@@ -44,7 +46,26 @@ pub(crate) fn refused(alloc: Global, cause: Refusal) -> Result<(Change, Reply), 
 
 // ---- clients
 
+// The rows that a decision on a client's frame writes.
+fn rows_for(
+    alloc: Global,
+    decision: Decision,
+    client: &Client,
+    numbers: Numbers,
+) -> Result<Change, Unavailable>
+    ensures { IfOk result (λ change. change ≡ rows_for decision client.now numbers) }
+{
+    match decision {
+        Decision::Enlist => match enlist(alloc, client, numbers) {
+            Ok(change) => Ok(change),
+            Err(AllocError) => Err(Unavailable),
+        },
+        Decision::Loader | Decision::ScriptUrl | Decision::Silent(_) => Ok(no_rows(alloc)),
+    }
+}
+
 /// How a client's frame at a port is answered, with the rows that enlist the client.
+#[tactic(auto, using(crate::proofs::FrameLemmas::enough_plans))]
 pub(crate) fn plan_client<S: HallStore>(
     alloc: Global,
     store: &mut S,
@@ -58,13 +79,7 @@ pub(crate) fn plan_client<S: HallStore>(
 {
     let view = frame_view(store, client)?;
     let decision = frame(&view, port, client);
-    let change = match decision {
-        Decision::Enlist => match enlist(alloc, client, view.numbers) {
-            Ok(change) => change,
-            Err(_) => return Err(Unavailable),
-        },
-        Decision::Loader | Decision::ScriptUrl | Decision::Silent(_) => no_rows(alloc),
-    };
+    let change = rows_for(alloc, decision, client, view.numbers)?;
     Ok((change, decision))
 }
 
