@@ -5,42 +5,24 @@
 //! is another machine's, in turn. It prints how many octets were answered.
 #![tactic(auto)]
 
-mod hall;
-mod rounds;
-mod texts;
-
-use hall::hall;
-use rounds::{What, play};
+use desk_rounds::{Asked, BenchFault, admin, fill, play};
+use hall_desk::Desk;
+use memory_store::MemoryStore;
+use pxe_vendor::Place;
+use std::alloc::Global;
 use std::env;
 use std::process::ExitCode;
 use std::rt::Env;
-use thiserror::Error;
 
-#[derive(Debug, Drop, Error)]
-enum BenchFault {
-    #[error("words: offer|script|repeat|list|allocate|report MACHINES ROUNDS")]
-    Usage,
-    #[error("an answer isn't 200, or is silence")]
-    Refused,
-    #[error("a value is out of its range")]
-    Range,
-    #[error("out of memory")]
-    Memory,
+fn desk(alloc: Global, asked: Asked) -> Result<Desk<MemoryStore>, BenchFault> {
+    let (name, digest) = admin()?;
+    let mut store = MemoryStore::create(alloc, name, digest).map_err(|_| BenchFault::Memory)?;
+    fill(alloc, &mut store, asked.machines, asked.what.status())?;
+    let place = Place::new(alloc, [192, 0, 2, 1], [192, 0, 2, 2], "hall.example");
+    Ok(Desk::new(store, place.map_err(|_| BenchFault::Memory)?))
 }
 
-fn what_of(word: &str) -> Option<What> {
-    match word {
-        "offer" => Some(What::Offer),
-        "script" => Some(What::Script),
-        "repeat" => Some(What::Repeat),
-        "list" => Some(What::List),
-        "allocate" => Some(What::Allocate),
-        "report" => Some(What::Report),
-        _ => None,
-    }
-}
-
-fn run<R: Env + AllocGlobal>(rt: &R) -> Result<u64, BenchFault> {
+fn asked<R: Env + AllocGlobal>(rt: &R) -> Result<Asked, BenchFault> {
     let mut words = env::args(rt).map_err(|_| BenchFault::Memory)?.skip(1);
     let (Some(what), Some(machines), Some(rounds), None) = (
         words.next(),
@@ -50,14 +32,13 @@ fn run<R: Env + AllocGlobal>(rt: &R) -> Result<u64, BenchFault> {
     ) else {
         return Err(BenchFault::Usage);
     };
-    let what = what_of(what.as_str()).ok_or(BenchFault::Usage)?;
-    let machines = machines.parse::<u32>().map_err(|_| BenchFault::Usage)?;
-    let rounds = rounds.parse::<u32>().map_err(|_| BenchFault::Usage)?;
-    if machines == 0 || machines > 10_000 {
-        return Err(BenchFault::Usage);
-    }
-    let desk = hall(rt.alloc(), machines, what.status())?;
-    play(rt.alloc(), desk, what, machines, rounds)
+    Asked::new(what.as_str(), machines.as_str(), rounds.as_str())
+}
+
+fn run<R: Env + AllocGlobal>(rt: &R) -> Result<u64, BenchFault> {
+    let asked = asked(rt)?;
+    let mut desk = desk(rt.alloc(), asked)?;
+    play(rt.alloc(), &mut desk, asked)
 }
 
 fn main(rt: HostRuntime) -> ExitCode {
