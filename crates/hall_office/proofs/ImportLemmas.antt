@@ -1,7 +1,6 @@
 -- An import goes on by one row.
-use Rattle.std.proofs.Common.{◌≡◌, ◌+◌, ◌<◌, ◌==◌, ◌&&◌, ℕ, zero, Bool, true, false, List, [], ◌∷◌, ◌++◌, Option, Result, Ok, Err, IfErr, if◌then◌else◌, length, take, get_or, refl, sym, ap, subst, ◌∙◌, suc, append-nil, append_assoc, add-zero, arith}
+use Rattle.std.proofs.Common.{◌≡◌, ◌≢◌, ◌+◌, ◌<◌, ◌==◌, ◌&&◌, ℕ, zero, Bool, true, false, List, [], ◌∷◌, ◌++◌, Option, Result, Ok, Err, IfErr, IsErrAnd, if◌then◌else◌, length, take, get_or, refl, sym, ap, subst, ◌∙◌, suc, append-nil, append_assoc, add-zero, arith, inl, inr}
 use Rattle.std.proofs.KnownBytes.{Appends-nil, Appends-trans}
-use Rattle.std.proofs.Math.Seq.{take-nil}
 use Rattle.std.proofs.lemmas.List.{take_more}
 use Rattle.std.proofs.lemmas.List.Folds.{list_all-append}
 use Rattle.std.proofs.lemmas.List.Sums.{fold-append}
@@ -21,8 +20,9 @@ use Rattle.hall_store.specs.declared.store.Unavailable.{Unavailable}
 use Rattle.hall_machine.specs.Decision.{decision_of}
 use Rattle.hall_report.specs.declared.row.ImportRow.{ImportRow}
 use Rattle.hall_desk.specs.Plan.{IsCarriedOut}
-use Rattle.hall_office.specs.Import.{IsImported, IsRowDone, IsStopped, after_row, after_rows, end_of, event_of, is_ok, line_of, lines_of, replies_to, reply_to, row_line}
+use Rattle.hall_office.specs.Import.{IsImported, IsRowDone, IsRowStopped, IsStopped, after_row, after_rows, end_of, event_of, is_ok, line_of, lines_of, replies_to, reply_to, row_line}
 use Rattle.hall_office.specs.declared.fault.Fault.{Fault}
+use Rattle.hall_office.specs.declared.fault.Fault.TheVariants.{Io}
 use Rattle.hall_office.specs.declared.imports.Imported.{Imported}
 use Rattle.hall_office.specs.declared.imports.Imported.TheVariants.{All, NotAll}
 
@@ -60,9 +60,10 @@ end_of-more replies reply end is =
 
 -- ---- rows
 
-pub if_err : {A : Type 0} (r : Result A Fault) (P : Type 0) → P → IfErr r (λ _. P)
-if_err (Ok a) P it = tt
-if_err (Err fault) P it = it
+-- what holds of a fault holds of a result that it ends
+pub if_err_of : {A : Type 0} (r : Result A Fault) (fault : Fault) (P : Fault → Type 0) → IsErrAnd r (λ given. given ≡ fault) → P fault → IfErr r P
+if_err_of (Ok a) fault P is it = tt
+if_err_of (Err given) fault P is it = subst P (sym is) it
 
 module _ {S : Type 0} (holds : S → Hall → Type 0) (leaves : S → List Hall → Type 0) (site : Site) (bearer : List ℕ) (moment : ℕ) where
   -- the desk carried a row's command out, and the row's line was written
@@ -130,49 +131,58 @@ module _ {S : Type 0} (holds : S → Hall → Type 0) (leaves : S → List Hall 
 
   -- ---- an import that stops
 
-  pub stopped_none : (store : S) (h : Hall) (rows : List ImportRow) → holds store h → IsSound h → IsStopped holds store site bearer moment h rows
-  stopped_none store h rows held sound = record { count = 0; held = held; sound = sound }
+  pub stopped_none : (store : S) (h : Hall) (rows : List ImportRow) (fault : Fault) (contents : Option (List ℕ)) → holds store h → IsSound h
+      → IsStopped holds store site bearer moment h rows fault contents contents
+  stopped_none store h rows fault contents held sound =
+      record { written_count = 0; applied_count = 0; next = inl refl; held = held; sound = sound; written = λ other. Appends-nil contents }
+
+  pub row_refused : (store : S) (h : Hall) (row : ImportRow) (fault : Fault) (contents : Option (List ℕ)) → holds store h → IsSound h
+      → IsRowStopped holds store site bearer moment h row fault contents contents
+  row_refused store h row fault contents held sound = record { was_applied = false; held = held; sound = sound; written = λ other. Appends-nil contents }
 
   -- the desk carried a row's command out
-  pub stopped_carried : ((site : Site) (h : Hall) (e : Event) (moment : ℕ) (fresh : List ℕ) → IsSound h → h.schema ≡ second → AllKeep (decision_of site h e moment fresh).rows h)
+  pub row_carried : ((site : Site) (h : Hall) (e : Event) (moment : ℕ) (fresh : List ℕ) → IsSound h → h.schema ≡ second → AllKeep (decision_of site h e moment fresh).rows h)
       → ((site : Site) (h : Hall) (e : Event) (moment : ℕ) (fresh : List ℕ) → IsSound h → h.schema ≡ second → IsSound (applied (decision_of site h e moment fresh).rows h))
       → ((store : S) (h : Hall) → holds store h → h.schema ≡ second)
       → (old new : S) (row : ImportRow) (e : Event) (fresh : List ℕ) → e ≡ event_of bearer row → fresh ≡ replicate 16 0 → (reply : Reply)
       → IsCarriedOut holds leaves old new {E = Unavailable} (Ok reply) (λ h. (decision_of site h e moment fresh).rows) (λ h reply. reply ≡ reply_of second (decision_of site h e moment fresh).content)
-      → (h : Hall) → holds old h → IsSound h → IsStopped holds new site bearer moment h (row ∷ [])
-  stopped_carried keeps stays schema old new row e fresh e_is fresh_is reply carried h held sound =
+      → (fault : Fault) (before after : Option (List ℕ)) → (fault ≢ Io → Appends before after [])
+      → (h : Hall) → holds old h → IsSound h → IsRowStopped holds new site bearer moment h row fault before after
+  row_carried keeps stays schema old new row e fresh e_is fresh_is reply carried fault before after written h held sound =
       let made = carried.made h held (keeps site h e moment fresh sound (schema old h held)) in
       let stayed = stays site h e moment fresh sound (schema old h held) in
       let Held : Event → List ℕ → Type 0 = λ e fresh. holds new (applied (decision_of site h e moment fresh).rows h) in
       let Sound : Event → List ℕ → Type 0 = λ e fresh. IsSound (applied (decision_of site h e moment fresh).rows h) in
       record {
-        count = 1;
+        was_applied = true;
         held = subst (Held (event_of bearer row)) fresh_is (subst (λ (e : Event). Held e fresh) e_is made);
         sound = subst (Sound (event_of bearer row)) fresh_is (subst (λ (e : Event). Sound e fresh) e_is stayed);
+        written = written;
       }
 
-  -- the first rows, and then those of one more
-  first_and : (store : S) (h : Hall) (rows : List ImportRow) (place : ℕ) (row : ImportRow) (here : place < length rows) (at : row ≡ get_or rows place row) (count : ℕ)
-      → holds store (after_rows site bearer moment (after_rows site bearer moment h (take place rows)) (take count (row ∷ [])))
-      → IsSound (after_rows site bearer moment (after_rows site bearer moment h (take place rows)) (take count (row ∷ [])))
-      → IsStopped holds store site bearer moment h rows
-  first_and store h rows place row here at zero held sound = record { count = place; held = held; sound = sound }
-  first_and store h rows place row here at (suc count) held sound =
+  -- the first rows, and then perhaps one more
+  first_and : (store : S) (h : Hall) (rows : List ImportRow) (place : ℕ) (row : ImportRow) (fault : Fault) (before after : Option (List ℕ)) (here : place < length rows) (at : row ≡ get_or rows place row)
+      → (one_more : Bool)
+      → holds store (if one_more then after_row site bearer moment (after_rows site bearer moment h (take place rows)) row else after_rows site bearer moment h (take place rows))
+      → IsSound (if one_more then after_row site bearer moment (after_rows site bearer moment h (take place rows)) row else after_rows site bearer moment h (take place rows))
+      → (fault ≢ Io → Appends before after (lines_of (replies_to site bearer moment h (take place rows))))
+      → IsStopped holds store site bearer moment h rows fault before after
+  first_and store h rows place row fault before after here at false held sound written =
+      record { written_count = place; applied_count = place; next = inl refl; held = held; sound = sound; written = written }
+  first_and store h rows place row fault before after here at true held sound written =
       let first : after_rows site bearer moment (after_rows site bearer moment h (take place rows)) (row ∷ []) ≡ after_rows site bearer moment h (take (place + 1) rows) =
       sym (fold-append (after_row site bearer moment) h (take place rows) (row ∷ []))
       ∙ ap (λ (some : List ImportRow). after_rows site bearer moment h (some)) (ap (λ (one : ImportRow). take place rows ++ one ∷ []) at ∙ sym (take_more rows place row here)) in
-      record {
-        count = place + 1;
-        held = subst (holds store) first (subst (λ (none : List ImportRow). holds store (after_rows site bearer moment (after_rows site bearer moment h (take place rows)) (row ∷ none))) (take-nil count) held);
-        sound = subst IsSound first (subst (λ (none : List ImportRow). IsSound (after_rows site bearer moment (after_rows site bearer moment h (take place rows)) (row ∷ none))) (take-nil count) sound);
-      }
+      record { written_count = place; applied_count = place + 1; next = inr refl; held = subst (holds store) first held; sound = subst IsSound first sound; written = written }
 
   pub stopped_next : (from : Site) → from ≡ site
-      → (old new : S) (h : Hall) (rows : List ImportRow) (place : ℕ) (row : ImportRow) (end : Imported) (before mid : Option (List ℕ)) → place < length rows → row ≡ get_or rows place row
+      → (old new : S) (h : Hall) (rows : List ImportRow) (place : ℕ) (row : ImportRow) (end : Imported) (fault : Fault) (before mid after : Option (List ℕ)) → place < length rows → row ≡ get_or rows place row
       → IsImported holds old site bearer moment h (take place rows) end before mid
-      → ((h : Hall) → holds old h → IsSound h → IsStopped holds new from bearer moment h (row ∷ []))
-      → IsStopped holds new site bearer moment h rows
-  stopped_next from same old new h rows place row end before mid here at so_far tried =
+      → ((h : Hall) → holds old h → IsSound h → IsRowStopped holds new from bearer moment h row fault mid after)
+      → IsStopped holds new site bearer moment h rows fault before after
+  stopped_next from same old new h rows place row end fault before mid after here at so_far tried =
       let first = after_rows site bearer moment h (take place rows) in
-      let stop = subst (λ (at : Site). IsStopped holds new at bearer moment first (row ∷ [])) same (tried first so_far.held so_far.sound) in
-      first_and new h rows place row here at stop.count stop.held stop.sound
+      let lines = lines_of (replies_to site bearer moment h (take place rows)) in
+      let stop = subst (λ (at : Site). IsRowStopped holds new at bearer moment first row fault mid after) same (tried first so_far.held so_far.sound) in
+      first_and new h rows place row fault before after here at stop.was_applied stop.held stop.sound
+      (λ other. subst (Appends before after) (append-nil lines) (Appends-trans before mid after lines [] so_far.written (stop.written other)))

@@ -1,5 +1,5 @@
--- The names of faults, and which fault a report's or an import's is.
-use Rattle.std.specs.Prelude.{ℕ, List, codes}
+-- The names of faults, which fault a report's or an import's is, and which faults there are of what is asked for.
+use Rattle.std.specs.Prelude.{ℕ, ⊤, List, codes}
 use Rattle.hall_report.specs.declared.fault.ImportFault.{ImportFault}
 use Rattle.hall_report.specs.declared.fault.ImportFault.TheVariants as import
 use Rattle.hall_report.specs.declared.fault.ReportFault.{ReportFault}
@@ -32,3 +32,30 @@ abbrev pub of_import : ImportFault → Fault
 of_import import.BadHeader = fault.BadHeader
 of_import (import.BadRow n) = fault.BadRow
 of_import import.Memory = fault.Memory
+
+-- ---- which faults there are
+
+-- a write, the store or memory failed
+abbrev pub IsStoreFault : Fault → Type 0
+IsStoreFault fault.Io = ⊤
+IsStoreFault fault.Unavailable = ⊤
+IsStoreFault fault.Memory = ⊤
+IsStoreFault other = ⊥
+
+-- so too, or the machine that a report is about isn't there
+abbrev pub IsReportFault : Fault → Type 0
+IsReportFault fault.NoMachine = ⊤
+IsReportFault other = IsStoreFault other
+
+-- a write, the store or memory failed, or a file is malformed
+abbrev pub IsImportFault : Fault → Type 0
+IsImportFault fault.BadHeader = ⊤
+IsImportFault fault.BadRow = ⊤
+IsImportFault other = IsStoreFault other
+
+-- a read or a write failed, memory did, or an input is malformed
+abbrev pub IsFrameFault : Fault → Type 0
+IsFrameFault fault.BadInput = ⊤
+IsFrameFault fault.Io = ⊤
+IsFrameFault fault.Memory = ⊤
+IsFrameFault other = ⊥

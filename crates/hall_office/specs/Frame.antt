@@ -1,5 +1,5 @@
 -- The answer of the program to its input.
-use Rattle.std.specs.Prelude.{◌≡◌, ◌≤◌, ℕ, suc, nat_le, Bool, true, false, List, [], ◌∷◌, ◌++◌, length, position, Option, Some, None, option_and_then, if◌then◌else◌, IsTrue}
+use Rattle.std.specs.Prelude.{◌≡◌, ◌≤◌, ℕ, suc, nat_le, Bool, true, false, List, [], ◌∷◌, ◌++◌, length, position, Option, Some, None, option_and_then, if◌then◌else◌, IsTrue, ⊤}
 use Rattle.std.specs.Str.{bytes_eq}
 use Rattle.hex.specs.Hex.{encode_lower}
 use Rattle.dhcp_frame.specs.Message.{Message, IsFrame}
@@ -16,6 +16,7 @@ use Rattle.boot_desk.specs.declared.frames.Decision.{Decision}
 use Rattle.boot_desk.specs.declared.frames.Decision.TheVariants.{Loader, ScriptUrl}
 use Rattle.boot_desk.specs.declared.frames.FrameView.{FrameView}
 use Rattle.hall_office.specs.declared.frame_input.TheConstants.{MAX_OCTETS}
+use Rattle.hall_office.specs.Fault.{IsFrameFault}
 use Rattle.hall_office.specs.FrameInput.{IsInput}
 use Rattle.hall_office.specs.declared.frames.Exit.{Exit}
 use Rattle.hall_office.specs.declared.frames.Exit.TheVariants.{Done, Fault as Failed, NotAll, Silence}
@@ -80,6 +81,13 @@ pub record IsIgnored (site : Site) (port : Port) (input : List ℕ) : Type 0 whe
 -- the input is too long, or doesn't have addresses and octets
 abbrev pub IsBad : List ℕ → Type 0
 IsBad input = (addresses : List (List ℕ)) (octets : List ℕ) → IsGood input addresses octets → ⊥
+
+-- how the run of one frame can end
+abbrev pub IsFrameEnd : Exit → Type 0
+IsFrameEnd Done = ⊤
+IsFrameEnd (Failed fault) = IsFrameFault fault
+IsFrameEnd NotAll = ⊥
+IsFrameEnd Silence = ⊤
 
 -- the program's exit status
 abbrev pub status_of : Exit → ℕ

@@ -1,5 +1,5 @@
 -- What an import does to a hall, and what it writes.
-use Rattle.std.specs.Prelude.{◌≡◌, ◌==◌, ℕ, Bool, false, List, [], ◌∷◌, ◌++◌, Option, Some, replicate, take, if◌then◌else◌}
+use Rattle.std.specs.Prelude.{◌≡◌, ◌≢◌, ◌⊎◌, ◌+◌, ◌==◌, ℕ, Bool, false, List, [], ◌∷◌, ◌++◌, Option, Some, replicate, take, if◌then◌else◌}
 use Rattle.std.specs.Fmt.{decimal}
 use Rattle.std.specs.Io.KnownBytes.{Appends}
 use Rattle.std.specs.List.{enumerate_from, flat_map, fold, list_all, scan}
@@ -14,6 +14,8 @@ use Rattle.hall_events.specs.declared.reply.Reply.{Reply}
 use Rattle.hall_events.specs.declared.reply.Reply.TheVariants.{Http}
 use Rattle.hall_machine.specs.Decision.{Decided, decision_of}
 use Rattle.hall_report.specs.declared.row.ImportRow.{ImportRow}
+use Rattle.hall_office.specs.declared.fault.Fault.{Fault}
+use Rattle.hall_office.specs.declared.fault.Fault.TheVariants.{Io}
 use Rattle.hall_office.specs.declared.imports.Imported.{Imported}
 use Rattle.hall_office.specs.declared.imports.Imported.TheVariants.{All, NotAll}
 
@@ -84,8 +86,19 @@ module _ {S : Type 0} (holds : S → Hall → Type 0) (store : S) (site : Site) 
     pub written : Appends before after (lines_of (replies_to site bearer moment h rows))
     pub ended : end ≡ end_of (replies_to site bearer moment h rows)
 
-  -- the first rows are applied in turn, and no others
-  pub record IsStopped (rows : List ImportRow) : Type 0 where
-    pub count : ℕ
-    pub held : holds store (after_rows site bearer moment h (take count rows))
-    pub sound : IsSound (after_rows site bearer moment h (take count rows))
+  -- a row may be applied, and its line isn't written; a write that failed may have written anything
+  pub record IsRowStopped (row : ImportRow) (fault : Fault) (before after : Option (List ℕ)) : Type 0 where
+    pub was_applied : Bool
+    pub held : holds store (if was_applied then after_row site bearer moment h row else h)
+    pub sound : IsSound (if was_applied then after_row site bearer moment h row else h)
+    pub written : fault ≢ Io → Appends before after []
+
+  -- the lines of the first rows are written, and these rows are applied in turn, perhaps with the next one, and no others; a
+  -- write that failed may have written anything
+  pub record IsStopped (rows : List ImportRow) (fault : Fault) (before after : Option (List ℕ)) : Type 0 where
+    pub written_count : ℕ
+    pub applied_count : ℕ
+    pub next : (applied_count ≡ written_count) ⊎ (applied_count ≡ written_count + 1)
+    pub held : holds store (after_rows site bearer moment h (take applied_count rows))
+    pub sound : IsSound (after_rows site bearer moment h (take applied_count rows))
+    pub written : fault ≢ Io → Appends before after (lines_of (replies_to site bearer moment h (take written_count rows)))

@@ -3,6 +3,7 @@ ghost use Rattle.std.specs.Prelude.{◌≡◌, ◌≢◌, IfErr};
 ghost use Rattle.std.specs.Io.KnownBytes.{Appends};
 ghost use Rattle.hall_store.specs.Store.{IsRead};
 ghost use Rattle.hall_report.specs.Export.{export_text};
+ghost use Rattle.hall_office.specs.Fault.{IsStoreFault};
 
 use crate::fault::Fault;
 use crate::writing::write_text;
@@ -23,7 +24,7 @@ pub fn export<S: HallStore, W: Write>(
     ensures clean { S.HallStore.is_clean store.new → S.HallStore.is_clean store.old }
     ensures read { S.HallStore.is_clean store.new → IsRead S.HallStore.holds S.HallStore.leaves store.old store.new result
         (λ h _. Appends (W.contents writer.old) (W.contents writer.new) (export_text h)) }
-    ensures fault { IfErr result (λ fault. fault ≢ Fault.NoMachine) }
+    ensures fault { IfErr result IsStoreFault }
     ensures nothing { IfErr result (λ fault. fault ≢ Fault.Io → writer.new ≡ writer.old) }
 {
     let text = hall_report::export_text(alloc, store)?;

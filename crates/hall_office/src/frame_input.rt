@@ -2,6 +2,7 @@
 ghost use Rattle.std.specs.Prelude.{◌≡◌, ◌≤◌, ◌<◌, ◌↔◌, ◌⊎◌, ◌∷◌, [], List, ℕ, None, Some, length, option_map, option_copied, position, ◌==◌, Contains, IsTrue, IfOk, IfErr, IfSome, IsErrOf, MatchOption, vec_len};
 ghost use Rattle.hall_office.specs.FrameInput.{IsInput, Understood, hex_octets, lines_of, only_line, understood};
 ghost use Rattle.std.specs.Prelude.{suc};
+ghost use Rattle.hall_office.specs.Fault.{IsFrameFault};
 ghost use Rattle.std.specs.Str.{bytes_eq};
 ghost use Rattle.hall_office.specs.Frame.{line_number, numbered};
 
@@ -25,6 +26,7 @@ const MAX_READS: u32 = 70_000;
 pub fn read_input<R: Read>(alloc: Global, reader: &mut R) -> Result<Vec<u8>, Fault>
     ensures all { IfOk result (λ input. IfSome (R.remaining reader.old) (λ octets. input.items ≡ octets)) }
     ensures room { IfOk result (λ input. vec_len input ≤ MAX_OCTETS) }
+    ensures fault { IfErr result IsFrameFault }
     ensures too_long { IsErrOf result Fault.BadInput → IfSome (R.remaining reader.old) (λ octets. MAX_OCTETS < length octets) }
 {
     let mut input = Vec::new(alloc);

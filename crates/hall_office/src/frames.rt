@@ -4,7 +4,7 @@ ghost use Rattle.std.specs.Io.KnownBytes.{Appends};
 ghost use Rattle.hex.specs.Hex.{encode_lower};
 ghost use Rattle.hall_office.specs.declared.frame_input.TheConstants.{MAX_OCTETS};
 ghost use Rattle.dhcp_frame.specs.declared.reply.TheConstants.{MAX_VALUE_LEN};
-ghost use Rattle.hall_office.specs.Frame.{is_served, line_view, IsReply, IsAnswer, IsIgnored, IsBad};
+ghost use Rattle.hall_office.specs.Frame.{is_served, line_view, IsReply, IsAnswer, IsIgnored, IsBad, IsFrameEnd};
 
 use crate::fault::Fault;
 use crate::frame_input::{Input, parse, read_input};
@@ -117,6 +117,7 @@ fn answer(alloc: Global, input: &[u8], port: Port, place: &Place) -> Result<Stri
     ensures answer { IfOk result (λ text. IsAnswer place.now port input.now (string_bytes text)) }
     ensures silence { IsErrOf result Exit.Silence → IsIgnored place.now port input.now }
     ensures bad { result ≡ Err (Exit.Fault Fault.BadInput) → IsBad input.now }
+    ensures end { IfErr result IsFrameEnd }
     ensures no_io { IfErr result (λ exit. (exit ≢ Exit.Done) × (exit ≢ Exit.Fault Fault.Io)) }
 {
     let input = match parse(alloc, input) {
@@ -146,6 +147,7 @@ pub fn frame_run<R: Read, W: Write>(
     port: Port,
     place: &Place,
 ) -> Exit
+    ensures end { IsFrameEnd result }
     // What was written is the answer to the frame that was read.
     ensures done { result ≡ Exit.Done → IfSome (R.remaining reader.old) (λ input. (text : List ℕ)
         × IsAnswer place.now port input text × Appends (W.contents writer.old) (W.contents writer.new) text) }

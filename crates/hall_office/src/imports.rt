@@ -6,7 +6,8 @@ ghost use Rattle.hall_desk.specs.Desk.{site_of, store_of};
 ghost use Rattle.hall_report.specs.Import.{import_in};
 ghost use Rattle.hall_report.specs.declared.fault.ImportFault.TheVariants as cause;
 ghost use Rattle.hall_report.specs.declared.row.ImportRow.{ImportRow};
-ghost use Rattle.hall_office.specs.Import.{IsImported, IsRowDone, IsStopped, event_of};
+ghost use Rattle.hall_office.specs.Fault.{IsImportFault, IsStoreFault};
+ghost use Rattle.hall_office.specs.Import.{IsImported, IsRowDone, IsRowStopped, IsStopped, event_of};
 
 use crate::fault::Fault;
 use crate::import_line::row_line;
@@ -62,9 +63,9 @@ fn add_row<S: HallStore, W: Write>(
     ensures site { site_of desk.new ≡ site_of desk.old }
     ensures done { S.HallStore.is_clean (store_of desk.new) → IfOk result (λ was_ok. (h : Hall) → S.HallStore.holds (store_of desk.old) h → IsSound h
         → IsRowDone S.HallStore.holds (store_of desk.new) (site_of desk.old) bearer moment h number row.now was_ok (W.contents writer.old) (W.contents writer.new)) }
-    ensures stopped { S.HallStore.is_clean (store_of desk.new) → IfErr result (λ _. (h : Hall) → S.HallStore.holds (store_of desk.old) h → IsSound h
-        → IsStopped S.HallStore.holds (store_of desk.new) (site_of desk.old) bearer moment h (row.now ∷ [])) }
-    ensures fault { IfErr result (λ fault. (fault ≢ Fault.BadHeader) × (fault ≢ Fault.BadRow)) }
+    ensures stopped { S.HallStore.is_clean (store_of desk.new) → IfErr result (λ fault. (h : Hall) → S.HallStore.holds (store_of desk.old) h → IsSound h
+        → IsRowStopped S.HallStore.holds (store_of desk.new) (site_of desk.old) bearer moment h row.now fault (W.contents writer.old) (W.contents writer.new)) }
+    ensures fault { IfErr result IsStoreFault }
 {
     steps_keep_halls_sound();
     decisions_keep_the_rules();
@@ -100,9 +101,9 @@ fn add_rows<S: HallStore, W: Write>(
     ensures site { site_of desk.new ≡ site_of desk.old }
     ensures imported { S.HallStore.is_clean (store_of desk.new) → IfOk result (λ end. (h : Hall) → S.HallStore.holds (store_of desk.old) h → IsSound h
         → IsImported S.HallStore.holds (store_of desk.new) (site_of desk.old) bearer moment h rows.now end (W.contents writer.old) (W.contents writer.new)) }
-    ensures stopped { S.HallStore.is_clean (store_of desk.new) → IfErr result (λ _. (h : Hall) → S.HallStore.holds (store_of desk.old) h → IsSound h
-        → IsStopped S.HallStore.holds (store_of desk.new) (site_of desk.old) bearer moment h rows.now) }
-    ensures fault { IfErr result (λ fault. (fault ≢ Fault.BadHeader) × (fault ≢ Fault.BadRow)) }
+    ensures stopped { S.HallStore.is_clean (store_of desk.new) → IfErr result (λ fault. (h : Hall) → S.HallStore.holds (store_of desk.old) h → IsSound h
+        → IsStopped S.HallStore.holds (store_of desk.new) (site_of desk.old) bearer moment h rows.now fault (W.contents writer.old) (W.contents writer.new)) }
+    ensures fault { IfErr result IsStoreFault }
 {
     let mut end = Imported::All;
     for (place, row) in rows.iter().enumerate() {
@@ -120,8 +121,9 @@ fn add_rows<S: HallStore, W: Write>(
 /// # Errors
 ///
 /// `BadHeader` and `BadRow` where the file is malformed: then nothing was applied or written. `Unavailable`, `Io` and
-/// `Memory` may come after some rows; the rows whose lines are there are applied, and an import that is repeated answers
-/// them by their keys as before.
+/// `Memory` may come after some rows: those whose lines are there are applied, and perhaps the next one, whose line isn't.
+/// After `Io` the writer may have anything of that line. An import that is repeated answers applied rows by their keys as
+/// before.
 pub fn import<S: HallStore, W: Write>(
     alloc: Global,
     desk: &mut Desk<S>,
@@ -134,8 +136,9 @@ pub fn import<S: HallStore, W: Write>(
     ensures site { site_of desk.new ≡ site_of desk.old }
     ensures imported { S.HallStore.is_clean (store_of desk.new) → IfOk result (λ end. (rows : List ImportRow) × (import_in octets.now ≡ Ok rows) × ((h : Hall) → S.HallStore.holds (store_of desk.old) h → IsSound h
         → IsImported S.HallStore.holds (store_of desk.new) (site_of desk.old) bearer moment h rows end (W.contents writer.old) (W.contents writer.new))) }
-    ensures stopped { S.HallStore.is_clean (store_of desk.new) → IfErr result (λ _. (rows : List ImportRow) → import_in octets.now ≡ Ok rows → (h : Hall) → S.HallStore.holds (store_of desk.old) h → IsSound h
-        → IsStopped S.HallStore.holds (store_of desk.new) (site_of desk.old) bearer moment h rows) }
+    ensures stopped { S.HallStore.is_clean (store_of desk.new) → IfErr result (λ fault. (rows : List ImportRow) → import_in octets.now ≡ Ok rows → (h : Hall) → S.HallStore.holds (store_of desk.old) h → IsSound h
+        → IsStopped S.HallStore.holds (store_of desk.new) (site_of desk.old) bearer moment h rows fault (W.contents writer.old) (W.contents writer.new)) }
+    ensures fault { IfErr result IsImportFault }
     ensures bad_header { result ≡ Err Fault.BadHeader → import_in octets.now ≡ Err cause.BadHeader }
     ensures bad_row { result ≡ Err Fault.BadRow → (n : ℕ) × (import_in octets.now ≡ Err (cause.BadRow n)) }
     ensures nothing { (result ≡ Err Fault.BadHeader) ⊎ (result ≡ Err Fault.BadRow) → (desk.new ≡ desk.old) × (writer.new ≡ writer.old) }

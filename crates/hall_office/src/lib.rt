@@ -2,20 +2,24 @@
 //! and a writer.
 #![tactic(auto)]
 
+mod addresses;
 mod arrival_texts;
 mod exports;
 mod fault;
 mod frame_input;
+mod frame_texts;
 mod frames;
 mod import_line;
 mod imports;
+mod move_texts;
 mod reports;
+mod request_texts;
 mod requests;
 mod turn_lines;
 mod values;
 mod writing;
 
-pub use arrival_texts::arrival_text;
+pub use arrival_texts::{arrival_text, is_of_note};
 pub use exports::export;
 pub use fault::Fault;
 pub use frame_input::{Input, one_reading, parse, read_input};

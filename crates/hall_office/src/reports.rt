@@ -3,6 +3,7 @@ ghost use Rattle.std.specs.Prelude.{◌≡◌, ◌≢◌, ℕ, List, Err, IfErr,
 ghost use Rattle.std.specs.Io.KnownBytes.{Appends};
 ghost use Rattle.hall_types.specs.Hall.{Hall};
 ghost use Rattle.hall_store.specs.Store.{IsRead};
+ghost use Rattle.hall_office.specs.Fault.{IsReportFault};
 ghost use Rattle.hall_office.specs.Report.{IsMissing, IsReport};
 
 use crate::fault::Fault;
@@ -28,7 +29,8 @@ fn text_of_machine<S: HallStore>(alloc: Global, store: &mut S, id: u64) -> Resul
     ensures clean { S.HallStore.is_clean store.new → S.HallStore.is_clean store.old }
     ensures read { S.HallStore.is_clean store.new → IsRead S.HallStore.holds S.HallStore.leaves store.old store.new result (λ h text. IsReport (What.Machine id) h (string_bytes text)) }
     ensures missing { S.HallStore.is_clean store.new → result ≡ Err Fault.NoMachine → (h : Hall) → S.HallStore.holds store.old h → IsMissing (What.Machine id) h }
-    ensures fault { IfErr result (λ fault. fault ≢ Fault.Io) }
+    ensures fault { IfErr result IsReportFault }
+    ensures no_io { IfErr result (λ fault. fault ≢ Fault.Io) }
 {
     let Ok(id) = Number::new(id) else {
         return Err(Fault::NoMachine);
@@ -40,7 +42,8 @@ fn report_text<S: HallStore>(alloc: Global, store: &mut S, what: What) -> Result
     ensures clean { S.HallStore.is_clean store.new → S.HallStore.is_clean store.old }
     ensures read { S.HallStore.is_clean store.new → IsRead S.HallStore.holds S.HallStore.leaves store.old store.new result (λ h text. IsReport what h (string_bytes text)) }
     ensures missing { S.HallStore.is_clean store.new → result ≡ Err Fault.NoMachine → (h : Hall) → S.HallStore.holds store.old h → IsMissing what h }
-    ensures fault { IfErr result (λ fault. fault ≢ Fault.Io) }
+    ensures fault { IfErr result IsReportFault }
+    ensures no_io { IfErr result (λ fault. fault ≢ Fault.Io) }
 {
     match what {
         What::Hall => Ok(hall_text(alloc, store)?),
@@ -65,6 +68,7 @@ pub fn report<S: HallStore, W: Write>(
     ensures read { S.HallStore.is_clean store.new → IsRead S.HallStore.holds S.HallStore.leaves store.old store.new result
         (λ h _. (text : List ℕ) × IsReport what h text × Appends (W.contents writer.old) (W.contents writer.new) text) }
     ensures missing { S.HallStore.is_clean store.new → result ≡ Err Fault.NoMachine → (h : Hall) → S.HallStore.holds store.old h → IsMissing what h }
+    ensures fault { IfErr result IsReportFault }
     ensures nothing { IfErr result (λ fault. fault ≢ Fault.Io → writer.new ≡ writer.old) }
 {
     let text = report_text(alloc, store, what)?;

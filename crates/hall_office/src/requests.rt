@@ -1,5 +1,5 @@
 //! One request, from a reader to a writer.
-ghost use Rattle.std.specs.Prelude.{◌≡◌, false, IfSome};
+ghost use Rattle.std.specs.Prelude.{◌≡◌, ◌⊎◌, true, false, IfErr, IfSome};
 ghost use Rattle.hall_http.specs.Noted.{failed_of, inner_of, takes_of};
 ghost use Rattle.hall_desk.specs.Desk.{site_of, store_of};
 ghost use Rattle.hall_office.specs.Request.{HasServed};
@@ -33,6 +33,9 @@ pub fn request<S: HallStore, R: Read, W: Write>(
     ensures site { site_of desk.new ≡ site_of desk.old }
     ensures served { S.HallStore.is_clean (store_of desk.new) → IfSome (R.remaining (inner_of reader.old)) (λ octets. IfSome (W.contents (inner_of writer.old)) (λ before.
         HasServed S.HallStore.holds S.HallStore.leaves (store_of desk.old) (store_of desk.new) (site_of desk.old) moment fresh octets before result (W.contents (inner_of writer.new)))) }
+    ensures fault { IfErr result (λ fault. fault ≡ Fault.Io) }
+    // A read failed, or 4,096 reads gave octets, or a write failed.
+    ensures failed { IfErr result (λ _. (failed_of reader.new ≡ true) ⊎ ((takes_of reader.new ≡ 4096) ⊎ (failed_of writer.new ≡ true))) }
 {
     match desk.serve_one(alloc, reader, writer, moment, fresh) {
         Served::Answered => Ok(()),

@@ -19,26 +19,31 @@ fn close_word(cause: Close) -> &'static str {
     }
 }
 
-// A quiet moment is of note where the hall couldn't be read or written.
-fn is_of_note(handover: &Handover) -> bool {
-    handover.kind != Kind::Quiet || handover.said == Said::Unavailable
+// A quiet moment is of note where it has a text, or the hall couldn't be read or written.
+fn is_of_note(handover: &Handover, arrival: Option<&str>) -> bool {
+    handover.kind != Kind::Quiet || handover.said == Said::Unavailable || arrival.is_some()
 }
 
 fn handover_text(
     alloc: Global,
     handover: &Handover,
-    arrival: &str,
+    arrival: Option<&str>,
     end: &str,
 ) -> Result<Option<String>, AllocError> {
-    if !is_of_note(handover) {
+    if !is_of_note(handover, arrival) {
         return Ok(None);
     }
+    let arrival = arrival.unwrap_or("-");
     let from = source_text(alloc, handover.from)?;
     let text = format!(in alloc; "{from} {arrival}{end}")?;
     Ok(Some(text))
 }
 
-fn turn_text(alloc: Global, turn: &Turn, arrival: &str) -> Result<Option<String>, AllocError> {
+fn turn_text(
+    alloc: Global,
+    turn: &Turn,
+    arrival: Option<&str>,
+) -> Result<Option<String>, AllocError> {
     match turn {
         Turn::Handed(handover) => handover_text(alloc, handover, arrival, ""),
         Turn::Unsent(handover) => handover_text(alloc, handover, arrival, ", unsent"),
@@ -60,14 +65,14 @@ fn turn_text(alloc: Global, turn: &Turn, arrival: &str) -> Result<Option<String>
 }
 
 /// The line of a turn, with its line feed: the moment in seconds, where the turn's datagram or connection came from, and the
-/// text of the arrival, if the turn handed one over, as in
+/// text of the arrival, if the turn handed one over and it's of note, as in
 /// `1790000000 192.0.2.9:68 discover DISCOVER 52:54:00:12:34:56 uefi64: ipxe-x86_64.efi`. A turn in which nothing of note was
-/// done has none: a quiet moment, octets that moved, an empty place.
+/// done has none: a quiet moment without a text, octets that moved, an empty place.
 pub fn turn_line(
     alloc: Global,
     moment: Moment,
     turn: &Turn,
-    arrival: &str,
+    arrival: Option<&str>,
 ) -> Result<Option<String>, AllocError> {
     let Some(text) = turn_text(alloc, turn, arrival)? else {
         return Ok(None);

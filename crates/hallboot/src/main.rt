@@ -4,6 +4,7 @@
 
 mod asked;
 mod over;
+mod random_block;
 mod serve;
 mod store_file;
 mod tasks;

@@ -6,7 +6,9 @@ use hall_office::{Exit, Fault, Imported, What};
 use hall_service::{Addresses, BindFault, Service, Sockets};
 use hall_store::HallStore;
 use hall_types::{Digest, Moment, Token};
+use hall_watch::{Sight, Watched};
 use pxe_vendor::Place;
+use std::cell::RefCell;
 use std::fs::OpenOptions;
 use std::io;
 use std::io::Write;
@@ -88,11 +90,12 @@ fn bind_fault(fault: BindFault) -> Fault {
 fn serve_turns<S: HallStore, W: Write + Drop>(
     rt: &HostRuntime,
     service: &mut Service<S>,
+    sight: &RefCell<Sight>,
     log: Option<W>,
     turns: u64,
 ) -> Result<(), Fault> {
     let mut stamps = Stamps::new(rt).map_err(|_| Fault::Io)?;
-    let mut lines = Lines::new(rt.alloc(), log);
+    let mut lines = Lines::new(rt.alloc(), log, sight);
     hall_office::write_text(&mut rt.stdout(), "hall desk ready\n")?;
     service.serve_turns(&mut stamps, &mut lines, turns);
     if lines.lost() > 0 {
@@ -104,18 +107,19 @@ fn serve_turns<S: HallStore, W: Write + Drop>(
 fn serve_with_log<S: HallStore>(
     rt: &HostRuntime,
     service: &mut Service<S>,
+    sight: &RefCell<Sight>,
     log: Option<&str>,
     turns: u64,
 ) -> Result<(), Fault> {
     match log {
-        Some("-") => serve_turns(rt, service, Some(rt.stderr()), turns),
+        Some("-") => serve_turns(rt, service, sight, Some(rt.stderr()), turns),
         Some(path) => {
             let Ok(file) = OpenOptions::new().append(true).create(true).open(rt, path) else {
                 return Err(Fault::Io);
             };
-            serve_turns(rt, service, Some(file), turns)
+            serve_turns(rt, service, sight, Some(file), turns)
         }
-        None => serve_turns(rt, service, None::<io::Stderr>, turns),
+        None => serve_turns(rt, service, sight, None::<io::Stderr>, turns),
     }
 }
 
@@ -128,12 +132,14 @@ pub fn serve<S: HallStore>(
     log: Option<&str>,
     turns: u64,
 ) -> (Result<Exit, Fault>, S) {
-    let desk = Desk::new(store, place);
     let sockets = match Sockets::bind(rt, rt.alloc(), addresses) {
         Ok(sockets) => sockets,
-        Err(fault) => return (Err(bind_fault(fault)), desk.into_store()),
+        Err(fault) => return (Err(bind_fault(fault)), store),
     };
+    let sight = RefCell::new(Sight::default());
+    let desk = Desk::new(Watched::new(store, &sight), place);
     let mut service = Service::new(rt.alloc(), desk, sockets);
-    let task = serve_with_log(rt, &mut service, log, turns);
-    (done(task), service.into_desk().into_store())
+    let task = serve_with_log(rt, &mut service, &sight, log, turns);
+    let watched = service.into_desk().into_store();
+    (done(task), watched.into_inner())
 }

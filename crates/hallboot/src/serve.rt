@@ -1,26 +1,16 @@
 //! Where a service's stamps come from, and where its turns are told to.
-use hall_desk::{Answer, Arrival, Input};
-use hall_office::{arrival_text, turn_line};
+use crate::random_block::RandomBlock;
+use hall_desk::{Answer, Arrival};
+use hall_office::{arrival_text, is_of_note, turn_line};
 use hall_service::{Source, Stamp, Turn, TurnLog};
-use hall_types::{Moment, Token};
-use rand::rngs::SysRng;
-use rand_core::TryRng;
+use hall_types::Moment;
+use hall_watch::Sight;
 use std::alloc::{AllocError, Global};
+use std::cell::RefCell;
 use std::io;
 use std::io::Write;
 use std::random::RandomSource;
 use std::time::{Clock, Instant, SystemTime, UNIX_EPOCH};
-
-/// 16 octets of the system's random source, in two draws.
-pub fn fresh<S: RandomSource>(source: &S) -> io::Result<Token> {
-    let mut random = SysRng::new(source);
-    let first = random.try_next_u64()?.to_be_bytes();
-    let second = random.try_next_u64()?.to_be_bytes();
-    let mut octets = [0u8; 16];
-    octets[..8].copy_from_slice(&first);
-    octets[8..].copy_from_slice(&second);
-    Ok(Token::from(octets))
-}
 
 /// The moment of the system's clock. None before 1970.
 pub fn now(clock: &impl Clock) -> Option<Moment> {
@@ -34,6 +24,7 @@ pub fn now(clock: &impl Clock) -> Option<Moment> {
 pub struct Stamps<'a, R> {
     rt: &'a R,
     start: Instant,
+    block: RandomBlock,
 }
 
 impl<'a, R: Clock> Stamps<'a, R> {
@@ -41,6 +32,7 @@ impl<'a, R: Clock> Stamps<'a, R> {
         Ok(Stamps {
             rt,
             start: Instant::now(rt)?,
+            block: RandomBlock::new(),
         })
     }
 
@@ -55,7 +47,7 @@ impl<'a, R: Clock + RandomSource> Source for Stamps<'a, R> {
     fn stamp(&mut self) -> Option<Stamp> {
         Some(Stamp {
             moment: now(self.rt)?,
-            fresh: fresh(self.rt).ok()?,
+            fresh: self.block.token(self.rt)?,
             millis: self.millis()?,
         })
     }
@@ -64,18 +56,22 @@ impl<'a, R: Clock + RandomSource> Source for Stamps<'a, R> {
 /// Tells turns to a writer, if there is one. Lines that couldn't be written are counted, and the next one that can be written
 /// is preceded by a line with their number.
 #[derive(Drop)]
-pub struct Lines<W> {
+pub struct Lines<'a, W> {
     alloc: Global,
     writer: Option<W>,
-    arrival: Option<String>,
+    // What the store noted of the arrival that the desk answers.
+    sight: &'a RefCell<Sight>,
+    // The text of the last arrival, if it's of note and its turn wasn't told of yet. The error is want of memory for it.
+    arrival: Option<Result<String, AllocError>>,
     lost: u64,
 }
 
-impl<W> Lines<W> {
-    pub fn new(alloc: Global, writer: Option<W>) -> Lines<W> {
+impl<'a, W> Lines<'a, W> {
+    pub fn new(alloc: Global, writer: Option<W>, sight: &'a RefCell<Sight>) -> Lines<'a, W> {
         Lines {
             alloc,
             writer,
+            sight,
             arrival: None,
             lost: 0,
         }
@@ -84,6 +80,14 @@ impl<W> Lines<W> {
     /// How many lines were lost since the last one that was written.
     pub fn lost(&self) -> u64 {
         self.lost
+    }
+}
+
+// What was noted for one arrival. Afterwards nothing is.
+fn take_sight(sight: &RefCell<Sight>) -> Sight {
+    match sight.try_take() {
+        Ok(sight) => sight,
+        Err(_) => Sight::default(),
     }
 }
 
@@ -125,33 +129,32 @@ fn write_line<W: Write>(
     }
 }
 
-// A quiet moment is of note where the hall couldn't be read or written.
-fn is_of_note(arrival: &Arrival, answer: &Answer) -> bool {
-    match (&arrival.input, answer) {
-        (Input::Quiet, Answer::Unavailable) => true,
-        (Input::Quiet, _) => false,
-        _ => true,
+// The line of a turn, with the text of its arrival, if there is one.
+fn line_of(
+    alloc: Global,
+    moment: Moment,
+    turn: &Turn,
+    arrival: Option<Result<String, AllocError>>,
+) -> Result<Option<String>, AllocError> {
+    match arrival {
+        Some(text) => turn_line(alloc, moment, turn, Some(text?.as_str())),
+        None => turn_line(alloc, moment, turn, None),
     }
 }
 
-impl<W: Write> TurnLog for Lines<W> {
+impl<'a, W: Write> TurnLog for Lines<'a, W> {
     fn arrived(&mut self, arrival: &Arrival, answer: &Answer) {
-        if self.writer.is_none() || !is_of_note(arrival, answer) {
-            return;
+        let sight = take_sight(self.sight);
+        if self.writer.is_some() && is_of_note(arrival, answer, &sight) {
+            self.arrival = Some(arrival_text(self.alloc, arrival, answer, &sight));
         }
-        self.arrival = arrival_text(self.alloc, arrival, answer).ok();
     }
 
     fn note(&mut self, moment: Moment, turn: &Turn) {
         let Some(writer) = &mut self.writer else {
             return;
         };
-        let arrival = self.arrival.take();
-        let text = match &arrival {
-            Some(text) => text.as_str(),
-            None => "-",
-        };
-        let line = match turn_line(self.alloc, moment, turn, text) {
+        let line = match line_of(self.alloc, moment, turn, self.arrival.take()) {
             Ok(None) => return,
             Ok(Some(line)) => Ok(line),
             Err(AllocError) => Err(AllocError),

@@ -11,10 +11,15 @@ const LISTED: &str = "52:54:00:12:34:56\n52:54:00:00:00:09\n\n";
 
 const HEADER: &str = "010106001122334400008000";
 
-const CLASS: &str = "3c20505845436c69656e743a417263683a30303030373a554e44493a303033303136";
+pub const CLASS: &str = "3c20505845436c69656e743a417263683a30303030373a554e44493a303033303136";
 
-// The program's input: addresses, an empty line, and a message from this address with these options.
-fn input(alloc: Global, listed: &str, mac: &str, options: &[&str]) -> Result<String, AllocError> {
+/// The program's input: addresses, an empty line, and a message from this address with these options.
+pub fn input(
+    alloc: Global,
+    listed: &str,
+    mac: &str,
+    options: &[&str],
+) -> Result<String, AllocError> {
     let mut input = String::from_str(alloc, listed)?;
     input.push_str(HEADER)?;
     for _ in 0..16 {
@@ -75,7 +80,7 @@ fn ends<R: Abort>(
     Ok(())
 }
 
-const FIRST: &str = "525400123456";
+pub const FIRST: &str = "525400123456";
 
 const USER: &str = "4d0469505845";
 

@@ -1,15 +1,8 @@
-use hall_desk::Desk;
+use crate::halls::{desk, digest};
 use hall_http::Noted;
 use hall_office::{Fault, Imported, What, import, moment_of, report, request};
-use hall_types::{Digest, Moment, Name, Token};
-use hex::FromHex;
-use memory_store::MemoryStore;
-use pxe_vendor::Place;
-use std::alloc::Global;
+use hall_types::{Moment, Token};
 use std::test::Fail;
-
-// The SHA-256 of the token `abc` (FIPS 180-4's first example).
-const DIGEST: &str = "ba7816bf8f01cfea414140de5dae2223b00361a396177a9cb410ff61f20015ad";
 
 pub const REQUEST: &[u8] =
     b"POST /commands HTTP/1.1\r\nHost: hall.example\r\nAuthorization: Bearer abc\r\nContent-Length: 80\r\n\r\n{\"key\":\"00000000-0000-4000-8000-000000000001\",\"command\":\"add_pool\",\"pool\":\"lab\"}";
@@ -19,16 +12,6 @@ const RESPONSE: &[u8] =
 
 const FILE: &[u8] =
     b"key,mac,arch,uuid,pool\n00000000-0000-4000-8000-000000000002,52:54:00:12:34:56,uefi64,,default\n00000000-0000-4000-8000-000000000003,52:54:00:12:34:57,uefi64,,nowhere\n";
-
-fn digest() -> Result<Digest, Fail> {
-    Ok(Digest::from(<[u8; 32] as FromHex>::from_hex(DIGEST)?))
-}
-
-pub fn desk(alloc: Global) -> Result<Desk<MemoryStore>, Fail> {
-    let store = MemoryStore::create(alloc, Name::new("ada")?, digest()?)?;
-    let place = Place::new(alloc, [192, 0, 2, 1], [192, 0, 2, 2], "hall.example")?;
-    Ok(Desk::new(store, place))
-}
 
 #[test]
 fn pool_is_added(rt: HostRuntime) -> Result<(), Fail> {

@@ -4,7 +4,7 @@ use Rattle.std.proofs.lemmas.List.{take_more}
 use Rattle.hall_desk.specs.Desk.{site_of, store_of}
 use Rattle.hall_report.specs.declared.row.ImportRow.{ImportRow}
 use Rattle.hall_office.specs.Import.{IsImported}
-use Rattle.hall_office.proofs.ImportLemmas.{if_err, imported_next, imported_none, stopped_next}
+use Rattle.hall_office.proofs.ImportLemmas.{if_err_of, imported_next, imported_none, stopped_next}
 use Rattle.hall_office.proofs.imports.add_rows.Goals as goal
 
 pub loop-place-init : goal.loop-place-init
@@ -42,8 +42,8 @@ returns-clause-imported g c = λ clean h held sound.
 
 pub returns-in_err-was_ok-clause-stopped : goal.returns-in_err-was_ok-clause-stopped
 returns-in_err-was_ok-clause-stopped g c = λ clean.
-    if_err c.from_residual.result _ (λ h held sound.
+    if_err_of c.from_residual.result _ _ c.from_residual.ensures.1 (λ h held sound.
     stopped_next g.S.HallStore.holds g.S.HallStore.leaves (site_of c.args.desk.now) c.args.bearer c.args.moment (site_of c.loop-place.desk) c.loop-place.invariant.site
-    (store_of c.loop-place.desk) (store_of c.add_row.new.desk) h c.args.rows.now c.loop-place.place c.index-rows-place.result c.loop-place.end
-    (g.W.Write.contents c.args.writer.now) (g.W.Write.contents c.loop-place.writer) c.loop-place-test.true c.index-rows-place.is
+    (store_of c.loop-place.desk) (store_of c.add_row.new.desk) h c.args.rows.now c.loop-place.place c.index-rows-place.result c.loop-place.end _
+    (g.W.Write.contents c.args.writer.now) (g.W.Write.contents c.loop-place.writer) (g.W.Write.contents c.add_row.new.writer) c.loop-place-test.true c.index-rows-place.is
     (c.loop-place.invariant.imported (c.add_row.ensures.clean clean) h held sound) (c.in_err-was_ok.ensures.stopped clean))

@@ -1,0 +1,3 @@
+pub mod Moved
+pub mod Sight
+pub mod Watched
