@@ -195,17 +195,6 @@ impl<S: HallStore> Service<S> {
         }
     }
 
-    // Waits a little for something to come. While something is known to be there, the system is asked for more once in eight
-    // turns.
-    fn look(&mut self)
-        ensures desk { desk_of self.new ≡ desk_of self.old }
-        ensures turns { turns_of self.new ≡ turns_of self.old }
-    {
-        if self.turns == 0 || self.sockets.is_idle() {
-            self.sockets.wait();
-        }
-    }
-
     // Serves one turn with a stamp of the source, if it has one.
     fn serve_turn<C: Source, L: TurnLog>(&mut self, source: &mut C, log: &mut L)
         ensures clean { S.HallStore.is_clean (store_of (desk_of self.new)) → S.HallStore.is_clean (store_of (desk_of self.old)) }
@@ -213,7 +202,7 @@ impl<S: HallStore> Service<S> {
         ensures went_on { S.HallStore.is_clean (store_of (desk_of self.new)) → WentOn S.HallStore.holds
             (store_of (desk_of self.old)) (store_of (desk_of self.new)) (site_of (desk_of self.old)) 1 }
     {
-        self.look();
+        self.wait();
         let Some(stamp) = source.stamp() else {
             return;
         };

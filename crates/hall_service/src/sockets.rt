@@ -152,11 +152,6 @@ impl Sockets {
         self.table.count()
     }
 
-    /// Whether nothing is known to be there.
-    pub(crate) fn is_idle(&self) -> bool {
-        self.ring.is_idle()
-    }
-
     /// Marks where something is. Waits a little for something to come if nothing is known to be there.
     pub(crate) fn wait(&mut self) {
         let time = if self.ring.is_idle() {

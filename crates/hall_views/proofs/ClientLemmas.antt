@@ -1,6 +1,6 @@
 -- What is enough for a client's frame.
 use Rattle.std.specs.Prelude.{◌≡◌, ℕ, not, Bool, true, false, Option, Some, if◌then◌else◌}
-use Rattle.std.proofs.Common.{refl, sym, ap, ◌∙◌}
+use Rattle.std.proofs.Common.{sym, ap, ◌∙◌}
 use Rattle.pxe_vendor.specs.declared.clients.Client.{Client}
 use Rattle.hall_types.specs.Hall.{Hall}
 use Rattle.hall_types.specs.declared.port.Port.{Port}
@@ -23,9 +23,9 @@ known_decision : (v : FrameView) (port : Port) (client : Client) (id : ℕ) → 
 unfolding frame_decision
 known_decision v port client id is =
     ap (λ (o : Option ℕ). if not (is_port_of client.kind port) then Silent WrongPort
-        else if is_echo_long client.echo97 then Silent EchoTooLong
-        else if is_uuid_of_other v.by_uuid o then Silent KnownUuid
-        else for_address o v client) is
+    else if is_echo_long client.echo97 then Silent EchoTooLong
+    else if is_uuid_of_other v.by_uuid o then Silent KnownUuid
+    else for_address o v client) is
 
 never : (wrong long other ipxe : Bool)
     → (if wrong then Silent WrongPort else if long then Silent EchoTooLong else if other then Silent KnownUuid else if ipxe then ScriptUrl else Loader) ≡ Enlist → ⊥
