@@ -6,7 +6,6 @@ mod asked;
 mod over;
 mod random_block;
 mod serve;
-mod store_file;
 mod tasks;
 mod words;
 

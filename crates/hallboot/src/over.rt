@@ -1,5 +1,6 @@
 //! The subcommands over an open store, which they give back. The store's type stays open here, so that no proof looks into a file.
 use crate::serve::{Lines, Stamps};
+use address_cache::Cached;
 use hall_desk::Desk;
 use hall_http::Noted;
 use hall_office::{Exit, Fault, Imported, What};
@@ -136,10 +137,14 @@ pub fn serve<S: HallStore>(
         Ok(sockets) => sockets,
         Err(fault) => return (Err(bind_fault(fault)), store),
     };
+    let cached = match Cached::new(rt.alloc(), store) {
+        Ok(cached) => cached,
+        Err(store) => return (Err(Fault::Memory), store),
+    };
     let sight = RefCell::new(Sight::default());
-    let desk = Desk::new(Watched::new(store, &sight), place);
+    let desk = Desk::new(Watched::new(cached, &sight), place);
     let mut service = Service::new(rt.alloc(), desk, sockets);
     let task = serve_with_log(rt, &mut service, &sight, log, turns);
     let watched = service.into_desk().into_store();
-    (done(task), watched.into_inner())
+    (done(task), watched.into_inner().into_inner())
 }

@@ -1,0 +1,7 @@
+//! A store that keeps in memory which machines addresses were found at.
+#![tactic(auto)]
+
+mod cached;
+mod known;
+
+pub use cached::Cached;
