@@ -21,10 +21,12 @@ pub struct Cached<S> {
     is_settled: bool,
 }
 
-impl<S> Cached<S> {
-    /// Over a store, with no address. The error is want of memory for addresses, and gives the store back.
+impl<S: HallStore> Cached<S> {
+    /// Over a store, with no address. It has the hall that the store has. The error is want of memory for addresses, and gives the
+    /// store back.
     pub fn new(alloc: Global, store: S) -> Result<Cached<S>, S>
         ensures made { IfOk result (λ cached. inner cached ≡ store) }
+        ensures held { IfOk result (λ cached. (h : Hall) → S.HallStore.holds store h → Keeps S.HallStore.holds S.HallStore.leaves cached h) }
         ensures refused { IfErr result (λ refused. refused ≡ store) }
     {
         match Known::new(alloc) {

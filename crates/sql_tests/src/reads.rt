@@ -64,7 +64,7 @@ fn live_image_is_found(rt: HostRuntime) -> Result<(), Fail> {
         &store.image(rt.alloc(), &name(&rt, "live64"))?,
         "http://files.example/live/vmlinuz",
         "http://files.example/live/initrd",
-        1,
+        2,
     );
     Ok(())
 }

@@ -105,7 +105,11 @@ fn member() -> Result<RowWrite, Fault> {
 fn live64(alloc: Global) -> Result<RowWrite, Fault> {
     let kernel = Uri::new(alloc, "http://files.example/live/vmlinuz")?;
     let initrd = Uri::new(alloc, "http://files.example/live/initrd")?;
-    let args = one(alloc, Word::new(alloc, "quiet")?)?;
+    let args = two(
+        alloc,
+        Word::new(alloc, "quiet")?,
+        Word::new(alloc, "console=ttyS0")?,
+    )?;
     let name = Name::new("live64")?;
     let image = Image::new(name, Arch::Uefi64, kernel, initrd, args)?;
     Ok(RowWrite::PutImage(image))
@@ -170,6 +174,12 @@ fn add<X: Drop>(list: &mut Vec<X>, x: X) -> Result<(), Fault> {
 fn one<X: Drop>(alloc: Global, x: X) -> Result<Vec<X>, Fault> {
     let mut list = Vec::new(alloc);
     add(&mut list, x)?;
+    Ok(list)
+}
+
+fn two<X: Drop>(alloc: Global, first: X, second: X) -> Result<Vec<X>, Fault> {
+    let mut list = one(alloc, first)?;
+    add(&mut list, second)?;
     Ok(list)
 }
 

@@ -24,7 +24,7 @@ struct OfNumber {
     interfaces: Listed<Interface>,
 }
 
-/// What a name is answered with, images and receipts by the sums of their texts.
+/// What a name is answered with, images and receipts by sums of all their texts.
 #[derive(Clone, Copy, PartialEq, Eq)]
 struct OfName {
     operator: Option<Operator>,
@@ -78,21 +78,24 @@ fn of_number<T: HallStore>(
     })
 }
 
-// A sum in which each octet counts by its place.
+// A sum in which each octet counts by its place, and the end of the text too.
 fn with_text(sum: u64, text: &str) -> u64 {
     let mut sum = sum;
     for octet in text.as_bytes() {
         sum = sum.wrapping_mul(257).wrapping_add(u64::from(*octet) + 1);
     }
-    sum
+    sum.wrapping_mul(257)
 }
 
 fn sum_of_image(image: &Image) -> u64 {
-    let sum = with_text(with_text(1, image.kernel().text()), image.initrd().text());
-    match image.args().first() {
-        Some(arg) => with_text(sum, arg.text()),
-        None => sum,
+    let mut sum = with_text(1, image.name().text());
+    sum = with_text(sum, image.arch().text());
+    sum = with_text(sum, image.kernel().text());
+    sum = with_text(sum, image.initrd().text());
+    for arg in image.args() {
+        sum = with_text(sum, arg.text());
     }
+    sum
 }
 
 fn sum_of_receipt(receipt: &Receipt) -> u64 {
