@@ -169,7 +169,7 @@ def summed(octets):
 
 
 def relayed(card, capture):
-    """Sends a DISCOVER from a card without an address, and writes the frame that answers to a capture file."""
+    """Sends a DISCOVER from a card without an address, each second again for a minute, and writes the answer's frame to a capture file."""
     mac = bytes.fromhex("525400123499")
     octets = frame(1, mac)
     udp = struct.pack("!HHHH", 68, 67, 8 + len(octets), 0) + octets
@@ -177,11 +177,18 @@ def relayed(card, capture):
     ip = ip[:10] + struct.pack("!H", summed(ip)) + ip[12:]
     with socket.socket(socket.AF_PACKET, socket.SOCK_RAW, socket.htons(0x0800)) as s:
         s.bind((card, 0))
-        s.settimeout(60)
-        s.send(b"\xff" * 6 + mac + b"\x08\x00" + ip + udp)
-        got = s.recv(65535)
-        while not (got[23] == 17 and got[36:38] == struct.pack("!H", 68)):
-            got = s.recv(65535)
+        s.settimeout(1)
+        began, sent, got = time.monotonic(), 0, b""
+        while not (got[23:24] == b"\x11" and got[36:38] == struct.pack("!H", 68)):
+            if time.monotonic() >= began + 60:
+                sys.exit("no answer within a minute")
+            if time.monotonic() >= began + sent:
+                s.send(b"\xff" * 6 + mac + b"\x08\x00" + ip + udp)
+                sent += 1
+            try:
+                got = s.recv(65535)
+            except TimeoutError:
+                got = b""
     with open(capture, "wb") as out:
         out.write(struct.pack("<IHHiIIIIIII", 0xa1b2c3d4, 2, 4, 0, 0, 65535, 1, 0, 0, len(got), len(got)) + got)
 

@@ -12,7 +12,11 @@ bad() { echo "BAD: $*" >&2; exit 1; }
 # desk 10.8.0.1 -- 10.8.0.2 relay 10.8.1.1 -- client without an address
 unshare --net sleep infinity & relay=$!
 unshare --net sleep infinity & client=$!
-sleep 0.2
+own() { readlink "/proc/$1/ns/net"; }
+for ((i = 0; i < 600; i++)); do
+    if [ "$(own $relay)" != "$(own self)" ] && [ "$(own $client)" != "$(own self)" ]; then break; fi
+    sleep 0.1
+done
 in_relay() { nsenter --target "$relay" --net "$@"; }
 in_client() { nsenter --target "$client" --net "$@"; }
 ip link set lo up
@@ -47,8 +51,8 @@ in_client python3 "$here/peers.py" relayed card relayed.pcap || { cat relay.log 
 good 'dhcrelay -a: the OFFER came to a client in another network namespace'
 
 command -v tshark > /dev/null || { echo 'not tried: tshark is missing (tshark)'; exit 0; }
-fields=$(tshark -r relayed.pcap -T fields -E separator=/s -e dhcp.option.dhcp -e dhcp.file -e dhcp.ip.server 2> tshark.log)
+fields=$(timeout 60 tshark -r relayed.pcap -T fields -E separator=/s -e dhcp.option.dhcp -e dhcp.file -e dhcp.ip.server 2> tshark.log)
 [ "$fields" = '2 ipxe-x86_64.efi 10.8.0.2' ] || bad "tshark: $fields"
-marks=$(tshark -r relayed.pcap -Y '_ws.malformed || _ws.expert.severity >= 6291456' 2> tshark.log)
+marks=$(timeout 60 tshark -r relayed.pcap -Y '_ws.malformed || _ws.expert.severity >= 6291456' 2> tshark.log)
 [ -z "$marks" ] || bad "tshark: $marks"
 good 'tshark: the OFFER, no mark of a malformed field'

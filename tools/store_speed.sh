@@ -4,38 +4,26 @@
 # `change` (a machine put over its version, with a receipt), `delete` (a machine put with its interface, and deleted: two
 # commits), `list` (all machines), `second` (which machine has expired, at the next second of a clock, where none has) and
 # `quiet` (the same within one second, where the store runs no statement). The time of a round is that of all rounds, less that
-# of one, each the least of three runs over a new copy. FOLDER is where the files are made: on the disk that counts.
+# of one, each the least of seven runs over a new copy, in turn with the runs that it is compared with. FOLDER is where the files
+# are made: on the disk that counts.
 # Usage: tools/store_speed.sh [ROUNDS [FOLDER]]     Needs cc and Debian's libsqlite3-dev.
 set -euo pipefail
 here=$(cd "$(dirname "$0")" && pwd)
 rounds=${1:-100000}
 work=$(mktemp -d -p "${2:-${TMPDIR:-/tmp}}")
 trap 'rm -rf "$work"' EXIT
+. "$here/least.sh"
 cc -O2 -Wall -o "$work/in_c" "$here/store_speed.c" -lsqlite3 || { echo 'store_speed: libsqlite3-dev is missing' >&2; exit 1; }
-(cd "$here/../crates/file_bench" && rt run -- "$work/first" store machine 10 1 > "$work/log" 2>&1) || { cat "$work/log" >&2; exit 1; }
-bench=$here/../crates/file_bench/out/file_bench
+bench=$(built file_bench "$work/first" store machine 10 1)
 
 ours() { "$bench" "$1" store "${@:2}"; }
 theirs() { "$work/in_c" "$@"; }
-# run WHOSE CALL MACHINES ROUNDS: microseconds of a processor and on the clock, over a new copy; its sum is left in the file sum.
+# run WHOSE CALL MACHINES ROUNDS: over a new copy; its sum is left in the file said.
 run() {
     rm -f "$work"/hall*
     cp "$work/machines_$3" "$work/hall"
     sync "$work/hall"
-    local TIMEFORMAT='%3U %3S %3R' times
-    times=$({ time "$1" "$work/hall" "${@:2}" > "$work/sum" 2> "$work/err"; } 2>&1) || { cat "$work/err" >&2; return 1; }
-    awk '{ print ($1 + $2) * 1e6, $3 * 1e6 }' <<< "$times"
-}
-# least WHOSE CALL MACHINES ROUNDS: of three runs.
-least() {
-    for _ in 1 2 3; do run "$@" || exit 1; done | awk 'NR == 1 { p = $1; c = $2 } { if ($1 < p) p = $1; if ($2 < c) c = $2 } END { print p, c }'
-}
-# a_round WHOSE CALL MACHINES ROUNDS: microseconds of a round, of a processor and on the clock.
-a_round() {
-    local one all
-    one=$(least "$1" "$2" "$3" 1) && all=$(least "$@") || return 1
-    awk -v n="$4" '{ p = ($3 - $1) / (n - 1); c = ($4 - $2) / (n - 1)
-        printf "%.3f %.3f\n", (p > 0 ? p : 0.001), (c > 0 ? c : 0.001) }' <<< "$one $all"
+    keep "$*" "$1" "$work/hall" "${@:2}"
 }
 # rounds_of CALL MACHINES: so many that a run takes long beside the opening of its file.
 rounds_of() {
@@ -46,10 +34,14 @@ rounds_of() {
     *) echo $((rounds * 2)) ;;
     esac
 }
-ratio() { awk -v a="$1" -v b="$2" 'BEGIN { printf "%.2f\n", a / b }'; }
-status=0
-want() {   # want VALUE BOUND TEXT
-    if awk -v a="$1" -v b="$2" 'BEGIN { exit !(a <= b) }'; then echo "good: $3 ($1)"; else echo "MISSED: $3 ($1, bound $2)"; status=1; fi
+# both CALL MACHINES ROUNDS: ours and the C library's, whose sums are the same.
+both() {
+    run ours "$@"
+    local sum
+    sum=$(cat "$work/said")
+    if [ "$1" = quiet ]; then return; fi
+    run theirs "$@"
+    [ "$sum" = "$(cat "$work/said")" ] || { echo "store_speed: $1, $2 machines: the sums differ" >&2; exit 1; }
 }
 row() { printf '%-11s %8s  %10s %10s %7s  %10s %10s %7s\n' "$@"; }
 
@@ -58,17 +50,24 @@ reads='machine address unknown uuid interfaces token'
 declare -A processor clock in_c clock_in_c
 row 'call' machines processor 'in C' ratio clock 'in C' ratio
 for call in $reads change delete list second quiet; do
+    for _ in 1 2 3 4 5 6 7; do
+        for machines in 10 10000; do
+            both "$call" "$machines" 1
+            both "$call" "$machines" "$(rounds_of "$call" "$machines")"
+        done
+    done
     for machines in 10 10000; do
-        key=$call.$machines
-        n=$(rounds_of "$call" "$machines")
-        read -r "processor[$key]" "clock[$key]" < <(a_round ours "$call" "$machines" "$n")
-        sum=$(cat "$work/sum")
+        key=$call.$machines n=$(rounds_of "$call" "$machines")
+        one="ours $call $machines 1" all="ours $call $machines $n"
+        processor[$key]=$(a_round "${processor_of[$all]}" "${processor_of[$one]}" "$n")
+        clock[$key]=$(a_round "${clock_of[$all]}" "${clock_of[$one]}" "$n")
         if [ "$call" = quiet ]; then
             row "$call" "$machines" "${processor[$key]}" - - "${clock[$key]}" - -
             continue
         fi
-        read -r "in_c[$key]" "clock_in_c[$key]" < <(a_round theirs "$call" "$machines" "$n")
-        [ "$sum" = "$(cat "$work/sum")" ] || { echo "store_speed: $call, $machines machines: the sums differ" >&2; exit 1; }
+        one="theirs $call $machines 1" all="theirs $call $machines $n"
+        in_c[$key]=$(a_round "${processor_of[$all]}" "${processor_of[$one]}" "$n")
+        clock_in_c[$key]=$(a_round "${clock_of[$all]}" "${clock_of[$one]}" "$n")
         row "$call" "$machines" "${processor[$key]}" "${in_c[$key]}" "$(ratio "${processor[$key]}" "${in_c[$key]}")" \
             "${clock[$key]}" "${clock_in_c[$key]}" "$(ratio "${clock[$key]}" "${clock_in_c[$key]}")"
     done

@@ -1,0 +1,26 @@
+# Sourced by desk_speed.sh and store_speed.sh, which set `work`, a folder: the least times of runs of a program.
+declare -A processor_of clock_of
+# built CRATE WORD..: the program of a crate, which is proved, built and run once with these words. Where a variable with the crate's
+# name in capitals names a program that is built already, it's that one.
+built() {
+    local given=${1^^}
+    if [ -n "${!given:-}" ]; then echo "${!given}"; return; fi
+    (cd "$here/../crates/$1" && rt run -- "${@:2}" > "$work/log" 2>&1) || { cat "$work/log" >&2; return 1; }
+    echo "$here/../crates/$1/out/$1"
+}
+# keep KEY COMMAND..: runs a command, and keeps the least of its times under KEY, in microseconds; what it printed is the file said.
+keep() {
+    local key=$1 TIMEFORMAT='%3U %3S %3R' times processor clock
+    shift
+    times=$({ time "$@" > "$work/said" 2> "$work/err"; } 2>&1) || { cat "$work/err" >&2; return 1; }
+    read -r processor clock < <(awk '{ printf "%d %d\n", ($1 + $2) * 1e6, $3 * 1e6 }' <<< "$times")
+    if ((processor < ${processor_of[$key]:-processor + 1})); then processor_of[$key]=$processor; fi
+    if ((clock < ${clock_of[$key]:-clock + 1})); then clock_of[$key]=$clock; fi
+}
+# a_round TIME OF_ONE ROUNDS: microseconds of a round, by the time of all rounds and that of one.
+a_round() { awk -v all="$1" -v one="$2" -v n="$3" 'BEGIN { t = (all - one) / (n - 1); printf "%.3f\n", (t > 0 ? t : 0.001) }'; }
+ratio() { awk -v a="$1" -v b="$2" 'BEGIN { printf "%.2f\n", a / b }'; }
+status=0
+want() {   # want VALUE BOUND TEXT
+    if awk -v a="$1" -v b="$2" 'BEGIN { exit !(a <= b) }'; then echo "good: $3 ($1)"; else echo "MISSED: $3 ($1, bound $2)"; status=1; fi
+}
