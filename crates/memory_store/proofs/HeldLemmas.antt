@@ -4,6 +4,7 @@ use Rattle.std.proofs.Common.{refl, sym, ap, ◌∙◌, inl, inr, arith}
 use Rattle.std.specs.List.{cons_option}
 use Rattle.std.specs.BTreeMap.{BTreeMap, IsOrdered, btree_map_len}
 use Rattle.std.specs.Ordering.{nat_cmp}
+use Rattle.std.specs.Str.{bytes_eq}
 use Rattle.hall_types.specs.Hall.{Hall, written}
 use Rattle.hall_types.specs.Image.{BootImage}
 use Rattle.hall_types.specs.Keyed.{IsKeyed}
@@ -24,8 +25,10 @@ use Rattle.hall_types.specs.declared.order.Order.{Order}
 use Rattle.hall_types.specs.declared.receipt.Receipt.{Receipt}
 use Rattle.hall_store.specs.Rules.{KeepsMachines}
 use Rattle.memory_store.specs.declared.memory.MemoryStore.{MemoryStore}
-use Rattle.memory_store.specs.Held.{IsEarliest, IsHeld, IsIndex, SetsEntry, as_pair, itself, pair_cmp, text_cmp, uuid_of}
+use Rattle.memory_store.specs.Hashed.{ClearsEntries, Hashed, KeepsFound, SetsEntryAt}
+use Rattle.memory_store.specs.Held.{AreFound, IsEarliest, IsHeld, IsIndex, SetsEntry, as_pair, itself, pair_cmp, text_cmp, uuid_of}
 use Rattle.memory_store.specs.Table.{Clears, IsTable, KeepsRows, Sets, rows_of}
+use Rattle.memory_store.proofs.AddressLemmas.{gone_found_one, put_found, where_found}
 use Rattle.memory_store.proofs.IndexLemmas.{index_gone, index_put}
 use Rattle.memory_store.proofs.TableLemmas.{gone_table, numbers_alike, numbers_listed, pairs_alike, put_table, same_table, texts_alike, where_table}
 
@@ -63,6 +66,7 @@ module _ (s : MemoryStore) (h : Hall) (held : IsHeld s h) where
     orders = held.orders;
     receipts = held.receipts;
     last = held.last;
+    addresses = held.addresses;
     uuids = held.uuids;
     count = held.count;
     earliest = held.earliest;
@@ -87,6 +91,7 @@ module _ (s : MemoryStore) (h : Hall) (held : IsHeld s h) where
     orders = held.orders;
     receipts = held.receipts;
     last = held.last;
+    addresses = held.addresses;
     uuids = held.uuids;
     count = held.count;
     earliest = held.earliest;
@@ -111,6 +116,7 @@ module _ (s : MemoryStore) (h : Hall) (held : IsHeld s h) where
     orders = held.orders;
     receipts = held.receipts;
     last = held.last;
+    addresses = held.addresses;
     uuids = held.uuids;
     count = held.count;
     earliest = held.earliest;
@@ -135,6 +141,7 @@ module _ (s : MemoryStore) (h : Hall) (held : IsHeld s h) where
     orders = held.orders;
     receipts = held.receipts;
     last = held.last;
+    addresses = held.addresses;
     uuids = held.uuids;
     count = held.count;
     earliest = held.earliest;
@@ -159,6 +166,7 @@ module _ (s : MemoryStore) (h : Hall) (held : IsHeld s h) where
     orders = held.orders;
     receipts = held.receipts;
     last = held.last;
+    addresses = held.addresses;
     uuids = held.uuids;
     count = held.count;
     earliest = held.earliest;
@@ -167,9 +175,10 @@ module _ (s : MemoryStore) (h : Hall) (held : IsHeld s h) where
   pub same_lives : (table : BTreeMap (ℕ) (Option Live)) → KeepsRows nat_cmp s.lives table → IsHeld (record s { lives = table }) h
   same_lives table keeps = held_lives table h.lives held.keyed (same_table nat_cmp itself s.lives table h.lives keeps held.lives)
 
-  pub held_interfaces : (table : BTreeMap (List ℕ) (Option Interface)) (rows : Rows texts Interface) → IsKeyed (record h { interfaces = rows }) → IsTable text_cmp itself table rows
-      → IsHeld (record s { interfaces = table }) (record h { interfaces = rows })
-  held_interfaces table rows keyed is = record {
+  pub held_interfaces : (table : BTreeMap (List ℕ) (Option Interface)) (addresses : Hashed (List ℕ) Interface) (rows : Rows texts Interface)
+      → IsKeyed (record h { interfaces = rows }) → IsTable text_cmp itself table rows → AreFound addresses rows
+      → IsHeld (record s { interfaces = table; addresses = addresses }) (record h { interfaces = rows })
+  held_interfaces table addresses rows keyed is found = record {
     schema = held.schema;
     keyed = keyed;
     operators = held.operators;
@@ -183,13 +192,17 @@ module _ (s : MemoryStore) (h : Hall) (held : IsHeld s h) where
     orders = held.orders;
     receipts = held.receipts;
     last = held.last;
+    addresses = found;
     uuids = held.uuids;
     count = held.count;
     earliest = held.earliest;
   }
 
   pub same_interfaces : (table : BTreeMap (List ℕ) (Option Interface)) → KeepsRows text_cmp s.interfaces table → IsHeld (record s { interfaces = table }) h
-  same_interfaces table keeps = held_interfaces table h.interfaces held.keyed (same_table text_cmp itself s.interfaces table h.interfaces keeps held.interfaces)
+  same_interfaces table keeps = held_interfaces table s.addresses h.interfaces held.keyed (same_table text_cmp itself s.interfaces table h.interfaces keeps held.interfaces) held.addresses
+
+  pub same_addresses : (addresses : Hashed (List ℕ) Interface) → KeepsFound bytes_eq s.addresses addresses → IsHeld (record s { addresses = addresses }) h
+  same_addresses addresses keeps = held_interfaces s.interfaces addresses h.interfaces held.keyed held.interfaces (λ mac. keeps mac ∙ held.addresses mac)
 
   pub held_boots : (table : BTreeMap (ℕ) (Option Boot)) (rows : Rows numbers Boot) → IsKeyed (record h { boots = rows }) → IsTable nat_cmp itself table rows
       → IsHeld (record s { boots = table }) (record h { boots = rows })
@@ -207,6 +220,7 @@ module _ (s : MemoryStore) (h : Hall) (held : IsHeld s h) where
     orders = held.orders;
     receipts = held.receipts;
     last = held.last;
+    addresses = held.addresses;
     uuids = held.uuids;
     count = held.count;
     earliest = held.earliest;
@@ -231,6 +245,7 @@ module _ (s : MemoryStore) (h : Hall) (held : IsHeld s h) where
     orders = is;
     receipts = held.receipts;
     last = held.last;
+    addresses = held.addresses;
     uuids = held.uuids;
     count = held.count;
     earliest = held.earliest;
@@ -255,6 +270,7 @@ module _ (s : MemoryStore) (h : Hall) (held : IsHeld s h) where
     orders = held.orders;
     receipts = is;
     last = held.last;
+    addresses = held.addresses;
     uuids = held.uuids;
     count = held.count;
     earliest = held.earliest;
@@ -263,7 +279,7 @@ module _ (s : MemoryStore) (h : Hall) (held : IsHeld s h) where
   pub same_receipts : (table : BTreeMap (List ℕ × List ℕ) (Option Receipt)) → KeepsRows pair_cmp s.receipts table → IsHeld (record s { receipts = table }) h
   same_receipts table keeps = held_receipts table h.receipts held.keyed (same_table pair_cmp as_pair s.receipts table h.receipts keeps held.receipts)
 
-  pub held_machines : (table : BTreeMap ℕ (Option Machine)) (uuids : BTreeMap (List ℕ) (Option ℕ)) (count earliest : ℕ) (rows : Rows numbers Machine)
+  pub held_machines : (table : BTreeMap ℕ (Option Machine)) (uuids : Hashed (List ℕ) ℕ) (count earliest : ℕ) (rows : Rows numbers Machine)
       → IsKeyed (record h { machines = rows }) → IsTable nat_cmp itself table rows → IsIndex uuids rows → count ≡ size rows → IsEarliest earliest rows
       → IsHeld (record s { machines = table; uuids = uuids; machine_count = count; earliest = earliest }) (record h { machines = rows })
   held_machines table uuids count earliest rows keyed is index counted least = record {
@@ -280,6 +296,7 @@ module _ (s : MemoryStore) (h : Hall) (held : IsHeld s h) where
     orders = held.orders;
     receipts = held.receipts;
     last = held.last;
+    addresses = held.addresses;
     uuids = index;
     count = counted;
     earliest = least;
@@ -290,7 +307,7 @@ module _ (s : MemoryStore) (h : Hall) (held : IsHeld s h) where
       held_machines table s.uuids s.machine_count s.earliest h.machines held.keyed
       (same_table nat_cmp itself s.machines table h.machines keeps held.machines) held.uuids held.count held.earliest
 
-  pub same_uuids : (uuids : BTreeMap (List ℕ) (Option ℕ)) → KeepsRows text_cmp s.uuids uuids → IsHeld (record s { uuids = uuids }) h
+  pub same_uuids : (uuids : Hashed (List ℕ) ℕ) → KeepsFound bytes_eq s.uuids uuids → IsHeld (record s { uuids = uuids }) h
   same_uuids uuids keeps =
       held_machines s.machines uuids s.machine_count s.earliest h.machines held.keyed held.machines
       (λ uuid id. (λ is. (held.uuids uuid id).0 (sym (keeps uuid) ∙ is), λ there. keeps uuid ∙ (held.uuids uuid id).1 there)) held.count held.earliest
@@ -313,6 +330,7 @@ module _ (s : MemoryStore) (h : Hall) (held : IsHeld s h) where
     orders = held.orders;
     receipts = held.receipts;
     last = refl;
+    addresses = held.addresses;
     uuids = held.uuids;
     count = held.count;
     earliest = held.earliest;
@@ -341,9 +359,12 @@ module _ (s : MemoryStore) (h : Hall) (held : IsHeld s h) where
   put_lives table o keyed sets =
       held_lives s h held table (put (itself (arch_number o.arch)) o h.lives) keyed (put_table nat_cmp numbers itself numbers_alike s.lives table h.lives (arch_number o.arch) o sets held.lives)
 
-  pub put_interfaces : (table : BTreeMap (List ℕ) (Option Interface)) (o : Interface) → IsKeyed (written (PutInterface o) h) → Sets text_cmp s.interfaces table o.mac (Some o) → IsHeld (record s { interfaces = table }) (written (PutInterface o) h)
-  put_interfaces table o keyed sets =
-      held_interfaces s h held table (put (itself o.mac) o h.interfaces) keyed (put_table text_cmp texts itself texts_alike s.interfaces table h.interfaces o.mac o sets held.interfaces)
+  pub put_interfaces : (table : BTreeMap (List ℕ) (Option Interface)) (addresses : Hashed (List ℕ) Interface) (o : Interface) → IsKeyed (written (PutInterface o) h)
+      → Sets text_cmp s.interfaces table o.mac (Some o) → SetsEntryAt bytes_eq s.addresses addresses o.mac (Some o)
+      → IsHeld (record s { interfaces = table; addresses = addresses }) (written (PutInterface o) h)
+  put_interfaces table addresses o keyed sets found =
+      held_interfaces s h held table addresses (put (itself o.mac) o h.interfaces) keyed (put_table text_cmp texts itself texts_alike s.interfaces table h.interfaces o.mac o sets held.interfaces)
+      (put_found s.addresses addresses h.interfaces held.addresses o found)
 
   pub put_boots : (table : BTreeMap (ℕ) (Option Boot)) (o : Boot) → IsKeyed (written (PutBoot o) h) → Sets nat_cmp s.boots table o.number (Some o) → IsHeld (record s { boots = table }) (written (PutBoot o) h)
   put_boots table o keyed sets =
@@ -360,8 +381,12 @@ module _ (s : MemoryStore) (h : Hall) (held : IsHeld s h) where
   pub gone_images : (table : BTreeMap (List ℕ) (Option BootImage)) (name : List ℕ) → IsKeyed (written (ImageGone name) h) → Sets text_cmp s.images table name None → IsHeld (record s { images = table }) (written (ImageGone name) h)
   gone_images table name keyed sets = held_images s h held table (gone name h.images) keyed (gone_table text_cmp texts itself texts_alike s.images table h.images name sets held.images)
 
-  pub gone_interfaces : (table : BTreeMap (List ℕ) (Option Interface)) (mac : List ℕ) → IsKeyed (written (InterfaceGone mac) h) → Sets text_cmp s.interfaces table mac None → IsHeld (record s { interfaces = table }) (written (InterfaceGone mac) h)
-  gone_interfaces table mac keyed sets = held_interfaces s h held table (gone mac h.interfaces) keyed (gone_table text_cmp texts itself texts_alike s.interfaces table h.interfaces mac sets held.interfaces)
+  pub gone_interfaces : (table : BTreeMap (List ℕ) (Option Interface)) (addresses : Hashed (List ℕ) Interface) (mac : List ℕ) → IsKeyed (written (InterfaceGone mac) h)
+      → Sets text_cmp s.interfaces table mac None → SetsEntryAt bytes_eq s.addresses addresses mac None
+      → IsHeld (record s { interfaces = table; addresses = addresses }) (written (InterfaceGone mac) h)
+  gone_interfaces table addresses mac keyed sets found =
+      held_interfaces s h held table addresses (gone mac h.interfaces) keyed (gone_table text_cmp texts itself texts_alike s.interfaces table h.interfaces mac sets held.interfaces)
+      (gone_found_one s.addresses addresses h.interfaces held.addresses mac found)
 
   -- fewer machines than places
   few : IsOrdered nat_cmp s.machines → btree_map_len s.machines < 2 ^ 63 → s.machine_count < 2 ^ 63
@@ -369,7 +394,7 @@ module _ (s : MemoryStore) (h : Hall) (held : IsHeld s h) where
       let len : length (rows_of s.machines) ≡ size h.machines = ap length (numbers_listed s.machines h.machines ordered held.machines) ∙ length-listed h.machines in
       below s.machine_count (size h.machines) (length (rows_of s.machines)) (btree_map_len s.machines) held.count len (rows_few s.machines.entries) small
 
-  pub put_machines : (table : BTreeMap ℕ (Option Machine)) (mid uuids : BTreeMap (List ℕ) (Option ℕ)) (count earliest : ℕ) (m : Machine) (was : Option Machine)
+  pub put_machines : (table : BTreeMap ℕ (Option Machine)) (mid uuids : Hashed (List ℕ) ℕ) (count earliest : ℕ) (m : Machine) (was : Option Machine)
       → IsKeyed (written (PutMachine m None) h) → KeepsMachines m h → was ≡ at h.machines m.id
       → SetsEntry s.uuids mid (uuid_of was) None → SetsEntry mid uuids m.uuid (Some m.id) → Sets nat_cmp s.machines table m.id (Some m)
       → IsOrdered nat_cmp s.machines → btree_map_len s.machines < 2 ^ 63 → (s.machine_count < 2 ^ 63 → count + one_if (is_some was) ≡ s.machine_count + 1)
@@ -388,14 +413,14 @@ module _ (s : MemoryStore) (h : Hall) (held : IsHeld s h) where
       by id x deadline is (inr other) = let le = held.earliest id x deadline other.1 is in omega (arith, le, least)
 
   -- a machine that went, with what was its own
-  pub gone_machines : (table : BTreeMap ℕ (Option Machine)) (uuids : BTreeMap (List ℕ) (Option ℕ)) (count : ℕ)
-      (interfaces : BTreeMap (List ℕ) (Option Interface)) (boots : BTreeMap ℕ (Option Boot)) (orders : BTreeMap ℕ (Option Order)) (id : ℕ) (was : Option Machine)
+  pub gone_machines : (table : BTreeMap ℕ (Option Machine)) (uuids : Hashed (List ℕ) ℕ) (count : ℕ)
+      (interfaces : BTreeMap (List ℕ) (Option Interface)) (addresses : Hashed (List ℕ) Interface) (boots : BTreeMap ℕ (Option Boot)) (orders : BTreeMap ℕ (Option Order)) (id : ℕ) (was : Option Machine)
       → IsKeyed (written (MachineGone id) h) → was ≡ at h.machines id
       → SetsEntry s.uuids uuids (uuid_of was) None → Sets nat_cmp s.machines table id None
-      → Clears text_cmp s.interfaces interfaces (λ i. i.machine == id) → Clears nat_cmp s.boots boots (λ b. b.machine == id) → Clears nat_cmp s.orders orders (λ o. o.machine == id)
+      → Clears text_cmp s.interfaces interfaces (λ i. i.machine == id) → ClearsEntries bytes_eq s.addresses addresses (λ i. i.machine == id) → Clears nat_cmp s.boots boots (λ b. b.machine == id) → Clears nat_cmp s.orders orders (λ o. o.machine == id)
       → count ≡ s.machine_count - one_if (is_some was)
-      → IsHeld (record s { machines = table; interfaces = interfaces; boots = boots; orders = orders; uuids = uuids; machine_count = count }) (written (MachineGone id) h)
-  gone_machines table uuids count interfaces boots orders id was keyed before cleared sets no_interfaces no_boots no_orders counted = record {
+      → IsHeld (record s { machines = table; interfaces = interfaces; addresses = addresses; boots = boots; orders = orders; uuids = uuids; machine_count = count }) (written (MachineGone id) h)
+  gone_machines table uuids count interfaces addresses boots orders id was keyed before cleared sets no_interfaces no_addresses no_boots no_orders counted = record {
     schema = held.schema;
     keyed = keyed;
     operators = held.operators;
@@ -409,6 +434,7 @@ module _ (s : MemoryStore) (h : Hall) (held : IsHeld s h) where
     orders = where_table nat_cmp itself s.orders orders h.orders (λ o. o.machine == id) no_orders held.orders;
     receipts = held.receipts;
     last = held.last;
+    addresses = where_found s.addresses addresses h.interfaces held.addresses (λ i. i.machine == id) no_addresses;
     uuids = index_gone s.uuids uuids h id was held.uuids before cleared;
     count = one_less count s.machine_count (size h.machines) (size (gone id h.machines)) (one_if (is_some was)) counted held.count
         (ap (λ o. size (gone id h.machines) + one_if (is_some o)) before ∙ size-gone h.machines id);

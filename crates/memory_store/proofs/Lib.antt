@@ -1,3 +1,4 @@
+pub mod AddressLemmas
 pub mod CountLemmas
 pub mod ExpiryLemmas
 pub mod HeldLemmas

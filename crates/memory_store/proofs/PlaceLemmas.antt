@@ -2,6 +2,7 @@
 use Rattle.std.specs.Prelude.{ℕ, List, [], ◌∷◌, ◌++◌, Option}
 use Rattle.std.specs.BTreeMap.{BTreeMap}
 use Rattle.std.specs.Ordering.{nat_cmp}
+use Rattle.std.specs.Str.{bytes_eq}
 use Rattle.hall_types.specs.Image.{BootImage}
 use Rattle.hall_types.specs.Kinds.{arch_number}
 use Rattle.hall_types.specs.declared.boot.Boot.{Boot}
@@ -17,6 +18,7 @@ use Rattle.hall_types.specs.declared.order.Order.{Order}
 use Rattle.hall_types.specs.declared.receipt.Receipt.{Receipt}
 use Rattle.memory_store.specs.declared.memory.MemoryStore.{MemoryStore}
 use Rattle.memory_store.specs.Held.{HasPlaces, HaveAllPlaces, KeepsAllPlaces, pair_cmp, text_cmp}
+use Rattle.memory_store.specs.Hashed.{Hashed, KeepsEntries}
 use Rattle.memory_store.specs.Table.{KeepsPlaces}
 
 module _ (s : MemoryStore) where
@@ -100,21 +102,22 @@ module _ (s : MemoryStore) where
   places_lives table keeps (PutReceipt r) place = place
   places_lives table keeps (PutNumbers n) place = place
 
-  pub places_interfaces : (table : BTreeMap (List ℕ) (Option Interface)) → KeepsPlaces text_cmp s.interfaces table → KeepsAllPlaces s (record s { interfaces = table })
-  places_interfaces table keeps (PutOperator o) place = place
-  places_interfaces table keeps (PutPool p) place = place
-  places_interfaces table keeps (PutMember m) place = place
-  places_interfaces table keeps (PutImage i) place = place
-  places_interfaces table keeps (ImageGone name) place = place
-  places_interfaces table keeps (PutLive l) place = place
-  places_interfaces table keeps (PutMachine m was) place = place
-  places_interfaces table keeps (MachineGone id) place = place
-  places_interfaces table keeps (PutInterface i) place = keeps i.mac place
-  places_interfaces table keeps (InterfaceGone mac) place = place
-  places_interfaces table keeps (PutBoot b) place = place
-  places_interfaces table keeps (PutOrder o) place = place
-  places_interfaces table keeps (PutReceipt r) place = place
-  places_interfaces table keeps (PutNumbers n) place = place
+  pub places_interfaces : (table : BTreeMap (List ℕ) (Option Interface)) (addresses : Hashed (List ℕ) Interface) → KeepsPlaces text_cmp s.interfaces table → KeepsEntries bytes_eq s.addresses addresses
+      → KeepsAllPlaces s (record s { interfaces = table; addresses = addresses })
+  places_interfaces table addresses keeps keeps_found (PutOperator o) place = place
+  places_interfaces table addresses keeps keeps_found (PutPool p) place = place
+  places_interfaces table addresses keeps keeps_found (PutMember m) place = place
+  places_interfaces table addresses keeps keeps_found (PutImage i) place = place
+  places_interfaces table addresses keeps keeps_found (ImageGone name) place = place
+  places_interfaces table addresses keeps keeps_found (PutLive l) place = place
+  places_interfaces table addresses keeps keeps_found (PutMachine m was) place = place
+  places_interfaces table addresses keeps keeps_found (MachineGone id) place = place
+  places_interfaces table addresses keeps keeps_found (PutInterface i) place = (keeps i.mac place.0, keeps_found i.mac place.1)
+  places_interfaces table addresses keeps keeps_found (InterfaceGone mac) place = place
+  places_interfaces table addresses keeps keeps_found (PutBoot b) place = place
+  places_interfaces table addresses keeps keeps_found (PutOrder o) place = place
+  places_interfaces table addresses keeps keeps_found (PutReceipt r) place = place
+  places_interfaces table addresses keeps keeps_found (PutNumbers n) place = place
 
   pub places_boots : (table : BTreeMap (ℕ) (Option Boot)) → KeepsPlaces nat_cmp s.boots table → KeepsAllPlaces s (record s { boots = table })
   places_boots table keeps (PutOperator o) place = place
@@ -164,7 +167,7 @@ module _ (s : MemoryStore) where
   places_receipts table keeps (PutReceipt r) place = keeps (r.operator, r.key) place
   places_receipts table keeps (PutNumbers n) place = place
 
-  pub places_machines : (table : BTreeMap ℕ (Option Machine)) (uuids : BTreeMap (List ℕ) (Option ℕ)) (count earliest : ℕ) → KeepsPlaces nat_cmp s.machines table → KeepsPlaces text_cmp s.uuids uuids
+  pub places_machines : (table : BTreeMap ℕ (Option Machine)) (uuids : Hashed (List ℕ) ℕ) (count earliest : ℕ) → KeepsPlaces nat_cmp s.machines table → KeepsEntries bytes_eq s.uuids uuids
       → KeepsAllPlaces s (record s { machines = table; uuids = uuids; machine_count = count; earliest = earliest })
   places_machines table uuids count earliest keeps keeps_uuids (PutOperator o) place = place
   places_machines table uuids count earliest keeps keeps_uuids (PutPool p) place = place

@@ -158,18 +158,19 @@ numbers_listed table rows ordered is = rows_listed numbers table rows ordered is
 
 -- ---- rows taken out by what they are
 
+-- a row that doesn't go is one that stays
+pub by_passing : {X : Type 0} (goes : X → Bool) (row : Option X) → unless_gone goes row ≡ (if passes (λ x. not (goes x)) row then row else None)
+by_passing goes None = refl
+by_passing goes (Some x) = by (goes x)
+  where
+    by : (b : Bool) → (if b then None else Some x) ≡ (if not b then Some x else None)
+    by true = refl
+    by false = refl
+
 pub where_table : {K L X : Type 0} (cmp : K → K → Ordering) {keys : Keys L} (key_of : K → L) (old new : BTreeMap K (Option X)) (rows : Rows keys X) (goes : X → Bool)
     → Clears cmp old new goes → IsTable cmp key_of old rows → IsTable cmp key_of new (rows_where (λ x. not (goes x)) rows)
-where_table {X = X} cmp {keys = keys} key_of old new rows goes clears is key =
-    clears key ∙ (ap (unless_gone goes) (is key) ∙ (by (at rows (key_of key)) ∙ sym (at-rows_where (λ x. not (goes x)) rows (key_of key))))
-  where
-    by_goes : (b : Bool) (x : X) → (if b then None else Some x) ≡ (if not b then Some x else None)
-    by_goes true x = refl
-    by_goes false x = refl
-
-    by : (row : Option X) → unless_gone goes row ≡ (if passes (λ x. not (goes x)) row then row else None)
-    by None = refl
-    by (Some x) = by_goes (goes x) x
+where_table cmp key_of old new rows goes clears is key =
+    clears key ∙ (ap (unless_gone goes) (is key) ∙ (by_passing goes (at rows (key_of key)) ∙ sym (at-rows_where (λ x. not (goes x)) rows (key_of key))))
 
 -- ---- what a closure that keeps each key leaves
 

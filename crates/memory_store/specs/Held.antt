@@ -1,18 +1,20 @@
 -- Which hall a store in memory has.
 use Rattle.std.specs.Prelude.{◌≡◌, ℕ, ◌≤◌, ◌↔◌, ⊤, List, [], ◌∷◌, Option, Some, None, if◌then◌else◌}
-use Rattle.std.specs.BTreeMap.{BTreeMap}
 use Rattle.std.specs.Cmp.Lexicographic.{slice_cmp}
 use Rattle.std.specs.Ordering.{nat_cmp, ordering_then}
+use Rattle.std.specs.Str.{bytes_eq}
 use Rattle.std.specs.declared.cmp.Ordering.{Ordering}
 use Rattle.hall_types.specs.Hall.{Hall, pair, second}
 use Rattle.hall_types.specs.Kinds.{arch_number}
 use Rattle.hall_types.specs.Keyed.{IsKeyed}
 use Rattle.hall_types.specs.Lookup.{has_uuid}
-use Rattle.hall_types.specs.Rows.{Rows, numbers, at, size}
+use Rattle.hall_types.specs.Rows.{Rows, numbers, texts, at, size}
 use Rattle.hall_types.specs.declared.change.RowWrite.{RowWrite}
 use Rattle.hall_types.specs.declared.change.RowWrite.TheVariants.{PutOperator, PutPool, PutMember, PutImage, ImageGone, PutLive, PutMachine, MachineGone, PutInterface, InterfaceGone, PutBoot, PutOrder, PutReceipt, PutNumbers}
+use Rattle.hall_types.specs.declared.machine.Interface.{Interface}
 use Rattle.hall_types.specs.declared.machine.Machine.{Machine}
-use Rattle.memory_store.specs.Table.{HasPlace, IsTable, row_at}
+use Rattle.memory_store.specs.Hashed.{HasEntry, Hashed, entry_at}
+use Rattle.memory_store.specs.Table.{HasPlace, IsTable}
 use Rattle.memory_store.specs.declared.memory.MemoryStore.{MemoryStore}
 
 abbrev pub text_cmp : List ℕ → List ℕ → Ordering
@@ -28,10 +30,14 @@ itself key = key
 abbrev pub as_pair : List ℕ × List ℕ → List (List ℕ)
 as_pair key = pair key.0 key.1
 
+-- the interfaces are found by their addresses
+abbrev pub AreFound : Hashed (List ℕ) Interface → Rows texts Interface → Type 0
+AreFound table interfaces = (mac : List ℕ) → entry_at bytes_eq table mac ≡ at interfaces mac
+
 -- the index has the number of the machine with each UUID
-abbrev pub IsIndex : BTreeMap (List ℕ) (Option ℕ) → Rows numbers Machine → Type 0
+abbrev pub IsIndex : Hashed (List ℕ) ℕ → Rows numbers Machine → Type 0
 IsIndex index machines = (uuid : List ℕ) (id : ℕ) →
-    (row_at text_cmp index uuid ≡ Some id) ↔ ((m : Machine) × (at machines id ≡ Some m) × (m.uuid ≡ Some uuid))
+    (entry_at bytes_eq index uuid ≡ Some id) ↔ ((m : Machine) × (at machines id ≡ Some m) × (m.uuid ≡ Some uuid))
 
 -- the UUID of a machine, if there is a machine and it has one
 abbrev pub uuid_of : Option Machine → Option (List ℕ)
@@ -39,8 +45,8 @@ uuid_of None = None
 uuid_of (Some m) = m.uuid
 
 -- the entry of a UUID, if one is given, is this one now, and the others are as before
-abbrev pub SetsEntry : BTreeMap (List ℕ) (Option ℕ) → BTreeMap (List ℕ) (Option ℕ) → Option (List ℕ) → Option ℕ → Type 0
-SetsEntry old new given entry = (uuid : List ℕ) → row_at text_cmp new uuid ≡ (if has_uuid given uuid then entry else row_at text_cmp old uuid)
+abbrev pub SetsEntry : Hashed (List ℕ) ℕ → Hashed (List ℕ) ℕ → Option (List ℕ) → Option ℕ → Type 0
+SetsEntry old new given entry = (uuid : List ℕ) → entry_at bytes_eq new uuid ≡ (if has_uuid given uuid then entry else entry_at bytes_eq old uuid)
 
 -- no machine has an earlier deadline
 abbrev pub IsEarliest : ℕ → Rows numbers Machine → Type 0
@@ -61,6 +67,7 @@ pub record IsHeld (s : MemoryStore) (h : Hall) : Type 0 where
   pub orders : IsTable nat_cmp itself s.orders h.orders
   pub receipts : IsTable pair_cmp as_pair s.receipts h.receipts
   pub last : s.numbers ≡ h.last
+  pub addresses : AreFound s.addresses h.interfaces
   pub uuids : IsIndex s.uuids h.machines
   pub count : s.machine_count ≡ size h.machines
   pub earliest : IsEarliest s.earliest h.machines
@@ -73,9 +80,9 @@ HasPlaces (PutMember m) s = HasPlace pair_cmp s.members (m.pool, m.operator)
 HasPlaces (PutImage i) s = HasPlace text_cmp s.images i.name
 HasPlaces (ImageGone name) s = ⊤
 HasPlaces (PutLive l) s = HasPlace nat_cmp s.lives (arch_number l.arch)
-HasPlaces (PutMachine m was) s = HasPlace nat_cmp s.machines m.id × ((uuid : List ℕ) → m.uuid ≡ Some uuid → HasPlace text_cmp s.uuids uuid)
+HasPlaces (PutMachine m was) s = HasPlace nat_cmp s.machines m.id × ((uuid : List ℕ) → m.uuid ≡ Some uuid → HasEntry bytes_eq s.uuids uuid)
 HasPlaces (MachineGone id) s = ⊤
-HasPlaces (PutInterface i) s = HasPlace text_cmp s.interfaces i.mac
+HasPlaces (PutInterface i) s = HasPlace text_cmp s.interfaces i.mac × HasEntry bytes_eq s.addresses i.mac
 HasPlaces (InterfaceGone mac) s = ⊤
 HasPlaces (PutBoot b) s = HasPlace nat_cmp s.boots b.number
 HasPlaces (PutOrder o) s = HasPlace nat_cmp s.orders o.number

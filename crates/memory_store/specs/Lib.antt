@@ -1,4 +1,5 @@
 pub mod Counted
 pub mod Expiry
+pub mod Hashed
 pub mod Held
 pub mod Table

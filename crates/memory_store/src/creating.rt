@@ -11,7 +11,7 @@ use hall_types::{
     Digest, LastIssued, Name, Numbers, Operator, Pool, Role, rows_stand_under_their_keys,
 };
 use std::alloc::{AllocError, Global};
-use std::collections::BTreeMap;
+use std::collections::{BTreeMap, HashMap};
 
 // A table with one row.
 fn sole<K: Ord + Copy + Drop, X: Drop>(
@@ -72,7 +72,8 @@ impl MemoryStore {
                 boot: LastIssued::NONE,
                 order: LastIssued::NONE,
             },
-            uuids: BTreeMap::new(alloc),
+            addresses: HashMap::new(alloc),
+            uuids: HashMap::new(alloc),
             machine_count: 0,
             earliest: u64::MAX,
         })

@@ -1,12 +1,13 @@
 //! What is kept beside the tables of a store in memory.
 ghost use Rattle.std.specs.Prelude.{◌≡◌, ◌<◌, ◌≤◌, ◌+◌, ◌-◌, ◌^◌, ℕ, List, Some, None, is_some};
 ghost use Rattle.hall_types.specs.Rows.{one_if};
-ghost use Rattle.memory_store.specs.Held.{SetsEntry, text_cmp, uuid_of};
-ghost use Rattle.memory_store.specs.Table.{HasPlace, KeepsPlaces};
+ghost use Rattle.std.specs.Str.{bytes_eq};
+ghost use Rattle.memory_store.specs.Hashed.{HasEntry, KeepsEntries};
+ghost use Rattle.memory_store.specs.Held.{SetsEntry, uuid_of};
 
-use crate::table;
+use crate::hashed;
 use hall_types::{Machine, MachineUuid, Number};
-use std::collections::BTreeMap;
+use std::collections::HashMap;
 
 /// The UUID of a machine, if there is a machine and it has one.
 pub(crate) fn uuid_of(machine: &Option<Machine>) -> Option<MachineUuid>
@@ -19,29 +20,27 @@ pub(crate) fn uuid_of(machine: &Option<Machine>) -> Option<MachineUuid>
 }
 
 /// Takes the entry of a UUID out.
-#[tactic(auto, using(crate::proofs::IndexLemmas::entry_from_sets))]
-pub(crate) fn clear_entry(index: &mut BTreeMap<[u8; 16], Option<Number>>, uuid: Option<MachineUuid>)
+pub(crate) fn clear_entry(index: &mut HashMap<[u8; 16], Option<Number>>, uuid: Option<MachineUuid>)
     ensures sets { SetsEntry index.old index.new uuid None }
-    ensures places { KeepsPlaces text_cmp index.old index.new }
+    ensures places { KeepsEntries bytes_eq index.old index.new }
 {
     if let Some(uuid) = uuid {
-        table::clear(index, uuid.octets());
+        hashed::clear(index, uuid.octets());
     }
 }
 
 /// Sets the entry of a UUID to a number.
-#[tactic(auto, using(crate::proofs::IndexLemmas::entry_from_sets))]
 pub(crate) fn set_entry(
-    index: &mut BTreeMap<[u8; 16], Option<Number>>,
+    index: &mut HashMap<[u8; 16], Option<Number>>,
     uuid: Option<MachineUuid>,
     id: Number,
 )
-    requires { (its : List ℕ) → uuid ≡ Some its → HasPlace text_cmp index.old its }
+    requires { (its : List ℕ) → uuid ≡ Some its → HasEntry bytes_eq index.old its }
     ensures sets { SetsEntry index.old index.new uuid (Some id) }
-    ensures places { KeepsPlaces text_cmp index.old index.new }
+    ensures places { KeepsEntries bytes_eq index.old index.new }
 {
     if let Some(uuid) = uuid {
-        table::set(index, uuid.octets(), Some(id));
+        hashed::set(index, uuid.octets(), Some(id));
     }
 }
 

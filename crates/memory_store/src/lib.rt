@@ -5,6 +5,7 @@ mod copying;
 mod counting;
 mod creating;
 mod expiring;
+mod hashed;
 mod indexing;
 mod listing;
 mod memory;

@@ -4,10 +4,11 @@ use hall_types::{
     Receipt,
 };
 use std::alloc::Global;
-use std::collections::BTreeMap;
+use std::collections::{BTreeMap, HashMap};
 
-/// A hall kept in memory: a map for each table, and beside them the machines' numbers by UUID, how many machines
-/// there are, and a deadline that none of theirs is before.
+/// A hall kept in memory: a map in order for each table. Beside them, so that the machine of a frame is found as fast among
+/// many as among few, are the interfaces under a hash of their addresses and the machines' numbers under one of their
+/// UUIDs; and how many machines there are, and a deadline that none of theirs is before.
 #[derive(Drop)]
 pub struct MemoryStore {
     pub(crate) alloc: Global,
@@ -22,7 +23,8 @@ pub struct MemoryStore {
     pub(crate) orders: BTreeMap<u64, Option<Order>>,
     pub(crate) receipts: BTreeMap<(Name, [u8; 16]), Option<Receipt>>,
     pub(crate) numbers: Numbers,
-    pub(crate) uuids: BTreeMap<[u8; 16], Option<Number>>,
+    pub(crate) addresses: HashMap<[u8; 6], Option<Interface>>,
+    pub(crate) uuids: HashMap<[u8; 16], Option<Number>>,
     pub(crate) machine_count: u64,
     pub(crate) earliest: u64,
 }

@@ -7,7 +7,7 @@ ghost use Rattle.hall_types.specs.Rows.{at, listed};
 ghost use Rattle.memory_store.specs.Held.{IsHeld};
 
 use crate::memory::MemoryStore;
-use crate::table;
+use crate::{hashed, table};
 use hall_types::{
     Arch, Boot, Digest, Image, Interface, Live, MacAddress, Machine, MachineUuid, Member, Name,
     Number, Operator, Order, OrderStage, Pool, Receipt, RequestKey, arch_number,
@@ -18,7 +18,7 @@ impl MemoryStore {
     pub(crate) fn machine_at_mac(&self, mac: MacAddress) -> Option<Number>
         ensures { (h : Hall) → IsHeld self.now h → result ≡ option_map (λ i. i.machine) (at h.interfaces mac) }
     {
-        match table::row(&self.interfaces, &mac.octets()) {
+        match hashed::row(&self.addresses, &mac.octets()) {
             Some(interface) => Some(interface.machine),
             None => None,
         }
@@ -27,7 +27,7 @@ impl MemoryStore {
     pub(crate) fn machine_at_uuid(&self, uuid: MachineUuid) -> Option<Number>
         ensures { (h : Hall) → IsHeld self.now h → result ≡ option_map (λ m. m.id) (machine_with_uuid h uuid) }
     {
-        table::row(&self.uuids, &uuid.octets())
+        hashed::row(&self.uuids, &uuid.octets())
     }
 
     pub(crate) fn machine_row(&self, id: Number) -> Option<Machine>

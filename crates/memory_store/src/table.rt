@@ -123,7 +123,7 @@ impl OfMachine for Order {
     }
 }
 
-fn clear_row<X: OfMachine + Copy>(row: &mut Option<X>, machine: Number)
+pub(crate) fn clear_row<X: OfMachine + Copy>(row: &mut Option<X>, machine: Number)
     ensures { row.new ≡ unless_gone (λ x. X.owner x == machine) row.old }
 {
     if let Some(its) = *row {

@@ -2,7 +2,7 @@
 ghost use Rattle.std.specs.Prelude.{◌≡◌, ℕ, List, Some, None, OnOk, OnErr};
 ghost use Rattle.hall_types.specs.Hall.{Hall, applied, written};
 ghost use Rattle.hall_types.specs.declared.change.RowWrite.{RowWrite};
-ghost use Rattle.hall_types.specs.declared.change.RowWrite.TheVariants.{PutMachine, MachineGone};
+ghost use Rattle.hall_types.specs.declared.change.RowWrite.TheVariants.{InterfaceGone, MachineGone, PutInterface, PutMachine};
 ghost use Rattle.hall_store.specs.Rules.{AllKeep, Keeps, KeepsMachines};
 ghost use Rattle.memory_store.specs.Held.{HasPlaces, HaveAllPlaces, IsHeld, KeepsAllPlaces};
 
@@ -11,8 +11,10 @@ use crate::indexing::{
     clear_entry, count_after_gone, count_after_put, earliest_after_put, set_entry, uuid_of,
 };
 use crate::memory::MemoryStore;
-use crate::table;
-use hall_types::{Machine, Number, RowWrite, arch_number, rows_stand_under_their_keys};
+use crate::{hashed, table};
+use hall_types::{
+    Interface, MacAddress, Machine, Number, RowWrite, arch_number, rows_stand_under_their_keys,
+};
 use std::alloc::AllocError;
 
 impl MemoryStore {
@@ -23,9 +25,19 @@ impl MemoryStore {
     {
         table::reserve(&mut self.machines, machine.id.get())?;
         match machine.uuid {
-            Some(uuid) => table::reserve(&mut self.uuids, uuid.octets()),
+            Some(uuid) => hashed::reserve(&mut self.uuids, uuid.octets()),
             None => Ok(()),
         }
+    }
+
+    fn reserve_interface(&mut self, interface: &Interface) -> Result<(), AllocError>
+        ensures places { OnOk result (HasPlaces (PutInterface interface.now) self.new) }
+        ensures others { KeepsAllPlaces self.old self.new }
+        ensures same { (h : Hall) → IsHeld self.old h → IsHeld self.new h }
+    {
+        let mac = interface.mac.octets();
+        table::reserve(&mut self.interfaces, mac)?;
+        hashed::reserve(&mut self.addresses, mac)
     }
 
     // Takes the places for what a row write puts.
@@ -43,9 +55,7 @@ impl MemoryStore {
             RowWrite::PutImage(image) => table::reserve(&mut self.images, image.name()),
             RowWrite::PutLive(live) => table::reserve(&mut self.lives, arch_number(live.arch)),
             RowWrite::PutMachine { machine, .. } => self.reserve_machine(machine),
-            RowWrite::PutInterface(interface) => {
-                table::reserve(&mut self.interfaces, interface.mac.octets())
-            }
+            RowWrite::PutInterface(interface) => self.reserve_interface(interface),
             RowWrite::PutBoot(boot) => table::reserve(&mut self.boots, boot.number.get()),
             RowWrite::PutOrder(order) => table::reserve(&mut self.orders, order.number.get()),
             RowWrite::PutReceipt(receipt) => {
@@ -93,9 +103,31 @@ impl MemoryStore {
         clear_entry(&mut self.uuids, uuid_of(&was));
         self.machine_count = count_after_gone(self.machine_count, &was);
         table::clear(&mut self.machines, id.get());
+        hashed::clear_machine(&mut self.addresses, id);
         table::clear_machine(&mut self.interfaces, id);
         table::clear_machine(&mut self.boots, id);
         table::clear_machine(&mut self.orders, id);
+    }
+
+    fn put_interface(&mut self, interface: &Interface)
+        requires { HasPlaces (PutInterface interface.now) self.old }
+        ensures held { (h : Hall) → IsHeld self.old h → IsHeld self.new (written (PutInterface interface.now) h) }
+        ensures places { KeepsAllPlaces self.old self.new }
+    {
+        rows_stand_under_their_keys();
+        let mac = interface.mac.octets();
+        hashed::set(&mut self.addresses, mac, Some(*interface));
+        table::set(&mut self.interfaces, mac, Some(*interface));
+    }
+
+    fn clear_interface(&mut self, mac: MacAddress)
+        ensures held { (h : Hall) → IsHeld self.old h → IsHeld self.new (written (InterfaceGone mac) h) }
+        ensures places { KeepsAllPlaces self.old self.new }
+    {
+        rows_stand_under_their_keys();
+        let mac = mac.octets();
+        hashed::clear(&mut self.addresses, mac);
+        table::clear(&mut self.interfaces, mac);
     }
 
     // Writes a row in its place.
@@ -124,14 +156,8 @@ impl MemoryStore {
             }
             RowWrite::PutMachine { machine, .. } => self.put_machine(&machine),
             RowWrite::MachineGone(id) => self.clear_machine(id),
-            RowWrite::PutInterface(interface) => {
-                table::set(
-                    &mut self.interfaces,
-                    interface.mac.octets(),
-                    Some(interface),
-                );
-            }
-            RowWrite::InterfaceGone(mac) => table::clear(&mut self.interfaces, mac.octets()),
+            RowWrite::PutInterface(interface) => self.put_interface(&interface),
+            RowWrite::InterfaceGone(mac) => self.clear_interface(mac),
             RowWrite::PutBoot(boot) => table::set(&mut self.boots, boot.number.get(), Some(boot)),
             RowWrite::PutOrder(order) => {
                 table::set(&mut self.orders, order.number.get(), Some(order));

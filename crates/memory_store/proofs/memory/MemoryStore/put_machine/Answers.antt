@@ -4,6 +4,7 @@ use Rattle.hall_types.specs.declared.change.RowWrite.TheVariants.{PutMachine}
 use Rattle.memory_store.specs.Held.{SetsEntry}
 use Rattle.memory_store.specs.Table.{Sets}
 use Rattle.memory_store.proofs.HeldLemmas.{put_machines}
+use Rattle.memory_store.proofs.PlaceLemmas.{places_machines}
 use Rattle.memory_store.proofs.memory.MemoryStore.put_machine.Goals as goal
 
 pub returns-clause-held : goal.returns-clause-held
@@ -17,3 +18,9 @@ returns-clause-held c = λ h held keeps.
     (subst (λ n. Sets nat_cmp s.machines c.set.new.table n (Some m)) c.get.ensures.number c.set.ensures.sets)
     c.table_is_bounded.ensures.ordered c.table_is_bounded.ensures.small c.count_after_put-self.ensures
     c.earliest_after_put-self.ensures.before c.earliest_after_put-self.ensures.own
+
+pub returns-clause-places : goal.returns-clause-places
+returns-clause-places c = λ w place.
+    let s = c.args.self.now in
+    places_machines s c.set.new.table c.set_entry.new.index c.count_after_put-self.result c.earliest_after_put-self.result
+    c.set.ensures.places (λ uuid there. c.set_entry.ensures.places uuid (c.clear_entry.ensures.places uuid there)) w place

@@ -1,8 +1,8 @@
 use Rattle.std.proofs.Common.{OnOk, sym, subst}
 use Rattle.memory_store.specs.Held.{HasPlaces, pair_cmp}
 use Rattle.memory_store.specs.Table.{HasPlace}
-use Rattle.memory_store.proofs.HeldLemmas.{same_operators, same_pools, same_members, same_images, same_interfaces, same_receipts}
-use Rattle.memory_store.proofs.PlaceLemmas.{places_members, places_interfaces, places_receipts}
+use Rattle.memory_store.proofs.HeldLemmas.{same_operators, same_pools, same_members, same_images, same_receipts}
+use Rattle.memory_store.proofs.PlaceLemmas.{places_members, places_receipts}
 use Rattle.memory_store.proofs.memory.MemoryStore.reserve.Goals as goal
 
 pub returns-in-PutOperator-clause-same : goal.returns-in-PutOperator-clause-same
@@ -20,16 +20,10 @@ returns-in-PutMember-clause-same c = λ h held. same_members c.args.self.now h h
 pub returns-in-PutImage-clause-same : goal.returns-in-PutImage-clause-same
 returns-in-PutImage-clause-same c = λ h held. same_images c.args.self.now h held c.reserve-in-PutImage.new.table c.reserve-in-PutImage.ensures.rows
 
-pub returns-in-PutInterface-clause-others : goal.returns-in-PutInterface-clause-others
-returns-in-PutInterface-clause-others c = places_interfaces c.args.self.now c.reserve-in-PutInterface.new.table c.reserve-in-PutInterface.ensures.places
-
-pub returns-in-PutInterface-clause-same : goal.returns-in-PutInterface-clause-same
-returns-in-PutInterface-clause-same c = λ h held. same_interfaces c.args.self.now h held c.reserve-in-PutInterface.new.table c.reserve-in-PutInterface.ensures.rows
-
 pub returns-in-PutReceipt-clause-places : goal.returns-in-PutReceipt-clause-places
 returns-in-PutReceipt-clause-places c =
     subst (λ w. OnOk c.reserve-in-PutReceipt.result (HasPlaces w (record c.args.self.now { receipts = c.reserve-in-PutReceipt.new.table }))) (sym c.in-PutReceipt.is)
-    (subst (λ octets. OnOk c.reserve-in-PutReceipt.result (HasPlace pair_cmp c.reserve-in-PutReceipt.new.table (c.in-PutReceipt.receipt.operator, octets))) c.octets-in-PutReceipt.ensures.octets c.reserve-in-PutReceipt.ensures.place)
+    (subst (λ octets. OnOk c.reserve-in-PutReceipt.result (HasPlace pair_cmp c.reserve-in-PutReceipt.new.table (c.in-PutReceipt.receipt.operator, octets))) c.octets.ensures.octets c.reserve-in-PutReceipt.ensures.place)
 
 pub returns-in-PutReceipt-clause-others : goal.returns-in-PutReceipt-clause-others
 returns-in-PutReceipt-clause-others c = places_receipts c.args.self.now c.reserve-in-PutReceipt.new.table c.reserve-in-PutReceipt.ensures.places

@@ -4,6 +4,7 @@ use Rattle.hall_types.specs.Hall.{default_pool, second}
 use Rattle.hall_types.specs.Rows.{numbers, pairs, texts}
 use Rattle.memory_store.specs.Held.{as_pair, itself, pair_cmp, text_cmp}
 use Rattle.memory_store.specs.Table.{HasSole}
+use Rattle.memory_store.proofs.AddressLemmas.{none_found}
 use Rattle.memory_store.proofs.NewLemmas.{new_count, new_earliest, new_index}
 use Rattle.memory_store.proofs.TableLemmas.{empty_table, sole_table, texts_alike}
 use Rattle.memory_store.proofs.memory.MemoryStore.with_admin.Goals as goal
@@ -24,7 +25,8 @@ returns c = record {
   orders = empty_table nat_cmp numbers itself c.new-7.result c.new-7.ensures.empty;
   receipts = empty_table pair_cmp pairs as_pair c.new-8.result c.new-8.ensures.empty;
   last = refl;
-  uuids = new_index c.new-9.result c.new-9.ensures.empty;
+  addresses = none_found c.new-9.result c.new-9.ensures.empty;
+  uuids = new_index c.new-10.result c.new-10.ensures.empty;
   count = new_count;
   earliest = new_earliest _;
 }

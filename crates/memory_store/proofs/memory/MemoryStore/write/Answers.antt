@@ -1,11 +1,11 @@
-use Rattle.std.proofs.Common.{Some, None, sym, subst}
+use Rattle.std.proofs.Common.{Some, sym, subst}
 use Rattle.std.specs.Ordering.{nat_cmp}
 use Rattle.hall_types.specs.Hall.{written}
-use Rattle.hall_types.specs.declared.change.RowWrite.TheVariants.{PutOperator, PutPool, PutMember, PutImage, ImageGone, PutLive, PutInterface, InterfaceGone, PutBoot, PutOrder, PutReceipt, PutNumbers}
+use Rattle.hall_types.specs.declared.change.RowWrite.TheVariants.{PutOperator, PutPool, PutMember, PutImage, ImageGone, PutLive, PutBoot, PutOrder, PutReceipt, PutNumbers}
 use Rattle.memory_store.specs.Held.{IsHeld, pair_cmp, text_cmp}
 use Rattle.memory_store.specs.Table.{Sets}
-use Rattle.memory_store.proofs.HeldLemmas.{put_operators, put_pools, put_members, put_images, gone_images, put_lives, put_interfaces, gone_interfaces, put_boots, put_orders, put_receipts, held_numbers}
-use Rattle.memory_store.proofs.PlaceLemmas.{places_members, places_interfaces, places_receipts}
+use Rattle.memory_store.proofs.HeldLemmas.{put_operators, put_pools, put_members, put_images, gone_images, put_lives, put_boots, put_orders, put_receipts, held_numbers}
+use Rattle.memory_store.proofs.PlaceLemmas.{places_members, places_receipts}
 use Rattle.memory_store.proofs.memory.MemoryStore.write.Goals as goal
 
 pub returns-in-PutOperator-clause-held : goal.returns-in-PutOperator-clause-held
@@ -47,24 +47,6 @@ returns-in-PutLive-clause-held c = λ h held keeps.
     (put_lives c.args.self.now h held c.set-in-PutLive.new.table c.in-PutLive.live (c.rows_stand_under_their_keys.ensures.written (PutLive c.in-PutLive.live) h held.keyed)
     (subst (λ key. Sets nat_cmp c.args.self.now.lives c.set-in-PutLive.new.table key (Some c.in-PutLive.live)) c.arch_number.ensures c.set-in-PutLive.ensures.sets))
 
-pub returns-in-PutInterface-clause-held : goal.returns-in-PutInterface-clause-held
-returns-in-PutInterface-clause-held c = λ h held keeps.
-    subst (λ w. IsHeld (record c.args.self.now { interfaces = c.set-in-PutInterface.new.table }) (written w h)) (sym c.in-PutInterface.is)
-    (put_interfaces c.args.self.now h held c.set-in-PutInterface.new.table c.in-PutInterface.interface (c.rows_stand_under_their_keys.ensures.written (PutInterface c.in-PutInterface.interface) h held.keyed)
-    (subst (λ key. Sets text_cmp c.args.self.now.interfaces c.set-in-PutInterface.new.table key (Some c.in-PutInterface.interface)) c.octets.ensures.octets c.set-in-PutInterface.ensures.sets))
-
-pub returns-in-PutInterface-clause-places : goal.returns-in-PutInterface-clause-places
-returns-in-PutInterface-clause-places c = places_interfaces c.args.self.now c.set-in-PutInterface.new.table c.set-in-PutInterface.ensures.places
-
-pub returns-in-InterfaceGone-clause-held : goal.returns-in-InterfaceGone-clause-held
-returns-in-InterfaceGone-clause-held c = λ h held keeps.
-    subst (λ w. IsHeld (record c.args.self.now { interfaces = c.clear-in-InterfaceGone.new.table }) (written w h)) (sym c.in-InterfaceGone.is)
-    (gone_interfaces c.args.self.now h held c.clear-in-InterfaceGone.new.table c.in-InterfaceGone.mac (c.rows_stand_under_their_keys.ensures.written (InterfaceGone c.in-InterfaceGone.mac) h held.keyed)
-    (subst (λ key. Sets text_cmp c.args.self.now.interfaces c.clear-in-InterfaceGone.new.table key None) c.octets-in-InterfaceGone.ensures.octets c.clear-in-InterfaceGone.ensures.sets))
-
-pub returns-in-InterfaceGone-clause-places : goal.returns-in-InterfaceGone-clause-places
-returns-in-InterfaceGone-clause-places c = places_interfaces c.args.self.now c.clear-in-InterfaceGone.new.table c.clear-in-InterfaceGone.ensures.places
-
 pub returns-in-PutBoot-clause-held : goal.returns-in-PutBoot-clause-held
 returns-in-PutBoot-clause-held c = λ h held keeps.
     subst (λ w. IsHeld (record c.args.self.now { boots = c.set-in-PutBoot.new.table }) (written w h)) (sym c.in-PutBoot.is)
@@ -81,7 +63,7 @@ pub returns-in-PutReceipt-clause-held : goal.returns-in-PutReceipt-clause-held
 returns-in-PutReceipt-clause-held c = λ h held keeps.
     subst (λ w. IsHeld (record c.args.self.now { receipts = c.set-in-PutReceipt.new.table }) (written w h)) (sym c.in-PutReceipt.is)
     (put_receipts c.args.self.now h held c.set-in-PutReceipt.new.table c.in-PutReceipt.receipt (c.rows_stand_under_their_keys.ensures.written (PutReceipt c.in-PutReceipt.receipt) h held.keyed)
-    (subst (λ key. Sets pair_cmp c.args.self.now.receipts c.set-in-PutReceipt.new.table (c.in-PutReceipt.receipt.operator, key) (Some c.in-PutReceipt.receipt)) c.octets-in-PutReceipt.ensures.octets c.set-in-PutReceipt.ensures.sets))
+    (subst (λ key. Sets pair_cmp c.args.self.now.receipts c.set-in-PutReceipt.new.table (c.in-PutReceipt.receipt.operator, key) (Some c.in-PutReceipt.receipt)) c.octets.ensures.octets c.set-in-PutReceipt.ensures.sets))
 
 pub returns-in-PutReceipt-clause-places : goal.returns-in-PutReceipt-clause-places
 returns-in-PutReceipt-clause-places c = places_receipts c.args.self.now c.set-in-PutReceipt.new.table c.set-in-PutReceipt.ensures.places
