@@ -47,12 +47,22 @@ pub enum BindFault {
 }
 
 impl From<AllocError> for BindFault {
+    ghost use Rattle.std.specs.Prelude.{◌≡◌};
+    ghost use Rattle.hall_service.specs.declared.sockets.BindFault.TheVariants as fault;
+
+    ghost from_gives = { λ refused given. given ≡ fault.Memory };
+
     fn from(_: AllocError) -> BindFault {
         BindFault::Memory
     }
 }
 
 impl From<io::Error> for BindFault {
+    ghost use Rattle.std.specs.Prelude.{◌≡◌};
+    ghost use Rattle.hall_service.specs.declared.sockets.BindFault.TheVariants as fault;
+
+    ghost from_gives = { λ refused given. given ≡ fault.Bind };
+
     fn from(_: io::Error) -> BindFault {
         BindFault::Bind
     }
