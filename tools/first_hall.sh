@@ -15,17 +15,21 @@ trap ended EXIT
 cd "$work"
 
 "$HALLBOOT" init --db hall.db --admin ada --digest "$(printf %s operators-secret | sha256sum | cut -c1-64)"
-read -r discover boot http < <(python3 -c '
+# Serves the hall at three ports that were free just before; fails where another program was faster to take one.
+serve() {
+    read -r discover boot http < <(python3 -c '
 import socket
 kept = [socket.socket(socket.AF_INET, kind) for kind in (socket.SOCK_DGRAM, socket.SOCK_DGRAM, socket.SOCK_STREAM)]
 for s in kept: s.bind(("127.0.0.1", 0))
 print(*(s.getsockname()[1] for s in kept))')
-"$HALLBOOT" serve --db hall.db --discover "127.0.0.1:$discover" --boot "127.0.0.1:$boot" --http "127.0.0.1:$http" \
-    --turns 1000000000000 --server 127.0.0.1 --next 127.0.0.1 --host "127.0.0.1:$http" > ready & server=$!
-for ((i = 0; i < 600; i++)); do
-    if grep -q 'hall desk ready' ready; then break; fi
-    sleep 0.1
-done
+    "$HALLBOOT" serve --db hall.db --discover "127.0.0.1:$discover" --boot "127.0.0.1:$boot" --http "127.0.0.1:$http" \
+        --turns 1000000000000 --server 127.0.0.1 --next 127.0.0.1 --host "127.0.0.1:$http" > ready & server=$!
+    until grep -q 'hall desk ready' ready; do
+        kill -0 "$server" 2> /dev/null || return 1
+        sleep 0.1
+    done
+}
+serve || serve || serve
 
 python3 - "$frame" "$discover" << 'PYTHON'
 import socket, sys
