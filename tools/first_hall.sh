@@ -22,6 +22,7 @@ import socket
 kept = [socket.socket(socket.AF_INET, kind) for kind in (socket.SOCK_DGRAM, socket.SOCK_DGRAM, socket.SOCK_STREAM)]
 for s in kept: s.bind(("127.0.0.1", 0))
 print(*(s.getsockname()[1] for s in kept))')
+    : > ready
     "$HALLBOOT" serve --db hall.db --discover "127.0.0.1:$discover" --boot "127.0.0.1:$boot" --http "127.0.0.1:$http" \
         --turns 1000000000000 --server 127.0.0.1 --next 127.0.0.1 --host "127.0.0.1:$http" > ready & server=$!
     until grep -q 'hall desk ready' ready; do
