@@ -1,11 +1,18 @@
-//! Logs of arrivals. The first line is `ADMIN DIGEST`; then each line is an arrival: `discover MOMENT FRESH HEX`,
-//! `boot MOMENT FRESH HEX`, `request MOMENT FRESH HEX` or `quiet MOMENT`.
+//! Logs of arrivals. The first line is `ADMIN DIGEST`; then each line is an arrival. In octets it is `discover MOMENT FRESH HEX`,
+//! `boot MOMENT FRESH HEX`, `request MOMENT FRESH HEX` or `quiet MOMENT`. A request may be written readably:
+//! `command MOMENT TOKEN JSON`, `script MOMENT FRESH MAC`, `report MOMENT NUMBER BOOT STAGE`, `orders MOMENT TOKEN`,
+//! `order MOMENT TOKEN NUMBER OUTCOME`, `machines MOMENT TOKEN` or `machine MOMENT TOKEN ID`, where TOKEN is a bearer token, or
+//! `-` for none, and BOOT the token of a boot.
 #![tactic(auto)]
 
+mod answer;
 mod line;
 mod reading;
+mod request;
 #[cfg(test)]
 mod tests;
 
-pub use line::{LineFault, admin, answer_line, arrival};
+pub use answer::{answer_line, answer_text, push_escaped};
+pub use line::{LineFault, admin, arrival};
 pub use reading::{LogFault, next_line};
+pub use request::is_readable;

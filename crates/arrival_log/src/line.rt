@@ -1,5 +1,6 @@
 //! The lines of a log.
-use hall_desk::{Answer, Arrival, Input};
+use crate::request::{is_readable, request};
+use hall_desk::{Arrival, Input};
 use hall_types::{Digest, Moment, Name, Port, Token};
 use hex::FromHex;
 use pxe_vendor::Octets;
@@ -11,7 +12,7 @@ use thiserror::Error;
 pub enum LineFault {
     #[error("a word is missing, or one is too many")]
     Words,
-    #[error("the first word isn't discover, boot, request or quiet")]
+    #[error("the first word is no arrival's")]
     Kind,
     #[error("the name or the digest of the administrator is malformed")]
     Admin,
@@ -95,22 +96,9 @@ fn input(kind: &str, octets: Octets) -> Result<Input, LineFault> {
     }
 }
 
-/// The arrival of a line.
-pub fn arrival(alloc: Global, line: &str) -> Result<Arrival, LineFault> {
-    let mut words = line.split(' ');
-    let (Some(kind), Some(at)) = (words.next(), words.next()) else {
-        return Err(LineFault::Words);
-    };
-    if kind == "quiet" {
-        if words.next().is_some() {
-            return Err(LineFault::Words);
-        }
-        return Ok(Arrival {
-            moment: moment(at)?,
-            fresh: Token::from([0; 16]),
-            input: Input::Quiet,
-        });
-    }
+// What comes as octets in hexadecimal, after the moment: `FRESH HEX`.
+fn in_octets(alloc: Global, kind: &str, at: &str, words: &str) -> Result<Arrival, LineFault> {
+    let mut words = words.split(' ');
     let (Some(token), Some(text), None) = (words.next(), words.next(), words.next()) else {
         return Err(LineFault::Words);
     };
@@ -124,14 +112,53 @@ pub fn arrival(alloc: Global, line: &str) -> Result<Arrival, LineFault> {
     })
 }
 
-/// The line of an answer, with its line feed: its octets in hexadecimal, `silence` or `unavailable`.
-pub fn answer_line(alloc: Global, answer: &Answer) -> Result<String, LineFault> {
-    let line = match answer {
-        Answer::Octets(octets) => hex::encode(alloc, octets.as_slice()),
-        Answer::Unavailable => String::from_str(alloc, "unavailable"),
-        Answer::Silence => String::from_str(alloc, "silence"),
+// A request that is written readably, after the moment.
+fn in_words(alloc: Global, kind: &str, at: &str, words: &str) -> Result<Arrival, LineFault> {
+    let moment = moment(at)?;
+    if kind != "script" {
+        let octets = request(alloc, kind, words)?;
+        return Ok(Arrival {
+            moment,
+            fresh: Token::from([0; 16]),
+            input: Input::Request(octets),
+        });
+    }
+    let Some((token, words)) = words.split_once(' ') else {
+        return Err(LineFault::Words);
     };
-    let mut line = line.map_err(|_| LineFault::Memory)?;
-    line.push('\n').map_err(|_| LineFault::Memory)?;
-    Ok(line)
+    let fresh = fresh(token)?;
+    let octets = request(alloc, kind, words)?;
+    Ok(Arrival {
+        moment,
+        fresh,
+        input: Input::Request(octets),
+    })
+}
+
+// A moment in which nothing came.
+fn quiet(at: &str) -> Result<Arrival, LineFault> {
+    Ok(Arrival {
+        moment: moment(at)?,
+        fresh: Token::from([0; 16]),
+        input: Input::Quiet,
+    })
+}
+
+/// The arrival of a line.
+pub fn arrival(alloc: Global, line: &str) -> Result<Arrival, LineFault> {
+    let Some((kind, rest)) = line.split_once(' ') else {
+        return Err(LineFault::Words);
+    };
+    match rest.split_once(' ') {
+        Some((at, words)) => if is_readable(kind) {
+            in_words(alloc, kind, at, words)
+        } else {
+            in_octets(alloc, kind, at, words)
+        },
+        None => if kind == "quiet" {
+            quiet(rest)
+        } else {
+            Err(LineFault::Words)
+        },
+    }
 }

@@ -4,6 +4,8 @@ use hall_file::{CreateFault, OpenFault};
 use hall_sql::SqlStore;
 use hall_types::{Digest, Name};
 use sqlite::{Connection, Error, FileFrom, FileStore, Unknown};
+use sqlite_disk::Disk;
+use std::alloc::Global;
 use std::fs;
 
 /// The store of a hall in a file. `close` it at the end: where it is dropped, what was kept is in the file and in the log beside
@@ -32,8 +34,28 @@ fn closed(closing: Result<(), Error>) -> Result<(), FileFault> {
 /// # Errors
 ///
 /// `Unavailable` where the disk failed: what was kept is in the file or in the log beside it.
-pub fn close(store: Store) -> Result<(), FileFault> {
+pub fn close<D: Disk + Drop>(store: SqlStore<FileStore<D>>) -> Result<(), FileFault> {
     closed(store.into_connection().close())
+}
+
+// Makes the tables of a new hall over a connection, and closes it. What holds the file's octets stays open here, so that no
+// proof looks into it.
+fn create_over<D: Disk + Drop>(
+    alloc: Global,
+    connection: Connection<FileStore<D>>,
+    admin: Name,
+    digest: Digest,
+) -> Result<(), FileFault> {
+    match SqlStore::create(alloc, connection, admin, digest) {
+        Ok(store) => close(store),
+        Err(refused) => {
+            let _ = refused.connection.close();
+            match refused.fault {
+                CreateFault::NotEmpty => Err(FileFault::NotEmpty),
+                CreateFault::Unavailable => Err(FileFault::Unavailable),
+            }
+        }
+    }
 }
 
 /// Makes the tables of a new hall in a file, with this enabled admin and this digest of its token, and closes it. The file is
@@ -46,16 +68,7 @@ pub fn close(store: Store) -> Result<(), FileFault> {
 /// as they were.
 pub fn create(rt: &HostRuntime, path: &str, admin: Name, digest: Digest) -> Result<(), FileFault> {
     let connection = connect(rt, path)?;
-    match SqlStore::create(rt.alloc(), connection, admin, digest) {
-        Ok(store) => close(store),
-        Err(refused) => {
-            let _ = refused.connection.close();
-            match refused.fault {
-                CreateFault::NotEmpty => Err(FileFault::NotEmpty),
-                CreateFault::Unavailable => Err(FileFault::Unavailable),
-            }
-        }
-    }
+    create_over(rt.alloc(), connection, admin, digest)
 }
 
 // A file that isn't there is no hall's: it isn't made.
@@ -64,6 +77,24 @@ fn look(rt: &HostRuntime, path: &str) -> Result<(), FileFault> {
         Ok(true) => Ok(()),
         Ok(false) => Err(FileFault::NotAHall),
         Err(_) => Err(FileFault::Unavailable),
+    }
+}
+
+// The store of the hall that a connection's tables spell. Where there is none, the connection is closed.
+fn open_over<D: Disk + Drop>(
+    alloc: Global,
+    connection: Connection<FileStore<D>>,
+) -> Result<SqlStore<FileStore<D>>, FileFault> {
+    match SqlStore::open(alloc, connection) {
+        Ok(store) => Ok(store),
+        Err(refused) => {
+            let _ = refused.connection.close();
+            match refused.fault {
+                OpenFault::NotAHall => Err(FileFault::NotAHall),
+                OpenFault::OtherVersion => Err(FileFault::OtherVersion),
+                OpenFault::Unavailable => Err(FileFault::Unavailable),
+            }
+        }
     }
 }
 
@@ -77,15 +108,5 @@ fn look(rt: &HostRuntime, path: &str) -> Result<(), FileFault> {
 pub fn open(rt: &HostRuntime, path: &str) -> Result<Store, FileFault> {
     look(rt, path)?;
     let connection = connect(rt, path)?;
-    match SqlStore::open(rt.alloc(), connection) {
-        Ok(store) => Ok(store),
-        Err(refused) => {
-            let _ = refused.connection.close();
-            match refused.fault {
-                OpenFault::NotAHall => Err(FileFault::NotAHall),
-                OpenFault::OtherVersion => Err(FileFault::OtherVersion),
-                OpenFault::Unavailable => Err(FileFault::Unavailable),
-            }
-        }
-    }
+    open_over(rt.alloc(), connection)
 }

@@ -2,62 +2,12 @@
 //! Without a word it answers the frame on standard input.
 #![tactic(auto)]
 
-mod asked;
-mod over;
-mod random_block;
-mod serve;
 mod tasks;
-mod words;
 
-use clap::ArgMatches;
-use hall_office::{Exit, Fault, frame_run};
-use hall_types::Port;
-use pxe_vendor::Place;
+use hall_office::{Exit, Fault};
+use hall_words::{Refusal, read};
 use std::env;
 use std::process::ExitCode;
-
-// The exit status of wrong usage.
-const USAGE: u8 = 2;
-
-fn frame(rt: &HostRuntime, port: Port, place: Result<Place, Fault>) -> Exit {
-    match place {
-        Ok(place) => frame_run(rt.alloc(), &mut rt.stdin(), &mut rt.stdout(), port, &place),
-        Err(fault) => Exit::Fault(fault),
-    }
-}
-
-fn frame_as_asked(rt: &HostRuntime, words: &ArgMatches<'_>) -> Exit {
-    match asked::role(words) {
-        Ok(port) => frame(rt, port, asked::place(rt.alloc(), words)),
-        Err(fault) => Exit::Fault(fault),
-    }
-}
-
-fn frame_by_default(rt: &HostRuntime) -> Exit {
-    frame(rt, Port::Discover, asked::default_place(rt.alloc()))
-}
-
-fn ended(task: Result<Exit, Fault>) -> Exit {
-    match task {
-        Ok(exit) => exit,
-        Err(fault) => Exit::Fault(fault),
-    }
-}
-
-fn asked_run(rt: &HostRuntime, words: &ArgMatches<'_>) -> Exit {
-    let Some((name, inner)) = words.subcommand() else {
-        return frame_by_default(rt);
-    };
-    match name {
-        "init" => ended(tasks::init(rt, inner)),
-        "request" => ended(tasks::request(rt, inner)),
-        "serve" => ended(tasks::serve(rt, inner)),
-        "report" => ended(tasks::report(rt, inner)),
-        "import" => ended(tasks::import(rt, inner)),
-        "export" => ended(tasks::export(rt, inner)),
-        _ => frame_as_asked(rt, inner),
-    }
-}
 
 // The words of the command line.
 fn given(rt: &HostRuntime) -> Result<Vec<String>, Fault> {
@@ -76,22 +26,25 @@ fn status(rt: &HostRuntime, exit: Exit) -> u8 {
     exit.status()
 }
 
+// The exit status where the words name nothing to be done, with what is said of them.
+fn status_of_refusal(rt: &HostRuntime, refusal: &Refusal) -> u8 {
+    if refusal.is_memory() {
+        return status(rt, Exit::Fault(Fault::Memory));
+    }
+    refusal.print(rt);
+    refusal.status()
+}
+
+fn run(rt: &HostRuntime, words: &[String]) -> u8 {
+    match read(rt.alloc(), words) {
+        Ok(words) => status(rt, tasks::done(rt, &words)),
+        Err(refusal) => status_of_refusal(rt, &refusal),
+    }
+}
+
 fn main(rt: HostRuntime) -> ExitCode {
-    let words = match given(&rt) {
-        Ok(words) => words,
-        Err(fault) => return ExitCode::from(status(&rt, Exit::Fault(fault))),
-    };
-    let Ok(command) = words::command(rt.alloc()) else {
-        return ExitCode::from(status(&rt, Exit::Fault(Fault::Memory)));
-    };
-    match command.try_get_matches_from(words.as_slice()) {
-        Ok(matches) => ExitCode::from(status(&rt, asked_run(&rt, &matches))),
-        Err(error) => {
-            if error.kind() == clap::error::ErrorKind::OutOfMemory {
-                return ExitCode::from(status(&rt, Exit::Fault(Fault::Memory)));
-            }
-            let _ = error.print(&rt);
-            ExitCode::from(if error.use_stderr() { USAGE } else { 0 })
-        }
+    match given(&rt) {
+        Ok(words) => ExitCode::from(run(&rt, words.as_slice())),
+        Err(fault) => ExitCode::from(status(&rt, Exit::Fault(fault))),
     }
 }

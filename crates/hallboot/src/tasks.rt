@@ -1,13 +1,12 @@
-//! The subcommands over a hall's file, as the words ask. Each checks its options, opens the file, and closes it at the end,
-//! whatever became of the task.
-use crate::{asked, over};
-use clap::ArgMatches;
+//! What the words ask for is done. A hall's file is closed at the end, whatever became of the task.
 use file_store::{FileFault, close, create, open};
-use hall_office::{Exit, Fault};
-use hall_types::Digest;
-use sha2::{Digest as _, Sha256};
-use std::fs::File;
-use std::io;
+use hall_office::{Exit, Fault, frame_run};
+use hall_sql::SqlStore;
+use hall_tasks::{Asked, Task, asked_by, carried_out};
+use hall_types::{Digest, Name};
+use hall_words::Words;
+use sqlite::{Alter, FileStore};
+use sqlite_disk::Disk;
 
 fn of_file(fault: FileFault) -> Fault {
     match fault {
@@ -18,6 +17,12 @@ fn of_file(fault: FileFault) -> Fault {
     }
 }
 
+fn init(rt: &HostRuntime, path: &str, admin: Name, digest: Digest) -> Result<Exit, Fault> {
+    create(rt, path, admin, digest).map_err(of_file)?;
+    hall_office::write_text(&mut rt.stdout(), "hall created\n")?;
+    Ok(Exit::Done)
+}
+
 // How a task over a file ended: a fault of the task comes before one of the closing.
 fn ended(task: Result<Exit, Fault>, closing: Result<(), FileFault>) -> Result<Exit, Fault> {
     let exit = task?;
@@ -25,75 +30,58 @@ fn ended(task: Result<Exit, Fault>, closing: Result<(), FileFault>) -> Result<Ex
     Ok(exit)
 }
 
-pub fn init(rt: &HostRuntime, words: &ArgMatches<'_>) -> Result<Exit, Fault> {
-    let path = asked::db(words)?;
-    let (admin, digest) = asked::admin(words)?;
-    create(rt, path, admin, digest).map_err(of_file)?;
-    hall_office::write_text(&mut rt.stdout(), "hall created\n")?;
-    Ok(Exit::Done)
+// Carries a task out over a hall's tables.
+fn over_tables<S: Alter>(
+    rt: &HostRuntime,
+    store: SqlStore<S>,
+    task: Task<'_>,
+) -> (Result<Exit, Fault>, SqlStore<S>) {
+    carried_out(rt, store, task)
 }
 
-pub fn request(rt: &HostRuntime, words: &ArgMatches<'_>) -> Result<Exit, Fault> {
-    let path = asked::db(words)?;
-    let moment = asked::moment(words)?;
-    let fresh = asked::fresh(words)?;
-    let place = asked::place(rt.alloc(), words)?;
+// Carries a task out over a hall's tables on a disk, and closes them.
+fn over_disk<D: Disk + Drop>(
+    rt: &HostRuntime,
+    store: SqlStore<FileStore<D>>,
+    task: Task<'_>,
+) -> Result<Exit, Fault> {
+    let (exit, store) = over_tables(rt, store, task);
+    ended(exit, close(store))
+}
+
+// Carries a task out over a hall's file. Each of these three takes one layer of the store's type: a function that has them all
+// takes a minute to prove.
+fn over_file(rt: &HostRuntime, path: &str, task: Task<'_>) -> Result<Exit, Fault> {
     let store = open(rt, path).map_err(of_file)?;
-    let (task, store) = over::request(rt, store, place, moment, fresh);
-    ended(task, close(store))
+    over_disk(rt, store, task)
 }
 
-pub fn report(rt: &HostRuntime, words: &ArgMatches<'_>) -> Result<Exit, Fault> {
-    let path = asked::db(words)?;
-    let what = asked::what(words)?;
-    let mut store = open(rt, path).map_err(of_file)?;
-    let task = over::report(rt, &mut store, what);
-    ended(task, close(store))
-}
-
-pub fn export(rt: &HostRuntime, words: &ArgMatches<'_>) -> Result<Exit, Fault> {
-    let path = asked::db(words)?;
-    let mut store = open(rt, path).map_err(of_file)?;
-    let task = over::export(rt, &mut store);
-    ended(task, close(store))
-}
-
-// The octets of the file of machines.
-fn machines(rt: &HostRuntime, path: &str) -> Result<Vec<u8>, Fault> {
-    let Ok(mut file) = File::open(rt, path) else {
-        return Err(Fault::Io);
-    };
-    let mut octets = Vec::new(rt.alloc());
-    match io::Read::read_to_end(&mut file, &mut octets) {
-        Ok(_) => Ok(octets),
-        Err(_) => Err(Fault::Io),
+fn carry_out(rt: &HostRuntime, asked: Asked<'_>) -> Result<Exit, Fault> {
+    match asked {
+        Asked::Frame { port, place } => Ok(frame_run(
+            rt.alloc(),
+            &mut rt.stdin(),
+            &mut rt.stdout(),
+            port,
+            &place,
+        )),
+        Asked::Init {
+            path,
+            admin,
+            digest,
+        } => init(rt, path, admin, digest),
+        Asked::Over { path, task } => over_file(rt, path, task),
     }
 }
 
-fn bearer(words: &ArgMatches<'_>) -> Result<Digest, Fault> {
-    let token = asked::token(words)?;
-    Ok(Digest::from(Sha256::digest(token.as_bytes())))
+fn run(rt: &HostRuntime, words: &Words<'_>) -> Result<Exit, Fault> {
+    carry_out(rt, asked_by(rt, words)?)
 }
 
-pub fn import(rt: &HostRuntime, words: &ArgMatches<'_>) -> Result<Exit, Fault> {
-    let path = asked::db(words)?;
-    let bearer = bearer(words)?;
-    let moment = asked::moment(words)?;
-    let file = asked::file(words)?;
-    let place = asked::place(rt.alloc(), words)?;
-    let octets = machines(rt, file)?;
-    let store = open(rt, path).map_err(of_file)?;
-    let (task, store) = over::import(rt, store, place, octets.as_slice(), bearer, moment);
-    ended(task, close(store))
-}
-
-pub fn serve(rt: &HostRuntime, words: &ArgMatches<'_>) -> Result<Exit, Fault> {
-    let path = asked::db(words)?;
-    let addresses = asked::addresses(words)?;
-    let turns = asked::turns(words)?;
-    let log = words.get_str("log");
-    let place = asked::place(rt.alloc(), words)?;
-    let store = open(rt, path).map_err(of_file)?;
-    let (task, store) = over::serve(rt, store, place, &addresses, log, turns);
-    ended(task, close(store))
+/// Does what the words ask for, and says how it ended.
+pub fn done(rt: &HostRuntime, words: &Words<'_>) -> Exit {
+    match run(rt, words) {
+        Ok(exit) => exit,
+        Err(fault) => Exit::Fault(fault),
+    }
 }

@@ -1,5 +1,5 @@
-//! Tests of the reports on a hall in memory, and of the import.
+//! Tests of the reports on a hall whose store fails.
 #![tactic(auto)]
 
 #[cfg(test)]
-mod tests;
+mod failing;

@@ -1,5 +1,5 @@
-//! Tests of requests and responses, octet for octet.
+//! Tests of readers and writers that fail.
 #![tactic(auto)]
 
 #[cfg(test)]
-mod requests;
+mod noted;

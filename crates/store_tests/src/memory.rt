@@ -1,4 +1,4 @@
-use hall_store::{Call, Count, HallStore, Probe, Unavailable};
+use hall_store::{Call, HallStore, Probe, Unavailable};
 use hall_types::{
     Arch, Boot, BootCount, Change, Digest, Image, ImageFault, Interface, LastIssued, Live,
     MacAddress, Machine, MachineUuid, Member, Moment, Name, Number, Numbers, Operator, Order,
@@ -13,7 +13,7 @@ use std::test::Fail;
 use thiserror::Error;
 
 mod apply;
-mod reads;
+mod probe;
 
 /// Why a hall of the tests isn't made.
 #[derive(Debug, Drop, Error)]
@@ -173,12 +173,4 @@ fn worked_hall(alloc: Global, rt: &impl Abort) -> Result<MemoryStore, Fault> {
     let change = worked_rows(alloc, rt)?;
     store.apply(&change)?;
     Ok(store)
-}
-
-/// Applies one row.
-fn write(alloc: Global, store: &mut MemoryStore, row: RowWrite) -> Result<(), Fault> {
-    let mut rows = Vec::new(alloc);
-    add(&mut rows, row)?;
-    store.apply(&Change::from(rows))?;
-    Ok(())
 }

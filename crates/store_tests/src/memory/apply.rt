@@ -1,4 +1,4 @@
-//! Changes.
+//! A change where memory ends.
 use super::*;
 
 /// A boot and an order of machine 1, and a second machine.
@@ -38,93 +38,6 @@ fn work_rows(alloc: Global, rt: &impl Abort) -> Result<Change, Fault> {
     add(&mut rows, put_new(machine(rt, 2)))?;
     add(&mut rows, RowWrite::PutNumbers(numbers(rt, 2, 1, 1)))?;
     Ok(Change::from(rows))
-}
-
-#[test]
-fn a_machine_goes_with_what_is_its_own(rt: HostRuntime) -> Result<(), Fail> {
-    let alloc = rt.alloc();
-    let mut store = worked_hall(alloc, &rt)?;
-    let one = number(&rt, 1);
-    store.apply(&work_rows(alloc, &rt)?)?;
-    assert_eq!(rt; store.waiting_orders(alloc)?.len(), 1);
-    assert_eq!(rt; store.by_uuid(MachineUuid::from(UUID))?, None);
-    write(alloc, &mut store, RowWrite::MachineGone(one))?;
-    assert_eq!(rt; store.machine(one)?, None);
-    assert_eq!(rt; store.boot(one)?, None);
-    assert_eq!(rt; store.order(one)?, None);
-    assert_eq!(rt; store.by_mac(MacAddress::from(MAC))?, None);
-    assert_eq!(rt; store.machine_count()?, 1);
-    assert!(rt; store.machine(number(&rt, 2))?.is_some());
-    // its numbers and its address may be used again
-    write(alloc, &mut store, put_new(machine(&rt, 1)))?;
-    write(alloc, &mut store, interface(&rt, MAC, 1))?;
-    assert_eq!(rt; store.by_mac(MacAddress::from(MAC))?, Some(one));
-    assert_eq!(rt; store.boot(one)?, None);
-    Ok(())
-}
-
-#[test]
-fn a_change_over_another_version_is_refused(rt: HostRuntime) -> Result<(), Fail> {
-    let alloc = rt.alloc();
-    let mut store = worked_hall(alloc, &rt)?;
-    let change = work_rows(alloc, &rt)?;
-    store.apply(&change)?;
-    // once more: machine 1 has version 2 now
-    assert_eq!(rt; store.apply(&change), Err(Unavailable));
-    assert_eq!(rt; store.machine_count()?, 2);
-    // and a new machine is not put over one that is there
-    let mut rows = Vec::new(alloc);
-    add(&mut rows, RowWrite::PutNumbers(numbers(&rt, 9, 9, 9)))?;
-    add(&mut rows, put_new(machine(&rt, 1)))?;
-    assert_eq!(rt; store.apply(&Change::from(rows)), Err(Unavailable));
-    assert_eq!(rt; store.numbers()?, numbers(&rt, 2, 1, 1));
-    assert_eq!(rt; store.apply(&Change::from(Vec::new(alloc))), Ok(()));
-    Ok(())
-}
-
-fn has_count(
-    rt: &impl Abort,
-    counts: &[Count],
-    at: usize,
-    pool: &str,
-    status: Status,
-    machines: u64,
-) {
-    let Some(count) = counts.get(at) else {
-        assert!(rt; false, "no entry {at}");
-        return;
-    };
-    assert_eq!(rt; count.pool.text(), pool);
-    assert_eq!(rt; count.status, status);
-    assert_eq!(rt; count.machines, machines);
-}
-
-#[test]
-fn counts_follow_changes(rt: HostRuntime) -> Result<(), Fail> {
-    let alloc = rt.alloc();
-    let mut store = worked_hall(alloc, &rt)?;
-    let counts = store.counts(alloc)?;
-    assert_eq!(rt; counts.len(), 1);
-    has_count(&rt, &counts, 0, "lab", Status::New, 1);
-    store.apply(&work_rows(alloc, &rt)?)?;
-    write(alloc, &mut store, put_new(machine(&rt, 3)))?;
-    write(
-        alloc,
-        &mut store,
-        put_new(Machine {
-            pool: name(&rt, "default"),
-            ..machine(&rt, 4)
-        }),
-    )?;
-    let counts = store.counts(alloc)?;
-    assert_eq!(rt; counts.len(), 3);
-    has_count(&rt, &counts, 0, "default", Status::New, 1);
-    has_count(&rt, &counts, 1, "lab", Status::New, 2);
-    has_count(&rt, &counts, 2, "lab", Status::Commissioning, 1);
-    // the last machine of a pool leaves no entry of it
-    write(alloc, &mut store, RowWrite::MachineGone(number(&rt, 4)))?;
-    assert_eq!(rt; store.counts(alloc)?.len(), 2);
-    Ok(())
 }
 
 /// Takes all that the heap gives, in at most so many blocks of halving sizes.

@@ -1,5 +1,0 @@
-//! Tests of commands, with worked sequences written out by hand.
-#![tactic(auto)]
-
-#[cfg(test)]
-mod commands;

@@ -1,0 +1,13 @@
+//! What a command line asks for, and the tasks over the store of an open hall.
+#![tactic(auto)]
+
+mod carrying;
+mod lines;
+mod random_block;
+mod serving;
+mod stamps;
+mod tasks;
+mod values;
+
+pub use carrying::carried_out;
+pub use tasks::{Asked, Task, asked_by};

@@ -1,0 +1,76 @@
+//! The command line, built of the tables.
+use crate::options::{Given, PLACE, Word};
+use crate::subcommands::{ENTRIES, Entry};
+use clap::{Arg, ArgAction, Command};
+use std::alloc::{AllocError, Global};
+
+fn option<'a>(alloc: Global, word: &Word) -> Arg<'a> {
+    Arg::new(alloc, word.name)
+        .value_name(word.value)
+        .help(word.help)
+        .action(ArgAction::Set)
+}
+
+fn arg<'a>(alloc: Global, word: &Word) -> Arg<'a> {
+    let arg = option(alloc, word);
+    match word.given {
+        Given::Always => arg.long(word.name).required(true),
+        Given::AlwaysAsIs => arg.long(word.name).required(true).allow_hyphen_values(true),
+        Given::Maybe => arg.long(word.name),
+        Given::OrElse(value) => arg.long(word.name).default_value(value),
+        Given::Last => arg.required(true),
+    }
+}
+
+fn with<'a>(
+    alloc: Global,
+    command: Command<'a>,
+    words: &[Word],
+) -> Result<Command<'a>, AllocError> {
+    let mut command = command;
+    for word in words {
+        command = command.arg(arg(alloc, word))?;
+    }
+    Ok(command)
+}
+
+fn new<'a>(
+    alloc: Global,
+    name: &'static str,
+    about: &'static str,
+    example: &'static str,
+) -> Command<'a> {
+    Command::new(alloc, name).about(about).after_help(example)
+}
+
+fn command_of<'a>(alloc: Global, entry: &Entry) -> Result<Command<'a>, AllocError> {
+    let command = new(alloc, entry.name, entry.about, entry.example);
+    let command = with(alloc, command, entry.words)?;
+    if entry.has_place {
+        with(alloc, command, &PLACE)
+    } else {
+        Ok(command)
+    }
+}
+
+fn with_subcommand<'a>(
+    alloc: Global,
+    command: Command<'a>,
+    entry: &Entry,
+) -> Result<Command<'a>, AllocError> {
+    command.subcommand(command_of(alloc, entry)?)
+}
+
+/// The command line. Without a subcommand it is `frame` with its defaults.
+pub(crate) fn command_line<'a>(alloc: Global) -> Result<Command<'a>, AllocError> {
+    let mut command = new(
+        alloc,
+        "hallboot",
+        "The boot desk of a server hall",
+        "Exit status: 0 done, 1 fault, 2 wrong usage, 3 no answer.",
+    );
+    for entry in &ENTRIES {
+        command = with_subcommand(alloc, command, entry)?;
+    }
+    Ok(command)
+}

@@ -1,0 +1,152 @@
+//! The options of the subcommands.
+
+/// The address of the server, by default.
+pub(crate) const SERVER: &str = "192.0.2.1";
+
+/// The address of the TFTP server, by default.
+pub(crate) const NEXT: &str = "192.0.2.2";
+
+/// The host in the scripts' addresses, by default.
+pub(crate) const HOST: &str = "hall.example";
+
+/// How an option is given.
+#[derive(Clone, Copy)]
+pub(crate) enum Given {
+    /// It has to be given.
+    Always,
+    /// The value may begin with a hyphen.
+    AlwaysAsIs,
+    Maybe,
+    OrElse(&'static str),
+    /// By its place, after the options.
+    Last,
+}
+
+/// An option of a subcommand, and what its help says.
+#[derive(Clone, Copy)]
+pub(crate) struct Word {
+    pub(crate) name: &'static str,
+    pub(crate) value: &'static str,
+    pub(crate) help: &'static str,
+    pub(crate) given: Given,
+}
+
+pub(crate) const DB: Word = Word {
+    name: "db",
+    value: "FILE",
+    help: "The hall's file",
+    given: Given::Always,
+};
+
+pub(crate) const AT: Word = Word {
+    name: "at",
+    value: "MOMENT",
+    help: "The moment, in seconds since 1970-01-01 00:00:00 UTC",
+    given: Given::Always,
+};
+
+pub(crate) const ROLE: Word = Word {
+    name: "role",
+    value: "ROLE",
+    help: "The port: discover or boot",
+    given: Given::OrElse("discover"),
+};
+
+pub(crate) const ADMIN: Word = Word {
+    name: "admin",
+    value: "NAME",
+    help: "The administrator's name",
+    given: Given::Always,
+};
+
+pub(crate) const DIGEST: Word = Word {
+    name: "digest",
+    value: "HEX",
+    help: "The SHA-256 of its bearer token, 64 digits",
+    given: Given::Always,
+};
+
+pub(crate) const FRESH: Word = Word {
+    name: "fresh",
+    value: "HEX",
+    help: "The token of a boot that is issued, 32 digits",
+    given: Given::Always,
+};
+
+pub(crate) const DISCOVER: Word = Word {
+    name: "discover",
+    value: "ADDR",
+    help: "The socket for DHCP, port 67",
+    given: Given::Always,
+};
+
+pub(crate) const BOOT: Word = Word {
+    name: "boot",
+    value: "ADDR",
+    help: "The socket of the boot server, port 4011",
+    given: Given::Always,
+};
+
+pub(crate) const HTTP: Word = Word {
+    name: "http",
+    value: "ADDR",
+    help: "The socket for HTTP",
+    given: Given::Always,
+};
+
+pub(crate) const TURNS: Word = Word {
+    name: "turns",
+    value: "N",
+    help: "After how many turns it ends",
+    given: Given::Always,
+};
+
+pub(crate) const LOG: Word = Word {
+    name: "log",
+    value: "FILE",
+    help: "Where a line for each arrival is added; - is standard error",
+    given: Given::Maybe,
+};
+
+pub(crate) const WHAT: Word = Word {
+    name: "what",
+    value: "WHAT",
+    help: "hall, orders or a machine's number",
+    given: Given::OrElse("hall"),
+};
+
+pub(crate) const TOKEN: Word = Word {
+    name: "token",
+    value: "TOKEN",
+    help: "The bearer token of an administrator",
+    given: Given::AlwaysAsIs,
+};
+
+pub(crate) const FILE: Word = Word {
+    name: "file",
+    value: "FILE",
+    help: "The file of machines",
+    given: Given::Last,
+};
+
+// The place that is served.
+pub(crate) const PLACE: [Word; 3] = [
+    Word {
+        name: "server",
+        value: "IP",
+        help: "The address of this server",
+        given: Given::OrElse(SERVER),
+    },
+    Word {
+        name: "next",
+        value: "IP",
+        help: "The address of the TFTP server",
+        given: Given::OrElse(NEXT),
+    },
+    Word {
+        name: "host",
+        value: "HOST",
+        help: "The host in the scripts' addresses",
+        given: Given::OrElse(HOST),
+    },
+];

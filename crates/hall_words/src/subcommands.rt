@@ -1,0 +1,95 @@
+//! The subcommands.
+use crate::options::{
+    ADMIN, AT, BOOT, DB, DIGEST, DISCOVER, FILE, FRESH, HTTP, LOG, ROLE, TOKEN, TURNS, WHAT, Word,
+};
+
+/// What a command line asks for.
+#[derive(Clone, Copy, Debug, PartialEq, Eq)]
+pub enum Subcommand {
+    Frame,
+    Init,
+    Request,
+    Serve,
+    Report,
+    Import,
+    Export,
+}
+
+/// What the command line has of a subcommand: its options in the order of its help, those of the place last.
+#[derive(Clone, Copy)]
+pub(crate) struct Entry {
+    pub(crate) subcommand: Subcommand,
+    pub(crate) name: &'static str,
+    pub(crate) about: &'static str,
+    pub(crate) example: &'static str,
+    pub(crate) words: &'static [Word],
+    pub(crate) has_place: bool,
+}
+
+/// All subcommands, in the order of the help.
+pub(crate) const ENTRIES: [Entry; 7] = [
+    Entry {
+        subcommand: Subcommand::Frame,
+        name: "frame",
+        about: "Answers one DHCP frame, in hexadecimal on standard input",
+        example: "Example: hallboot frame --role boot < ADDRESSES-AND-FRAME\n\nStandard input has the addresses of known machines, one a line, an empty line, and the frame. Exit status 3 is silence.",
+        words: &[ROLE],
+        has_place: true,
+    },
+    Entry {
+        subcommand: Subcommand::Init,
+        name: "init",
+        about: "Makes the file of a new hall",
+        example: "Example: hallboot init --db hall.db --admin ada --digest \"$(printf %s \"$TOKEN\" | sha256sum | cut -c1-64)\"",
+        words: &[DB, ADMIN, DIGEST],
+        has_place: false,
+    },
+    Entry {
+        subcommand: Subcommand::Request,
+        name: "request",
+        about: "Answers one request by HTTP from standard input",
+        example: "Example: hallboot request --db hall.db --at 1790000000 --fresh 00112233445566778899aabbccddeeff < REQUEST",
+        words: &[DB, AT, FRESH],
+        has_place: true,
+    },
+    Entry {
+        subcommand: Subcommand::Serve,
+        name: "serve",
+        about: "Serves the hall to its machines and operators",
+        example: "Example: hallboot serve --db hall.db --discover 10.0.0.5:67 --boot 10.0.0.5:4011 --http 10.0.0.5:80 --turns 1000000000000 --server 10.0.0.5 --next 10.0.0.6 --host desk.hall.example --log -",
+        words: &[DB, DISCOVER, BOOT, HTTP, TURNS, LOG],
+        has_place: true,
+    },
+    Entry {
+        subcommand: Subcommand::Report,
+        name: "report",
+        about: "Prints what a hall has",
+        example: "Example: hallboot report --db hall.db --what orders",
+        words: &[DB, WHAT],
+        has_place: false,
+    },
+    Entry {
+        subcommand: Subcommand::Import,
+        name: "import",
+        about: "Adds the machines of a file of comma-separated values",
+        example: "Example: hallboot import --db hall.db --token \"$TOKEN\" --at 1790000000 machines.csv\n\nThe file begins with key,mac,arch,uuid,pool. Exit status 1 without a message: a row was refused.",
+        words: &[DB, TOKEN, AT, FILE],
+        has_place: true,
+    },
+    Entry {
+        subcommand: Subcommand::Export,
+        name: "export",
+        about: "Prints all machines as comma-separated values",
+        example: "Example: hallboot export --db hall.db > machines.csv",
+        words: &[DB],
+        has_place: false,
+    },
+];
+
+/// The subcommand with a name; `frame` where there is none.
+pub(crate) fn named(name: &str) -> Subcommand {
+    match ENTRIES.iter().find(|entry| entry.name == name) {
+        Some(entry) => entry.subcommand,
+        None => Subcommand::Frame,
+    }
+}

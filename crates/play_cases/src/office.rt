@@ -1,0 +1,111 @@
+//! What an operator gives on a command line and on standard input.
+use crate::cause::Cause;
+use crate::escapes::{string, text};
+use crate::frames::place;
+use crate::printing::Answer;
+use crate::values::{halves, port};
+use hall_office::{Exit, Fault, Input, frame_run, moment_of, parse, read_input};
+use std::alloc::Global;
+use std::io::{self, Read};
+
+fn exit_word(exit: Exit) -> &'static str {
+    match exit {
+        Exit::Done => "done",
+        Exit::Fault(fault) => fault.name(),
+        Exit::NotAll => "not all",
+        Exit::Silence => "silence",
+    }
+}
+
+/// How a run over a frame ends and what it writes, `PORT TEXT`.
+pub fn run(alloc: Global, rest: &str, out: &mut Answer) -> Result<(), Cause> {
+    let (at, input) = halves(rest, " ")?;
+    let port = port(at)?;
+    let place = place(alloc)?;
+    let input = text(alloc, input)?;
+    let mut reader = input.as_slice();
+    let mut written = Vec::new(alloc);
+    out.push(exit_word(frame_run(alloc, &mut reader, &mut written, port, &place)));
+    if !written.is_empty() {
+        out.push(" ");
+        out.escaped(written.as_slice());
+    }
+    Ok(())
+}
+
+fn line_of(input: &Input, address: &[u8; 6]) -> u64 {
+    match input.line_of(address) {
+        Some(line) => line.get(),
+        None => 0,
+    }
+}
+
+fn print_input(out: &mut Answer, input: &Input) {
+    let first = line_of(input, &[0x52, 0x54, 0, 0x12, 0x34, 0x56]);
+    let second = line_of(input, &[0xab, 0xcd, 0xef, 0, 0, 1]);
+    out.show(format_args!("lines {first} and {second}, octets "));
+    out.hex(input.octets());
+}
+
+/// The octets of an input, and the lines of 52:54:00:12:34:56 and ab:cd:ef:00:00:01 in it, 0 where they aren't listed.
+pub fn input(alloc: Global, rest: &str, out: &mut Answer) -> Result<(), Cause> {
+    let text = text(alloc, rest)?;
+    match &parse(alloc, text.as_slice()) {
+        Ok(input) => print_input(out, input),
+        Err(fault) => out.push(fault.name()),
+    }
+    Ok(())
+}
+
+// Gives its octets one at a time.
+#[derive(Drop)]
+struct OneByOne<'a> {
+    octets: &'a [u8],
+}
+
+impl<'a> Read for OneByOne<'a> {
+    fn read(&mut self, buf: &mut [u8]) -> io::Result<usize> {
+        if buf.is_empty() {
+            return Ok(0);
+        }
+        let Some((first, rest)) = self.octets.split_first() else {
+            return Ok(0);
+        };
+        buf[0] = *first;
+        self.octets = rest;
+        Ok(1)
+    }
+}
+
+fn print_read(out: &mut Answer, read: &Result<Vec<u8>, Fault>, given: &[u8]) {
+    match read {
+        Ok(octets) if octets.as_slice() == given => out.push("the same"),
+        Ok(_) => out.push("others"),
+        Err(fault) => out.push(fault.name()),
+    }
+}
+
+fn print_whole(alloc: Global, out: &mut Answer, given: &[u8]) {
+    let mut at_once = given;
+    print_read(out, &read_input(alloc, &mut at_once), given);
+    out.separate();
+    let mut one_by_one = OneByOne { octets: given };
+    print_read(out, &read_input(alloc, &mut one_by_one), given);
+}
+
+/// What is read of an input, at once and an octet at a time.
+pub fn whole(alloc: Global, rest: &str, out: &mut Answer) -> Result<(), Cause> {
+    let given = text(alloc, rest)?;
+    print_whole(alloc, out, given.as_slice());
+    Ok(())
+}
+
+/// The moment of a text.
+pub fn seconds(alloc: Global, rest: &str, out: &mut Answer) -> Result<(), Cause> {
+    let text = string(alloc, rest)?;
+    match moment_of(text.as_str()) {
+        Some(moment) => out.show(moment.get()),
+        None => out.push("none"),
+    }
+    Ok(())
+}

@@ -1,0 +1,49 @@
+//! What the desk asked of its stores.
+use hall_desk::Input;
+use hall_store::{Call, Probe};
+
+/// The calls that read a whole table, or the counts.
+const LISTS: [Call; 4] = [
+    Call::Machines,
+    Call::Interfaces,
+    Call::WaitingOrders,
+    Call::Counts,
+];
+
+/// How often the desk asked.
+#[derive(Clone, Copy)]
+pub struct Asked {
+    /// The maximum of the reads of one script request.
+    pub reads_of_script: u64,
+    /// The lists read for datagrams, script requests, reports, answers to orders and commands.
+    pub lists: u64,
+}
+
+fn is_listing(octets: &[u8]) -> bool {
+    octets.starts_with(b"GET /machines") || octets.starts_with(b"GET /orders")
+}
+
+impl Asked {
+    /// Nothing was asked yet.
+    pub const NONE: Asked = Asked {
+        reads_of_script: 0,
+        lists: 0,
+    };
+
+    /// Notes what was asked for one arrival.
+    pub fn note<S>(&mut self, input: &Input, probe: &Probe<S>) {
+        if let Input::Request(octets) = input {
+            let octets = octets.as_slice();
+            if is_listing(octets) {
+                return;
+            }
+            if octets.starts_with(b"GET /ipxe/") {
+                let reads = probe.calls().saturating_sub(probe.calls_of(Call::Apply));
+                self.reads_of_script = self.reads_of_script.max(reads);
+            }
+        }
+        for call in LISTS {
+            self.lists = self.lists.saturating_add(probe.calls_of(call));
+        }
+    }
+}

@@ -1,0 +1,55 @@
+//! Why a log isn't played to its end.
+use arrival_log::{LineFault, LogFault};
+use hall_store::Unavailable;
+use std::alloc::AllocError;
+
+/// Why a line isn't answered.
+#[derive(Clone, Copy)]
+pub enum Fault {
+    Arrival,
+    Word,
+    Unavailable,
+    Memory,
+}
+
+impl Fault {
+    pub fn message(self) -> &'static str {
+        match self {
+            Fault::Arrival => "the arrival, or the administrator, is malformed",
+            Fault::Word => "a word is missing, malformed, or one too many",
+            Fault::Unavailable => "the store can't answer",
+            Fault::Memory => "out of memory",
+        }
+    }
+}
+
+impl From<AllocError> for Fault {
+    fn from(_: AllocError) -> Fault {
+        Fault::Memory
+    }
+}
+
+impl From<LineFault> for Fault {
+    fn from(_: LineFault) -> Fault {
+        Fault::Arrival
+    }
+}
+
+impl From<Unavailable> for Fault {
+    fn from(_: Unavailable) -> Fault {
+        Fault::Unavailable
+    }
+}
+
+/// Why a log isn't played to its end.
+#[derive(Clone, Copy)]
+pub enum PlayFault {
+    Line { line: usize, cause: Fault },
+    Log(LogFault),
+}
+
+impl From<LogFault> for PlayFault {
+    fn from(fault: LogFault) -> PlayFault {
+        PlayFault::Log(fault)
+    }
+}

@@ -1,0 +1,151 @@
+//! The halls of a log, over each store.
+use crate::asking::Asked;
+use crate::fault::{Fault, PlayFault};
+use crate::files::play_file;
+use crate::log::{FILES, read_log};
+use crate::playing::{play, write_text};
+use arrival_log::{LogFault, admin};
+use hall_sql::SqlStore;
+use hall_types::{Digest, Name};
+use memory_store::MemoryStore;
+use sqlite::{Alter, Connection, MemStore};
+use std::alloc::Global;
+use std::io::{Read, Write};
+
+/// What a hall is made over.
+#[derive(Clone, Copy)]
+enum Over {
+    Memory,
+    Sqlite,
+}
+
+// A hall in memory.
+fn in_memory<W: Write>(
+    alloc: Global,
+    (name, digest): (Name, Digest),
+    lines: &[String],
+    from: usize,
+    writer: &mut W,
+    asked: &mut Asked,
+) -> Result<(), PlayFault> {
+    match MemoryStore::create(alloc, name, digest) {
+        Ok(store) => play(alloc, store, lines, from, writer, asked),
+        Err(_) => Err(PlayFault::Log(LogFault::Memory)),
+    }
+}
+
+// A hall over a connection.
+fn over_connection<S: Alter + Drop, W: Write>(
+    alloc: Global,
+    conn: Connection<S>,
+    (name, digest): (Name, Digest),
+    lines: &[String],
+    from: usize,
+    writer: &mut W,
+    asked: &mut Asked,
+) -> Result<(), PlayFault> {
+    match SqlStore::create(alloc, conn, name, digest) {
+        Ok(store) => play(alloc, store, lines, from, writer, asked),
+        Err(_) => Err(PlayFault::Log(LogFault::Memory)),
+    }
+}
+
+// A hall in SQLite.
+fn in_sqlite<W: Write>(
+    alloc: Global,
+    admin: (Name, Digest),
+    lines: &[String],
+    from: usize,
+    writer: &mut W,
+    asked: &mut Asked,
+) -> Result<(), PlayFault> {
+    let conn: Connection<MemStore> = match Connection::open_in_memory(alloc) {
+        Ok(conn) => conn,
+        Err(_) => return Err(PlayFault::Log(LogFault::Memory)),
+    };
+    over_connection(alloc, conn, admin, lines, from, writer, asked)
+}
+
+// A hall of which the first line names the administrator.
+fn play_hall<W: Write>(
+    alloc: Global,
+    over: Over,
+    words: &str,
+    lines: &[String],
+    from: usize,
+    writer: &mut W,
+    asked: &mut Asked,
+) -> Result<(), PlayFault> {
+    let Ok(admin) = admin(words) else {
+        let cause = Fault::Arrival;
+        return Err(PlayFault::Line { line: from, cause });
+    };
+    match over {
+        Over::Memory => in_memory(alloc, admin, lines, from, writer, asked),
+        Over::Sqlite => in_sqlite(alloc, admin, lines, from, writer, asked),
+    }
+}
+
+fn write_asked<W: Write>(alloc: Global, writer: &mut W, asked: Asked) -> Result<(), LogFault> {
+    let Ok(line) = format!(in alloc;
+        "at most {} reads of a script request, {} lists read but for listings\n",
+        asked.reads_of_script, asked.lists
+    ) else {
+        return Err(LogFault::Memory);
+    };
+    write_text(writer, line.as_str())
+}
+
+// Each hall of the log over one store, and then what the desk asked.
+fn play_halls<W: Write>(
+    alloc: Global,
+    over: Over,
+    lines: &[String],
+    writer: &mut W,
+) -> Result<(), PlayFault> {
+    let mut asked = Asked::NONE;
+    for (at, text) in lines.iter().enumerate() {
+        let text = text.as_str();
+        if text == FILES {
+            break;
+        }
+        let from = at.saturating_add(1);
+        if at == 0 {
+            play_hall(alloc, over, text, lines, from, writer, &mut asked)?;
+        } else if let Some(words) = text.strip_prefix("new ") {
+            play_hall(alloc, over, words, lines, from, writer, &mut asked)?;
+        }
+    }
+    write_asked(alloc, writer, asked)?;
+    Ok(())
+}
+
+// The files after the line `== files`, if there is one.
+fn play_files<W: Write>(alloc: Global, lines: &[String], writer: &mut W) -> Result<(), PlayFault> {
+    let mut is_file = false;
+    for (at, text) in lines.iter().enumerate() {
+        let text = text.as_str();
+        if text == FILES {
+            is_file = true;
+            write_text(writer, "== files\n")?;
+        }
+        if is_file && text == "new" {
+            play_file(alloc, lines, at.saturating_add(1), writer)?;
+        }
+    }
+    Ok(())
+}
+
+/// Plays a log over halls in memory, and then over halls in SQLite, and writes each line's answer.
+pub fn play_twice<R: Read + Drop, W: Write>(
+    alloc: Global,
+    reader: R,
+    writer: &mut W,
+) -> Result<(), PlayFault> {
+    let lines = read_log(alloc, reader)?;
+    let lines = lines.as_slice();
+    play_halls(alloc, Over::Memory, lines, writer)?;
+    write_text(writer, "== the same log over the store in SQLite\n")?;
+    play_halls(alloc, Over::Sqlite, lines, writer)?;
+    play_files(alloc, lines, writer)
+}

@@ -1,0 +1,119 @@
+//! Lines that are played over a store.
+use crate::arriving::{arrive, is_arrival};
+use crate::asking::Asked;
+use crate::changes::apply;
+use crate::fault::{Fault, PlayFault};
+use crate::log::is_head;
+use crate::looking::look;
+use crate::reads::read;
+use crate::reports::{import, report};
+use crate::words::first;
+use arrival_log::LogFault;
+use hall_store::HallStore;
+use std::alloc::Global;
+use std::io::Write;
+
+/// Whether a line is written as it is.
+pub fn is_comment(text: &str) -> bool {
+    text.is_empty() || text.starts_with('#')
+}
+
+/// Writes a line as it is.
+pub fn push_comment(line: &mut String, text: &str) -> Result<(), Fault> {
+    line.push_str(text)?;
+    line.push('\n')?;
+    Ok(())
+}
+
+// What is asked of the store itself.
+fn ask<S: HallStore>(
+    alloc: Global,
+    store: &mut S,
+    kind: &str,
+    rest: &str,
+    line: &mut String,
+) -> Result<(), Fault> {
+    match kind {
+        "read" => read(alloc, store, rest, line),
+        "look" => look(alloc, store, rest, line),
+        "apply" => apply(alloc, store, rest, line),
+        "rows" => import(alloc, rest, line),
+        _ => report(alloc, store, kind, rest, line),
+    }
+}
+
+// A store that can't answer is no fault of the log.
+fn with_unavailable(line: &mut String, done: Result<(), Fault>) -> Result<(), Fault> {
+    match done {
+        Err(Fault::Unavailable) => {
+            line.push_str("unavailable\n")?;
+            Ok(())
+        }
+        _ => done,
+    }
+}
+
+/// Plays a line over the store, which is given back, and writes its answer.
+pub fn play_line<S: HallStore>(
+    alloc: Global,
+    store: S,
+    text: &str,
+    line: &mut String,
+    asked: &mut Asked,
+) -> (Result<(), Fault>, S) {
+    if is_comment(text) {
+        return (push_comment(line, text), store);
+    }
+    let (kind, rest) = first(text);
+    if is_arrival(kind) {
+        return arrive(alloc, store, kind, text, line, asked);
+    }
+    let mut store = store;
+    let done = ask(alloc, &mut store, kind, rest, line);
+    (with_unavailable(line, done), store)
+}
+
+/// Writes a text.
+pub fn write_text<W: Write>(writer: &mut W, text: &str) -> Result<(), LogFault> {
+    match writer.write_all(text.as_bytes()) {
+        Ok(()) => Ok(()),
+        Err(_) => Err(LogFault::Io),
+    }
+}
+
+/// Writes what a line was answered, or says at which line of the log it has a fault.
+pub fn write_answer<W: Write>(
+    writer: &mut W,
+    at: usize,
+    done: Result<(), Fault>,
+    line: &str,
+) -> Result<(), PlayFault> {
+    if let Err(cause) = done {
+        let line = at.saturating_add(1);
+        return Err(PlayFault::Line { line, cause });
+    }
+    write_text(writer, line)?;
+    Ok(())
+}
+
+/// Plays the lines from a place on over the store, up to where another part of the log begins.
+pub fn play<S: HallStore + Drop, W: Write>(
+    alloc: Global,
+    store: S,
+    lines: &[String],
+    from: usize,
+    writer: &mut W,
+    asked: &mut Asked,
+) -> Result<(), PlayFault> {
+    let mut store = store;
+    for (at, text) in lines.iter().enumerate().skip(from) {
+        if is_head(text.as_str()) {
+            return Ok(());
+        }
+        let mut line = String::new(alloc);
+        let (done, after) = play_line(alloc, store, text.as_str(), &mut line, asked);
+        store = after;
+        write_answer(writer, at, done, line.as_str())?;
+    }
+    Ok(())
+}
