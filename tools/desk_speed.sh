@@ -10,8 +10,8 @@ rounds=${1:-100000}
 work=$(mktemp -d -p "${2:-${TMPDIR:-/tmp}}")
 trap 'rm -rf "$work"' EXIT
 . "$here/least.sh"
-in_memory=$(built desk_bench script 10 1)
-in_file=$(built file_bench "$work/first" desk script 10 1)
+in_memory=$(built bench_desk script 10 1)
+in_file=$(built bench_file "$work/first" desk script 10 1)
 
 run() {   # run WHERE WHAT MACHINES ROUNDS: over a file, over a new copy of the file with such a hall
     if [ "$1" = memory ]; then

@@ -2,7 +2,7 @@
 # The processor time of a frame's way (read it, tell its client, write the reply) beside that of a
 # plain copy of the reply's octets. Usage: tools/reply_speed.sh [ROUNDS]
 set -euo pipefail
-cd "$(dirname "$0")/../crates/reply_bench"
+cd "$(dirname "$0")/../crates/bench_frames"
 rounds=${1:-2000000}
 log=$(mktemp)
 trap 'rm -f "$log"' EXIT
@@ -11,7 +11,7 @@ rt run -- reply 1 > "$log" 2>&1 || { cat "$log"; exit 1; }
 # Prints the digest and the processor time in seconds.
 timed() {
     local TIMEFORMAT='%3U %3S'
-    { time ./out/reply_bench "$1" "$rounds" > "$log"; } 2>&1 | awk '{ printf "%.3f ", $1 + $2 }'
+    { time ./out/bench_frames "$1" "$rounds" > "$log"; } 2>&1 | awk '{ printf "%.3f ", $1 + $2 }'
     cat "$log"
 }
 

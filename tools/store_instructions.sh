@@ -10,8 +10,8 @@ work=$(mktemp -d)
 trap 'rm -rf "$work"' EXIT
 . "$here/least.sh"
 cc -O2 -Wall -o "$work/in_c" "$here/store_speed.c" -lsqlite3 || { echo 'store_instructions: libsqlite3-dev is missing' >&2; exit 1; }
-bench=$(built file_bench "$work/first" store machine 10 1)
-in_memory=$(built desk_bench script 10 1)
+bench=$(built bench_file "$work/first" store machine 10 1)
+in_memory=$(built bench_desk script 10 1)
 
 ours() { echo "$bench $work/hall store $*"; }
 theirs() { echo "$work/in_c $work/hall $*"; }

@@ -12,10 +12,10 @@ use Rattle.hall_types.specs.Hall.{Hall, applied, second}
 use Rattle.hall_events.specs.Reply.{Content, refused}
 use Rattle.hall_events.specs.declared.event.Event.{Event}
 use Rattle.boot_desk.specs.Sound.{IsSound}
-use Rattle.hall_machine.specs.Decision.{decision_of}
-use Rattle.hall_request.specs.Request.{IsEvent}
-use Rattle.hall_request.specs.declared.fault.HttpFault.{HttpFault}
-use Rattle.hall_request.specs.declared.fault.HttpFault.TheVariants.{Memory as NoMemory}
+use Rattle.laws_model.specs.Decision.{decision_of}
+use Rattle.http_requests.specs.Request.{IsEvent}
+use Rattle.http_requests.specs.declared.fault.HttpFault.{HttpFault}
+use Rattle.http_requests.specs.declared.fault.HttpFault.TheVariants.{Memory as NoMemory}
 use Rattle.hall_store.specs.Rules.{AllKeep}
 use Rattle.hall_desk.specs.Attempt.{IsAnswered, IsAttempt}
 use Rattle.hall_desk.specs.Octets.{asks, answered, IsFrom, Means, missed_answer, refusal_of, response_answer}

@@ -10,8 +10,8 @@ use Rattle.boot_desk.specs.FrameEvent.{enlisted, frame_decision, frame_view}
 use Rattle.boot_desk.specs.declared.frames.Decision.{Decision}
 use Rattle.boot_desk.specs.declared.frames.Decision.TheVariants.{Loader, ScriptUrl, Enlist, Silent}
 use Rattle.boot_desk.specs.declared.frames.FrameView.{FrameView}
-use Rattle.hall_machine.specs.Decision.{framed}
-use Rattle.hall_views.specs.Client.{IsEnough}
+use Rattle.laws_model.specs.Decision.{framed}
+use Rattle.desk_views.specs.Client.{IsEnough}
 use Rattle.hall_desk.specs.Plan.{rows_for}
 
 -- a view that is enough leads to the decision on the hall, and to its rows

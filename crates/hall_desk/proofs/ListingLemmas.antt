@@ -6,7 +6,7 @@ use Rattle.hall_events.specs.Reply.{ListedMachine, listed, machine_list, reply_o
 use Rattle.hall_events.specs.declared.reply.Reply.{Reply}
 use Rattle.hall_store.specs.declared.store.Unavailable.{Unavailable}
 use Rattle.hall_types.specs.declared.change.RowWrite.{RowWrite}
-use Rattle.hall_machine.specs.Decision.{listed_of, says}
+use Rattle.laws_model.specs.Decision.{listed_of, says}
 use Rattle.hall_types.specs.Hall.{Hall, second}
 use Rattle.hall_types.specs.Rows.{listed as rows_of}
 use Rattle.hall_types.specs.declared.machine.Interface.{Interface}

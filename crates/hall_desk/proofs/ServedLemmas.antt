@@ -4,7 +4,7 @@ use Rattle.std.specs.Prelude.{IfSome}
 use Rattle.std.specs.Io.KnownBytes.{Appends, Consumes, IsAtEnd}
 use Rattle.pxe_vendor.specs.Place.{Site}
 use Rattle.hall_types.specs.Hall.{Hall}
-use Rattle.hall_request.specs.Decided.{IsDecided}
+use Rattle.http_requests.specs.Decided.{IsDecided}
 use Rattle.hall_desk.specs.Attempt.{IsAnswered, IsKept, IsTorn}
 use Rattle.hall_desk.specs.Octets.{HasCome, HasMissed, IsArrivalStep, Meaning, Means, answered, asks, octets_of}
 use Rattle.hall_desk.specs.Served.{IsSent, IsServed, IsWritten, Reads}

@@ -13,12 +13,12 @@ use Rattle.hall_types.specs.declared.refusal.Refusal.TheVariants as cause
 use Rattle.hall_events.specs.Reply.{Content, refused, boot_file, reply_of}
 use Rattle.hall_events.specs.declared.event.Event.{Event}
 use Rattle.hall_events.specs.declared.event.Event.TheVariants as event
-use Rattle.hall_request.specs.Request.{IsEvent}
-use Rattle.hall_request.specs.declared.fault.HttpFault.{HttpFault}
-use Rattle.hall_request.specs.declared.fault.HttpFault.TheVariants as fault
+use Rattle.http_requests.specs.Request.{IsEvent}
+use Rattle.http_requests.specs.declared.fault.HttpFault.{HttpFault}
+use Rattle.http_requests.specs.declared.fault.HttpFault.TheVariants as fault
 use Rattle.hall_http.specs.Response.{response_of}
 use Rattle.hall_http.specs.declared.response.TheConstants.{UNAVAILABLE}
-use Rattle.hall_machine.specs.Decision.{decision_of}
+use Rattle.laws_model.specs.Decision.{decision_of}
 use Rattle.hall_desk.specs.declared.arrival.Answer.{Answer}
 use Rattle.hall_desk.specs.declared.arrival.Answer.TheVariants as answer
 use Rattle.hall_desk.specs.declared.arrival.Arrival.{Arrival}

@@ -10,7 +10,7 @@ use Rattle.boot_desk.specs.declared.frames.Decision.TheVariants.{Enlist}
 use Rattle.hall_events.specs.Reply.{reply_of}
 use Rattle.hall_events.specs.declared.reply.Reply.{Reply}
 use Rattle.hall_store.specs.Rules.{AllKeep}
-use Rattle.hall_machine.specs.Decision.{Decided}
+use Rattle.laws_model.specs.Decision.{Decided}
 
 -- the rows and the answer are those of the decision
 pub record IsPlanOf (decided : Decided) (rows : List RowWrite) (reply : Reply) : Type 0 where

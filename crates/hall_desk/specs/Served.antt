@@ -3,7 +3,7 @@ use Rattle.std.specs.Prelude.{◌≡◌, ◌<◌, ◌⊎◌, ℕ, List, ◌++◌
 use Rattle.std.specs.Io.KnownBytes.{Consumes, IsAtEnd}
 use Rattle.pxe_vendor.specs.Place.{Site}
 use Rattle.hall_types.specs.Hall.{Hall}
-use Rattle.hall_request.specs.Decided.{IsDecided}
+use Rattle.http_requests.specs.Decided.{IsDecided}
 use Rattle.hall_desk.specs.Attempt.{IsAnswered}
 use Rattle.hall_desk.specs.Octets.{octets_of}
 use Rattle.hall_desk.specs.declared.arrival.Answer.{Answer}

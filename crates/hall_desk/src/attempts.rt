@@ -9,9 +9,9 @@ use crate::carrying::{carry_frame, carry_quiet, carry_request};
 use crate::octets::fault_response;
 use dhcp_frame::read;
 use hall_http::{HttpFault, event_of};
-use hall_steps::{decisions_keep_the_rules, steps_keep_halls_sound};
 use hall_store::{HallStore, Unavailable};
 use hall_types::{Moment, Port, Token};
+use laws_steps::{decisions_keep_the_rules, steps_keep_halls_sound};
 use pxe_vendor::{NotServed, Place, client};
 use std::alloc::Global;
 

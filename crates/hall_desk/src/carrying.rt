@@ -2,7 +2,7 @@
 ghost use Rattle.std.specs.Prelude.{◌≡◌};
 ghost use Rattle.hall_events.specs.Reply.{Content};
 ghost use Rattle.hall_events.specs.declared.event.Event.TheVariants as event;
-ghost use Rattle.hall_machine.specs.Decision.{decision_of};
+ghost use Rattle.laws_model.specs.Decision.{decision_of};
 ghost use Rattle.hall_desk.specs.Octets.{frame_answer, no_answer, response_answer};
 ghost use Rattle.hall_desk.specs.Plan.{IsCarriedOut};
 
@@ -19,7 +19,7 @@ use pxe_vendor::{Client, Place};
 use std::alloc::Global;
 
 /// Carries out a client's frame, and gives its answer. All memory is taken before a row is written.
-#[tactic(auto, unfolding(hall_machine::specs::Decision::decision_of))]
+#[tactic(auto, unfolding(laws_model::specs::Decision::decision_of))]
 pub(crate) fn carry_frame<S: HallStore>(
     alloc: Global,
     store: &mut S,

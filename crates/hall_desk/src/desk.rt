@@ -1,9 +1,9 @@
 //! The desk: a store, and the place that it serves.
 ghost use Rattle.std.specs.Prelude.{◌≡◌, IfOk, OnErr};
 ghost use Rattle.hall_events.specs.Reply.{reply_of};
-ghost use Rattle.hall_machine.specs.Decision.{decision_of};
+ghost use Rattle.laws_model.specs.Decision.{decision_of};
 ghost use Rattle.hall_types.specs.Hall.{Hall, second};
-ghost use Rattle.hall_views.specs.Look.{IsLook};
+ghost use Rattle.desk_views.specs.Look.{IsLook};
 ghost use Rattle.boot_desk.specs.Sound.{IsSound};
 ghost use Rattle.hall_desk.specs.Attempt.{IsAnswered, IsRan};
 ghost use Rattle.hall_desk.specs.Desk.{site_of, store_of};

@@ -4,8 +4,8 @@ ghost use Rattle.std.specs.List.Sorted.{IsNonDecreasingBy};
 ghost use Rattle.hall_types.specs.Hall.{second};
 ghost use Rattle.hall_types.specs.Rows.{listed as rows_of};
 ghost use Rattle.hall_events.specs.Reply.{listed, listing, machine_list, reply_of, with_machine};
-ghost use Rattle.hall_machine.specs.Decision.{listed_of, says};
-ghost use Rattle.hall_views.specs.Look.{IsLook};
+ghost use Rattle.laws_model.specs.Decision.{listed_of, says};
+ghost use Rattle.desk_views.specs.Look.{IsLook};
 ghost use Rattle.hall_desk.specs.Plan.{Plans};
 
 use crate::requests::said;

@@ -8,7 +8,7 @@ ghost use Rattle.hall_events.specs.Reply.{Content};
 ghost use Rattle.hall_desk.specs.Octets.{refusal_of, response_answer};
 ghost use Rattle.pxe_vendor.specs.Place.{Site};
 ghost use Rattle.hall_types.specs.Hall.{Hall};
-ghost use Rattle.hall_machine.specs.Decision.{framed};
+ghost use Rattle.laws_model.specs.Decision.{framed};
 ghost use Rattle.hall_desk.specs.Octets.{frame_answer};
 
 use crate::arrival::Answer;

@@ -1,6 +1,6 @@
 //! What is planned for every event.
-ghost use Rattle.hall_machine.specs.Decision.{decision_of};
-ghost use Rattle.hall_views.specs.Look.{IsLook};
+ghost use Rattle.laws_model.specs.Decision.{decision_of};
+ghost use Rattle.desk_views.specs.Look.{IsLook};
 ghost use Rattle.hall_desk.specs.Plan.{Plans};
 
 use crate::plans::{plan_frame, plan_quiet, plan_report, plan_script};
@@ -14,7 +14,7 @@ use pxe_vendor::Place;
 use std::alloc::Global;
 
 /// What is planned for an event: the rows to write, and the answer. The store's hall isn't changed.
-#[tactic(auto, unfolding(hall_machine::specs::Decision::decision_of))]
+#[tactic(auto, unfolding(laws_model::specs::Decision::decision_of))]
 pub(crate) fn planned<S: HallStore>(
     alloc: Global,
     store: &mut S,

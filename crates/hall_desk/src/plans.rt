@@ -11,18 +11,18 @@ ghost use Rattle.boot_desk.specs.FrameEvent as event;
 ghost use Rattle.boot_desk.specs.OrderAnswer.{answered};
 ghost use Rattle.boot_desk.specs.Report.{Judged, reported};
 ghost use Rattle.boot_desk.specs.Views as view;
-ghost use Rattle.hall_machine.specs.Decision as made;
-ghost use Rattle.hall_machine.specs.Decision.{framed, given_if, judged, refuses, verdict_content};
-ghost use Rattle.hall_views.specs.Look.{IsLook};
+ghost use Rattle.laws_model.specs.Decision as made;
+ghost use Rattle.laws_model.specs.Decision.{framed, given_if, judged, refuses, verdict_content};
+ghost use Rattle.desk_views.specs.Look.{IsLook};
 ghost use Rattle.hall_desk.specs.Plan.{Plans, rows_for};
 
 use boot_desk::{Decision, DeskFault, Verdict, enlist, fetch, frame, order_answer, report, sweep};
+use desk_views::{expired_view, frame_view, order_view, report_view, view_at};
 use hall_events::Reply;
 use hall_store::{HallStore, Unavailable};
 use hall_types::{
     Change, MacAddress, Moment, Number, Numbers, Outcome, Port, Progress, Refusal, Token,
 };
-use hall_views::{expired_view, frame_view, order_view, report_view, view_at};
 use ipxe_script::Script;
 use pxe_vendor::{Client, Place, boot_file};
 use std::alloc::{AllocError, Global};

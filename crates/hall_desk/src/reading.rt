@@ -1,7 +1,7 @@
 //! Reading one request.
 ghost use Rattle.std.specs.Prelude.{◌≡◌, ◌++◌, false, IfOk, IsTrue};
 ghost use Rattle.hall_http.specs.Noted.{failed_of, inner_of, takes_of};
-ghost use Rattle.hall_request.specs.Decided.{IsDecided};
+ghost use Rattle.http_requests.specs.Decided.{IsDecided};
 ghost use Rattle.hall_desk.specs.Served.{IfFailed, Reads};
 ghost use Rattle.hall_desk.specs.declared.reading.Reading.TheVariants as reading;
 

@@ -6,22 +6,22 @@ ghost use Rattle.hall_types.specs.Rows.{at, listed};
 ghost use Rattle.boot_desk.specs.Decided.{Decides};
 ghost use Rattle.boot_desk.specs.OrderAnswer.{answered};
 ghost use Rattle.boot_desk.specs.Views as view;
-ghost use Rattle.hall_command.specs.Command as commands;
-ghost use Rattle.hall_command.specs.Command.{replied};
-ghost use Rattle.hall_command.specs.Effect.{Effect};
-ghost use Rattle.hall_machine.specs.Decision.{commanded, if_role, judged, listed_if, listed_of, may_answer, may_see_machines, may_see_orders, says};
+ghost use Rattle.desk_command.specs.Command as commands;
+ghost use Rattle.desk_command.specs.Command.{replied};
+ghost use Rattle.desk_command.specs.Effect.{Effect};
+ghost use Rattle.laws_model.specs.Decision.{commanded, if_role, judged, listed_if, listed_of, may_answer, may_see_machines, may_see_orders, says};
 ghost use Rattle.hall_events.specs.Reply.{machine_list, waiting_orders};
-ghost use Rattle.hall_views.specs.Look.{IsLook};
+ghost use Rattle.desk_views.specs.Look.{IsLook};
 ghost use Rattle.hall_desk.specs.Plan.{Plans};
 
 use crate::listing::list_machines;
 use crate::plans::{judge_answer, refused};
 use boot_desk::DeskFault;
-use hall_command::{command, may_send, repeated};
+use desk_command::{command, may_send, repeated};
+use desk_views::{command_view, sender};
 use hall_events::{HallCommand, Reply};
 use hall_store::{HallStore, Unavailable};
 use hall_types::{Change, Digest, Moment, Number, Operator, Outcome, Refusal, RequestKey, Role};
-use hall_views::{command_view, sender};
 use std::alloc::{AllocError, Global};
 
 // ---- commands
@@ -79,7 +79,7 @@ fn plan_keyed<S: HallStore>(
     }
 }
 
-#[tactic(auto, unfolding(hall_command::specs::Command::command_decision))]
+#[tactic(auto, unfolding(desk_command::specs::Command::command_decision))]
 pub(crate) fn plan_command<S: HallStore>(
     alloc: Global,
     store: &mut S,

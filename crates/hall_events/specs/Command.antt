@@ -2,7 +2,7 @@
 use Rattle.std.specs.Prelude.{ℕ, true, false, List, [], ◌∷◌, ◌++◌, map, Option, Some, None, option_map, codes, IfSome}
 use Rattle.hex.specs.Hex.{encode_lower}
 use Rattle.uuid.specs.Text.{hyphenated_text, lower}
-use Rattle.mac_text.specs.MacText.{mac_text}
+use Rattle.wire_mac.specs.MacText.{mac_text}
 use Rattle.serde_json.specs.Data.{Data, string, boolean, array}
 use Rattle.serde_json.specs.View.{items_of}
 use Rattle.serde_json.specs.Written.{compact_text}

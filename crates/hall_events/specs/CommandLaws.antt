@@ -9,7 +9,7 @@ use Rattle.hex.specs.Hex.{IsBytes, decode_of, encode_lower, encode_with}
 use Rattle.hex.proofs.HexLemmas.{decode_of-encode_lower}
 use Rattle.uuid.specs.Text.{lower, parsed}
 use Rattle.uuid.proofs.RoundTrips.{parses_hyphenated}
-use Rattle.mac_text.specs.MacText.{mac_text}
+use Rattle.wire_mac.specs.MacText.{mac_text}
 use Rattle.serde_json.specs.Data.{Data, string, boolean}
 use Rattle.serde_json.specs.Find.{get}
 use Rattle.pxe_vendor.specs.Arch.{arch_text}

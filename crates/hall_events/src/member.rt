@@ -53,7 +53,7 @@ pub(crate) fn mac_value(alloc: Global, mac: MacAddress) -> Result<Value, AllocEr
     ensures value { IfOk result (λ value. view value ≡ mac_data mac) }
     ensures whole { OnOk result (AreOctets 6 mac) }
 {
-    let text = mac_text::print(alloc, &mac.octets())?;
+    let text = wire_mac::print(alloc, &mac.octets())?;
     Ok(Value::String(text))
 }
 

@@ -5,7 +5,7 @@ mod laws;
 mod noted;
 mod response;
 
-pub use hall_request::{HttpFault, event_of, is_decided};
+pub use http_requests::{HttpFault, event_of, is_decided};
 pub use laws::{answers_have_responses, one_response, unavailable_is_a_refusal};
 pub use noted::Noted;
 pub use response::{UNAVAILABLE, bytes_of};

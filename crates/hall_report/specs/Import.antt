@@ -5,7 +5,7 @@ use Rattle.std.specs.Str.{is_utf8}
 use Rattle.csv.specs.Reading.{default_config, records, strip_bom}
 use Rattle.csv.specs.Records.{field_at}
 use Rattle.uuid.specs.Text.{parsed}
-use Rattle.mac_text.specs.MacText.{mac_of}
+use Rattle.wire_mac.specs.MacText.{mac_of}
 use Rattle.pxe_vendor.specs.Arch.{arch_in}
 use Rattle.pxe_vendor.specs.declared.arch.Arch.{Arch}
 use Rattle.hall_types.specs.Name.{is_name}

@@ -3,7 +3,7 @@ use Rattle.std.specs.Prelude.{◌≡◌, ℕ, Bool, true, false, List, [], ◌�
 use Rattle.std.specs.Fmt.{decimal}
 use Rattle.std.specs.List.{flat_map, join_by}
 use Rattle.uuid.specs.Text.{hyphenated_text, lower}
-use Rattle.mac_text.specs.MacText.{mac_text}
+use Rattle.wire_mac.specs.MacText.{mac_text}
 use Rattle.pxe_vendor.specs.Arch.{arch_text}
 use Rattle.hall_types.specs.Hall.{Hall}
 use Rattle.hall_types.specs.Kinds.{order_kind_text}

@@ -31,10 +31,10 @@ pub(crate) fn macs_text(alloc: Global, interfaces: &[Interface]) -> Result<Strin
     let Some((first, others)) = interfaces.split_first() else {
         return Ok(String::new(alloc));
     };
-    let mut text = mac_text::print(alloc, &first.mac.octets())?;
+    let mut text = wire_mac::print(alloc, &first.mac.octets())?;
     for interface in others {
         text.push(' ')?;
-        text.push_str(mac_text::print(alloc, &interface.mac.octets())?.as_str())?;
+        text.push_str(wire_mac::print(alloc, &interface.mac.octets())?.as_str())?;
     }
     Ok(text)
 }

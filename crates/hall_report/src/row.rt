@@ -106,7 +106,7 @@ fn mac_at(values: &ByteRecord) -> Option<MacAddress>
     ensures { result ≡ mac_at (fields_of values.now) }
 {
     match text_at(values, 1) {
-        Some(text) => match mac_text::read(text.as_bytes()) {
+        Some(text) => match wire_mac::read(text.as_bytes()) {
             Some(octets) => Some(MacAddress::from(octets)),
             None => None,
         },

@@ -6,7 +6,7 @@ use Rattle.sqlite.specs.State.{State, IsUnchanged, Survives}
 use Rattle.sqlite.specs.Tree.{Trees}
 use Rattle.sqlite_trees.specs.declared.store.Store as trees
 use Rattle.hall_types.specs.Hall.{Hall, second}
-use Rattle.hall_rows.specs.Holding.{IsHeld, Leaves}
+use Rattle.sql_rows.specs.Holding.{IsHeld, Leaves}
 use Rattle.hall_store.specs.declared.store.Unavailable.{Unavailable}
 use Rattle.hall_sql.specs.Expiring.{IsEarliest}
 use Rattle.hall_sql.specs.declared.store.SqlStore.{SqlStore}

@@ -5,7 +5,7 @@ ghost use Rattle.sqlite.specs.State.{HasCleanDisk};
 ghost use Rattle.hall_sql.specs.Applying.{IsTold};
 
 use hall_types::RowWrite;
-use row_writes::write_row;
+use sql_writes::write_row;
 use sqlite::{Alter, Connection, Error};
 use std::alloc::Global;
 

@@ -4,10 +4,10 @@ ghost use Rattle.std.specs.List.{sum_by};
 ghost use Rattle.sqlite.specs.Held.{state};
 ghost use Rattle.sqlite.specs.State.{HasCleanDisk};
 ghost use Rattle.hall_types.specs.Rows.{size};
-ghost use Rattle.hall_rows.specs.Holding.{IsAsked};
+ghost use Rattle.sql_rows.specs.Holding.{IsAsked};
 
-use count_tables::list_counts;
 use hall_store::Count;
+use sql_counts::list_counts;
 use sqlite::{Alter, Connection, Error};
 use std::alloc::Global;
 

@@ -3,17 +3,17 @@ ghost use Rattle.std.specs.Prelude.{◌≡◌, ◌↔◌, IsTrue, IfOk, IfErr, E
 ghost use Rattle.sqlite.specs.Held.{state};
 ghost use Rattle.sqlite.specs.State.{HasCleanDisk, Survives};
 ghost use Rattle.hall_types.specs.Hall.{Hall, new_hall, second};
-ghost use Rattle.hall_rows.specs.Holding.{IsHeld};
-ghost use Rattle.hall_rows.specs.Spelling.{SpellHall};
-ghost use Rattle.hall_file.specs.Creating.{KeepsTables, MayLeaveBesides, is_a_name_taken};
-ghost use Rattle.hall_file.specs.Opening.{IsAnswered};
+ghost use Rattle.sql_rows.specs.Holding.{IsHeld};
+ghost use Rattle.sql_rows.specs.Spelling.{SpellHall};
+ghost use Rattle.sql_tables.specs.Creating.{KeepsTables, MayLeaveBesides, is_a_name_taken};
+ghost use Rattle.sql_tables.specs.Opening.{IsAnswered};
 ghost use Rattle.hall_sql.specs.Opening.{connection_of, outcome};
 ghost use Rattle.hall_sql.specs.Store.{connection};
 
 use crate::store::SqlStore;
-use hall_file::{CreateFault, OpenFault, create_tables, look_at_tables};
 use hall_store::HallStore;
 use hall_types::{Digest, Name};
+use sql_tables::{CreateFault, OpenFault, create_tables, look_at_tables};
 use sqlite::{Alter, Connection};
 use std::alloc::Global;
 

@@ -2,26 +2,26 @@
 ghost use Rattle.std.specs.Prelude.{◌≡◌, [], ◌∷◌};
 ghost use Rattle.sqlite.specs.Held.{state};
 ghost use Rattle.hall_types.specs.Hall.{Hall};
-ghost use Rattle.hall_rows.specs.Holding.{IsHeld};
+ghost use Rattle.sql_rows.specs.Holding.{IsHeld};
 ghost use Rattle.hall_sql.specs.Store.{connection};
 
 use crate::applying::write_rows;
 use crate::asking::{is_image_used, machine_at};
 use crate::counting::count_machines;
 use crate::expiring::earliest_after;
-use count_tables::list_counts;
 use hall_store::{Count, HallStore, Unavailable};
 use hall_types::{
     Boot, Change, Digest, Image, Interface, Live, MacAddress, Machine, MachineUuid, Member, Moment,
     Name, Number, Numbers, Operator, Order, Pool, Receipt, RequestKey,
 };
-use image_tables::{find_image, find_live};
-use interface_tables::{interfaces_of, list_interfaces};
-use machine_reads::{find_machine, find_uuid, list_machines};
-use machine_tables::{find_boot, find_order, waiting_orders};
-use name_tables::{find_member, find_operator, find_operator_with_digest, find_pool};
 use pxe_vendor::Arch;
-use receipt_tables::{find_numbers, find_receipt};
+use sql_counts::list_counts;
+use sql_images::{find_image, find_live};
+use sql_interfaces::{interfaces_of, list_interfaces};
+use sql_machine_reads::{find_machine, find_uuid, list_machines};
+use sql_machines::{find_boot, find_order, waiting_orders};
+use sql_names::{find_member, find_operator, find_operator_with_digest, find_pool};
+use sql_receipts::{find_numbers, find_receipt};
 use sqlite::{Alter, Connection};
 use std::alloc::Global;
 

@@ -4,8 +4,8 @@
 
 mod tasks;
 
-use hall_office::{Exit, Fault};
-use hall_words::{Refusal, read};
+use desk_operations::{Exit, Fault};
+use hallboot_words::{Refusal, read};
 use std::env;
 use std::process::ExitCode;
 

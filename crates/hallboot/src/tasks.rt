@@ -1,10 +1,10 @@
 //! What the words ask for is done. A hall's file is closed at the end, whatever became of the task.
-use file_store::{FileFault, close, create, open};
-use hall_office::{Exit, Fault, frame_run};
+use desk_operations::{Exit, Fault, frame_run};
 use hall_sql::SqlStore;
-use hall_tasks::{Asked, Task, asked_by, carried_out};
 use hall_types::{Digest, Name};
-use hall_words::Words;
+use hallboot_tasks::{Asked, Task, asked_by, carried_out};
+use hallboot_words::Words;
+use sql_file::{FileFault, close, create, open};
 use sqlite::{Alter, FileStore};
 use sqlite_disk::Disk;
 
@@ -19,7 +19,7 @@ fn of_file(fault: FileFault) -> Fault {
 
 fn init(rt: &HostRuntime, path: &str, admin: Name, digest: Digest) -> Result<Exit, Fault> {
     create(rt, path, admin, digest).map_err(of_file)?;
-    hall_office::write_text(&mut rt.stdout(), "hall created\n")?;
+    desk_operations::write_text(&mut rt.stdout(), "hall created\n")?;
     Ok(Exit::Done)
 }
 

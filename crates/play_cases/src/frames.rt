@@ -12,8 +12,8 @@ use std::alloc::{AllocError, Global};
 /// The hardware address of a text.
 pub fn address(alloc: Global, rest: &str, out: &mut Answer) -> Result<(), Cause> {
     let text = text(alloc, rest)?;
-    match mac_text::read(text.as_slice()) {
-        Some(address) => out.push(mac_text::print(alloc, &address)?.as_str()),
+    match wire_mac::read(text.as_slice()) {
+        Some(address) => out.push(wire_mac::print(alloc, &address)?.as_str()),
         None => out.push("none"),
     }
     Ok(())

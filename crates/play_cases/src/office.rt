@@ -4,7 +4,7 @@ use crate::escapes::{string, text};
 use crate::frames::place;
 use crate::printing::Answer;
 use crate::values::{halves, port};
-use hall_office::{Exit, Fault, Input, frame_run, moment_of, parse, read_input};
+use desk_operations::{Exit, Fault, Input, frame_run, moment_of, parse, read_input};
 use std::alloc::Global;
 use std::io::{self, Read};
 

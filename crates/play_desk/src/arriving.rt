@@ -1,9 +1,9 @@
 //! Arrivals at a desk over a store.
 use crate::asking::Asked;
 use crate::fault::Fault;
-use arrival_log::{answer_line, answer_text, arrival, is_readable};
 use hall_desk::{Answer, Arrival, Desk};
 use hall_store::{HallStore, Probe};
+use play_log::{answer_line, answer_text, arrival, is_readable};
 use pxe_vendor::Place;
 use std::alloc::Global;
 

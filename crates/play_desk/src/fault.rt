@@ -1,6 +1,6 @@
 //! Why a log isn't played to its end.
-use arrival_log::{LineFault, LogFault};
 use hall_store::Unavailable;
+use play_log::{LineFault, LogFault};
 use std::alloc::AllocError;
 
 /// Why a line isn't answered.

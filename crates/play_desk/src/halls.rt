@@ -4,13 +4,13 @@ use crate::fault::{Fault, PlayFault};
 use crate::files::play_file;
 use crate::log::{FILES, read_log};
 use crate::playing::{play, write_text};
-use arrival_log::{LogFault, admin};
 use hall_sql::SqlStore;
 use hall_types::{Digest, Name};
-use memory_store::MemoryStore;
+use play_log::{LogFault, admin};
 use sqlite::{Alter, Connection, MemStore};
 use std::alloc::Global;
 use std::io::{Read, Write};
+use store_memory::MemoryStore;
 
 /// What a hall is made over.
 #[derive(Clone, Copy)]

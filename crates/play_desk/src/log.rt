@@ -1,5 +1,5 @@
 //! A log, read whole, and where its parts begin.
-use arrival_log::{LogFault, next_line};
+use play_log::{LogFault, next_line};
 use std::alloc::Global;
 use std::io::{BufReader, Read};
 

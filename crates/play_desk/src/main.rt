@@ -2,7 +2,7 @@
 //! input has a line `ADMIN DIGEST`, and then a line for each thing that is done with that new hall:
 //!
 //! - `#` and a comment, or nothing: written as it is;
-//! - an arrival, as arrival_log parses it: what comes as octets is answered by octets in hexadecimal, what is written readably by
+//! - an arrival, as play_log parses it: what comes as octets is answered by octets in hexadecimal, what is written readably by
 //!   the status and the body; or by `silence` or `unavailable`;
 //! - `read WHAT ..` reads the store, as `reads.rt` says, and `look ..` reads all that it has under some keys;
 //! - `apply ROW; ROW; ..` makes a change that no desk makes, as `changes.rt` says: `applied` or `refused`;

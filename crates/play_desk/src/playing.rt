@@ -8,8 +8,8 @@ use crate::looking::look;
 use crate::reads::read;
 use crate::reports::{import, report};
 use crate::words::first;
-use arrival_log::LogFault;
 use hall_store::HallStore;
+use play_log::LogFault;
 use std::alloc::Global;
 use std::io::Write;
 

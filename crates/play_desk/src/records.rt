@@ -235,7 +235,7 @@ pub fn push_numbers(alloc: Global, line: &mut String, numbers: &Numbers) -> Resu
 
 /// An address as `read` and `look` write it.
 pub fn push_mac(alloc: Global, line: &mut String, mac: MacAddress) -> Result<(), AllocError> {
-    line.push_str(mac_text::print(alloc, &mac.octets())?.as_str())
+    line.push_str(wire_mac::print(alloc, &mac.octets())?.as_str())
 }
 
 pub fn push_interface(

@@ -56,7 +56,7 @@ pub fn arch(word: &str) -> Result<Arch, Fault> {
 }
 
 pub fn mac(word: &str) -> Result<MacAddress, Fault> {
-    match mac_text::read(word.as_bytes()) {
+    match wire_mac::read(word.as_bytes()) {
         Some(octets) => Ok(MacAddress::from(octets)),
         None => Err(Fault::Word),
     }

@@ -5,8 +5,8 @@ use Rattle.std.specs.List.{list_all}
 use Rattle.std.specs.Char.{is_ascii_alphanumeric}
 use Rattle.std.proofs.lemmas.Bool.{and_parts, leb-true}
 use Rattle.std.proofs.lemmas.List.Elements.{All-nil, All-cons, All-append}
-use Rattle.mac_text.specs.MacText.{IsMacText}
-use Rattle.mac_text.specs.MacLaws.{IsMacText-high, length-IsMacText}
+use Rattle.wire_mac.specs.MacText.{IsMacText}
+use Rattle.wire_mac.specs.MacLaws.{IsMacText-high, length-IsMacText}
 use Rattle.pxe_vendor.specs.BootFile.{loader_file}
 use Rattle.pxe_vendor.specs.Place.{is_host, is_host_octet}
 use Rattle.pxe_vendor.specs.declared.arch.Arch.{Arch}

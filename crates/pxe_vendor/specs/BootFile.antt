@@ -1,6 +1,6 @@
 -- The boot file for a client.
 use Rattle.std.specs.Prelude.{List, ℕ, ◌++◌, codes, if◌then◌else◌}
-use Rattle.mac_text.specs.MacText.{mac_text}
+use Rattle.wire_mac.specs.MacText.{mac_text}
 use Rattle.pxe_vendor.specs.Place.{Site}
 use Rattle.pxe_vendor.specs.declared.arch.Arch.{Arch}
 use Rattle.pxe_vendor.specs.declared.arch.Arch.TheVariants.{Bios, Uefi32, Uefi64, Arm64}

@@ -1,6 +1,6 @@
 use Rattle.std.proofs.Common.{◌≡◌, ◌++◌, ◌∷◌, [], string_bytes, take}
 use Rattle.std.specs.List.{flat_map}
-use Rattle.mac_text.specs.MacText.{mac_text}
+use Rattle.wire_mac.specs.MacText.{mac_text}
 use Rattle.hall_report.proofs.member.macs_text.Given as goal
 
 -- the first address stands in the text, and the others so far

@@ -1,0 +1,237 @@
+-- A hall stays sound with each command that leaves a machine in its status: its lock, its pool, its interfaces.
+use Rattle.std.specs.Prelude.{◌≡◌, ◌<◌, ◌≤◌, ◌+◌, ◌==◌, nat_le, ℕ, Bool, true, false, List, [], ◌∷◌, Option, Some, None, Ok, is_some, length, option_map, if◌then◌else◌, bytes_eq}
+use Rattle.std.proofs.Common.{refl, sym, ap, subst, arith, ◌∙◌}
+use Rattle.std.proofs.lemmas.Bool.{eqb-true, leb-false}
+use Rattle.hall_types.specs.CountLaws.{how_many-new}
+use Rattle.hall_types.specs.Hall.{second, Hall, applied, written}
+use Rattle.hall_types.specs.ListLaws.{how_many-listed}
+use Rattle.hall_types.specs.Lookup.{interfaces_of}
+use Rattle.hall_types.specs.Number.{next_version}
+use Rattle.hall_types.specs.Rows.{Rows, at, gone, how_many, one_if, passes, put, texts}
+use Rattle.hall_types.specs.RowLaws.{at-put-same, gone_found, how_many-gone}
+use Rattle.hall_types.specs.Keyed.{StandUnder}
+use Rattle.hall_types.specs.declared.change.RowWrite.{RowWrite}
+use Rattle.hall_types.specs.declared.change.RowWrite.TheVariants as write
+use Rattle.hall_types.specs.declared.machine.Interface.{Interface}
+use Rattle.hall_types.specs.declared.machine.Machine.{Machine}
+use Rattle.hall_types.specs.declared.machine.TheConstants.{MAX_INTERFACES}
+use Rattle.hall_types.specs.declared.refusal.Refusal.TheVariants as cause
+use Rattle.hall_types.specs.declared.status.Status.{Status}
+use Rattle.hall_types.specs.declared.status.Status.TheVariants.{Deployed}
+use Rattle.hall_events.specs.Reply.{Content}
+use Rattle.hall_events.specs.declared.command.MachineCommand.TheVariants as on
+use Rattle.boot_desk.specs.Following.{machine_row}
+use Rattle.hall_types.specs.Lookup.{HasRow}
+use Rattle.boot_desk.specs.Sound.{IsSoundMachine, IsSound, KeepsErase}
+use Rattle.boot_desk.specs.SoundLaws.{boots_same, image_for-same, moved_sound, moved_to, orders_same, waits_same}
+use Rattle.boot_desk.specs.Views.{view_of}
+use Rattle.desk_command.specs.Causes.{is_deployed, is_number, when}
+use Rattle.desk_command.specs.Effect.{Effect, about, edited, moved_to_pool, raised}
+use Rattle.desk_command.specs.View.{by_mac, with_interfaces}
+use Rattle.desk_command.proofs.ActionLemmas.{same_rows_of}
+use Rattle.desk_command.specs.AllowedLaws.{IsAllowed, first_none, unless_none, when_none}
+use Rattle.desk_command.proofs.OtherRowLemmas.{each_put, stand_gone, stand_put}
+
+-- ---- a machine's lock and pool
+
+-- the machine in its next version, with this pool, locked or not
+abbrev pub edit : Machine → List ℕ → Bool → Machine
+edit m pool locked = record m { version = next_version m.version; pool = pool; locked = locked }
+
+module _ (h : Hall) (s : IsSound h) (in_second : h.schema ≡ second) (m : Machine) (was : at h.machines m.id ≡ Some m) where
+  v : IsSoundMachine (view_of h m)
+  v = s.machines m.id m was
+
+  -- a pool that is recorded, and a lock of a Deployed machine alone
+  pub edit_sound : (pool : List ℕ) (locked : Bool) → HasRow h.pools pool → (locked ≡ true → m.status ≡ Deployed) → IsSound (written (machine_row m (edit m pool locked)) h)
+  edit_sound pool locked has deployed =
+      moved_sound h m (edit m pool locked) h.boots h.orders h.last s (record {
+        was = was;
+        id = refl;
+        uuid = refl;
+        pool = has;
+        owner = s.machine_owners m.id m was;
+        image = s.machine_images m.id m was;
+        own_boots = boots_same h m s;
+        own_orders = orders_same h m s;
+        waits = waits_same h m s was;
+        last_machine = refl;
+        last_boot = omega arith;
+        last_order = omega arith;
+        machine = record {
+          boot = v.boot;
+          order = v.order;
+          deployed = v.deployed;
+          boots = v.boots;
+          rescue = v.rescue;
+          locked = deployed;
+          deadline = v.deadline;
+          back = v.back;
+          remembered = v.remembered;
+          image = λ q is. ap (λ o. is_some o) (image_for-same q (view_of (moved_to h (edit m pool locked) h.boots h.orders h.last) (edit m pool locked)) (view_of h m) refl refl) ∙ v.image q is;
+        };
+        erase = subst (λ x. KeepsErase x (edit m pool locked)) (sym in_second) (subst (λ x. KeepsErase x m) in_second (s.erasing m.id m was));
+      })
+
+  own_pool : HasRow h.pools m.pool
+  own_pool = s.machine_pools m.id m was
+
+  pub raised_sound : IsSound (written (machine_row m (raised m)) h)
+  raised_sound = edit_sound m.pool m.locked own_pool v.locked
+
+  pub lock_sound : is_deployed m.status ≡ true → IsSound (written (machine_row m (record (raised m) { locked = true })) h)
+  lock_sound is = edit_sound m.pool true own_pool (λ t. deployed m.status is)
+    where
+      deployed : (status : Status) → is_deployed status ≡ true → status ≡ Deployed
+      deployed Deployed is = refl
+      deployed other is = cc
+
+  pub unlock_sound : IsSound (written (machine_row m (record (raised m) { locked = false })) h)
+  unlock_sound = edit_sound m.pool false own_pool (λ t. cc)
+
+  pub pool_set_sound : (pool : List ℕ) → HasRow h.pools pool → (rows : List RowWrite) (content : Content) → moved_to_pool m pool ≡ Ok (rows, content) → IsSound (applied rows h)
+  pool_set_sound pool has rows content is = by (bytes_eq m.pool pool) is
+    where
+      by : (b : Bool) → ◌≡◌ {A = Effect} (if b then Ok ([], about m) else edited m (record (raised m) { pool = pool }) []) (Ok (rows, content)) → IsSound (applied rows h)
+      by true e = subst (λ r. IsSound (applied r h)) (same_rows_of ([], about m) (rows, content) e) s
+      by false e =
+          subst (λ r. IsSound (applied r h)) (same_rows_of (machine_row m (record (raised m) { pool = pool }) ∷ [], about (record (raised m) { pool = pool })) (rows, content) e)
+          (edit_sound pool m.locked has v.locked)
+
+-- ---- interfaces
+
+-- the hall with other interfaces of the same machines
+module _ (h : Hall) (s : IsSound h) where
+  interfaces_sound : (interfaces : Rows texts Interface) → StandUnder (λ (i : Interface). i.mac) interfaces
+      → ((mac : List ℕ) (i : Interface) → at interfaces mac ≡ Some i → HasRow h.machines i.machine)
+      → ((id : ℕ) → HasRow h.machines id → 1 ≤ how_many (λ (i : Interface). i.machine == id) interfaces)
+      → ((id : ℕ) → HasRow h.machines id → how_many (λ (i : Interface). i.machine == id) interfaces ≤ MAX_INTERFACES)
+      → IsSound (record h { interfaces = interfaces })
+  interfaces_sound interfaces under have some few = record {
+    keyed = record {
+      operators = s.keyed.operators;
+      pools = s.keyed.pools;
+      members = s.keyed.members;
+      images = s.keyed.images;
+      lives = s.keyed.lives;
+      machines = s.keyed.machines;
+      interfaces = under;
+      boots = s.keyed.boots;
+      orders = s.keyed.orders;
+      receipts = s.keyed.receipts;
+    };
+    member_pools = s.member_pools;
+    member_operators = s.member_operators;
+    live_images = s.live_images;
+    machine_pools = s.machine_pools;
+    machine_owners = s.machine_owners;
+    machine_images = s.machine_images;
+    interface_machines = have;
+    boot_machines = s.boot_machines;
+    order_machines = s.order_machines;
+    receipt_operators = s.receipt_operators;
+    default = s.default;
+    uuids = s.uuids;
+    digests = s.digests;
+    few_machines = s.few_machines;
+    some_interfaces = some;
+    few_interfaces = few;
+    machines = λ id m is. let v = s.machines id m is in record {
+      boot = v.boot;
+      order = v.order;
+      deployed = v.deployed;
+      boots = v.boots;
+      rescue = v.rescue;
+      locked = v.locked;
+      deadline = v.deadline;
+      back = v.back;
+      remembered = v.remembered;
+      image = λ q works. ap (λ o. is_some o) (image_for-same q (view_of (record h { interfaces = interfaces }) m) (view_of h m) refl refl) ∙ v.image q works;
+    };
+    erasing = s.erasing;
+    waiting = s.waiting;
+    last_machine = s.last_machine;
+    last_boot = s.last_boot;
+    last_order = s.last_order;
+  }
+
+  -- an interface more of a machine that has fewer than the most
+  pub interface_put_sound : (i : Interface) → at h.interfaces i.mac ≡ None → HasRow h.machines i.machine → how_many (λ (x : Interface). x.machine == i.machine) h.interfaces < MAX_INTERFACES → IsSound (written (write.PutInterface i) h)
+  interface_put_sound i free has room =
+      interfaces_sound (put i.mac i h.interfaces) (stand_put (λ (x : Interface). x.mac) h.interfaces i s.keyed.interfaces)
+      (each_put (λ x. HasRow h.machines x.machine) h.interfaces i.mac i has s.interface_machines) some few
+    where
+      counted : (id : ℕ) → how_many (λ (x : Interface). x.machine == id) (put i.mac i h.interfaces) ≡ how_many (λ (x : Interface). x.machine == id) h.interfaces + one_if (i.machine == id)
+      counted id = how_many-new (λ (x : Interface). x.machine == id) h.interfaces i.mac i free
+
+      some : (id : ℕ) → HasRow h.machines id → 1 ≤ how_many (λ (x : Interface). x.machine == id) (put i.mac i h.interfaces)
+      some id is = omega (arith, counted id, s.some_interfaces id is)
+
+      few : (id : ℕ) → HasRow h.machines id → how_many (λ (x : Interface). x.machine == id) (put i.mac i h.interfaces) ≤ MAX_INTERFACES
+      few id is = by (i.machine == id) refl
+        where
+          by : (b : Bool) → (i.machine == id) ≡ b → how_many (λ (x : Interface). x.machine == id) (put i.mac i h.interfaces) ≤ MAX_INTERFACES
+          by true t =
+              let own = subst (λ n. how_many (λ (x : Interface). x.machine == n) h.interfaces < MAX_INTERFACES) (eqb-true i.machine id t) room in
+              let one = ap one_if t in
+              omega (arith, counted id, one, own)
+          by false t = let none = ap one_if t in omega (arith, counted id, none, s.few_interfaces id is)
+
+  -- an interface fewer of a machine that has another
+  pub interface_gone_sound : (mac : List ℕ) (i : Interface) → at h.interfaces mac ≡ Some i → 1 < how_many (λ (x : Interface). x.machine == i.machine) h.interfaces → IsSound (written (write.InterfaceGone mac) h)
+  interface_gone_sound mac i there more =
+      interfaces_sound (gone mac h.interfaces) (stand_gone (λ (x : Interface). x.mac) h.interfaces mac s.keyed.interfaces)
+      (λ other x is. s.interface_machines other x (gone_found h.interfaces mac other x is).1) some few
+    where
+      counted : (id : ℕ) → how_many (λ (x : Interface). x.machine == id) (gone mac h.interfaces) + one_if (i.machine == id) ≡ how_many (λ (x : Interface). x.machine == id) h.interfaces
+      counted id =
+          ap (λ o. how_many (λ (x : Interface). x.machine == id) (gone mac h.interfaces) + one_if (passes (λ (x : Interface). x.machine == id) o)) (sym there)
+          ∙ how_many-gone (λ (x : Interface). x.machine == id) h.interfaces mac
+
+      few : (id : ℕ) → HasRow h.machines id → how_many (λ (x : Interface). x.machine == id) (gone mac h.interfaces) ≤ MAX_INTERFACES
+      few id is = omega (arith, counted id, s.few_interfaces id is)
+
+      some : (id : ℕ) → HasRow h.machines id → 1 ≤ how_many (λ (x : Interface). x.machine == id) (gone mac h.interfaces)
+      some id is = by (i.machine == id) refl
+        where
+          by : (b : Bool) → (i.machine == id) ≡ b → 1 ≤ how_many (λ (x : Interface). x.machine == id) (gone mac h.interfaces)
+          by true t =
+              let own = subst (λ n. 1 < how_many (λ (x : Interface). x.machine == n) h.interfaces) (eqb-true i.machine id t) more in
+              let one = ap one_if t in
+              omega (arith, counted id, one, own)
+          by false t = let none = ap one_if t in omega (arith, counted id, none, s.some_interfaces id is)
+
+-- ---- commands on interfaces
+
+no_interface : (o : Option Interface) → is_some (option_map (λ i. i.machine) o) ≡ false → o ≡ None
+no_interface None is = refl
+no_interface (Some i) is = cc
+
+interface_is : (o : Option Interface) (id : ℕ) → is_number (option_map (λ i. i.machine) o) id ≡ true → (i : Interface) × (o ≡ Some i) × (i.machine ≡ id)
+interface_is None id is = cc
+interface_is (Some i) id is = (i, refl, eqb-true i.machine id is)
+
+module _ (h : Hall) (s : IsSound h) (in_second : h.schema ≡ second) (m : Machine) (was : at h.machines m.id ≡ Some m) (mac : List ℕ) where
+  abbrev raised_hall : Hall
+  raised_hall = written (machine_row m (raised m)) h
+
+  counts : how_many (λ (x : Interface). x.machine == m.id) h.interfaces ≡ length (interfaces_of h m.id)
+  counts = how_many-listed (λ (x : Interface). x.machine == m.id) h.interfaces
+
+  pub add_interface_sound : IsAllowed (with_interfaces h m mac) m (on.AddInterface mac) → IsSound (written (write.PutInterface (record { mac = mac; machine = m.id })) raised_hall)
+  add_interface_sound a =
+      let taken = first_none (when (is_some (by_mac h mac)) cause.Taken) _ a.own in
+      let full = first_none (when (nat_le MAX_INTERFACES (length (interfaces_of h m.id))) cause.Full) _ taken.1 in
+      let room = leb-false MAX_INTERFACES (length (interfaces_of h m.id)) (when_none _ cause.Full full.0) in
+      interface_put_sound raised_hall (raised_sound h s in_second m was) (record { mac = mac; machine = m.id })
+      (no_interface (at h.interfaces mac) (when_none (is_some (by_mac h mac)) cause.Taken taken.0))
+      (ap (λ o. is_some o) (at-put-same h.machines m.id (raised m)))
+      (omega (arith, counts, room))
+
+  pub remove_interface_sound : IsAllowed (with_interfaces h m mac) m (on.RemoveInterface mac) → IsSound (written (write.InterfaceGone mac) raised_hall)
+  remove_interface_sound a =
+      let it = interface_is (at h.interfaces mac) m.id (unless_none (is_number (by_mac h mac) m.id) cause.NoInterface a.found) in
+      let last = first_none (when (nat_le (length (interfaces_of h m.id)) 1) cause.LastInterface) _ a.own in
+      let more = leb-false (length (interfaces_of h m.id)) 1 (when_none _ cause.LastInterface last.0) in
+      interface_gone_sound raised_hall (raised_sound h s in_second m was) mac it.0 it.1
+      (subst (λ n. 1 < how_many (λ (x : Interface). x.machine == n) h.interfaces) (sym it.2) (omega (arith, counts, more)))

@@ -1,0 +1,48 @@
+-- What follows for a command from the absence of each cause to refuse it.
+use Rattle.std.specs.Prelude.{◌≡◌, not, ℕ, Bool, true, false, List, ◌∷◌, Option, Some, None}
+use Rattle.std.proofs.Common.{refl}
+use Rattle.hall_types.specs.declared.machine.Machine.{Machine}
+use Rattle.hall_types.specs.declared.operator.Operator.{Operator}
+use Rattle.hall_types.specs.declared.refusal.Refusal.{Refusal}
+use Rattle.hall_types.specs.declared.refusal.Refusal.TheVariants as cause
+use Rattle.hall_events.specs.declared.command.MachineCommand.{MachineCommand}
+use Rattle.desk_command.specs.Causes.{action_of, causes_at, first_of, forbidden, is_barred, is_stale, missing, own, when}
+use Rattle.desk_command.specs.declared.view.CommandView.{CommandView}
+
+-- where there is no first cause, there is neither this one nor one after it
+pub first_none : (c : Option Refusal) (cs : List (Option Refusal)) → first_of (c ∷ cs) ≡ None → (c ≡ None) × (first_of cs ≡ None)
+first_none None cs is = (refl, is)
+first_none (Some refusal) cs is = cc
+
+pub when_none : (b : Bool) (refusal : Refusal) → when b refusal ≡ None → b ≡ false
+when_none true refusal is = cc
+when_none false refusal is = refl
+
+pub not_false : (b : Bool) → not b ≡ false → b ≡ true
+not_false true is = refl
+not_false false is = cc
+
+-- a cause that a test excludes: the test holds
+pub unless_none : (b : Bool) (refusal : Refusal) → when (not b) refusal ≡ None → b ≡ true
+unless_none b refusal is = not_false b (when_none (not b) refusal is)
+
+-- nothing that the command names is missing, the machine isn't locked against it, and there is no cause of the command's own
+pub record IsAllowed (v : CommandView) (m : Machine) (command : MachineCommand) : Type 0 where
+  pub found : missing v m command ≡ None
+  pub unlocked : is_barred m command ≡ false
+  pub own : first_of (own v m command) ≡ None
+
+pub allowed : (v : CommandView) (m : Machine) (o : Operator) (version : Option ℕ) (command : MachineCommand) → first_of (causes_at (Some m) v o version command) ≡ None → IsAllowed v m command
+allowed v m o version command is =
+    let after_missing = first_none (missing v m command) _ is in
+    let after_forbidden = first_none (forbidden o m v.is_member (action_of command)) _ after_missing.1 in
+    let after_stale = first_none (when (is_stale version m.version) cause.StaleVersion) _ after_forbidden.1 in
+    let after_barred = first_none (when (is_barred m command) cause.Locked) _ after_stale.1 in
+    let after_own = first_none (first_of (own v m command)) _ after_barred.1 in
+    record { found = after_missing.0; unlocked = when_none (is_barred m command) cause.Locked after_barred.0; own = after_own.0 }
+
+-- its operator may act
+pub may_act : (v : CommandView) (m : Machine) (o : Operator) (version : Option ℕ) (command : MachineCommand) → first_of (causes_at (Some m) v o version command) ≡ None → forbidden o m v.is_member (action_of command) ≡ None
+may_act v m o version command is =
+    let after_missing = first_none (missing v m command) _ is in
+    (first_none (forbidden o m v.is_member (action_of command)) _ after_missing.1).0

@@ -1,0 +1,169 @@
+-- Why a command is refused: each cause that its refusals have, in the order in which they are looked for.
+use Rattle.std.specs.Prelude.{ℕ, ◌==◌, nat_le, not, Bool, true, false, ◌||◌, List, [], ◌∷◌, Option, Some, None, is_some}
+use Rattle.std.specs.Str.{bytes_eq}
+use Rattle.pxe_vendor.specs.declared.arch.Arch.{Arch}
+use Rattle.hall_types.specs.Kinds.{arch_number}
+use Rattle.hall_types.specs.Number.{max_number, next_number}
+use Rattle.hall_types.specs.declared.kinds.Erase.{Erase}
+use Rattle.hall_types.specs.declared.machine.Machine.{Machine}
+use Rattle.hall_types.specs.declared.machine.TheConstants.{MAX_INTERFACES, MAX_MACHINES}
+use Rattle.hall_types.specs.declared.operator.Operator.{Operator}
+use Rattle.hall_types.specs.declared.refusal.Refusal.{Refusal}
+use Rattle.hall_types.specs.declared.refusal.Refusal.TheVariants as cause
+use Rattle.hall_types.specs.declared.status.Status.{Status}
+use Rattle.hall_types.specs.declared.status.Status.TheVariants.{New, Ready, Broken, FailedCommissioning, FailedTesting, Deployed}
+use Rattle.hall_events.specs.declared.command.HallCommand.{HallCommand}
+use Rattle.hall_events.specs.declared.command.HallCommand.TheVariants.{AddOperator, DisableOperator, AddPool, Grant, AddImage, DeleteImage, SetLive, AddMachine, OnMachine}
+use Rattle.hall_events.specs.declared.command.MachineCommand.{MachineCommand}
+use Rattle.hall_events.specs.declared.command.MachineCommand.TheVariants as on
+use Rattle.life_cycle.specs.Permission.{permission_for, who_acts}
+use Rattle.life_cycle.specs.Table.{step_of}
+use Rattle.life_cycle.specs.declared.action.Action.{Action}
+use Rattle.life_cycle.specs.declared.action.Action.TheVariants as act
+use Rattle.life_cycle.specs.declared.signal.Signal.TheVariants.{By}
+use Rattle.desk_command.specs.declared.view.CommandView.{CommandView}
+
+abbrev pub when : Bool → Refusal → Option Refusal
+when true refusal = Some refusal
+when false refusal = None
+
+-- the first cause that there is
+abbrev pub first_of : List (Option Refusal) → Option Refusal
+first_of [] = None
+first_of (None ∷ causes) = first_of causes
+first_of (Some refusal ∷ causes) = Some refusal
+
+-- ---- commands on a machine
+
+abbrev pub release_action : Option Erase → Action
+release_action None = act.Release
+release_action (Some erase) = act.ReleaseErasing
+
+-- the action of the life cycle that a command is
+abbrev pub action_of : MachineCommand → Option Action
+action_of (on.AddInterface mac) = None
+action_of (on.RemoveInterface mac) = None
+action_of (on.SetPool pool) = None
+action_of (on.Commission tests) = Some act.Commission
+action_of on.Test = Some act.Test
+action_of on.Override = Some act.Override
+action_of on.Fix = Some act.Fix
+action_of on.Delete = None
+action_of on.Allocate = Some act.Allocate
+action_of (on.Deploy image) = Some act.Deploy
+action_of (on.Release erase) = Some (release_action erase)
+action_of on.Rescue = Some act.Rescue
+action_of on.Abort = Some act.Abort
+action_of on.Lock = Some act.Lock
+action_of on.Unlock = Some act.Unlock
+action_of on.ExitRescue = Some act.ExitRescue
+action_of on.Break = Some act.Break
+
+abbrev pub is_number : Option ℕ → ℕ → Bool
+is_number None id = false
+is_number (Some its) id = its == id
+
+-- a row that the command names isn't there
+abbrev pub missing : CommandView → Machine → MachineCommand → Option Refusal
+missing v m (on.RemoveInterface mac) = when (not (is_number v.by_mac m.id)) cause.NoInterface
+missing v m (on.SetPool pool) = when (not v.has_pool) cause.NoPool
+missing v m (on.Deploy image) = when (not (is_some v.image)) cause.NoImage
+missing v m other = None
+
+-- who may act, where it is an action
+abbrev pub forbidden : Operator → Machine → Bool → Option Action → Option Refusal
+forbidden o m member None = None
+forbidden o m member (Some action) = permission_for (who_acts action) o m member
+
+-- the version that the command wants isn't the machine's
+abbrev pub is_stale : Option ℕ → ℕ → Bool
+is_stale None its = false
+is_stale (Some wanted) its = not (wanted == its)
+
+-- a locked machine can only be unlocked
+abbrev pub is_barred : Machine → MachineCommand → Bool
+is_barred m on.Unlock = false
+is_barred m other = m.locked
+
+-- in these statuses a machine can be deleted, or put into another pool
+abbrev pub is_idle : Status → Bool
+is_idle New = true
+is_idle Ready = true
+is_idle Broken = true
+is_idle FailedCommissioning = true
+is_idle FailedTesting = true
+is_idle other = false
+
+-- the table has no row for the action
+abbrev pub no_step : Machine → Action → Option Refusal
+no_step m action = when (not (is_some (step_of m (By action)))) cause.WrongStatus
+
+abbrev pub no_live : CommandView → Option Refusal
+no_live v = when (not v.has_live) cause.NoLiveImage
+
+abbrev pub no_live_if : CommandView → Option Erase → Option Refusal
+no_live_if v None = None
+no_live_if v (Some erase) = no_live v
+
+abbrev pub is_arch : Option Arch → Arch → Bool
+is_arch None arch = false
+is_arch (Some its) arch = arch_number its == arch_number arch
+
+abbrev pub is_deployed : Status → Bool
+is_deployed Deployed = true
+is_deployed other = false
+
+-- the causes that are the command's own
+abbrev pub own : CommandView → Machine → MachineCommand → List (Option Refusal)
+own v m (on.AddInterface mac) = when (is_some v.by_mac) cause.Taken ∷ when (nat_le MAX_INTERFACES v.interfaces) cause.Full ∷ []
+own v m (on.RemoveInterface mac) = when (nat_le v.interfaces 1) cause.LastInterface ∷ []
+own v m (on.SetPool pool) = when (not (is_idle m.status)) cause.WrongStatus ∷ []
+own v m (on.Commission tests) = no_step m act.Commission ∷ no_live v ∷ []
+own v m on.Test = no_step m act.Test ∷ no_live v ∷ []
+own v m on.Override = no_step m act.Override ∷ []
+own v m on.Fix = no_step m act.Fix ∷ []
+own v m on.Delete = when (not (is_idle m.status)) cause.WrongStatus ∷ []
+own v m on.Allocate = no_step m act.Allocate ∷ []
+own v m (on.Deploy image) = no_step m act.Deploy ∷ when (not (is_arch v.image m.arch)) cause.WrongArch ∷ []
+own v m (on.Release erase) = no_step m (release_action erase) ∷ no_live_if v erase ∷ []
+own v m on.Rescue = no_step m act.Rescue ∷ no_live v ∷ []
+own v m on.Abort = no_step m act.Abort ∷ []
+own v m on.Lock = when (not (is_deployed m.status)) cause.WrongStatus ∷ []
+own v m on.Unlock = when (not m.locked) cause.WrongStatus ∷ []
+own v m on.ExitRescue = no_step m act.ExitRescue ∷ []
+own v m on.Break = no_step m act.Break ∷ []
+
+-- the machine has its last version
+abbrev pub is_exhausted : Machine → Bool
+is_exhausted m = m.version == max_number
+
+abbrev pub causes_at : Option Machine → CommandView → Operator → Option ℕ → MachineCommand → List (Option Refusal)
+causes_at None v o version command = Some cause.NoMachine ∷ []
+causes_at (Some m) v o version command =
+    missing v m command
+    ∷ forbidden o m v.is_member (action_of command)
+    ∷ when (is_stale version m.version) cause.StaleVersion
+    ∷ when (is_barred m command) cause.Locked
+    ∷ first_of (own v m command)
+    ∷ when (is_exhausted m) cause.Exhausted
+    ∷ []
+
+-- ---- all commands
+
+unfoldable pub causes : CommandView → Operator → HallCommand → List (Option Refusal)
+causes v o (AddOperator name role digest) = when (is_some v.operator || v.has_digest) cause.Taken ∷ []
+causes v o (DisableOperator name) =
+    when (not (is_some v.operator)) cause.NoOperator ∷ when (bytes_eq name o.name) cause.SelfDisable ∷ []
+causes v o (AddPool pool) = when v.has_pool cause.Taken ∷ []
+causes v o (Grant pool name) =
+    when (not v.has_pool) cause.NoPool ∷ when (not (is_some v.operator)) cause.NoOperator ∷ when v.is_member cause.Taken ∷ []
+causes v o (AddImage image) = when (is_some v.image) cause.Taken ∷ []
+causes v o (DeleteImage image) = when (not (is_some v.image)) cause.NoImage ∷ when v.image_used cause.InUse ∷ []
+causes v o (SetLive image) = when (not (is_some v.image)) cause.NoImage ∷ []
+causes v o (AddMachine mac arch pool uuid) =
+    when (not v.has_pool) cause.NoPool
+    ∷ when (is_some v.by_mac || is_some v.by_uuid) cause.Taken
+    ∷ when (nat_le MAX_MACHINES v.machines) cause.Full
+    ∷ when (not (is_some (next_number v.numbers.machine))) cause.Exhausted
+    ∷ []
+causes v o (OnMachine id version command) = causes_at v.machine v o version command

@@ -1,0 +1,357 @@
+//! What commands make of a hall.
+ghost use Rattle.std.specs.Prelude.{◌≡◌, [], ◌∷◌, IfOk, IfErr, Ok, None};
+ghost use Rattle.hall_types.specs.declared.change.RowWrite.TheVariants.{PutImage, PutInterface, PutMachine, PutNumbers};
+ghost use Rattle.hall_events.specs.Reply.{done};
+ghost use Rattle.hall_types.specs.Number.{next_number};
+ghost use Rattle.desk_command.specs.declared.effects.Said.TheVariants as said;
+ghost use Rattle.desk_command.specs.Effect.{Effects, acted, added, added_machine, disabled, edited, effect, live_image, machine_effect, moved_to_pool, prepared, raised};
+
+use crate::action::release_action;
+use crate::view::CommandView;
+use boot_desk::{DeskFault, entry_rows, machine_row};
+use hall_events::{HallCommand, MachineCommand};
+use hall_types::{
+    Arch, BootCount, Change, Image, Interface, LastIssued, Live, MacAddress, Machine, MachineUuid,
+    Member, Moment, Name, Number, Numbers, Operator, Pool, Refusal, RowWrite, Status, Version,
+};
+use life_cycle::{Action, Signal, enter, next};
+use std::alloc::{AllocError, Global};
+
+/// What a command is answered, before it is a text.
+#[derive(Clone, Copy)]
+pub enum Said {
+    /// The machine as it is afterwards.
+    Machine(Machine),
+    /// The number of the machine that is gone.
+    Gone(Number),
+    Done,
+}
+
+type Effect = Result<(Change, Said), DeskFault>;
+
+// What a command sets before the machine enters its status.
+fn prepared(command: &MachineCommand, by: &Operator, machine: &Machine) -> Machine
+    ensures { result ≡ prepared command.now by.now machine.now }
+{
+    match *command {
+        MachineCommand::Commission { tests } => Machine { tests, ..*machine },
+        MachineCommand::Allocate => Machine {
+            owner: Some(by.name),
+            ..*machine
+        },
+        MachineCommand::Deploy { image } => Machine {
+            image: Some(image),
+            ..*machine
+        },
+        MachineCommand::Release { erase } => Machine { erase, ..*machine },
+        _ => *machine,
+    }
+}
+
+// The machine takes the step that the table has for the action.
+fn acted(
+    alloc: Global,
+    view: &CommandView,
+    by: &Operator,
+    machine: &Machine,
+    command: &MachineCommand,
+    moment: Moment,
+    action: Action,
+) -> Effect
+    ensures { Effects result (acted view.now by.now machine.now command.now moment action) }
+{
+    let Some(step) = next(machine, Signal::By(action)) else {
+        return Err(DeskFault::Refused(Refusal::WrongStatus));
+    };
+    let before = prepared(command, by, machine);
+    let Ok(entered) = enter(&before, step, moment, view.numbers) else {
+        return Err(DeskFault::Refused(Refusal::Exhausted));
+    };
+    match entry_rows(alloc, machine, view.order, &entered) {
+        Ok(rows) => Ok((Change::from(rows), Said::Machine(entered.machine))),
+        Err(AllocError) => Err(DeskFault::Memory),
+    }
+}
+
+// A change of the row or of the interfaces raises the version.
+fn raised(machine: &Machine) -> Machine
+    ensures { result ≡ raised machine.now }
+{
+    Machine {
+        version: machine.version.raised(),
+        ..*machine
+    }
+}
+
+// The answer about a machine.
+fn about(machine: &Machine) -> Said
+    ensures { result ≡ said.Machine machine.now }
+{
+    Said::Machine(*machine)
+}
+
+// A row and another one.
+fn two(alloc: Global, first: RowWrite, second: RowWrite) -> Result<Change, DeskFault>
+    ensures rows { IfOk result (λ rows. rows ≡ first ∷ second ∷ []) }
+    ensures memory { IfErr result (λ fault. fault ≡ DeskFault.Memory) }
+{
+    let mut rows = Vec::new(alloc);
+    if rows.push(first).is_err() || rows.push(second).is_err() {
+        return Err(DeskFault::Memory);
+    }
+    Ok(Change::from(rows))
+}
+
+fn one(alloc: Global, row: RowWrite) -> Result<Change, DeskFault>
+    ensures rows { IfOk result (λ rows. rows ≡ row ∷ []) }
+    ensures memory { IfErr result (λ fault. fault ≡ DeskFault.Memory) }
+{
+    let mut rows = Vec::new(alloc);
+    if rows.push(row).is_err() {
+        return Err(DeskFault::Memory);
+    }
+    Ok(Change::from(rows))
+}
+
+fn edited(alloc: Global, machine: &Machine, after: Machine) -> Effect
+    ensures { Effects result (edited machine.now after []) }
+{
+    let said = about(&after);
+    let rows = one(alloc, machine_row(machine, after))?;
+    Ok((rows, said))
+}
+
+fn edited_with(alloc: Global, machine: &Machine, row: RowWrite) -> Effect
+    ensures { Effects result (edited machine.now (raised machine.now) (row ∷ [])) }
+{
+    let after = raised(machine);
+    let said = about(&after);
+    let rows = two(alloc, machine_row(machine, after), row)?;
+    Ok((rows, said))
+}
+
+fn moved_to_pool(alloc: Global, machine: &Machine, pool: Name) -> Effect
+    ensures { Effects result (moved_to_pool machine.now pool) }
+{
+    if machine.pool.text() == pool.text() {
+        return Ok((Change::from(Vec::new(alloc)), Said::Machine(*machine)));
+    }
+    let after = Machine {
+        pool,
+        ..raised(machine)
+    };
+    edited(alloc, machine, after)
+}
+
+fn locked(alloc: Global, machine: &Machine, locked: bool) -> Effect
+    ensures { Effects result (edited machine.now (record (raised machine.now) { locked = locked }) []) }
+{
+    let after = Machine {
+        locked,
+        ..raised(machine)
+    };
+    edited(alloc, machine, after)
+}
+
+fn machine_effect(
+    alloc: Global,
+    view: &CommandView,
+    by: &Operator,
+    machine: &Machine,
+    command: &MachineCommand,
+    moment: Moment,
+) -> Effect
+    ensures { Effects result (machine_effect view.now by.now machine.now command.now moment) }
+{
+    let action = match *command {
+        MachineCommand::AddInterface { mac } => {
+            let machine_of = machine.id;
+            let row = RowWrite::PutInterface(Interface {
+                mac,
+                machine: machine_of,
+            });
+            return edited_with(alloc, machine, row);
+        }
+        MachineCommand::RemoveInterface { mac } => {
+            return edited_with(alloc, machine, RowWrite::InterfaceGone(mac));
+        }
+        MachineCommand::SetPool { pool } => return moved_to_pool(alloc, machine, pool),
+        MachineCommand::Delete => {
+            let rows = one(alloc, RowWrite::MachineGone(machine.id))?;
+            return Ok((rows, Said::Gone(machine.id)));
+        }
+        MachineCommand::Lock => return locked(alloc, machine, true),
+        MachineCommand::Unlock => return locked(alloc, machine, false),
+        MachineCommand::Commission { .. } => Action::Commission,
+        MachineCommand::Test => Action::Test,
+        MachineCommand::Override => Action::Override,
+        MachineCommand::Fix => Action::Fix,
+        MachineCommand::Allocate => Action::Allocate,
+        MachineCommand::Deploy { .. } => Action::Deploy,
+        MachineCommand::Release { erase } => release_action(erase),
+        MachineCommand::Rescue => Action::Rescue,
+        MachineCommand::Abort => Action::Abort,
+        MachineCommand::ExitRescue => Action::ExitRescue,
+        MachineCommand::Break => Action::Break,
+    };
+    acted(alloc, view, by, machine, command, moment, action)
+}
+
+fn added_machine(id: Number, arch: Arch, pool: Name, uuid: Option<MachineUuid>) -> Machine
+    ensures { result ≡ added_machine id arch pool uuid }
+{
+    Machine {
+        id,
+        arch,
+        uuid,
+        pool,
+        status: Status::New,
+        owner: None,
+        image: None,
+        tests: false,
+        back: None,
+        erase: None,
+        locked: false,
+        version: Version::FIRST,
+        deadline: None,
+        boot: None,
+        boots: BootCount::NONE,
+        waiting: None,
+    }
+}
+
+fn added_rows(
+    alloc: Global,
+    machine: Machine,
+    mac: MacAddress,
+    numbers: Numbers,
+) -> Result<Vec<RowWrite>, AllocError>
+    ensures { IfOk result (λ rows. rows.items ≡ PutMachine machine None ∷ PutInterface (record { mac = mac; machine = machine.id }) ∷ PutNumbers (record numbers { machine = machine.id }) ∷ []) }
+{
+    let interface = Interface {
+        mac,
+        machine: machine.id,
+    };
+    let last = Numbers {
+        machine: LastIssued::from(machine.id),
+        ..numbers
+    };
+    let mut rows = Vec::new(alloc);
+    rows.push(RowWrite::PutMachine { machine, was: None })?;
+    rows.push(RowWrite::PutInterface(interface))?;
+    rows.push(RowWrite::PutNumbers(last))?;
+    Ok(rows)
+}
+
+fn added(
+    alloc: Global,
+    view: &CommandView,
+    mac: MacAddress,
+    arch: Arch,
+    pool: Name,
+    uuid: Option<MachineUuid>,
+) -> Effect
+    ensures { Effects result (added view.now mac arch pool uuid (next_number view.now.numbers.machine)) }
+{
+    let Some(id) = view.numbers.machine.next() else {
+        return Err(DeskFault::Refused(Refusal::Exhausted));
+    };
+    let machine = added_machine(id, arch, pool, uuid);
+    let said = about(&machine);
+    match added_rows(alloc, machine, mac, view.numbers) {
+        Ok(rows) => Ok((Change::from(rows), said)),
+        Err(AllocError) => Err(DeskFault::Memory),
+    }
+}
+
+fn disabled(alloc: Global, operator: Option<Operator>) -> Effect
+    ensures { Effects result (disabled operator) }
+{
+    let Some(operator) = operator else {
+        return Err(DeskFault::Refused(Refusal::NoOperator));
+    };
+    if !operator.enabled {
+        return Ok((Change::from(Vec::new(alloc)), Said::Done));
+    }
+    let row = RowWrite::PutOperator(Operator {
+        enabled: false,
+        ..operator
+    });
+    Ok((one(alloc, row)?, Said::Done))
+}
+
+fn live_image(alloc: Global, image: Name, arch: Option<Arch>) -> Effect
+    ensures { Effects result (live_image image arch) }
+{
+    let Some(arch) = arch else {
+        return Err(DeskFault::Refused(Refusal::NoImage));
+    };
+    let row = RowWrite::PutLive(Live { arch, image });
+    Ok((one(alloc, row)?, Said::Done))
+}
+
+// One row is put, and nothing else is to be said.
+fn put(alloc: Global, row: RowWrite) -> Effect
+    ensures { Effects result (Ok (row ∷ [], done)) }
+{
+    Ok((one(alloc, row)?, Said::Done))
+}
+
+fn put_image(alloc: Global, image: &Image) -> Effect
+    ensures { Effects result (Ok (PutImage image.now ∷ [], done)) }
+{
+    match image.copy(alloc) {
+        Ok(copy) => put(alloc, RowWrite::PutImage(copy)),
+        Err(AllocError) => Err(DeskFault::Memory),
+    }
+}
+
+/// The rows that a command writes if it isn't refused, and what it is answered.
+#[tactic(auto, unfolding(crate::specs::Effect::effect))]
+pub(crate) fn effect(
+    alloc: Global,
+    view: &CommandView,
+    by: &Operator,
+    command: &HallCommand,
+    moment: Moment,
+) -> Effect
+    ensures { Effects result (effect view.now by.now command.now moment) }
+{
+    match command {
+        HallCommand::AddOperator {
+            operator,
+            role,
+            digest,
+        } => put(
+            alloc,
+            RowWrite::PutOperator(Operator {
+                name: *operator,
+                role: *role,
+                digest: *digest,
+                enabled: true,
+            }),
+        ),
+        HallCommand::DisableOperator { .. } => disabled(alloc, view.operator),
+        HallCommand::AddPool { pool } => put(alloc, RowWrite::PutPool(Pool { name: *pool })),
+        HallCommand::Grant { pool, operator } => put(
+            alloc,
+            RowWrite::PutMember(Member {
+                pool: *pool,
+                operator: *operator,
+            }),
+        ),
+        HallCommand::AddImage { image } => put_image(alloc, image),
+        HallCommand::DeleteImage { image } => put(alloc, RowWrite::ImageGone(*image)),
+        HallCommand::SetLive { image } => live_image(alloc, *image, view.image),
+        HallCommand::AddMachine {
+            mac,
+            arch,
+            pool,
+            uuid,
+        } => added(alloc, view, *mac, *arch, *pool, *uuid),
+        HallCommand::OnMachine { command, .. } => match view.machine {
+            Some(machine) => machine_effect(alloc, view, by, &machine, command, moment),
+            None => Err(DeskFault::Refused(Refusal::NoMachine)),
+        },
+    }
+}

@@ -1,0 +1,15 @@
+//! What holds of halls, whatever operators command.
+ghost use Rattle.std.specs.Prelude.{◌≡◌, ℕ, List, Ok, Option};
+ghost use Rattle.hall_types.specs.Hall.{Hall, applied, second};
+ghost use Rattle.hall_types.specs.declared.change.RowWrite.{RowWrite};
+ghost use Rattle.hall_events.specs.Reply.{Content};
+ghost use Rattle.hall_events.specs.declared.command.HallCommand.{HallCommand};
+ghost use Rattle.boot_desk.specs.Sound.{IsSound};
+ghost use Rattle.desk_command.specs.Command.{command_decision};
+
+/// A sound hall of the second schema stays sound when the rows of a command are written.
+pub fn commands_keep_halls_sound()
+    ensures { (h : Hall) (bearer : Option (List ℕ)) (key : List ℕ) (command : HallCommand) (moment : ℕ) (rows : List RowWrite) (content : Content)
+        → IsSound h → h.schema ≡ second
+        → command_decision h bearer key command moment ≡ Ok (rows, content) → IsSound (applied rows h) }
+{}

@@ -1,0 +1,188 @@
+-- An import goes on by one row.
+use Rattle.std.proofs.Common.{◌≡◌, ◌≢◌, ◌+◌, ◌<◌, ◌==◌, ◌&&◌, ℕ, zero, Bool, true, false, List, [], ◌∷◌, ◌++◌, Option, Result, Ok, Err, IfErr, IsErrAnd, if◌then◌else◌, length, take, get_or, refl, sym, ap, subst, ◌∙◌, suc, append-nil, append_assoc, add-zero, arith, inl, inr}
+use Rattle.std.proofs.KnownBytes.{Appends-nil, Appends-trans}
+use Rattle.std.proofs.lemmas.List.{take_more}
+use Rattle.std.proofs.lemmas.List.Folds.{list_all-append}
+use Rattle.std.proofs.lemmas.List.Sums.{fold-append}
+use Rattle.std.specs.Prelude.{replicate}
+use Rattle.std.specs.Io.KnownBytes.{Appends}
+use Rattle.std.specs.List.{enumerate_from, flat_map, fold, list_all, scan}
+use Rattle.pxe_vendor.specs.Place.{Site}
+use Rattle.boot_desk.specs.Sound.{IsSound}
+use Rattle.hall_types.specs.Hall.{Hall, applied, second}
+use Rattle.hall_events.specs.Reply.{reply_of}
+use Rattle.hall_events.specs.declared.event.Event.{Event}
+use Rattle.hall_events.specs.declared.reply.BodyKind.{BodyKind}
+use Rattle.hall_events.specs.declared.reply.Reply.{Reply}
+use Rattle.hall_events.specs.declared.reply.Reply.TheVariants.{Http}
+use Rattle.hall_store.specs.Rules.{AllKeep}
+use Rattle.hall_store.specs.declared.store.Unavailable.{Unavailable}
+use Rattle.laws_model.specs.Decision.{decision_of}
+use Rattle.hall_report.specs.declared.row.ImportRow.{ImportRow}
+use Rattle.hall_desk.specs.Plan.{IsCarriedOut}
+use Rattle.desk_operations.specs.Import.{IsImported, IsRowDone, IsRowStopped, IsStopped, after_row, after_rows, end_of, event_of, is_ok, line_of, lines_of, replies_to, reply_to, row_line}
+use Rattle.desk_operations.specs.declared.fault.Fault.{Fault}
+use Rattle.desk_operations.specs.declared.fault.Fault.TheVariants.{Io}
+use Rattle.desk_operations.specs.declared.imports.Imported.{Imported}
+use Rattle.desk_operations.specs.declared.imports.Imported.TheVariants.{All, NotAll}
+
+-- ---- lists with one more element
+
+scan-more : {A X Y : Type 0} (next : A → X → A) (out : A → X → Y) (a : A) (xs : List X) (x : X)
+    → scan next out a (xs ++ x ∷ []) ≡ scan next out a xs ++ out (fold next a xs) x ∷ []
+scan-more next out a [] x = refl
+scan-more next out a (y ∷ xs) x = ap (λ ys. out a y ∷ ys) (scan-more next out (next a y) xs x)
+
+length-scan : {A X Y : Type 0} (next : A → X → A) (out : A → X → Y) (a : A) (xs : List X) → length (scan next out a xs) ≡ length xs
+length-scan next out a [] = refl
+length-scan next out a (y ∷ xs) = ap suc (length-scan next out (next a y) xs)
+
+numbered-more : {Y : Type 0} (f : ℕ × Y → List ℕ) (n m : ℕ) (ys : List Y) (y : Y) → m ≡ n + length ys
+    → flat_map f (enumerate_from n (ys ++ y ∷ [])) ≡ flat_map f (enumerate_from n ys) ++ f (m, y)
+numbered-more f n m [] y e = append-nil (f (n, y)) ∙ ap (λ k. f (k, y)) (sym (e ∙ add-zero n))
+numbered-more f n m (x ∷ ys) y e =
+    ap (λ text. f (n, x) ++ text) (numbered-more f (n + 1) m ys y (e ∙ omega arith))
+    ∙ sym (append_assoc (f (n, x)) (flat_map f (enumerate_from (n + 1) ys)) (f (m, y)))
+
+-- ---- an import's end
+
+end-more : (all ok : Bool) (end : Imported) → end ≡ (if all then All else NotAll) → (if ok then end else NotAll) ≡ (if all && (ok && true) then All else NotAll)
+end-more true true end is = is
+end-more true false end is = refl
+end-more false true end is = is
+end-more false false end is = refl
+
+end_of-more : (replies : List Reply) (reply : Reply) (end : Imported) → end ≡ end_of replies
+    → (if is_ok reply then end else NotAll) ≡ end_of (replies ++ reply ∷ [])
+end_of-more replies reply end is =
+    end-more (list_all is_ok replies) (is_ok reply) end is
+    ∙ ap (λ (all : Bool). if all then All else NotAll) (sym (list_all-append is_ok replies (reply ∷ [])))
+
+-- ---- rows
+
+-- what holds of a fault holds of a result that it ends
+pub if_err_of : {A : Type 0} (r : Result A Fault) (fault : Fault) (P : Fault → Type 0) → IsErrAnd r (λ given. given ≡ fault) → P fault → IfErr r P
+if_err_of (Ok a) fault P is it = tt
+if_err_of (Err given) fault P is it = subst P (sym is) it
+
+module _ {S : Type 0} (holds : S → Hall → Type 0) (leaves : S → List Hall → Type 0) (site : Site) (bearer : List ℕ) (moment : ℕ) where
+  -- the desk carried a row's command out, and the row's line was written
+  pub done_carried : ((site : Site) (h : Hall) (e : Event) (moment : ℕ) (fresh : List ℕ) → IsSound h → h.schema ≡ second → AllKeep (decision_of site h e moment fresh).rows h)
+      → ((site : Site) (h : Hall) (e : Event) (moment : ℕ) (fresh : List ℕ) → IsSound h → h.schema ≡ second → IsSound (applied (decision_of site h e moment fresh).rows h))
+      → ((store : S) (h : Hall) → holds store h → h.schema ≡ second)
+      → (old new : S) (row : ImportRow) (e : Event) (fresh : List ℕ) → e ≡ event_of bearer row → fresh ≡ replicate 16 0
+      → (reply : Reply) (status : ℕ) (kind : BodyKind) (body : List ℕ) → reply ≡ Http status kind body
+      → IsCarriedOut holds leaves old new {E = Unavailable} (Ok reply) (λ h. (decision_of site h e moment fresh).rows) (λ h reply. reply ≡ reply_of second (decision_of site h e moment fresh).content)
+      → (number : ℕ) (before after : Option (List ℕ)) (text : List ℕ) → text ≡ row_line number status body → Appends before after text
+      → (h : Hall) → holds old h → IsSound h → IsRowDone holds new site bearer moment h number row (status == 200) before after
+  done_carried keeps stays schema old new row e fresh e_is fresh_is reply status kind body reply_is carried number before after text text_is written h held sound =
+      let made = carried.made h held (keeps site h e moment fresh sound (schema old h held)) in
+      let stayed = stays site h e moment fresh sound (schema old h held) in
+      let Held : Event → List ℕ → Type 0 = λ e fresh. holds new (applied (decision_of site h e moment fresh).rows h) in
+      let Sound : Event → List ℕ → Type 0 = λ e fresh. IsSound (applied (decision_of site h e moment fresh).rows h) in
+      let reply_for : Event → List ℕ → Reply = λ e fresh. reply_of second (decision_of site h e moment fresh).content in
+      let same : Http status kind body ≡ reply_to site bearer moment h row =
+      sym reply_is ∙ carried.answer h held ∙ ap (λ (e : Event). reply_for e fresh) e_is ∙ ap (reply_for (event_of bearer row)) fresh_is in
+      record {
+        held = subst (Held (event_of bearer row)) fresh_is (subst (λ (e : Event). Held e fresh) e_is made);
+        sound = subst (Sound (event_of bearer row)) fresh_is (subst (λ (e : Event). Sound e fresh) e_is stayed);
+        written = subst (λ (reply : Reply). Appends before after (line_of number reply)) same (subst (Appends before after) text_is written);
+        ok = ap is_ok same;
+      }
+
+  -- no row yet
+  pub imported_none : (store : S) (h : Hall) (contents : Option (List ℕ)) → holds store h → IsSound h
+      → IsImported holds store site bearer moment h [] All contents contents
+  imported_none store h contents held sound = record { held = held; sound = sound; written = Appends-nil contents; ended = refl }
+
+  -- one more row
+  pub imported_more : (old new : S) (h : Hall) (rows : List ImportRow) (row : ImportRow) (number : ℕ) (was_ok : Bool) (end next : Imported) (before mid after : Option (List ℕ))
+      → number ≡ 1 + length rows → next ≡ (if was_ok then end else NotAll)
+      → IsImported holds old site bearer moment h rows end before mid
+      → IsRowDone holds new site bearer moment (after_rows site bearer moment h rows) number row was_ok mid after
+      → IsImported holds new site bearer moment h (rows ++ row ∷ []) next before after
+  imported_more old new h rows row number was_ok end next before mid after counted is so_far done =
+      let here = after_rows site bearer moment h rows in
+      let replies = replies_to site bearer moment h rows in
+      let reply = reply_to site bearer moment here row in
+      let reached : after_rows site bearer moment h (rows ++ row ∷ []) ≡ after_row site bearer moment here row = fold-append (after_row site bearer moment) h rows (row ∷ []) in
+      let replied : replies_to site bearer moment h (rows ++ row ∷ []) ≡ replies ++ reply ∷ [] = scan-more (after_row site bearer moment) (reply_to site bearer moment) h rows row in
+      let place : number ≡ 1 + length replies = counted ∙ ap (λ (n : ℕ). 1 + n) (sym (length-scan (after_row site bearer moment) (reply_to site bearer moment) h rows)) in
+      let lines : lines_of (replies ++ reply ∷ []) ≡ lines_of replies ++ line_of number reply = numbered-more (λ numbered. line_of numbered.0 numbered.1) 1 number replies reply place in
+      let chosen : (if was_ok then end else NotAll) ≡ (if is_ok reply then end else NotAll) = ap (λ (ok : Bool). if ok then end else NotAll) done.ok in
+      record {
+        held = subst (holds new) (sym reached) done.held;
+        sound = subst IsSound (sym reached) done.sound;
+        written = subst (Appends before after) (sym (ap lines_of replied ∙ lines)) (Appends-trans before mid after (lines_of replies) (line_of number reply) so_far.written done.written);
+        ended = is ∙ chosen ∙ end_of-more replies reply end so_far.ended ∙ ap end_of (sym replied);
+      }
+
+  -- one more row, from the hall that the rows before led to
+  pub imported_next : (from : Site) → from ≡ site
+      → (old new : S) (h : Hall) (rows : List ImportRow) (row : ImportRow) (number : ℕ) (was_ok : Bool) (end next : Imported) (before mid after : Option (List ℕ))
+      → number ≡ 1 + length rows → next ≡ (if was_ok then end else NotAll)
+      → IsImported holds old site bearer moment h rows end before mid
+      → ((h : Hall) → holds old h → IsSound h → IsRowDone holds new from bearer moment h number row was_ok mid after)
+      → IsImported holds new site bearer moment h (rows ++ row ∷ []) next before after
+  imported_next from same old new h rows row number was_ok end next before mid after counted is so_far done =
+      let here = after_rows site bearer moment h rows in
+      imported_more old new h rows row number was_ok end next before mid after counted is so_far
+      (subst (λ (at : Site). IsRowDone holds new at bearer moment here number row was_ok mid after) same (done here so_far.held so_far.sound))
+
+  -- ---- an import that stops
+
+  pub stopped_none : (store : S) (h : Hall) (rows : List ImportRow) (fault : Fault) (contents : Option (List ℕ)) → holds store h → IsSound h
+      → IsStopped holds store site bearer moment h rows fault contents contents
+  stopped_none store h rows fault contents held sound =
+      record { written_count = 0; applied_count = 0; next = inl refl; held = held; sound = sound; written = λ other. Appends-nil contents }
+
+  pub row_refused : (store : S) (h : Hall) (row : ImportRow) (fault : Fault) (contents : Option (List ℕ)) → holds store h → IsSound h
+      → IsRowStopped holds store site bearer moment h row fault contents contents
+  row_refused store h row fault contents held sound = record { was_applied = false; held = held; sound = sound; written = λ other. Appends-nil contents }
+
+  -- the desk carried a row's command out
+  pub row_carried : ((site : Site) (h : Hall) (e : Event) (moment : ℕ) (fresh : List ℕ) → IsSound h → h.schema ≡ second → AllKeep (decision_of site h e moment fresh).rows h)
+      → ((site : Site) (h : Hall) (e : Event) (moment : ℕ) (fresh : List ℕ) → IsSound h → h.schema ≡ second → IsSound (applied (decision_of site h e moment fresh).rows h))
+      → ((store : S) (h : Hall) → holds store h → h.schema ≡ second)
+      → (old new : S) (row : ImportRow) (e : Event) (fresh : List ℕ) → e ≡ event_of bearer row → fresh ≡ replicate 16 0 → (reply : Reply)
+      → IsCarriedOut holds leaves old new {E = Unavailable} (Ok reply) (λ h. (decision_of site h e moment fresh).rows) (λ h reply. reply ≡ reply_of second (decision_of site h e moment fresh).content)
+      → (fault : Fault) (before after : Option (List ℕ)) → (fault ≢ Io → Appends before after [])
+      → (h : Hall) → holds old h → IsSound h → IsRowStopped holds new site bearer moment h row fault before after
+  row_carried keeps stays schema old new row e fresh e_is fresh_is reply carried fault before after written h held sound =
+      let made = carried.made h held (keeps site h e moment fresh sound (schema old h held)) in
+      let stayed = stays site h e moment fresh sound (schema old h held) in
+      let Held : Event → List ℕ → Type 0 = λ e fresh. holds new (applied (decision_of site h e moment fresh).rows h) in
+      let Sound : Event → List ℕ → Type 0 = λ e fresh. IsSound (applied (decision_of site h e moment fresh).rows h) in
+      record {
+        was_applied = true;
+        held = subst (Held (event_of bearer row)) fresh_is (subst (λ (e : Event). Held e fresh) e_is made);
+        sound = subst (Sound (event_of bearer row)) fresh_is (subst (λ (e : Event). Sound e fresh) e_is stayed);
+        written = written;
+      }
+
+  -- the first rows, and then perhaps one more
+  first_and : (store : S) (h : Hall) (rows : List ImportRow) (place : ℕ) (row : ImportRow) (fault : Fault) (before after : Option (List ℕ)) (here : place < length rows) (at : row ≡ get_or rows place row)
+      → (one_more : Bool)
+      → holds store (if one_more then after_row site bearer moment (after_rows site bearer moment h (take place rows)) row else after_rows site bearer moment h (take place rows))
+      → IsSound (if one_more then after_row site bearer moment (after_rows site bearer moment h (take place rows)) row else after_rows site bearer moment h (take place rows))
+      → (fault ≢ Io → Appends before after (lines_of (replies_to site bearer moment h (take place rows))))
+      → IsStopped holds store site bearer moment h rows fault before after
+  first_and store h rows place row fault before after here at false held sound written =
+      record { written_count = place; applied_count = place; next = inl refl; held = held; sound = sound; written = written }
+  first_and store h rows place row fault before after here at true held sound written =
+      let first : after_rows site bearer moment (after_rows site bearer moment h (take place rows)) (row ∷ []) ≡ after_rows site bearer moment h (take (place + 1) rows) =
+      sym (fold-append (after_row site bearer moment) h (take place rows) (row ∷ []))
+      ∙ ap (λ (some : List ImportRow). after_rows site bearer moment h (some)) (ap (λ (one : ImportRow). take place rows ++ one ∷ []) at ∙ sym (take_more rows place row here)) in
+      record { written_count = place; applied_count = place + 1; next = inr refl; held = subst (holds store) first held; sound = subst IsSound first sound; written = written }
+
+  pub stopped_next : (from : Site) → from ≡ site
+      → (old new : S) (h : Hall) (rows : List ImportRow) (place : ℕ) (row : ImportRow) (end : Imported) (fault : Fault) (before mid after : Option (List ℕ)) → place < length rows → row ≡ get_or rows place row
+      → IsImported holds old site bearer moment h (take place rows) end before mid
+      → ((h : Hall) → holds old h → IsSound h → IsRowStopped holds new from bearer moment h row fault mid after)
+      → IsStopped holds new site bearer moment h rows fault before after
+  stopped_next from same old new h rows place row end fault before mid after here at so_far tried =
+      let first = after_rows site bearer moment h (take place rows) in
+      let lines = lines_of (replies_to site bearer moment h (take place rows)) in
+      let stop = subst (λ (at : Site). IsRowStopped holds new at bearer moment first row fault mid after) same (tried first so_far.held so_far.sound) in
+      first_and new h rows place row fault before after here at stop.was_applied stop.held stop.sound
+      (λ other. subst (Appends before after) (append-nil lines) (Appends-trans before mid after lines [] so_far.written (stop.written other)))

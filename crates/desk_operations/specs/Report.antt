@@ -1,0 +1,19 @@
+-- What is written for each report on a hall.
+use Rattle.std.specs.Prelude.{◌≡◌, ℕ, List, Some, None}
+use Rattle.hall_types.specs.Hall.{Hall}
+use Rattle.hall_types.specs.Number.{IsNumber}
+use Rattle.hall_report.specs.Lines.{IsHallText, machine_text, order_text}
+use Rattle.desk_operations.specs.declared.reports.What.{What}
+use Rattle.desk_operations.specs.declared.reports.What.TheVariants as what
+
+-- the text is the report on the hall
+abbrev pub IsReport : What → Hall → List ℕ → Type 0
+IsReport what.Hall h text = IsHallText h text
+IsReport what.Orders h text = text ≡ order_text h
+IsReport (what.Machine id) h text = machine_text h id ≡ Some text
+
+-- the machine that the report is about isn't there; a number that is none is no machine's
+abbrev pub IsMissing : What → Hall → Type 0
+IsMissing what.Hall h = ⊥
+IsMissing what.Orders h = ⊥
+IsMissing (what.Machine id) h = IsNumber id → machine_text h id ≡ None

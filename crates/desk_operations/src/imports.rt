@@ -1,0 +1,148 @@
+//! The import of new machines.
+ghost use Rattle.std.specs.Prelude.{◌≡◌, ◌≢◌, ◌⊎◌, ℕ, List, [], ◌∷◌, Ok, Err, IfErr, IfOk, if◌then◌else◌};
+ghost use Rattle.hall_types.specs.Hall.{Hall};
+ghost use Rattle.boot_desk.specs.Sound.{IsSound};
+ghost use Rattle.hall_desk.specs.Desk.{site_of, store_of};
+ghost use Rattle.hall_report.specs.Import.{import_in};
+ghost use Rattle.hall_report.specs.declared.fault.ImportFault.TheVariants as cause;
+ghost use Rattle.hall_report.specs.declared.row.ImportRow.{ImportRow};
+ghost use Rattle.desk_operations.specs.Fault.{IsImportFault, IsStoreFault};
+ghost use Rattle.desk_operations.specs.Import.{IsImported, IsRowDone, IsRowStopped, IsStopped, event_of};
+
+use crate::fault::Fault;
+use crate::import_line::row_line;
+use crate::writing::write_text;
+use hall_desk::Desk;
+use hall_events::{Event, HallCommand, Reply};
+use hall_report::{ImportRow, import_rows};
+use hall_store::{HallStore, Unavailable};
+use hall_types::{Digest, Moment, Token};
+use laws_steps::{decisions_keep_the_rules, steps_keep_halls_sound};
+use std::alloc::Global;
+use std::io::Write;
+
+/// How an import ended.
+#[derive(Clone, Copy, Debug, PartialEq, Eq)]
+pub enum Imported {
+    /// Each row was answered with the status 200.
+    All,
+    /// A row was answered with another status.
+    NotAll,
+}
+
+// No boot is issued for a command, so its fresh octets are of no use.
+const UNUSED: [u8; 16] = [0; 16];
+
+fn event_of(row: &ImportRow, bearer: Digest) -> Event
+    ensures { result ≡ event_of bearer row.now }
+{
+    Event::Command {
+        bearer: Some(bearer),
+        key: row.key,
+        command: HallCommand::AddMachine {
+            mac: row.mac,
+            arch: row.arch,
+            pool: row.pool,
+            uuid: row.uuid,
+        },
+    }
+}
+
+// Adds the machine of a row, writes the row's line, and says whether the answer has the status 200. The reply to a command
+// is a response, unless a disk's wrong answer was taken for a right one.
+fn add_row<S: HallStore, W: Write>(
+    alloc: Global,
+    desk: &mut Desk<S>,
+    writer: &mut W,
+    number: u64,
+    row: &ImportRow,
+    bearer: Digest,
+    moment: Moment,
+) -> Result<bool, Fault>
+    ensures clean { S.HallStore.is_clean (store_of desk.new) → S.HallStore.is_clean (store_of desk.old) }
+    ensures site { site_of desk.new ≡ site_of desk.old }
+    ensures done { S.HallStore.is_clean (store_of desk.new) → IfOk result (λ was_ok. (h : Hall) → S.HallStore.holds (store_of desk.old) h → IsSound h
+        → IsRowDone S.HallStore.holds (store_of desk.new) (site_of desk.old) bearer moment h number row.now was_ok (W.contents writer.old) (W.contents writer.new)) }
+    ensures stopped { S.HallStore.is_clean (store_of desk.new) → IfErr result (λ fault. (h : Hall) → S.HallStore.holds (store_of desk.old) h → IsSound h
+        → IsRowStopped S.HallStore.holds (store_of desk.new) (site_of desk.old) bearer moment h row.now fault (W.contents writer.old) (W.contents writer.new)) }
+    ensures fault { IfErr result IsStoreFault }
+{
+    steps_keep_halls_sound();
+    decisions_keep_the_rules();
+    let event = event_of(row, bearer);
+    let reply = match desk.step(alloc, &event, moment, Token::from(UNUSED)) {
+        Ok(reply) => reply,
+        Err(Unavailable) => return Err(Fault::Unavailable),
+    };
+    let Reply::Http { status, body, .. } = reply else {
+        return Err(Fault::Unavailable);
+    };
+    let line = row_line(alloc, number, status, body.as_str())?;
+    write_text(writer, line.as_str())?;
+    Ok(status == 200)
+}
+
+// How the rows end with one more.
+fn after_reply(end: Imported, was_ok: bool) -> Imported
+    ensures { result ≡ (if was_ok then end else Imported.NotAll) }
+{
+    if was_ok { end } else { Imported::NotAll }
+}
+
+fn add_rows<S: HallStore, W: Write>(
+    alloc: Global,
+    desk: &mut Desk<S>,
+    writer: &mut W,
+    rows: &[ImportRow],
+    bearer: Digest,
+    moment: Moment,
+) -> Result<Imported, Fault>
+    ensures clean { S.HallStore.is_clean (store_of desk.new) → S.HallStore.is_clean (store_of desk.old) }
+    ensures site { site_of desk.new ≡ site_of desk.old }
+    ensures imported { S.HallStore.is_clean (store_of desk.new) → IfOk result (λ end. (h : Hall) → S.HallStore.holds (store_of desk.old) h → IsSound h
+        → IsImported S.HallStore.holds (store_of desk.new) (site_of desk.old) bearer moment h rows.now end (W.contents writer.old) (W.contents writer.new)) }
+    ensures stopped { S.HallStore.is_clean (store_of desk.new) → IfErr result (λ fault. (h : Hall) → S.HallStore.holds (store_of desk.old) h → IsSound h
+        → IsStopped S.HallStore.holds (store_of desk.new) (site_of desk.old) bearer moment h rows.now fault (W.contents writer.old) (W.contents writer.new)) }
+    ensures fault { IfErr result IsStoreFault }
+{
+    let mut end = Imported::All;
+    for (place, row) in rows.iter().enumerate() {
+        let number = place as u64 + 1;
+        let was_ok = add_row(alloc, desk, writer, number, row, bearer, moment)?;
+        end = after_reply(end, was_ok);
+    }
+    Ok(end)
+}
+
+/// Adds the machines of a file of comma-separated values, each by a command of the operator whose token has the digest, with
+/// the row's key and at the moment. A line is written for each row: its number from 1 on, the status of the answer and its
+/// body. All rows are read before one is applied.
+///
+/// # Errors
+///
+/// `BadHeader` and `BadRow` where the file is malformed: then nothing was applied or written. `Unavailable`, `Io` and
+/// `Memory` may come after some rows: those whose lines are there are applied, and perhaps the next one, whose line isn't.
+/// After `Io` the writer may have anything of that line. An import that is repeated answers applied rows by their keys as
+/// before.
+pub fn import<S: HallStore, W: Write>(
+    alloc: Global,
+    desk: &mut Desk<S>,
+    writer: &mut W,
+    octets: &[u8],
+    bearer: Digest,
+    moment: Moment,
+) -> Result<Imported, Fault>
+    ensures clean { S.HallStore.is_clean (store_of desk.new) → S.HallStore.is_clean (store_of desk.old) }
+    ensures site { site_of desk.new ≡ site_of desk.old }
+    ensures imported { S.HallStore.is_clean (store_of desk.new) → IfOk result (λ end. (rows : List ImportRow) × (import_in octets.now ≡ Ok rows) × ((h : Hall) → S.HallStore.holds (store_of desk.old) h → IsSound h
+        → IsImported S.HallStore.holds (store_of desk.new) (site_of desk.old) bearer moment h rows end (W.contents writer.old) (W.contents writer.new))) }
+    ensures stopped { S.HallStore.is_clean (store_of desk.new) → IfErr result (λ fault. (rows : List ImportRow) → import_in octets.now ≡ Ok rows → (h : Hall) → S.HallStore.holds (store_of desk.old) h → IsSound h
+        → IsStopped S.HallStore.holds (store_of desk.new) (site_of desk.old) bearer moment h rows fault (W.contents writer.old) (W.contents writer.new)) }
+    ensures fault { IfErr result IsImportFault }
+    ensures bad_header { result ≡ Err Fault.BadHeader → import_in octets.now ≡ Err cause.BadHeader }
+    ensures bad_row { result ≡ Err Fault.BadRow → (n : ℕ) × (import_in octets.now ≡ Err (cause.BadRow n)) }
+    ensures nothing { (result ≡ Err Fault.BadHeader) ⊎ (result ≡ Err Fault.BadRow) → (desk.new ≡ desk.old) × (writer.new ≡ writer.old) }
+{
+    let rows = import_rows(alloc, octets)?;
+    add_rows(alloc, desk, writer, &rows, bearer, moment)
+}

@@ -1,0 +1,115 @@
+//! The rows that a command on a machine names, read from a store.
+ghost use Rattle.std.specs.Prelude.{◌≡◌, length};
+ghost use Rattle.hall_types.specs.Lookup.{interfaces_of};
+ghost use Rattle.desk_command.specs.View as view;
+ghost use Rattle.desk_views.specs.Look.{IsLook};
+
+use crate::boots::order_at;
+use crate::named::{has_live, has_member, has_pool, image_arch, nothing};
+use desk_command::CommandView;
+use hall_events::MachineCommand;
+use hall_store::{HallStore, Unavailable};
+use hall_types::{MacAddress, Machine, Operator};
+use std::alloc::Global;
+
+// How many interfaces a machine has.
+fn interface_count<S: HallStore>(
+    alloc: Global,
+    store: &mut S,
+    machine: &Machine,
+) -> Result<u64, Unavailable>
+    ensures clean { S.HallStore.is_clean store.new → S.HallStore.is_clean store.old }
+    ensures look { S.HallStore.is_clean store.new → IsLook S.HallStore.holds S.HallStore.leaves store.old store.new result (λ h answer. answer ≡ length (interfaces_of h machine.now.id)) }
+{
+    let interfaces = store.interfaces_of(alloc, machine.id)?;
+    Ok(interfaces.len() as u64)
+}
+
+// A machine, and the order that it waits for.
+fn of_machine<S: HallStore>(store: &mut S, machine: &Machine) -> Result<CommandView, Unavailable>
+    ensures clean { S.HallStore.is_clean store.new → S.HallStore.is_clean store.old }
+    ensures look { S.HallStore.is_clean store.new → IsLook S.HallStore.holds S.HallStore.leaves store.old store.new result (λ h answer. answer ≡ view.of_machine h machine.now) }
+{
+    let order = order_at(store, machine.waiting)?;
+    let nothing = nothing(store)?;
+    Ok(CommandView {
+        machine: Some(*machine),
+        order,
+        ..nothing
+    })
+}
+
+// With the interfaces of the machine, and the machine that an address is recorded with.
+fn with_interfaces<S: HallStore>(
+    alloc: Global,
+    store: &mut S,
+    machine: &Machine,
+    mac: MacAddress,
+) -> Result<CommandView, Unavailable>
+    ensures clean { S.HallStore.is_clean store.new → S.HallStore.is_clean store.old }
+    ensures look { S.HallStore.is_clean store.new → IsLook S.HallStore.holds S.HallStore.leaves store.old store.new result (λ h answer. answer ≡ view.with_interfaces h machine.now mac) }
+{
+    let interfaces = interface_count(alloc, store, machine)?;
+    let by_mac = store.by_mac(mac)?;
+    let view = of_machine(store, machine)?;
+    Ok(CommandView {
+        interfaces,
+        by_mac,
+        ..view
+    })
+}
+
+// With whether the machine's architecture has a live image.
+fn with_live<S: HallStore>(store: &mut S, machine: &Machine) -> Result<CommandView, Unavailable>
+    ensures clean { S.HallStore.is_clean store.new → S.HallStore.is_clean store.old }
+    ensures look { S.HallStore.is_clean store.new → IsLook S.HallStore.holds S.HallStore.leaves store.old store.new result (λ h answer. answer ≡ view.with_live h machine.now) }
+{
+    let has_live = has_live(store, machine.arch)?;
+    let view = of_machine(store, machine)?;
+    Ok(CommandView { has_live, ..view })
+}
+
+pub(crate) fn machine_view<S: HallStore>(
+    alloc: Global,
+    store: &mut S,
+    by: &Operator,
+    machine: &Machine,
+    command: &MachineCommand,
+) -> Result<CommandView, Unavailable>
+    ensures clean { S.HallStore.is_clean store.new → S.HallStore.is_clean store.old }
+    ensures look { S.HallStore.is_clean store.new → IsLook S.HallStore.holds S.HallStore.leaves store.old store.new result (λ h answer. answer ≡ view.machine_view h by.now machine.now command.now) }
+{
+    match command {
+        MachineCommand::AddInterface { mac } | MachineCommand::RemoveInterface { mac } => {
+            with_interfaces(alloc, store, machine, *mac)
+        }
+        MachineCommand::SetPool { pool } => {
+            let has_pool = has_pool(store, pool)?;
+            let view = of_machine(store, machine)?;
+            Ok(CommandView { has_pool, ..view })
+        }
+        MachineCommand::Allocate => {
+            let is_member = has_member(store, &machine.pool, &by.name)?;
+            let view = of_machine(store, machine)?;
+            Ok(CommandView { is_member, ..view })
+        }
+        MachineCommand::Deploy { image } => {
+            let image = image_arch(alloc, store, image)?;
+            let view = of_machine(store, machine)?;
+            Ok(CommandView { image, ..view })
+        }
+        MachineCommand::Commission { .. }
+        | MachineCommand::Test
+        | MachineCommand::Rescue
+        | MachineCommand::Release { erase: Some(_) } => with_live(store, machine),
+        MachineCommand::Release { erase: None }
+        | MachineCommand::Override
+        | MachineCommand::Fix
+        | MachineCommand::Delete
+        | MachineCommand::Abort
+        | MachineCommand::Lock
+        | MachineCommand::Unlock
+        | MachineCommand::ExitRescue
+        | MachineCommand::Break => of_machine(store, machine),
+    }
+}

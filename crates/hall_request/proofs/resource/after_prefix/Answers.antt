@@ -1,5 +1,0 @@
-use Rattle.hall_request.proofs.RouteLemmas.{stripped}
-use Rattle.hall_request.proofs.resource.after_prefix.Goals as goal
-
-pub returns : goal.returns
-returns c = stripped c.args.target.now c.args.prefix.now c.strip_prefix.result c.strip_prefix.ensures.cases

@@ -1,0 +1,105 @@
+//! The tasks over an open store, which they give back. The store's type stays open here, so that no proof looks into a file.
+use crate::serving::serve;
+use crate::tasks::Task;
+use desk_operations::{Exit, Fault, Imported, What};
+use hall_desk::Desk;
+use hall_http::Noted;
+use hall_store::HallStore;
+use hall_types::{Digest, Moment, Token};
+use pxe_vendor::Place;
+
+fn done(task: Result<(), Fault>) -> Result<Exit, Fault> {
+    task?;
+    Ok(Exit::Done)
+}
+
+fn request<S: HallStore>(
+    rt: &HostRuntime,
+    store: S,
+    place: Place,
+    moment: Moment,
+    fresh: Token,
+) -> (Result<Exit, Fault>, S) {
+    let mut desk = Desk::new(store, place);
+    let mut reader = Noted::new(rt.stdin());
+    let mut writer = Noted::new(rt.stdout());
+    let task = desk_operations::request(
+        rt.alloc(),
+        &mut desk,
+        &mut reader,
+        &mut writer,
+        moment,
+        fresh,
+    );
+    (done(task), desk.into_store())
+}
+
+fn report<S: HallStore>(rt: &HostRuntime, mut store: S, what: What) -> (Result<Exit, Fault>, S) {
+    let task = desk_operations::report(rt.alloc(), &mut store, &mut rt.stdout(), what);
+    (done(task), store)
+}
+
+fn export<S: HallStore>(rt: &HostRuntime, mut store: S) -> (Result<Exit, Fault>, S) {
+    let task = desk_operations::export(rt.alloc(), &mut store, &mut rt.stdout());
+    (done(task), store)
+}
+
+fn imported(task: Result<Imported, Fault>) -> Result<Exit, Fault> {
+    match task {
+        Ok(Imported::All) => Ok(Exit::Done),
+        Ok(Imported::NotAll) => Ok(Exit::NotAll),
+        Err(fault) => Err(fault),
+    }
+}
+
+fn import<S: HallStore>(
+    rt: &HostRuntime,
+    store: S,
+    place: Place,
+    octets: &[u8],
+    bearer: Digest,
+    moment: Moment,
+) -> (Result<Exit, Fault>, S) {
+    let mut desk = Desk::new(store, place);
+    let task = desk_operations::import(
+        rt.alloc(),
+        &mut desk,
+        &mut rt.stdout(),
+        octets,
+        bearer,
+        moment,
+    );
+    (imported(task), desk.into_store())
+}
+
+/// Carries a task out over a store.
+pub fn carried_out<S: HallStore>(
+    rt: &HostRuntime,
+    store: S,
+    task: Task<'_>,
+) -> (Result<Exit, Fault>, S) {
+    match task {
+        Task::Request {
+            place,
+            moment,
+            fresh,
+        } => request(rt, store, place, moment, fresh),
+        Task::Report(what) => report(rt, store, what),
+        Task::Export => export(rt, store),
+        Task::Import {
+            place,
+            octets,
+            bearer,
+            moment,
+        } => import(rt, store, place, octets.as_slice(), bearer, moment),
+        Task::Serve {
+            place,
+            addresses,
+            log,
+            turns,
+        } => {
+            let (task, store) = serve(rt, store, place, &addresses, log, turns);
+            (done(task), store)
+        }
+    }
+}

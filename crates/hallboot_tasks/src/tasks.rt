@@ -1,0 +1,166 @@
+//! What the words of a command line ask for. Options are checked in the order in which they stand here, the place last, before
+//! anything is opened.
+use crate::values;
+use desk_operations::{Fault, What};
+use hall_types::{Digest, Moment, Name, Port, Token};
+use hallboot_words::{Subcommand, Words};
+use pxe_vendor::Place;
+use serve_sockets::Addresses;
+use sha2::{Digest as _, Sha256};
+use std::fs::File;
+use std::io;
+
+/// A task over an open store, with what it needs besides.
+#[derive(Drop)]
+pub enum Task<'a> {
+    /// The request on standard input is answered.
+    Request {
+        place: Place,
+        moment: Moment,
+        fresh: Token,
+    },
+    /// A report is printed.
+    Report(What),
+    /// The export is printed.
+    Export,
+    /// The machines of a file's octets are imported.
+    Import {
+        place: Place,
+        octets: Vec<u8>,
+        bearer: Digest,
+        moment: Moment,
+    },
+    /// So many turns are served at the addresses, with a log at a path, or at standard error where it is `-`.
+    Serve {
+        place: Place,
+        addresses: Addresses,
+        log: Option<&'a str>,
+        turns: u64,
+    },
+}
+
+/// What a command line asks for.
+#[derive(Drop)]
+pub enum Asked<'a> {
+    /// The frame on standard input is answered, as one that came to the port.
+    Frame {
+        port: Port,
+        place: Place,
+    },
+    /// The file of a new hall is made.
+    Init {
+        path: &'a str,
+        admin: Name,
+        digest: Digest,
+    },
+    /// A task over the hall in a file.
+    Over {
+        path: &'a str,
+        task: Task<'a>,
+    },
+}
+
+fn frame<'a>(rt: &HostRuntime, words: &Words<'a>) -> Result<Asked<'a>, Fault> {
+    let port = values::role(words)?;
+    let place = values::place(rt.alloc(), words)?;
+    Ok(Asked::Frame { port, place })
+}
+
+fn init<'a>(words: &Words<'a>) -> Result<Asked<'a>, Fault> {
+    let path = values::db(words)?;
+    let (admin, digest) = values::admin(words)?;
+    Ok(Asked::Init {
+        path,
+        admin,
+        digest,
+    })
+}
+
+fn request<'a>(rt: &HostRuntime, words: &Words<'a>) -> Result<Asked<'a>, Fault> {
+    let path = values::db(words)?;
+    let moment = values::moment(words)?;
+    let fresh = values::fresh(words)?;
+    let place = values::place(rt.alloc(), words)?;
+    let task = Task::Request {
+        place,
+        moment,
+        fresh,
+    };
+    Ok(Asked::Over { path, task })
+}
+
+fn serve<'a>(rt: &HostRuntime, words: &Words<'a>) -> Result<Asked<'a>, Fault> {
+    let path = values::db(words)?;
+    let addresses = values::addresses(words)?;
+    let turns = values::turns(words)?;
+    let place = values::place(rt.alloc(), words)?;
+    let task = Task::Serve {
+        place,
+        addresses,
+        log: words.log,
+        turns,
+    };
+    Ok(Asked::Over { path, task })
+}
+
+fn report<'a>(words: &Words<'a>) -> Result<Asked<'a>, Fault> {
+    let path = values::db(words)?;
+    let task = Task::Report(values::what(words)?);
+    Ok(Asked::Over { path, task })
+}
+
+// The octets of the file of machines.
+fn machines(rt: &HostRuntime, path: &str) -> Result<Vec<u8>, Fault> {
+    let Ok(mut file) = File::open(rt, path) else {
+        return Err(Fault::Io);
+    };
+    let mut octets = Vec::new(rt.alloc());
+    match io::Read::read_to_end(&mut file, &mut octets) {
+        Ok(_) => Ok(octets),
+        Err(_) => Err(Fault::Io),
+    }
+}
+
+fn bearer(words: &Words<'_>) -> Result<Digest, Fault> {
+    let token = values::token(words)?;
+    Ok(Digest::from(Sha256::digest(token.as_bytes())))
+}
+
+fn import<'a>(rt: &HostRuntime, words: &Words<'a>) -> Result<Asked<'a>, Fault> {
+    let path = values::db(words)?;
+    let bearer = bearer(words)?;
+    let moment = values::moment(words)?;
+    let file = values::file(words)?;
+    let place = values::place(rt.alloc(), words)?;
+    let octets = machines(rt, file)?;
+    let task = Task::Import {
+        place,
+        octets,
+        bearer,
+        moment,
+    };
+    Ok(Asked::Over { path, task })
+}
+
+fn export<'a>(words: &Words<'a>) -> Result<Asked<'a>, Fault> {
+    let path = values::db(words)?;
+    let task = Task::Export;
+    Ok(Asked::Over { path, task })
+}
+
+/// What the words ask for. The file of an import is read.
+///
+/// # Errors
+///
+/// `BadInput` where an option isn't of its form, `Io` where the file of an import can't be read, and `Memory`.
+pub fn asked_by<'a>(rt: &HostRuntime, words: &Words<'a>) -> Result<Asked<'a>, Fault> {
+    match words.subcommand {
+        Subcommand::Frame => frame(rt, words),
+        Subcommand::Init => init(words),
+        Subcommand::Request => request(rt, words),
+        Subcommand::Serve => serve(rt, words),
+        Subcommand::Report => report(words),
+        Subcommand::Import => import(rt, words),
+        Subcommand::Export => export(words),
+    }
+}

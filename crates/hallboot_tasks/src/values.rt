@@ -1,0 +1,99 @@
+//! The values of options. `BadInput` is one that isn't of its form.
+use desk_operations::{
+    Fault, What, count_of, digest_of, fresh_of, is_bearer_token, moment_of, what_of,
+};
+use hall_types::{Digest, Moment, Name, Port, Token};
+use hallboot_words::Words;
+use pxe_vendor::{Place, PlaceFault};
+use serve_sockets::Addresses;
+use std::alloc::Global;
+use std::net::{Ipv4Addr, SocketAddr};
+
+// The text of an option that has a value, given or by default.
+fn text<'a>(option: Option<&'a str>) -> Result<&'a str, Fault> {
+    option.ok_or(Fault::BadInput)
+}
+
+fn ip(text: &str) -> Result<[u8; 4], Fault> {
+    match text.parse::<Ipv4Addr>() {
+        Ok(address) => Ok(address.octets()),
+        Err(_) => Err(Fault::BadInput),
+    }
+}
+
+fn socket(text: &str) -> Result<SocketAddr, Fault> {
+    text.parse::<SocketAddr>().map_err(|_| Fault::BadInput)
+}
+
+fn place_of(alloc: Global, server: &str, next: &str, host: &str) -> Result<Place, Fault> {
+    match Place::new(alloc, ip(server)?, ip(next)?, host) {
+        Ok(place) => Ok(place),
+        Err(PlaceFault::BadHost) => Err(Fault::BadInput),
+        Err(PlaceFault::Memory) => Err(Fault::Memory),
+    }
+}
+
+/// The place that is served.
+pub(crate) fn place(alloc: Global, words: &Words<'_>) -> Result<Place, Fault> {
+    let server = text(words.server)?;
+    let next = text(words.next)?;
+    let host = text(words.host)?;
+    place_of(alloc, server, next, host)
+}
+
+/// The port of `--role`.
+pub(crate) fn role(words: &Words<'_>) -> Result<Port, Fault> {
+    match text(words.role)? {
+        "discover" => Ok(Port::Discover),
+        "boot" => Ok(Port::Boot),
+        _ => Err(Fault::BadInput),
+    }
+}
+
+pub(crate) fn db<'a>(words: &Words<'a>) -> Result<&'a str, Fault> {
+    text(words.db)
+}
+
+pub(crate) fn admin(words: &Words<'_>) -> Result<(Name, Digest), Fault> {
+    let name = Name::new(text(words.admin)?).map_err(|_| Fault::BadInput)?;
+    let digest = digest_of(text(words.digest)?).ok_or(Fault::BadInput)?;
+    Ok((name, digest))
+}
+
+pub(crate) fn moment(words: &Words<'_>) -> Result<Moment, Fault> {
+    moment_of(text(words.at)?).ok_or(Fault::BadInput)
+}
+
+pub(crate) fn fresh(words: &Words<'_>) -> Result<Token, Fault> {
+    fresh_of(text(words.fresh)?).ok_or(Fault::BadInput)
+}
+
+pub(crate) fn what(words: &Words<'_>) -> Result<What, Fault> {
+    what_of(text(words.what)?).ok_or(Fault::BadInput)
+}
+
+/// The bearer token of `--token`.
+pub(crate) fn token<'a>(words: &Words<'a>) -> Result<&'a str, Fault> {
+    let token = text(words.token)?;
+    if is_bearer_token(token) {
+        Ok(token)
+    } else {
+        Err(Fault::BadInput)
+    }
+}
+
+pub(crate) fn file<'a>(words: &Words<'a>) -> Result<&'a str, Fault> {
+    text(words.file)
+}
+
+pub(crate) fn addresses(words: &Words<'_>) -> Result<Addresses, Fault> {
+    Ok(Addresses {
+        discover: socket(text(words.discover)?)?,
+        boot: socket(text(words.boot)?)?,
+        http: socket(text(words.http)?)?,
+    })
+}
+
+pub(crate) fn turns(words: &Words<'_>) -> Result<u64, Fault> {
+    count_of(text(words.turns)?).ok_or(Fault::BadInput)
+}

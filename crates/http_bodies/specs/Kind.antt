@@ -1,0 +1,86 @@
+-- The kinds of commands: their words, and which members each has.
+use Rattle.std.specs.Prelude.{ℕ, List, [], ◌∷◌, Option, codes}
+use Rattle.hall_types.specs.Kinds.{with_text}
+use Rattle.http_bodies.specs.declared.kind.CommandKind.{CommandKind}
+use Rattle.http_bodies.specs.declared.kind.CommandKind.TheVariants.{AddOperator, DisableOperator, AddPool, Grant, AddImage, DeleteImage, SetLive, AddMachine, OnMachine}
+use Rattle.http_bodies.specs.declared.kind.MachineKind.{MachineKind}
+use Rattle.http_bodies.specs.declared.kind.MachineKind.TheVariants.{AddInterface, RemoveInterface, SetPool, Commission, Test, Override, Fix, Delete, Allocate, Deploy, Release, Rescue, Abort, Lock, Unlock, ExitRescue, Break}
+
+-- the word of a command on a machine
+unfoldable pub machine_word : MachineKind → List ℕ
+machine_word AddInterface = codes "add_interface"
+machine_word RemoveInterface = codes "remove_interface"
+machine_word SetPool = codes "set_pool"
+machine_word Commission = codes "commission"
+machine_word Test = codes "test"
+machine_word Override = codes "override"
+machine_word Fix = codes "fix"
+machine_word Delete = codes "delete"
+machine_word Allocate = codes "allocate"
+machine_word Deploy = codes "deploy"
+machine_word Release = codes "release"
+machine_word Rescue = codes "rescue"
+machine_word Abort = codes "abort"
+machine_word Lock = codes "lock"
+machine_word Unlock = codes "unlock"
+machine_word ExitRescue = codes "exit_rescue"
+machine_word Break = codes "break"
+
+-- the word of a command
+unfoldable pub kind_word : CommandKind → List ℕ
+kind_word AddOperator = codes "add_operator"
+kind_word DisableOperator = codes "disable_operator"
+kind_word AddPool = codes "add_pool"
+kind_word Grant = codes "grant"
+kind_word AddImage = codes "add_image"
+kind_word DeleteImage = codes "delete_image"
+kind_word SetLive = codes "set_live"
+kind_word AddMachine = codes "add_machine"
+kind_word (OnMachine kind) = machine_word kind
+
+-- all kinds
+abbrev pub kinds : List CommandKind
+kinds =
+    AddOperator ∷ DisableOperator ∷ AddPool ∷ Grant ∷ AddImage ∷ DeleteImage ∷ SetLive ∷ AddMachine
+    ∷ OnMachine AddInterface ∷ OnMachine RemoveInterface ∷ OnMachine SetPool ∷ OnMachine Commission ∷ OnMachine Test
+    ∷ OnMachine Override ∷ OnMachine Fix ∷ OnMachine Delete ∷ OnMachine Allocate ∷ OnMachine Deploy ∷ OnMachine Release
+    ∷ OnMachine Rescue ∷ OnMachine Abort ∷ OnMachine Lock ∷ OnMachine Unlock ∷ OnMachine ExitRescue ∷ OnMachine Break ∷ []
+
+-- the kind that has this word
+unfoldable pub kind_of : List ℕ → Option CommandKind
+kind_of word = with_text kind_word word kinds
+
+-- ---- the members of each kind
+
+-- what each command must have
+abbrev pub common_members : CommandKind → List (List ℕ)
+common_members (OnMachine kind) = codes "key" ∷ codes "command" ∷ codes "machine" ∷ []
+common_members other = codes "key" ∷ codes "command" ∷ []
+
+-- what a command on a machine must have besides
+abbrev pub machine_members : MachineKind → List (List ℕ)
+machine_members AddInterface = codes "mac" ∷ []
+machine_members RemoveInterface = codes "mac" ∷ []
+machine_members SetPool = codes "pool" ∷ []
+machine_members Commission = codes "tests" ∷ []
+machine_members Deploy = codes "image" ∷ []
+machine_members Release = codes "erase" ∷ []
+machine_members other = []
+
+-- what a command must have besides
+abbrev pub own_members : CommandKind → List (List ℕ)
+own_members AddOperator = codes "operator" ∷ codes "role" ∷ codes "digest" ∷ []
+own_members DisableOperator = codes "operator" ∷ []
+own_members AddPool = codes "pool" ∷ []
+own_members Grant = codes "pool" ∷ codes "operator" ∷ []
+own_members AddImage = codes "image" ∷ codes "arch" ∷ codes "kernel" ∷ codes "initrd" ∷ codes "args" ∷ []
+own_members DeleteImage = codes "image" ∷ []
+own_members SetLive = codes "image" ∷ []
+own_members AddMachine = codes "mac" ∷ codes "arch" ∷ codes "pool" ∷ []
+own_members (OnMachine kind) = machine_members kind
+
+-- what a command may have
+abbrev pub optional_members : CommandKind → List (List ℕ)
+optional_members AddMachine = codes "uuid" ∷ []
+optional_members (OnMachine kind) = codes "version" ∷ []
+optional_members other = []

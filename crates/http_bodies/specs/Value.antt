@@ -1,0 +1,93 @@
+-- What the values of a command's members mean.
+use Rattle.std.specs.Prelude.{ℕ, ◌==◌, List, [], ◌∷◌, Option, Some, None, option_and_then, option_map, codes, bytes_eq, nat_le, length, Bool, true, false, not, ◌&&◌, ◌||◌, if◌then◌else◌}
+use Rattle.std.specs.List.{list_all}
+use Rattle.std.specs.Result.{result_ok}
+use Rattle.hex.specs.Hex.{decode_sized}
+use Rattle.uuid.specs.Text.{parsed}
+use Rattle.serde_json.specs.Data.{Data, null, boolean, string, Items, no_items, item}
+use Rattle.serde_json.specs.Find.{as_str, as_number, as_u64}
+use Rattle.ipxe_script.specs.Word.{is_word, is_uri}
+use Rattle.hall_types.specs.Image.{BootImage, has_hall_word}
+use Rattle.hall_types.specs.Kinds.{erase_of_text}
+use Rattle.hall_types.specs.Name.{is_name}
+use Rattle.hall_types.specs.Number.{max_number}
+use Rattle.hall_types.specs.declared.kinds.Erase.{Erase}
+use Rattle.hall_types.specs.declared.kinds.Erase.TheVariants.{Full}
+use Rattle.http_bodies.specs.Steps.{◌>>=◌}
+
+-- a number of 64 bits, written without a point and without an exponent
+abbrev pub count_of : Data → Option ℕ
+count_of value = option_and_then as_u64 (as_number value)
+
+-- a number is 1 to 10^15
+abbrev pub in_range : ℕ → Option ℕ
+in_range n = if nat_le 1 n && nat_le n max_number then Some n else None
+
+abbrev pub number_of : Data → Option ℕ
+number_of value = do
+  n ← count_of value
+  in_range n
+
+-- a version may be absent, but not null
+abbrev pub version_of : Option Data → Option (Option ℕ)
+version_of None = Some None
+version_of (Some value) = option_map Some (number_of value)
+
+abbrev pub name_of : List ℕ → Option (List ℕ)
+name_of text = if is_name text then Some text else None
+
+-- the octets of 64 hexadecimal digits, in either case
+abbrev pub digest_of : List ℕ → Option (List ℕ)
+digest_of text = result_ok (decode_sized text 32)
+
+-- 16 octets that are all 0 or all 255 identify no machine
+abbrev pub is_blank : List ℕ → Bool
+is_blank octets = list_all (λ octet. octet == 0) octets || list_all (λ octet. octet == 255) octets
+
+abbrev pub unless_blank : List ℕ → Option (List ℕ)
+unless_blank octets = if is_blank octets then None else Some octets
+
+-- the UUID of a machine, in one of the four spellings of a UUID
+abbrev pub uuid_of_text : List ℕ → Option (List ℕ)
+uuid_of_text text = do
+  octets ← parsed text
+  unless_blank octets
+
+abbrev pub uuid_of_value : Data → Option (Option (List ℕ))
+uuid_of_value null = Some None
+uuid_of_value (string text) = option_map Some (uuid_of_text text)
+uuid_of_value other = None
+
+-- a UUID may be absent or null
+abbrev pub uuid_of : Option Data → Option (Option (List ℕ))
+uuid_of None = Some None
+uuid_of (Some value) = uuid_of_value value
+
+abbrev pub erase_of_word : List ℕ → Option (Option Erase)
+erase_of_word word = if bytes_eq word (codes "none") then Some None else option_map Some (erase_of_text word)
+
+-- false and `none` erase nothing, true is `full`
+abbrev pub erase_of : Data → Option (Option Erase)
+erase_of (boolean true) = Some (Some Full)
+erase_of (boolean false) = Some None
+erase_of (string word) = erase_of_word word
+erase_of other = None
+
+abbrev pub word_of : List ℕ → Option (List ℕ)
+word_of text = if is_word text then Some text else None
+
+abbrev pub uri_of : List ℕ → Option (List ℕ)
+uri_of text = if is_uri text then Some text else None
+
+-- a word and the words after it, where all are words
+abbrev pub word_then : Option (List ℕ) → Option (List (List ℕ)) → Option (List (List ℕ))
+word_then word words = option_and_then (λ first. option_map (λ others. first ∷ others) words) word
+
+-- the words of an array of texts
+abbrev pub words_of : Items → Option (List (List ℕ))
+words_of no_items = Some []
+words_of (item value values) = word_then (option_and_then word_of (as_str value)) (words_of values)
+
+-- an image has at most 24 arguments, and none begins `hall.`
+abbrev pub image_of : BootImage → Option BootImage
+image_of image = if nat_le (length image.args) 24 && not (has_hall_word image.args) then Some image else None

@@ -1,0 +1,157 @@
+//! The values of an object's members, where they are of the kind that is asked for.
+ghost use Rattle.std.specs.Prelude.{◌≡◌, IfOk, option_copied, option_map};
+ghost use Rattle.serde_json.specs.View.{view};
+ghost use Rattle.http_bodies.specs.Member.{text_at, number_at, name_at, uri_at, key_at, version_at, mac_at, digest_at, uuid_at, arch_at, role_at, tests_at, erase_at, words_at, progress_at, outcome_at};
+
+use crate::value::{
+    digest_of, erase_of, name_of, number_of, parsed, uri_of, uuid_of, version_of, words_of,
+};
+use hall_types::{
+    Digest, Erase, MacAddress, MachineUuid, Name, Number, Outcome, Progress, RequestKey, Role,
+    Version,
+};
+use ipxe_script::{Uri, Word};
+use pxe_vendor::Arch;
+use serde_json::Value;
+use std::alloc::{AllocError, Global};
+
+pub(crate) fn text_at<'j>(json: &'j Value, name: &str) -> Option<&'j str>
+    ensures { option_copied result ≡ text_at name.now (view json.now) }
+{
+    json.get(name).and_then(Value::as_str)
+}
+
+pub(crate) fn number_at(json: &Value, name: &str) -> Option<Number>
+    ensures { result ≡ number_at name.now (view json.now) }
+{
+    match json.get(name) {
+        Some(value) => number_of(value),
+        None => None,
+    }
+}
+
+pub(crate) fn name_at(json: &Value, name: &str) -> Option<Name>
+    ensures { result ≡ name_at name.now (view json.now) }
+{
+    match text_at(json, name) {
+        Some(text) => name_of(text),
+        None => None,
+    }
+}
+
+pub(crate) fn uri_at(alloc: Global, json: &Value, name: &str) -> Result<Option<Uri>, AllocError>
+    ensures { IfOk result (λ uri. uri ≡ uri_at name.now (view json.now)) }
+{
+    match text_at(json, name) {
+        Some(text) => uri_of(alloc, text),
+        None => Ok(None),
+    }
+}
+
+pub(crate) fn key_at(json: &Value) -> Option<RequestKey>
+    ensures { result ≡ key_at (view json.now) }
+{
+    match text_at(json, "key") {
+        Some(text) => match parsed(text) {
+            Some(octets) => Some(RequestKey::from(octets)),
+            None => None,
+        },
+        None => None,
+    }
+}
+
+pub(crate) fn version_at(json: &Value) -> Option<Option<Version>>
+    ensures { result ≡ version_at (view json.now) }
+{
+    version_of(json.get("version"))
+}
+
+pub(crate) fn mac_at(json: &Value) -> Option<MacAddress>
+    ensures { result ≡ mac_at (view json.now) }
+{
+    match text_at(json, "mac") {
+        Some(text) => match wire_mac::read(text.as_bytes()) {
+            Some(octets) => Some(MacAddress::from(octets)),
+            None => None,
+        },
+        None => None,
+    }
+}
+
+pub(crate) fn digest_at(json: &Value) -> Option<Digest>
+    ensures { result ≡ digest_at (view json.now) }
+{
+    match text_at(json, "digest") {
+        Some(text) => digest_of(text),
+        None => None,
+    }
+}
+
+pub(crate) fn uuid_at(json: &Value) -> Option<Option<MachineUuid>>
+    ensures { result ≡ uuid_at (view json.now) }
+{
+    uuid_of(json.get("uuid"))
+}
+
+pub(crate) fn arch_at(json: &Value) -> Option<Arch>
+    ensures { result ≡ arch_at (view json.now) }
+{
+    match text_at(json, "arch") {
+        Some(text) => text.parse().ok(),
+        None => None,
+    }
+}
+
+pub(crate) fn role_at(json: &Value) -> Option<Role>
+    ensures { result ≡ role_at (view json.now) }
+{
+    match text_at(json, "role") {
+        Some(text) => text.parse().ok(),
+        None => None,
+    }
+}
+
+pub(crate) fn tests_at(json: &Value) -> Option<bool>
+    ensures { result ≡ tests_at (view json.now) }
+{
+    match json.get("tests") {
+        Some(value) => value.as_bool(),
+        None => None,
+    }
+}
+
+pub(crate) fn erase_at(json: &Value) -> Option<Option<Erase>>
+    ensures { result ≡ erase_at (view json.now) }
+{
+    match json.get("erase") {
+        Some(value) => erase_of(value),
+        None => None,
+    }
+}
+
+pub(crate) fn words_at(alloc: Global, json: &Value) -> Result<Option<Vec<Word>>, AllocError>
+    ensures { IfOk result (λ words. option_map (λ words. words.items) words ≡ words_at (view json.now)) }
+{
+    match json.get("args").and_then(Value::as_array) {
+        Some(values) => words_of(alloc, values),
+        None => Ok(None),
+    }
+}
+
+pub(crate) fn progress_at(json: &Value) -> Option<Progress>
+    ensures { result ≡ progress_at (view json.now) }
+{
+    match text_at(json, "stage") {
+        Some(text) => text.parse().ok(),
+        None => None,
+    }
+}
+
+pub(crate) fn outcome_at(json: &Value) -> Option<Outcome>
+    ensures { result ≡ outcome_at (view json.now) }
+{
+    match text_at(json, "outcome") {
+        Some(text) => text.parse().ok(),
+        None => None,
+    }
+}

@@ -1,0 +1,160 @@
+//! What the fields of a head say.
+ghost use Rattle.std.specs.Prelude.{◌≡◌, ◌≤◌, true, length, map, All, option_copied};
+ghost use Rattle.std.specs.List.{list_all};
+ghost use Rattle.std.specs.Char.{is_ascii_digit};
+ghost use Rattle.std.specs.Str.{str_eq_ignore_ascii_case};
+ghost use Rattle.httparse.specs.Spans.{IsHeaderWithin, header_bytes};
+ghost use Rattle.http_requests.specs.Fields.{count, first_value, decimal_value, is_length, length_of, within_limit, has_plain_body, body_length, is_visible, is_bearer_token, has_bearer_token, bearer_digest, bearer};
+
+use crate::fault::HttpFault;
+use hall_types::Digest;
+use httparse::spans::HeaderSpan;
+use sha2::{Digest as _, Sha256};
+
+/// The maximum number of a body's octets.
+const MAX_BODY_LEN: u64 = 16384;
+
+// Whether two names are one, in either case.
+fn is_same_name(one: &[u8], other: &[u8]) -> bool
+    ensures { result ≡ str_eq_ignore_ascii_case one.now other.now }
+{
+    one.eq_ignore_ascii_case(other)
+}
+
+// How many fields have this name, in either case.
+fn count(front: &[u8], headers: &[HeaderSpan], name: &str) -> usize
+    requires { All (IsHeaderWithin (length front.now)) headers.now }
+    ensures { result ≡ count name.now (map (header_bytes front.now) headers.now) }
+{
+    let mut count = 0;
+    for header in headers {
+        if is_same_name(header.name.of(front), name.as_bytes()) {
+            count += 1;
+        }
+    }
+    count
+}
+
+// The value of the first field with this name, in either case.
+fn first_value<'f>(front: &'f [u8], headers: &[HeaderSpan], name: &str) -> Option<&'f [u8]>
+    requires { All (IsHeaderWithin (length front.now)) headers.now }
+    ensures { option_copied result ≡ first_value name.now (map (header_bytes front.now) headers.now) }
+{
+    for header in headers {
+        if is_same_name(header.name.of(front), name.as_bytes()) {
+            return Some(header.value.of(front));
+        }
+    }
+    None
+}
+
+// ---- the length of the body
+
+pub(crate) fn are_digits(text: &[u8]) -> bool
+    ensures { result ≡ list_all is_ascii_digit text.now }
+{
+    text.iter().all(|octet| octet.is_ascii_digit())
+}
+
+// The number that digits write.
+pub(crate) fn decimal(text: &[u8]) -> u64
+    requires short { length text.now ≤ 18 }
+    requires digits { list_all is_ascii_digit text.now ≡ true }
+    ensures { result ≡ decimal_value text.now }
+{
+    let mut n = 0;
+    for digit in text {
+        n = n * 10 + u64::from(*digit - b'0');
+    }
+    n
+}
+
+fn is_length(text: &[u8]) -> bool
+    ensures { result ≡ is_length text.now }
+{
+    1 <= text.len() && text.len() <= 9 && are_digits(text)
+}
+
+// The length that a Content-Length says.
+fn length_of(text: Option<&[u8]>) -> Result<u64, HttpFault>
+    ensures { result ≡ length_of (option_copied text.entry) }
+{
+    match text {
+        None => Err(HttpFault::NeedLength),
+        Some(text) => {
+            if is_length(text) {
+                Ok(decimal(text))
+            } else {
+                Err(HttpFault::BadRequest)
+            }
+        }
+    }
+}
+
+fn within_limit(n: u64) -> Result<u64, HttpFault>
+    ensures { result ≡ within_limit n }
+{
+    if n <= MAX_BODY_LEN {
+        Ok(n)
+    } else {
+        Err(HttpFault::TooLarge)
+    }
+}
+
+fn has_plain_body(front: &[u8], headers: &[HeaderSpan]) -> bool
+    requires { All (IsHeaderWithin (length front.now)) headers.now }
+    ensures { result ≡ has_plain_body (map (header_bytes front.now) headers.now) }
+{
+    count(front, headers, "transfer-encoding") == 0 && count(front, headers, "content-length") <= 1
+}
+
+/// How many octets the body is said to have.
+pub(crate) fn body_length(front: &[u8], headers: &[HeaderSpan]) -> Result<u64, HttpFault>
+    requires { All (IsHeaderWithin (length front.now)) headers.now }
+    ensures { result ≡ body_length (map (header_bytes front.now) headers.now) }
+{
+    if !has_plain_body(front, headers) {
+        return Err(HttpFault::BadRequest);
+    }
+    within_limit(length_of(first_value(front, headers, "content-length"))?)
+}
+
+// ---- the bearer token
+
+fn are_visible(text: &[u8]) -> bool
+    ensures { result ≡ list_all is_visible text.now }
+{
+    text.iter().all(|octet| 33 <= *octet && *octet <= 126)
+}
+
+fn is_bearer_token(text: &[u8]) -> bool
+    ensures { result ≡ is_bearer_token text.now }
+{
+    1 <= text.len() && text.len() <= 128 && are_visible(text)
+}
+
+// The digest of the token of `Bearer TOKEN`.
+fn bearer_digest(text: &[u8]) -> Option<Digest>
+    ensures { result ≡ bearer_digest text.now }
+{
+    if text.len() < 7 {
+        return None;
+    }
+    let (scheme, token) = text.split_at(7);
+    if is_same_name(scheme, b"bearer ") && is_bearer_token(token) {
+        Some(Digest::from(Sha256::digest(token)))
+    } else {
+        None
+    }
+}
+
+/// The digest of the bearer token that the first Authorization field brings.
+pub(crate) fn bearer(front: &[u8], headers: &[HeaderSpan]) -> Option<Digest>
+    requires { All (IsHeaderWithin (length front.now)) headers.now }
+    ensures { result ≡ bearer (map (header_bytes front.now) headers.now) }
+{
+    match first_value(front, headers, "authorization") {
+        Some(text) => bearer_digest(text),
+        None => None,
+    }
+}

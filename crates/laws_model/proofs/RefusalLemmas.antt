@@ -1,0 +1,259 @@
+-- Why refusals write nothing.
+use Rattle.std.proofs.Common.{◌≡◌, ℕ, Bool, true, false, List, [], ◌∷◌, refl, sym, ap, subst, ◌∙◌, inl, inr}
+use Rattle.std.specs.Prelude.{⊤, map, Option, Some, None, Ok, Err, if◌then◌else◌}
+use Rattle.std.proofs.lemmas.Bool.{false≢true}
+use Rattle.pxe_vendor.specs.Place.{Site}
+use Rattle.pxe_vendor.specs.declared.clients.Client.{Client}
+use Rattle.hall_types.specs.Hall.{Hall}
+use Rattle.hall_types.specs.declared.kinds.Role.{Role}
+use Rattle.hall_types.specs.declared.operator.Operator.{Operator}
+use Rattle.hall_types.specs.declared.machine.Machine.{Machine}
+use Rattle.hall_types.specs.declared.port.Port.{Port}
+use Rattle.hall_types.specs.declared.refusal.Refusal.{Refusal}
+use Rattle.hall_events.specs.Reply.{Content, refused, waiting_orders, machine_list, nothing, done, stored}
+use Rattle.hall_events.specs.declared.event.Event.{Event}
+use Rattle.hall_events.specs.declared.event.Event.TheVariants as event
+use Rattle.boot_desk.specs.Fetch.{Fetched, fetched}
+use Rattle.boot_desk.specs.FrameEvent.{frame_decision, frame_view}
+use Rattle.boot_desk.specs.OrderAnswer.{answered}
+use Rattle.boot_desk.specs.Report.{Judged, reported}
+use Rattle.boot_desk.specs.Views.{order_view, report_view, view_at}
+use Rattle.boot_desk.specs.declared.fault.Verdict.TheVariants.{Counted, Repeat}
+use Rattle.boot_desk.specs.declared.frames.Decision.{Decision as FrameDecision}
+use Rattle.boot_desk.specs.declared.frames.Decision.TheVariants.{Loader, ScriptUrl, Enlist, Silent}
+use Rattle.boot_desk.specs.declared.views.BootView.{BootView}
+use Rattle.pxe_vendor.specs.declared.arch.Arch.{Arch}
+use Rattle.std.specs.Str.{bytes_eq}
+use Rattle.hall_types.specs.Hall.{applied, pair}
+use Rattle.hall_types.specs.declared.change.RowWrite.{RowWrite}
+use Rattle.hall_types.specs.Lookup.{waiting}
+use Rattle.hall_types.specs.Number.{next_number}
+use Rattle.hall_types.specs.Rows.{at, listed as rows_of}
+use Rattle.hall_types.specs.declared.change.RowWrite.TheVariants.{PutOperator}
+use Rattle.hall_types.specs.declared.receipt.Receipt.{Receipt}
+use Rattle.hall_types.specs.declared.refusal.Refusal.TheVariants as cause
+use Rattle.hall_events.specs.Command.{command_text}
+use Rattle.hall_events.specs.declared.command.HallCommand.{HallCommand}
+use Rattle.hall_events.specs.declared.command.HallCommand.TheVariants.{AddOperator, DisableOperator, AddPool, Grant, AddImage, DeleteImage, SetLive, AddMachine, OnMachine}
+use Rattle.hall_events.specs.declared.command.MachineCommand.{MachineCommand}
+use Rattle.hall_events.specs.declared.command.MachineCommand.TheVariants as on
+use Rattle.life_cycle.specs.Entering.{entered}
+use Rattle.life_cycle.specs.Table.{step_of}
+use Rattle.life_cycle.specs.declared.action.Action.TheVariants as act
+use Rattle.life_cycle.specs.declared.entering.Entered.{Entered}
+use Rattle.life_cycle.specs.declared.signal.Signal.TheVariants.{By}
+use Rattle.life_cycle.specs.declared.step.Step.{Step}
+use Rattle.desk_command.specs.Causes.{causes, first_of, release_action}
+use Rattle.desk_command.specs.Command.{command_decision, commanded as new_command, keyed, may_send, needs_admin, of_sender, repeated as repeated_command, sender, unless, with_receipt}
+use Rattle.desk_command.specs.Effect.{Effect, about, added, disabled, edited, effect, entry_effect, live_image, machine_effect, machine_effect_if, moved_to_pool, prepared, raised, step_effect}
+use Rattle.desk_command.specs.View.{command_view}
+use Rattle.desk_command.specs.declared.view.CommandView.{CommandView}
+use Rattle.laws_model.specs.Decision.{Decided, decision_of, listed_of, framed, given, given_if, judged, if_role, listed_if, commanded, refuses, says, may_see_orders, may_answer, may_see_machines}
+use Rattle.boot_desk.specs.SoundLaws.{some_is}
+use Rattle.laws_model.specs.Refusing.{IsRefusal}
+use Rattle.laws_model.specs.Step.{IsStep, Step as HallStep}
+
+-- told apart from a refusal
+abbrev is_refused : Content → Bool
+is_refused (refused refusal) = true
+is_refused other = false
+
+not_refused : (content : Content) → is_refused content ≡ false → IsRefusal content → ⊥
+not_refused content no_refusal is = false≢true (sym no_refusal ∙ ap is_refused is.1)
+
+abbrev Keeps : Decided → Type 0
+Keeps d = IsRefusal d.content → d.rows ≡ []
+
+keeps_framed : (d : FrameDecision) (site : Site) (h : Hall) (client : Client) → Keeps (framed d site h client)
+keeps_framed Loader site h client is = refl
+keeps_framed ScriptUrl site h client is = refl
+keeps_framed Enlist site h client is = absurd (not_refused _ refl is)
+keeps_framed (Silent silence) site h client is = refl
+
+-- told apart from silence
+abbrev is_nothing : Content → Bool
+is_nothing nothing = true
+is_nothing other = false
+
+silent : (d : FrameDecision) (site : Site) (h : Hall) (client : Client) → (framed d site h client).content ≡ nothing → (framed d site h client).rows ≡ []
+silent Loader site h client is = refl
+silent ScriptUrl site h client is = refl
+silent Enlist site h client is = absurd (false≢true (ap is_nothing is))
+silent (Silent silence) site h client is = refl
+
+keeps_given : (answer : Fetched) → Keeps (given answer)
+keeps_given (Ok answer) is = absurd (not_refused _ refl is)
+keeps_given (Err refusal) is = refl
+
+keeps_given_if : (host : List ℕ) (v : Option BootView) (moment : ℕ) (fresh : List ℕ) → Keeps (given_if host v moment fresh)
+keeps_given_if host None moment fresh is = refl
+keeps_given_if host (Some v) moment fresh is = keeps_given (fetched host v moment fresh) is
+
+keeps_judged : (judgement : Judged) → Keeps (judged judgement)
+keeps_judged (Ok (rows, Counted)) is = absurd (not_refused _ refl is)
+keeps_judged (Ok (rows, Repeat)) is = absurd (not_refused _ refl is)
+keeps_judged (Err refusal) is = refl
+
+keeps_if_role : (may : Role → Bool) (o : Option Operator) (d : Decided) → Keeps d → Keeps (if_role may o d)
+keeps_if_role may None d keeps is = refl
+keeps_if_role may (Some o) d keeps is = by o.enabled (may o.role) is
+  where
+    by : (enabled its : Bool)
+        → IsRefusal (if enabled then (if its then d else refuses cause.RoleNeeded) else refuses cause.UnknownToken).content
+        → (if enabled then (if its then d else refuses cause.RoleNeeded) else refuses cause.UnknownToken).rows ≡ []
+    by true true is = keeps is
+    by true false is = refl
+    by false its is = refl
+
+keeps_listed : (h : Hall) (m : Option Machine) → Keeps (listed_if h m)
+keeps_listed h None is = refl
+keeps_listed h (Some m) is = refl
+
+-- ---- the answer of an accepted command is no refusal
+
+abbrev Speaks : Effect → Type 0
+Speaks (Ok decision) = is_refused decision.1 ≡ false
+Speaks (Err refusal) = ⊤
+
+speaks_entry : (v : CommandView) (m : Machine) (e : Option Entered) → Speaks (entry_effect v m e)
+speaks_entry v m None = tt
+speaks_entry v m (Some e) = refl
+
+speaks_step : (v : CommandView) (o : Operator) (m : Machine) (command : MachineCommand) (moment : ℕ) (s : Option Step) → Speaks (step_effect v o m command moment s)
+speaks_step v o m command moment None = tt
+speaks_step v o m command moment (Some step) = speaks_entry v m (entered (prepared command o m) step moment v.numbers)
+
+speaks_pool : (m : Machine) (pool : List ℕ) → Speaks (moved_to_pool m pool)
+speaks_pool m pool = by (bytes_eq m.pool pool)
+  where
+    by : (same : Bool) → Speaks (if same then Ok ([], about m) else edited m (record (raised m) { pool = pool }) [])
+    by true = refl
+    by false = refl
+
+speaks_machine : (v : CommandView) (o : Operator) (m : Machine) (command : MachineCommand) (moment : ℕ) → Speaks (machine_effect v o m command moment)
+speaks_machine v o m (on.AddInterface mac) moment = refl
+speaks_machine v o m (on.RemoveInterface mac) moment = refl
+speaks_machine v o m (on.SetPool pool) moment = speaks_pool m pool
+speaks_machine v o m (on.Commission tests) moment = speaks_step v o m (on.Commission tests) moment (step_of m (By act.Commission))
+speaks_machine v o m on.Test moment = speaks_step v o m on.Test moment (step_of m (By act.Test))
+speaks_machine v o m on.Override moment = speaks_step v o m on.Override moment (step_of m (By act.Override))
+speaks_machine v o m on.Fix moment = speaks_step v o m on.Fix moment (step_of m (By act.Fix))
+speaks_machine v o m on.Delete moment = refl
+speaks_machine v o m on.Allocate moment = speaks_step v o m on.Allocate moment (step_of m (By act.Allocate))
+speaks_machine v o m (on.Deploy image) moment = speaks_step v o m (on.Deploy image) moment (step_of m (By act.Deploy))
+speaks_machine v o m (on.Release erase) moment = speaks_step v o m (on.Release erase) moment (step_of m (By (release_action erase)))
+speaks_machine v o m on.Rescue moment = speaks_step v o m on.Rescue moment (step_of m (By act.Rescue))
+speaks_machine v o m on.Abort moment = speaks_step v o m on.Abort moment (step_of m (By act.Abort))
+speaks_machine v o m on.Lock moment = refl
+speaks_machine v o m on.Unlock moment = refl
+speaks_machine v o m on.ExitRescue moment = speaks_step v o m on.ExitRescue moment (step_of m (By act.ExitRescue))
+speaks_machine v o m on.Break moment = speaks_step v o m on.Break moment (step_of m (By act.Break))
+
+speaks_machine_if : (m : Option Machine) (v : CommandView) (o : Operator) (command : MachineCommand) (moment : ℕ) → Speaks (machine_effect_if m v o command moment)
+speaks_machine_if None v o command moment = tt
+speaks_machine_if (Some m) v o command moment = speaks_machine v o m command moment
+
+speaks_disabled : (o : Option Operator) → Speaks (disabled o)
+speaks_disabled None = tt
+speaks_disabled (Some o) = by o.enabled
+  where
+    by : (enabled : Bool) → Speaks (if enabled then Ok (PutOperator (record o { enabled = false }) ∷ [], done) else Ok ([], done))
+    by true = refl
+    by false = refl
+
+speaks_live : (image : List ℕ) (arch : Option Arch) → Speaks (live_image image arch)
+speaks_live image None = tt
+speaks_live image (Some arch) = refl
+
+speaks_added : (v : CommandView) (mac : List ℕ) (arch : Arch) (pool : List ℕ) (uuid : Option (List ℕ)) (id : Option ℕ) → Speaks (added v mac arch pool uuid id)
+speaks_added v mac arch pool uuid None = tt
+speaks_added v mac arch pool uuid (Some id) = refl
+
+speaks_effect : (v : CommandView) (o : Operator) (command : HallCommand) (moment : ℕ) → Speaks (effect v o command moment)
+unfolding effect
+speaks_effect v o (AddOperator name role digest) moment = refl
+speaks_effect v o (DisableOperator name) moment = speaks_disabled v.operator
+speaks_effect v o (AddPool pool) moment = refl
+speaks_effect v o (Grant pool name) moment = refl
+speaks_effect v o (AddImage image) moment = refl
+speaks_effect v o (DeleteImage image) moment = refl
+speaks_effect v o (SetLive image) moment = speaks_live image v.image
+speaks_effect v o (AddMachine mac arch pool uuid) moment = speaks_added v mac arch pool uuid (next_number v.numbers.machine)
+speaks_effect v o (OnMachine id version command) moment = speaks_machine_if v.machine v o command moment
+
+speaks_receipt : (o : Operator) (key : List ℕ) (command : HallCommand) (e : Effect) → Speaks e → Speaks (with_receipt o key command e)
+speaks_receipt o key command (Ok decision) speaks = speaks
+speaks_receipt o key command (Err refusal) speaks = tt
+
+speaks_unless : (refusal : Option Refusal) (e : Effect) → Speaks e → Speaks (unless refusal e)
+speaks_unless None e speaks = speaks
+speaks_unless (Some refusal) e speaks = tt
+
+speaks_new : (v : CommandView) (o : Operator) (key : List ℕ) (command : HallCommand) (moment : ℕ) → Speaks (new_command v o key command moment)
+unfolding new_command
+speaks_new v o key command moment =
+    speaks_unless (first_of (causes v o command)) (with_receipt o key command (effect v o command moment))
+    (speaks_receipt o key command (effect v o command moment) (speaks_effect v o command moment))
+
+speaks_repeated : (r : Receipt) (command : HallCommand) → Speaks (repeated_command r command)
+speaks_repeated r command = by (bytes_eq r.command (command_text command))
+  where
+    by : (same : Bool) → Speaks (if same then Ok ([], stored r.status r.body) else Err cause.KeyReused)
+    by true = refl
+    by false = tt
+
+speaks_keyed : (h : Hall) (o : Operator) (r : Option Receipt) (key : List ℕ) (command : HallCommand) (moment : ℕ) → Speaks (keyed h o r key command moment)
+speaks_keyed h o (Some r) key command moment = speaks_repeated r command
+speaks_keyed h o None key command moment = by (may_send o.role (needs_admin command))
+  where
+    by : (may : Bool) → Speaks (if may then new_command (command_view h o command) o key command moment else Err cause.RoleNeeded)
+    by true = speaks_new (command_view h o command) o key command moment
+    by false = tt
+
+speaks_sender : (h : Hall) (o : Option Operator) (key : List ℕ) (command : HallCommand) (moment : ℕ) → Speaks (of_sender h o key command moment)
+speaks_sender h None key command moment = tt
+speaks_sender h (Some o) key command moment = by o.enabled
+  where
+    by : (enabled : Bool) → Speaks (if enabled then keyed h o (at h.receipts (pair o.name key)) key command moment else Err cause.UnknownToken)
+    by true = speaks_keyed h o (at h.receipts (pair o.name key)) key command moment
+    by false = tt
+
+keeps_commanded : (e : Effect) → Speaks e → Keeps (commanded e)
+keeps_commanded (Ok decision) speaks is = absurd (not_refused decision.1 speaks is)
+keeps_commanded (Err refusal) speaks is = refl
+
+keeps_command : (h : Hall) (bearer : Option (List ℕ)) (key : List ℕ) (command : HallCommand) (moment : ℕ) → Keeps (commanded (command_decision h bearer key command moment))
+unfolding command_decision
+keeps_command h bearer key command moment =
+    keeps_commanded (of_sender h (sender h bearer) key command moment) (speaks_sender h (sender h bearer) key command moment)
+
+-- ---- all events
+
+pub keeps : (site : Site) (h : Hall) (e : Event) (moment : ℕ) (fresh : List ℕ) → Keeps (decision_of site h e moment fresh)
+unfolding decision_of
+keeps site h (event.Frame port client) moment fresh = keeps_framed (frame_decision (frame_view h client) port client) site h client
+keeps site h (event.Script mac) moment fresh = keeps_given_if site.host (view_at h mac) moment fresh
+keeps site h (event.Report boot token progress) moment fresh = keeps_judged (reported (report_view h boot) token progress moment)
+keeps site h (event.Orders bearer) moment fresh = keeps_if_role may_see_orders (sender h bearer) (says (waiting_orders (waiting h))) (λ _. refl)
+keeps site h (event.OrderAnswer bearer order outcome) moment fresh =
+    keeps_if_role may_answer (sender h bearer) (judged (answered (order_view h order) outcome moment)) (keeps_judged (answered (order_view h order) outcome moment))
+keeps site h (event.Machines bearer) moment fresh =
+    keeps_if_role may_see_machines (sender h bearer) (says (machine_list (map (listed_of h) (rows_of h.machines)))) (λ _. refl)
+keeps site h (event.OneMachine bearer machine) moment fresh =
+    keeps_if_role may_see_machines (sender h bearer) (listed_if h (at h.machines machine)) (keeps_listed h (at h.machines machine))
+keeps site h (event.Command bearer key command) moment fresh = keeps_command h bearer key command moment
+keeps site h event.Quiet moment fresh = λ is. absurd (not_refused nothing refl is)
+
+-- ---- steps
+
+pub keeps_hall : (s : HallStep) (content : Content) → IsStep s → s.answer ≡ Some content → IsRefusal content → s.after ≡ s.before
+keeps_hall s content (inl came) answer refusal =
+    let content_is = some_is content (decision_of s.arrival.site s.before s.arrival.event s.arrival.moment s.arrival.fresh).content (sym answer ∙ came.answer) in
+    let rows = keeps s.arrival.site s.before s.arrival.event s.arrival.moment s.arrival.fresh (subst IsRefusal content_is refusal) in
+    came.after ∙ ap (λ (rows : List RowWrite). applied rows s.before) rows
+keeps_hall s content (inr missed) answer refusal = missed.after
+
+pub keeps_silence : (site : Site) (h : Hall) (port : Port) (client : Client) (moment : ℕ) (fresh : List ℕ)
+    → (decision_of site h (event.Frame port client) moment fresh).content ≡ nothing → (decision_of site h (event.Frame port client) moment fresh).rows ≡ []
+unfolding decision_of
+keeps_silence site h port client moment fresh is = silent (frame_decision (frame_view h client) port client) site h client is

@@ -1,0 +1,23 @@
+//! Laws of the hall machine.
+ghost use Rattle.std.specs.Prelude.{◌≡◌, ℕ, List, [], Some};
+ghost use Rattle.pxe_vendor.specs.Place.{Site};
+ghost use Rattle.pxe_vendor.specs.declared.clients.Client.{Client};
+ghost use Rattle.hall_types.specs.Hall.{Hall};
+ghost use Rattle.hall_types.specs.declared.port.Port.{Port};
+ghost use Rattle.hall_events.specs.Reply.{Content, nothing};
+ghost use Rattle.hall_events.specs.declared.event.Event.{Event};
+ghost use Rattle.hall_events.specs.declared.event.Event.TheVariants.{Frame};
+ghost use Rattle.laws_model.specs.Decision.{decision_of};
+ghost use Rattle.laws_model.specs.Refusing.{IsRefusal};
+ghost use Rattle.laws_model.specs.Step.{IsStep, Step};
+
+/// Every refusal of a request, and every silence to a frame, writes no row, and the step of a refusal leaves the hall as
+/// it was.
+pub fn refusals_change_nothing()
+    ensures rows { (site : Site) (h : Hall) (event : Event) (moment : ℕ) (fresh : List ℕ)
+        → IsRefusal (decision_of site h event moment fresh).content → (decision_of site h event moment fresh).rows ≡ [] }
+    ensures silences { (site : Site) (h : Hall) (port : Port) (client : Client) (moment : ℕ) (fresh : List ℕ)
+        → (decision_of site h (Frame port client) moment fresh).content ≡ nothing → (decision_of site h (Frame port client) moment fresh).rows ≡ [] }
+    ensures hall { (s : Step) (content : Content)
+        → IsStep s → s.answer ≡ Some content → IsRefusal content → s.after ≡ s.before }
+{}

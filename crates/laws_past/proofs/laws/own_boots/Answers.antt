@@ -1,0 +1,15 @@
+use Rattle.std.proofs.Common.{refl, sym, ◌∙◌}
+use Rattle.std.proofs.lemmas.Option.{none-some}
+use Rattle.hall_types.specs.Hall.{new_hall, second}
+use Rattle.hall_types.specs.Rows.{numbers}
+use Rattle.hall_types.specs.RowLaws.{at-no_rows}
+use Rattle.laws_past.specs.Laws.{CountsOwnBoot}
+use Rattle.laws_past.proofs.Frame.{anything, at_each}
+use Rattle.laws_past.proofs.OwnBoots.{OwnsBoots, counts_own, owns_step}
+use Rattle.laws_past.proofs.laws.own_boots.Goals as goal
+
+pub returns : goal.returns
+returns c = λ admin digest end steps run.
+    at_each c.steps_keep_halls_sound.ensures.step (λ s. Unit {0}) OwnsBoots (owns_step) CountsOwnBoot (counts_own)
+    steps (new_hall second admin digest) end (anything steps) (c.new_halls_are_sound.ensures second admin digest) refl
+    (record { owns = λ id n m is. absurd (none-some m (sym (at-no_rows numbers id _ refl) ∙ is)) }) run

@@ -1,0 +1,16 @@
+use Rattle.std.proofs.Common.{refl}
+use Rattle.hall_types.specs.Hall.{new_hall, second}
+use Rattle.laws_past.specs.Laws.{AcceptsOnce, RepeatsFirst}
+use Rattle.laws_past.proofs.Frame.{anything, at_each}
+use Rattle.laws_past.proofs.Keys.{KeepsReceipts, accepts_once, keys_step, new_keys, repeats_first}
+use Rattle.laws_past.proofs.laws.request_keys.Goals as goal
+
+pub returns-clause-once : goal.returns-clause-once
+returns-clause-once c = λ admin digest end steps run.
+    at_each c.steps_keep_halls_sound.ensures.step (λ s. Unit {0}) KeepsReceipts (keys_step) AcceptsOnce (accepts_once)
+    steps (new_hall second admin digest) end (anything steps) (c.new_halls_are_sound.ensures second admin digest) refl (new_keys (new_hall second admin digest)) run
+
+pub returns-clause-again : goal.returns-clause-again
+returns-clause-again c = λ admin digest end steps run.
+    at_each c.steps_keep_halls_sound.ensures.step (λ s. Unit {0}) KeepsReceipts (keys_step) RepeatsFirst (repeats_first)
+    steps (new_hall second admin digest) end (anything steps) (c.new_halls_are_sound.ensures second admin digest) refl (new_keys (new_hall second admin digest)) run

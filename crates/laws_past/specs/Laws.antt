@@ -1,0 +1,255 @@
+-- The laws of the past, each for a step with the steps before it.
+use Rattle.std.specs.Prelude.{◌≡◌, ◌≢◌, ◌⊎◌, ℕ, false, true, List, Option, Some, None}
+use Rattle.std.specs.List.{AllByRecursion}
+use Rattle.ipxe_script.specs.Purpose.{IsDeploying, IsErasing}
+use Rattle.ipxe_script.specs.Script.{IsScript, spelling}
+use Rattle.ipxe_script.specs.declared.command.Command.{Command}
+use Rattle.hall_types.specs.Hall.{Hall, second}
+use Rattle.hall_types.specs.Image.{BootImage, has_hall_word}
+use Rattle.hall_types.specs.Rows.{at}
+use Rattle.hall_types.specs.declared.boot.Boot.{Boot}
+use Rattle.hall_types.specs.declared.kinds.Erase.{Erase}
+use Rattle.hall_types.specs.declared.kinds.OrderStage.TheVariants.{Waiting, Withdrawn}
+use Rattle.hall_types.specs.declared.kinds.Outcome.{Outcome}
+use Rattle.hall_types.specs.declared.kinds.Progress.{Progress}
+use Rattle.hall_types.specs.declared.kinds.Progress.TheVariants as report
+use Rattle.hall_types.specs.declared.kinds.Purpose.TheVariants as purpose
+use Rattle.hall_types.specs.declared.machine.Interface.{Interface}
+use Rattle.hall_types.specs.declared.machine.Machine.{Machine}
+use Rattle.hall_types.specs.declared.operator.Operator.{Operator}
+use Rattle.hall_types.specs.declared.order.Order.{Order}
+use Rattle.hall_types.specs.declared.refusal.Refusal.TheVariants.{KeyReused, UnknownToken}
+use Rattle.hall_types.specs.declared.status.Status.TheVariants.{Deployed, Deploying, DiskErasing}
+use Rattle.hall_events.specs.Command.{command_text}
+use Rattle.hall_events.specs.Reply.{Content, counted, refused, reply_of, script}
+use Rattle.hall_events.specs.declared.command.HallCommand.{HallCommand}
+use Rattle.hall_events.specs.declared.command.HallCommand.TheVariants.{AddImage, OnMachine}
+use Rattle.hall_events.specs.declared.command.MachineCommand.{MachineCommand}
+use Rattle.hall_events.specs.declared.command.MachineCommand.TheVariants as on
+use Rattle.hall_events.specs.declared.event.Event.TheVariants as event
+use Rattle.life_cycle.specs.Table.{step_of}
+use Rattle.life_cycle.specs.declared.action.Action.{Action}
+use Rattle.life_cycle.specs.declared.signal.Signal.{Signal}
+use Rattle.life_cycle.specs.declared.signal.Signal.TheVariants.{Answer, By, Expired, FourthBoot, Report}
+use Rattle.life_cycle.specs.declared.step.Step.{Step as TableStep}
+use Rattle.boot_desk.specs.Expiry.{is_due}
+use Rattle.boot_desk.specs.Fetch.{is_fourth}
+use Rattle.boot_desk.specs.Purposes.{ErasesBy}
+use Rattle.boot_desk.specs.Texts.{hold_script, local_script, work_script}
+use Rattle.desk_command.specs.Causes.{action_of}
+use Rattle.desk_command.specs.Command.{sender}
+use Rattle.laws_model.specs.Step.{Step}
+use Rattle.laws_steps.specs.Writes.{Makes}
+use Rattle.laws_past.specs.Past.{CountsAnswer, CountsReport, IsAccepted, IsEntry, IsOwnBoot, Last, NoneOf, SomeOf, WasAnswered}
+
+-- ---- scripts
+
+-- the machine that an address is recorded with
+pub record IsMachineAt (h : Hall) (mac : List ℕ) (m : Machine) : Type 0 where
+  pub interface : Interface
+  pub recorded : at h.interfaces mac ≡ Some interface
+  pub found : at h.machines interface.machine ≡ Some m
+
+-- a Deployed machine that asks for its script is told to boot its own disk, and nothing changes
+abbrev pub BootsLocally : List Step → Step → Type 0
+BootsLocally past s =
+    (mac : List ℕ) (m : Machine) (content : Content) → WasAnswered s (event.Script mac) content → IsMachineAt s.before mac m → m.status ≡ Deployed
+    → (content ≡ script (local_script m.arch)) × (s.after ≡ s.before)
+
+-- an image that an arrival brings has no argument that begins `hall.`: none can be made with one
+abbrev pub BringsNoHallWord : Step → Type 0
+BringsNoHallWord s =
+    (bearer : Option (List ℕ)) (key : List ℕ) (image : BootImage) → s.arrival.event ≡ event.Command bearer key (AddImage image) → has_hall_word image.args ≡ false
+
+abbrev pub BringNoHallWords : List Step → Type 0
+BringNoHallWords steps = AllByRecursion BringsNoHallWord steps
+
+-- an accepted release of the machine with this way of erasing, by the operator who was its owner just before
+pub record IsReleaseErasing (id : ℕ) (kind : Erase) (s : Step) : Type 0 where
+  pub operator : List ℕ
+  pub key : List ℕ
+  pub version : Option ℕ
+  pub content : Content
+  pub accepted : IsAccepted operator key (OnMachine id version (on.Release (Some kind))) content s
+  pub machine : Machine
+  pub found : at s.before.machines id ≡ Some machine
+  pub owner : machine.owner ≡ Some operator
+
+-- the machine is in Disk erasing, its last entry was such a release, and the script names the kind that this release named
+pub record IsRightlyErased (mac : List ℕ) (commands : List Command) (past : List Step) (h : Hall) : Type 0 where
+  pub machine : Machine
+  pub asks : IsMachineAt h mac machine
+  pub status : machine.status ≡ DiskErasing
+  pub entry : Last (IsEntry machine.id) past
+  pub kind : Erase
+  pub release : IsReleaseErasing machine.id kind entry.step
+  pub named : ErasesBy kind commands
+
+-- each script whose text has a kernel erase disks answers a request for a machine that is rightly erased
+abbrev pub ErasesRightly : List Step → Step → Type 0
+ErasesRightly past s =
+    (mac : List ℕ) (commands : List Command) → WasAnswered s (event.Script mac) (script commands) → IsScript commands → IsErasing (spelling commands)
+    → IsRightlyErased mac commands past s.before
+
+-- an accepted deploy of the machine with this image, as it was recorded then, by the operator who was its owner just before
+pub record IsDeploy (id : ℕ) (name : List ℕ) (image : BootImage) (s : Step) : Type 0 where
+  pub operator : List ℕ
+  pub key : List ℕ
+  pub version : Option ℕ
+  pub content : Content
+  pub accepted : IsAccepted operator key (OnMachine id version (on.Deploy name)) content s
+  pub machine : Machine
+  pub found : at s.before.machines id ≡ Some machine
+  pub owner : machine.owner ≡ Some operator
+  pub recorded : at s.before.images name ≡ Some image
+
+-- the machine is in Deploying, its last entry was such a deploy, and the script boots the image that this deploy named
+pub record IsRightlyDeployed (host mac : List ℕ) (commands : List Command) (past : List Step) (h : Hall) : Type 0 where
+  pub machine : Machine
+  pub asks : IsMachineAt h mac machine
+  pub status : machine.status ≡ Deploying
+  pub entry : Last (IsEntry machine.id) past
+  pub name : List ℕ
+  pub image : BootImage
+  pub deploy : IsDeploy machine.id name image entry.step
+  pub boot : Boot
+  pub boots : commands ≡ work_script host purpose.Deploy machine.erase boot image
+
+-- each script whose text has a kernel write an image to a disk answers a request for a machine that is rightly deployed
+abbrev pub DeploysRightly : List Step → Step → Type 0
+DeploysRightly past s =
+    (mac : List ℕ) (commands : List Command) → WasAnswered s (event.Script mac) (script commands) → IsScript commands → IsDeploying (spelling commands)
+    → IsRightlyDeployed s.arrival.site.host mac commands past s.before
+
+-- ---- counting
+
+-- a report counts only if its number and its token are those of its machine's own boot
+abbrev pub CountsOwnBoot : List Step → Step → Type 0
+CountsOwnBoot past s =
+    (number : ℕ) (token : List ℕ) (progress : Progress) → WasAnswered s (event.Report number token progress) counted
+    → (b : Boot) × (b.number ≡ number) × (b.token ≡ token) × IsOwnBoot b.machine b past
+
+-- some report of the boot counts
+abbrev pub CountsAny : ℕ → Step → Type 0
+CountsAny number s = (progress : Progress) × CountsReport number progress s
+
+-- a report counts that the boot is done, or that it failed
+abbrev pub CountsVerdict : ℕ → Step → Type 0
+CountsVerdict number s = CountsReport number report.Done s ⊎ CountsReport number report.Failed s
+
+-- a report that a boot has started counts only before all others of this boot
+abbrev pub CountsStartedFirst : List Step → Step → Type 0
+CountsStartedFirst past s = (number : ℕ) → CountsReport number report.Started s → NoneOf (CountsAny number) past
+
+-- at most one verdict on a boot counts
+abbrev pub CountsVerdictOnce : List Step → Step → Type 0
+CountsVerdictOnce past s = (number : ℕ) → CountsVerdict number s → NoneOf (CountsVerdict number) past
+
+-- ---- numbers
+
+-- a row comes to stand at the number
+abbrev pub MakesMachine : ℕ → Step → Type 0
+MakesMachine id s = (m : Machine) × (at s.before.machines id ≡ None) × (at s.after.machines id ≡ Some m)
+
+abbrev pub MakesBoot : ℕ → Step → Type 0
+MakesBoot number s = (b : Boot) × (at s.before.boots number ≡ None) × (at s.after.boots number ≡ Some b)
+
+abbrev pub MakesOrder : ℕ → Step → Type 0
+MakesOrder number s = (o : Order) × (at s.before.orders number ≡ None) × (at s.after.orders number ≡ Some o)
+
+-- no number of a machine, a boot or an order is issued twice, not even once its row is gone
+pub record NumbersOnce (past : List Step) (s : Step) : Type 0 where
+  pub machines : (id : ℕ) → MakesMachine id s → NoneOf (MakesMachine id) past
+  pub boots : (number : ℕ) → MakesBoot number s → NoneOf (MakesBoot number) past
+  pub orders : (number : ℕ) → MakesOrder number s → NoneOf (MakesOrder number) past
+
+-- ---- entries
+
+-- there was no such machine, and a client is enlisted, or an operator adds a machine
+abbrev pub IsMade : ℕ → Step → Type 0
+IsMade id s = (at s.before.machines id ≡ None) × Makes s.arrival.event
+
+-- by what the machine, which was k, was given the signal: an accepted command, a counted report of a boot of its, a counted
+-- answer to an order of its, its deadline at a quiet moment, or a fourth boot, for which it is held
+pub data IsSignalled (id : ℕ) (k : Machine) (s : Step) (signal : Signal) : Type 0 where
+  by_command : (operator key : List ℕ) (version : Option ℕ) (command : MachineCommand) (action : Action) (content : Content)
+      → IsAccepted operator key (OnMachine id version command) content s → action_of command ≡ Some action → signal ≡ By action → IsSignalled id k s signal
+  by_report : (b : Boot) (progress : Progress) → CountsReport b.number progress s → at s.before.boots b.number ≡ Some b → b.machine ≡ id → signal ≡ Report progress → IsSignalled id k s signal
+  by_answer : (o : Order) (outcome : Outcome) → CountsAnswer o.number outcome s → at s.before.orders o.number ≡ Some o → o.machine ≡ id → signal ≡ Answer outcome → IsSignalled id k s signal
+  by_deadline : s.arrival.event ≡ event.Quiet → is_due k.deadline s.arrival.moment ≡ true → signal ≡ Expired → IsSignalled id k s signal
+  by_fourth_boot : (mac : List ℕ) → WasAnswered s (event.Script mac) (script hold_script) → is_fourth k ≡ true → signal ≡ FourthBoot → IsSignalled id k s signal
+
+-- the machine goes where a row of the table leads
+pub record TakesRow (id : ℕ) (s : Step) : Type 0 where
+  pub machine : Machine
+  pub after : Machine
+  pub signal : Signal
+  pub to : TableStep
+  pub before_is : at s.before.machines id ≡ Some machine
+  pub after_is : at s.after.machines id ≡ Some after
+  pub row : step_of machine signal ≡ Some to
+  pub status : after.status ≡ to.status
+  pub signalled : IsSignalled id machine s signal
+
+-- each entry of a machine is its making, or a row of the table
+abbrev pub EntersByTable : List Step → Step → Type 0
+EntersByTable past s = (id : ℕ) → IsEntry id s → IsMade id s ⊎ TakesRow id s
+
+-- ---- request keys
+
+-- some command of this operator with this key is accepted
+abbrev pub AcceptsKey : List ℕ → List ℕ → Step → Type 0
+AcceptsKey operator key s = (command : HallCommand) × (content : Content) × IsAccepted operator key command content s
+
+-- at most one command of an operator with a key is accepted
+abbrev pub AcceptsOnce : List Step → Step → Type 0
+AcceptsOnce past s = (operator key : List ℕ) → AcceptsKey operator key s → NoneOf (AcceptsKey operator key) past
+
+-- what a later request of the operator with the key is answered, where the first command was answered so: the first
+-- answer, octet for octet, to the same command, KeyReused to another, UnknownToken once the operator is disabled
+pub data IsAnsweredAgain (o : Operator) (first : HallCommand) (content : Content) (command : HallCommand) (again : Content) : Type 0 where
+  disabled : o.enabled ≡ false → again ≡ refused UnknownToken → IsAnsweredAgain o first content command again
+  first_again : o.enabled ≡ true → command_text command ≡ command_text first → reply_of second again ≡ reply_of second content → IsAnsweredAgain o first content command again
+  reused : o.enabled ≡ true → command_text command ≢ command_text first → again ≡ refused KeyReused → IsAnsweredAgain o first content command again
+
+-- a later request is answered so, and changes nothing
+abbrev pub RepeatsFirst : List Step → Step → Type 0
+RepeatsFirst past s =
+    (operator key : List ℕ) (first : HallCommand) (content : Content) → SomeOf (IsAccepted operator key first content) past
+    → (bearer : Option (List ℕ)) (o : Operator) (command : HallCommand) (again : Content)
+    → sender s.before bearer ≡ Some o → o.name ≡ operator → WasAnswered s (event.Command bearer key command) again
+    → IsAnsweredAgain o first content command again × (s.after ≡ s.before)
+
+-- ---- orders
+
+-- of the orders of a machine one waits at most, and none while it is Deployed
+pub record WaitsForOne (h : Hall) : Type 0 where
+  pub one : (a b : ℕ) (o p : Order) → at h.orders a ≡ Some o → at h.orders b ≡ Some p → o.stage ≡ Waiting → p.stage ≡ Waiting → o.machine ≡ p.machine → a ≡ b
+  pub deployed : (id : ℕ) (m : Machine) → at h.machines id ≡ Some m → m.status ≡ Deployed → (n : ℕ) (o : Order) → at h.orders n ≡ Some o → o.machine ≡ id → o.stage ≢ Waiting
+
+-- a new order waits, and its machine goes where a row of the table leads, which has an order of this kind
+pub record IsQueuedAtEntry (o : Order) (s : Step) : Type 0 where
+  pub waits : o.stage ≡ Waiting
+  pub entry : IsEntry o.machine s
+  pub takes : TakesRow o.machine s
+  pub kind : takes.to.order ≡ Some o.kind
+
+-- each order is queued at an entry of its machine
+abbrev pub QueuesAtEntries : List Step → Step → Type 0
+QueuesAtEntries past s = (n : ℕ) (o : Order) → at s.before.orders n ≡ None → at s.after.orders n ≡ Some o → IsQueuedAtEntry o s
+
+-- an order that doesn't wait never waits again
+abbrev pub WaitsNoMore : List Step → Step → Type 0
+WaitsNoMore past s = (n : ℕ) (k o : Order) → at s.before.orders n ≡ Some k → k.stage ≢ Waiting → at s.after.orders n ≡ Some o → o.stage ≢ Waiting
+
+-- some answer to the order counts
+abbrev pub CountsSome : ℕ → Step → Type 0
+CountsSome n s = (outcome : Outcome) × CountsAnswer n outcome s
+
+-- the order, which waited, is withdrawn
+abbrev pub Withdraws : ℕ → Step → Type 0
+Withdraws n s = (o k : Order) × (at s.before.orders n ≡ Some o) × (o.stage ≡ Waiting) × (at s.after.orders n ≡ Some k) × (k.stage ≡ Withdrawn)
+
+-- an answer counts at most once for each order, and never after the order was withdrawn
+abbrev pub CountsAnswerOnce : List Step → Step → Type 0
+CountsAnswerOnce past s = (n : ℕ) → CountsSome n s → NoneOf (CountsSome n) past × NoneOf (Withdraws n) past

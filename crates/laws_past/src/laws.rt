@@ -1,0 +1,118 @@
+//! The laws of the past.
+ghost use Rattle.std.specs.Prelude.{◌≡◌, ℕ, List};
+ghost use Rattle.hall_types.specs.Hall.{Hall, new_hall, second};
+ghost use Rattle.laws_model.specs.Step.{IsRun, Step};
+ghost use Rattle.laws_past.specs.Laws.{AcceptsOnce, BootsLocally, BringNoHallWords, CountsAnswerOnce, CountsOwnBoot, CountsStartedFirst, CountsVerdictOnce, DeploysRightly, EntersByTable, ErasesRightly, NumbersOnce, QueuesAtEntries, RepeatsFirst, WaitsForOne, WaitsNoMore};
+ghost use Rattle.laws_past.specs.Past.{AtEachStep};
+
+use boot_desk::{deploying_texts, erasing_texts, new_halls_are_sound};
+use laws_model::refusals_change_nothing;
+use laws_steps::steps_keep_halls_sound;
+
+/// A Deployed machine that asks for its script is told to boot its own disk, and nothing changes.
+pub fn local_boots()
+    ensures { (admin digest : List ℕ) (end : Hall) (steps : List Step)
+        → IsRun (new_hall second admin digest) steps end → AtEachStep BootsLocally steps }
+{
+    new_halls_are_sound();
+    steps_keep_halls_sound();
+    boot_desk::local_boot();
+}
+
+/// No number of a machine, a boot or an order is issued twice, not even once its row is gone.
+pub fn numbers_once()
+    ensures { (admin digest : List ℕ) (end : Hall) (steps : List Step)
+        → IsRun (new_hall second admin digest) steps end → AtEachStep NumbersOnce steps }
+{
+    new_halls_are_sound();
+    steps_keep_halls_sound();
+}
+
+/// A script whose text has a kernel erase disks is given only to a machine in Disk erasing, whose last entry was made by
+/// an accepted release with erasing, by the operator who was its owner just before; and the text names the kind of erasing
+/// that this release named. The images that arrivals bring have no argument that begins `hall.`: none can be made with one.
+pub fn erasing_is_released()
+    ensures { (admin digest : List ℕ) (end : Hall) (steps : List Step)
+        → BringNoHallWords steps → IsRun (new_hall second admin digest) steps end → AtEachStep ErasesRightly steps }
+{
+    new_halls_are_sound();
+    steps_keep_halls_sound();
+    refusals_change_nothing();
+    erasing_texts();
+}
+
+/// A script whose text has a kernel write an image to the disk is given only to a machine in Deploying, whose last entry was
+/// made by an accepted deploy, by the operator who was its owner just before; and the script boots the kernel and the
+/// initrd of the image that this deploy named, as it was recorded then.
+pub fn deploying_is_commanded()
+    ensures { (admin digest : List ℕ) (end : Hall) (steps : List Step)
+        → BringNoHallWords steps → IsRun (new_hall second admin digest) steps end → AtEachStep DeploysRightly steps }
+{
+    new_halls_are_sound();
+    steps_keep_halls_sound();
+    refusals_change_nothing();
+    deploying_texts();
+}
+
+/// A report counts only if its number and its token are those of its machine's own boot: the last one that was issued for
+/// the machine, with no entry since but the one from Entering rescue into Rescue.
+pub fn own_boots()
+    ensures { (admin digest : List ℕ) (end : Hall) (steps : List Step)
+        → IsRun (new_hall second admin digest) steps end → AtEachStep CountsOwnBoot steps }
+{
+    new_halls_are_sound();
+    steps_keep_halls_sound();
+}
+
+/// Of a boot at most one report that it has started counts, before all its other reports, and at most one verdict.
+pub fn reports_count_once()
+    ensures started { (admin digest : List ℕ) (end : Hall) (steps : List Step)
+        → IsRun (new_hall second admin digest) steps end → AtEachStep CountsStartedFirst steps }
+    ensures verdict { (admin digest : List ℕ) (end : Hall) (steps : List Step)
+        → IsRun (new_hall second admin digest) steps end → AtEachStep CountsVerdictOnce steps }
+{
+    new_halls_are_sound();
+    steps_keep_halls_sound();
+}
+
+/// Each entry of a machine is its making, or a row of the life cycle's table, whose signal an accepted command gave, a
+/// counted report of a boot of this machine, a counted answer to an order of it, its deadline, or a fourth boot.
+pub fn entries_by_table()
+    ensures { (admin digest : List ℕ) (end : Hall) (steps : List Step)
+        → IsRun (new_hall second admin digest) steps end → AtEachStep EntersByTable steps }
+{
+    new_halls_are_sound();
+    steps_keep_halls_sound();
+    refusals_change_nothing();
+}
+
+/// Of an operator's requests with one key at most one command is accepted. Every later request with that key is answered
+/// as the first one was if it is the same command, and `KeyReused` if it is another (`UnknownToken` once the operator is
+/// disabled), and changes nothing.
+pub fn request_keys()
+    ensures once { (admin digest : List ℕ) (end : Hall) (steps : List Step)
+        → IsRun (new_hall second admin digest) steps end → AtEachStep AcceptsOnce steps }
+    ensures again { (admin digest : List ℕ) (end : Hall) (steps : List Step)
+        → IsRun (new_hall second admin digest) steps end → AtEachStep RepeatsFirst steps }
+{
+    new_halls_are_sound();
+    steps_keep_halls_sound();
+}
+
+/// Of the orders of a machine one waits at most, and none while it is Deployed. An order is queued only at an entry of its
+/// machine, with the kind of that entry's row, and never waits again once it doesn't. An answer counts at most once for each
+/// order, and never after the order was withdrawn.
+pub fn orders_and_answers()
+    ensures waits { (admin digest : List ℕ) (end : Hall) (steps : List Step)
+        → IsRun (new_hall second admin digest) steps end → WaitsForOne end }
+    ensures queued { (admin digest : List ℕ) (end : Hall) (steps : List Step)
+        → IsRun (new_hall second admin digest) steps end → AtEachStep QueuesAtEntries steps }
+    ensures again { (admin digest : List ℕ) (end : Hall) (steps : List Step)
+        → IsRun (new_hall second admin digest) steps end → AtEachStep WaitsNoMore steps }
+    ensures answered { (admin digest : List ℕ) (end : Hall) (steps : List Step)
+        → IsRun (new_hall second admin digest) steps end → AtEachStep CountsAnswerOnce steps }
+{
+    new_halls_are_sound();
+    steps_keep_halls_sound();
+    refusals_change_nothing();
+}

@@ -1,0 +1,414 @@
+-- What operators' commands write.
+use Rattle.std.specs.Prelude.{◌≡◌, ◌||◌, not, ⊤, ℕ, Bool, true, false, List, [], ◌∷◌, Option, Some, None, Ok, Err, is_some, option_map, if◌then◌else◌}
+use Rattle.std.specs.Str.{bytes_eq}
+use Rattle.std.proofs.Common.{refl, sym, ap, subst, inl, inr, ◌∙◌}
+use Rattle.std.proofs.lemmas.Bool.{both_ways}
+use Rattle.std.proofs.lemmas.Slice.Eq.{bytes_eq-Decides}
+use Rattle.pxe_vendor.specs.declared.arch.Arch.{Arch}
+use Rattle.hall_types.specs.Hall.{Hall, pair}
+use Rattle.hall_types.specs.Image.{BootImage}
+use Rattle.hall_types.specs.Lookup.{is_image_used, operator_with_digest}
+use Rattle.hall_types.specs.LookupLaws.{found_listed, none_listed}
+use Rattle.hall_types.specs.Number.{next_number}
+use Rattle.hall_types.specs.Rows.{at}
+use Rattle.hall_types.specs.declared.change.RowWrite.TheVariants as write
+use Rattle.hall_types.specs.declared.kinds.Role.{Role}
+use Rattle.hall_types.specs.declared.machine.Interface.{Interface}
+use Rattle.hall_types.specs.declared.machine.Machine.{Machine}
+use Rattle.hall_types.specs.declared.number.Numbers.{Numbers}
+use Rattle.hall_types.specs.declared.operator.Operator.{Operator}
+use Rattle.hall_types.specs.declared.receipt.Receipt.{Receipt}
+use Rattle.hall_types.specs.declared.refusal.Refusal.{Refusal}
+use Rattle.hall_types.specs.declared.refusal.Refusal.TheVariants as cause
+use Rattle.hall_events.specs.Command.{command_text}
+use Rattle.hall_events.specs.Reply.{done, stored}
+use Rattle.hall_events.specs.declared.command.HallCommand.{HallCommand}
+use Rattle.hall_events.specs.declared.command.HallCommand.TheVariants.{AddOperator, DisableOperator, AddPool, Grant, AddImage, DeleteImage, SetLive, AddMachine, OnMachine}
+use Rattle.hall_events.specs.declared.command.MachineCommand.{MachineCommand}
+use Rattle.hall_events.specs.declared.command.MachineCommand.TheVariants as on
+use Rattle.hall_events.specs.declared.event.Event.TheVariants as event
+use Rattle.life_cycle.specs.Entering.{entered}
+use Rattle.life_cycle.specs.Table.{step_of}
+use Rattle.life_cycle.specs.declared.action.Action.{Action}
+use Rattle.life_cycle.specs.declared.action.Action.TheVariants as act
+use Rattle.life_cycle.specs.declared.entering.Entered.{Entered}
+use Rattle.life_cycle.specs.declared.signal.Signal.TheVariants.{By}
+use Rattle.life_cycle.specs.declared.step.Step.{Step}
+use Rattle.boot_desk.specs.Following.{entry_rows}
+use Rattle.boot_desk.specs.Sound.{IsSound}
+use Rattle.boot_desk.specs.SoundLaws.{some_is}
+use Rattle.boot_desk.specs.Views.{row_at}
+use Rattle.desk_command.specs.AllowedLaws.{IsAllowed, allowed, first_none, may_act, unless_none, when_none}
+use Rattle.desk_command.specs.Causes.{action_of, causes, causes_at, first_of, forbidden, release_action, when}
+use Rattle.desk_command.specs.Command.{command_decision, commanded, keyed, may_send, needs_admin, of_sender, sender, unless, with_receipt}
+use Rattle.desk_command.specs.Effect.{Effect, about, acted, added, added_machine, disabled, edited, effect, entry_effect, live_image, machine_effect, machine_effect_if, moved_to_pool, prepared, raised, step_effect}
+use Rattle.desk_command.specs.View.{by_mac, command_view, has_member, has_pool, image_arch, machine_view, machine_view_if}
+use Rattle.desk_command.specs.declared.view.CommandView.{CommandView}
+use Rattle.laws_model.specs.Decision.{commanded as answered}
+use Rattle.laws_steps.specs.Writes.{Writes, WritesAll, edits_machine, enters_status, is_done, machine_goes, makes_machine, nothing_first, with_receipt as and_receipt, without_receipt, writes_aside, writes_nothing}
+
+none_mapped : {X Y : Type 0} (f : X → Y) (o : Option X) → is_some (option_map f o) ≡ false → o ≡ None
+none_mapped f None is = refl
+none_mapped f (Some x) is = cc
+
+none_is : {X : Type 0} (o : Option X) → is_some o ≡ false → o ≡ None
+none_is None is = refl
+none_is (Some x) is = cc
+
+or_false : (a b : Bool) → (a || b) ≡ false → (a ≡ false) × (b ≡ false)
+or_false true b is = cc
+or_false false b is = (refl, is)
+
+-- ---- what a command that is carried out is answered
+
+abbrev Says : Effect → Type 0
+Says (Ok d) = is_done d.1 ≡ true
+Says (Err refusal) = ⊤
+
+entry_says : (v : CommandView) (m : Machine) (x : Option Entered) → Says (entry_effect v m x)
+entry_says v m None = tt
+entry_says v m (Some x) = refl
+
+step_says : (v : CommandView) (o : Operator) (m : Machine) (command : MachineCommand) (moment : ℕ) (x : Option Step) → Says (step_effect v o m command moment x)
+step_says v o m command moment None = tt
+step_says v o m command moment (Some step) = entry_says v m (entered (prepared command o m) step moment v.numbers)
+
+pool_says : (m : Machine) (pool : List ℕ) → Says (moved_to_pool m pool)
+pool_says m pool = by (bytes_eq m.pool pool)
+  where
+    by : (same : Bool) → Says (if same then Ok ([], about m) else edited m (record (raised m) { pool = pool }) [])
+    by true = refl
+    by false = refl
+
+machine_says : (v : CommandView) (o : Operator) (m : Machine) (command : MachineCommand) (moment : ℕ) → Says (machine_effect v o m command moment)
+machine_says v o m (on.AddInterface mac) moment = refl
+machine_says v o m (on.RemoveInterface mac) moment = refl
+machine_says v o m (on.SetPool pool) moment = pool_says m pool
+machine_says v o m (on.Commission tests) moment = step_says v o m (on.Commission tests) moment (step_of m (By act.Commission))
+machine_says v o m on.Test moment = step_says v o m on.Test moment (step_of m (By act.Test))
+machine_says v o m on.Override moment = step_says v o m on.Override moment (step_of m (By act.Override))
+machine_says v o m on.Fix moment = step_says v o m on.Fix moment (step_of m (By act.Fix))
+machine_says v o m on.Delete moment = refl
+machine_says v o m on.Allocate moment = step_says v o m on.Allocate moment (step_of m (By act.Allocate))
+machine_says v o m (on.Deploy image) moment = step_says v o m (on.Deploy image) moment (step_of m (By act.Deploy))
+machine_says v o m (on.Release erase) moment = step_says v o m (on.Release erase) moment (step_of m (By (release_action erase)))
+machine_says v o m on.Rescue moment = step_says v o m on.Rescue moment (step_of m (By act.Rescue))
+machine_says v o m on.Abort moment = step_says v o m on.Abort moment (step_of m (By act.Abort))
+machine_says v o m on.Lock moment = refl
+machine_says v o m on.Unlock moment = refl
+machine_says v o m on.ExitRescue moment = step_says v o m on.ExitRescue moment (step_of m (By act.ExitRescue))
+machine_says v o m on.Break moment = step_says v o m on.Break moment (step_of m (By act.Break))
+
+machine_if_says : (x : Option Machine) (v : CommandView) (o : Operator) (command : MachineCommand) (moment : ℕ) → Says (machine_effect_if x v o command moment)
+machine_if_says None v o command moment = tt
+machine_if_says (Some m) v o command moment = machine_says v o m command moment
+
+disabled_says : (x : Option Operator) → Says (disabled x)
+disabled_says None = tt
+disabled_says (Some o) = by o.enabled
+  where
+    by : (enabled : Bool) → Says (if enabled then Ok (write.PutOperator (record o { enabled = false }) ∷ [], done) else Ok ([], done))
+    by true = refl
+    by false = refl
+
+live_says : (image : List ℕ) (x : Option Arch) → Says (live_image image x)
+live_says image None = tt
+live_says image (Some arch) = refl
+
+added_says : (v : CommandView) (mac : List ℕ) (arch : Arch) (pool : List ℕ) (uuid : Option (List ℕ)) (n : Option ℕ) → Says (added v mac arch pool uuid n)
+added_says v mac arch pool uuid None = tt
+added_says v mac arch pool uuid (Some id) = refl
+
+effect_says : (v : CommandView) (o : Operator) (command : HallCommand) (moment : ℕ) → Says (effect v o command moment)
+unfolding effect
+effect_says v o (AddOperator name role digest) moment = refl
+effect_says v o (DisableOperator name) moment = disabled_says v.operator
+effect_says v o (AddPool pool) moment = refl
+effect_says v o (Grant pool name) moment = refl
+effect_says v o (AddImage image) moment = refl
+effect_says v o (DeleteImage image) moment = refl
+effect_says v o (SetLive image) moment = live_says image v.image
+effect_says v o (AddMachine mac arch pool uuid) moment = added_says v mac arch pool uuid (next_number v.numbers.machine)
+effect_says v o (OnMachine id version command) moment = machine_if_says v.machine v o command moment
+
+module _ (h : Hall) (s : IsSound h) (bearer : Option (List ℕ)) (key : List ℕ) (moment : ℕ) (fresh : List ℕ) where
+  -- what the effect of a command writes
+  abbrev Does : HallCommand → Effect → Type 0
+  Does command (Ok d) = Writes h (event.Command bearer key command) moment fresh d.0 d.1
+  Does command (Err refusal) = ⊤
+
+  module _ (o : Operator) (sent : sender h bearer ≡ Some o) (id : ℕ) (version : Option ℕ) (m : Machine) (there : at h.machines id ≡ Some m) where
+    -- what a command on the machine writes
+    abbrev On : MachineCommand → Effect → Type 0
+    On command e = Does (OnMachine id version command) e
+
+    its : m.id ≡ id
+    its = s.keyed.machines id m there
+
+    was : at h.machines m.id ≡ Some m
+    was = ap (at h.machines) its ∙ there
+
+    acted_writes : (v : CommandView) (command : MachineCommand) (action : Action) → v.order ≡ row_at h.orders m.waiting → v.numbers ≡ h.last → action_of command ≡ Some action
+        → forbidden o m v.is_member (action_of command) ≡ None → On command (acted v o m command moment action)
+    acted_writes v command action order numbers acts may = by_step (step_of m (By action)) refl
+      where
+        by_entry : (step : Step) → step_of m (By action) ≡ Some step → (x : Option Entered) → entered (prepared command o m) step moment v.numbers ≡ x → On command (entry_effect v m x)
+        by_entry step leads None is = tt
+        by_entry step leads (Some new) is = enters_status (record {
+          machine = m;
+          entering = prepared command o m;
+          signal = By action;
+          first = nothing_first;
+          step = step;
+          new = new;
+          found = was;
+          cause = inl (record {
+            operator = o;
+            bearer = bearer;
+            key = key;
+            version = version;
+            command = command;
+            action = action;
+            member = v.is_member;
+            event_is = ap (λ n. event.Command bearer key (OnMachine n version command)) (sym its);
+            sender_is = sent;
+            acts = acts;
+            may = ap (forbidden o m v.is_member) (sym acts) ∙ may;
+            sets = refl;
+            signal_is = refl;
+          });
+          leads = leads;
+          enters = ap (λ n. entered (prepared command o m) step moment n) (sym numbers) ∙ is;
+          rows_are = ap (λ w. entry_rows m w new) order;
+        })
+
+        by_step : (x : Option Step) → step_of m (By action) ≡ x → On command (step_effect v o m command moment x)
+        by_step None leads = tt
+        by_step (Some step) leads = by_entry step leads (entered (prepared command o m) step moment v.numbers) refl
+
+    pool_writes : (pool : List ℕ) → On (on.SetPool pool) (moved_to_pool m pool)
+    pool_writes pool = by (bytes_eq m.pool pool)
+      where
+        by : (b : Bool) → On (on.SetPool pool) (if b then Ok ([], about m) else edited m (record (raised m) { pool = pool }) [])
+        by true = writes_nothing (λ e. cc) refl
+        by false = edits_machine refl (record { machine = m; after = record (raised m) { pool = pool }; interfaces = []; found = was; same = refl; edits = tt; rows_are = refl })
+
+    machine_writes : (command : MachineCommand) → IsAllowed (machine_view h o m command) m command → forbidden o m (machine_view h o m command).is_member (action_of command) ≡ None
+        → On command (machine_effect (machine_view h o m command) o m command moment)
+    machine_writes (on.AddInterface mac) a may =
+        let free = when_none (is_some (by_mac h mac)) cause.Taken (first_none (when (is_some (by_mac h mac)) cause.Taken) _ a.own).0 in
+        edits_machine refl (record {
+          machine = m;
+          after = raised m;
+          interfaces = write.PutInterface (record { mac = mac; machine = m.id }) ∷ [];
+          found = was;
+          same = refl;
+          edits = (none_mapped (λ (i : Interface). i.machine) (at h.interfaces mac) free, refl);
+          rows_are = refl;
+        })
+    machine_writes (on.RemoveInterface mac) a may =
+        edits_machine refl (record { machine = m; after = raised m; interfaces = write.InterfaceGone mac ∷ []; found = was; same = refl; edits = tt; rows_are = refl })
+    machine_writes (on.SetPool pool) a may = pool_writes pool
+    machine_writes (on.Commission tests) a may = acted_writes (machine_view h o m (on.Commission tests)) (on.Commission tests) act.Commission refl refl refl may
+    machine_writes on.Test a may = acted_writes (machine_view h o m on.Test) on.Test act.Test refl refl refl may
+    machine_writes on.Override a may = acted_writes (machine_view h o m on.Override) on.Override act.Override refl refl refl may
+    machine_writes on.Fix a may = acted_writes (machine_view h o m on.Fix) on.Fix act.Fix refl refl refl may
+    machine_writes on.Delete a may = machine_goes refl m.id refl
+    machine_writes on.Allocate a may = acted_writes (machine_view h o m on.Allocate) on.Allocate act.Allocate refl refl refl may
+    machine_writes (on.Deploy image) a may = acted_writes (machine_view h o m (on.Deploy image)) (on.Deploy image) act.Deploy refl refl refl may
+    machine_writes (on.Release None) a may = acted_writes (machine_view h o m (on.Release None)) (on.Release None) act.Release refl refl refl may
+    machine_writes (on.Release (Some erase)) a may =
+        acted_writes (machine_view h o m (on.Release (Some erase))) (on.Release (Some erase)) act.ReleaseErasing refl refl refl may
+    machine_writes on.Rescue a may = acted_writes (machine_view h o m on.Rescue) on.Rescue act.Rescue refl refl refl may
+    machine_writes on.Abort a may = acted_writes (machine_view h o m on.Abort) on.Abort act.Abort refl refl refl may
+    machine_writes on.Lock a may =
+        edits_machine refl (record { machine = m; after = record (raised m) { locked = true }; interfaces = []; found = was; same = refl; edits = tt; rows_are = refl })
+    machine_writes on.Unlock a may =
+        edits_machine refl (record { machine = m; after = record (raised m) { locked = false }; interfaces = []; found = was; same = refl; edits = tt; rows_are = refl })
+    machine_writes on.ExitRescue a may = acted_writes (machine_view h o m on.ExitRescue) on.ExitRescue act.ExitRescue refl refl refl may
+    machine_writes on.Break a may = acted_writes (machine_view h o m on.Break) on.Break act.Break refl refl refl may
+
+    -- the machine of a command's view
+    view_machine : (command : MachineCommand) → (machine_view h o m command).machine ≡ Some m
+    view_machine (on.Release None) = refl
+    view_machine (on.Release (Some erase)) = refl
+    view_machine (on.AddInterface mac) = refl
+    view_machine (on.RemoveInterface mac) = refl
+    view_machine (on.SetPool pool) = refl
+    view_machine (on.Commission tests) = refl
+    view_machine (on.Deploy image) = refl
+    view_machine other = refl
+
+    found_writes : (command : MachineCommand) → first_of (causes_at (machine_view h o m command).machine (machine_view h o m command) o version command) ≡ None
+        → On command (machine_effect_if (machine_view h o m command).machine (machine_view h o m command) o command moment)
+    found_writes command none =
+        let view = view_machine command in
+        let none_at = ap (λ x. first_of (causes_at x (machine_view h o m command) o version command)) (sym view) ∙ none in
+        subst (λ x. On command (machine_effect_if x (machine_view h o m command) o command moment)) (sym view)
+        (machine_writes command (allowed (machine_view h o m command) m o version command none_at) (may_act (machine_view h o m command) m o version command none_at))
+
+  -- ---- all commands
+
+  module _ (o : Operator) (sent : sender h bearer ≡ Some o) where
+    on_machine : (id : ℕ) (version : Option ℕ) (command : MachineCommand) (found : Option Machine) → at h.machines id ≡ found
+        → first_of (causes_at (machine_view_if h o found command).machine (machine_view_if h o found command) o version command) ≡ None
+        → Does (OnMachine id version command) (machine_effect_if (machine_view_if h o found command).machine (machine_view_if h o found command) o command moment)
+    on_machine id version command None there none = tt
+    on_machine id version command (Some m) there none = found_writes o sent id version m there command none
+
+    add_operator_writes : (name : List ℕ) (role : Role) (digest : List ℕ) → is_some (at h.operators name) ≡ false → is_some (operator_with_digest h digest) ≡ false
+        → Does (AddOperator name role digest) (Ok (write.PutOperator (record { name = name; role = role; digest = digest; enabled = true }) ∷ [], done))
+    add_operator_writes name role digest new unused = writes_aside refl (record {
+      row = write.PutOperator (record { name = name; role = role; digest = digest; enabled = true });
+      aside = λ before is. absurd (both_ways (is_some (at h.operators name)) new (ap (λ x. is_some x) is));
+      keeps = λ other p is same. absurd (both_ways (bytes_eq p.digest digest) (none_listed h.operators (λ (x : Operator). bytes_eq x.digest digest) other p (none_is (operator_with_digest h digest) unused) is) ((bytes_eq-Decides p.digest digest).1 same));
+      rows_are = refl;
+    })
+
+    disabled_writes : (name : List ℕ) (x : Option Operator) → at h.operators name ≡ x → Does (DisableOperator name) (disabled x)
+    disabled_writes name None there = tt
+    disabled_writes name (Some p) there = by p.enabled
+      where
+        named : at h.operators p.name ≡ Some p
+        named = ap (at h.operators) (s.keyed.operators name p there) ∙ there
+
+        by : (b : Bool) → Does (DisableOperator name) (if b then Ok (write.PutOperator (record p { enabled = false }) ∷ [], done) else Ok ([], done))
+        by true = writes_aside refl (record {
+          row = write.PutOperator (record p { enabled = false });
+          aside = λ before is. ap (λ (x : Operator). x.digest) (let same : before ≡ p = some_is before p (sym is ∙ named) in same);
+          keeps = λ other q is same. s.digests other p.name q p is named same;
+          rows_are = refl;
+        })
+        by false = writes_nothing (λ e. cc) refl
+
+    live_writes : (image : List ℕ) (x : Option BootImage) → at h.images image ≡ x → Does (SetLive image) (live_image image (option_map (λ (i : BootImage). i.arch) x))
+    live_writes image None there = tt
+    live_writes image (Some i) there =
+        writes_aside refl (record { row = write.PutLive (record { arch = i.arch; image = image }); aside = tt; keeps = ap (λ x. is_some x) there; rows_are = refl })
+
+    machine_added : (mac : List ℕ) (arch : Arch) (pool : List ℕ) (uuid : Option (List ℕ)) → at h.interfaces mac ≡ None → (v : CommandView) → v.numbers ≡ h.last → (n : Option ℕ) → next_number h.last.machine ≡ n → Does (AddMachine mac arch pool uuid) (added v mac arch pool uuid n)
+    machine_added mac arch pool uuid free v numbers None next = tt
+    machine_added mac arch pool uuid free v numbers (Some id) next =
+        makes_machine (inr (bearer, key, mac, arch, pool, uuid, refl))
+        (record {
+          machine = added_machine id arch pool uuid;
+          interface = record { mac = mac; machine = id };
+          new = refl;
+          next = next;
+          its = refl;
+          free = free;
+          rows_are = ap (λ (n : Numbers). write.PutMachine (added_machine id arch pool uuid) None ∷ write.PutInterface (record { mac = mac; machine = id }) ∷ write.PutNumbers (record n { machine = id }) ∷ []) numbers;
+        })
+
+    effect_writes : (command : HallCommand) → first_of (causes (command_view h o command) o command) ≡ None → Does command (effect (command_view h o command) o command moment)
+    unfolding causes effect command_view
+    effect_writes (AddOperator name role digest) none =
+        let taken = when_none (is_some (at h.operators name) || is_some (operator_with_digest h digest)) cause.Taken
+        (first_none (when (is_some (at h.operators name) || is_some (operator_with_digest h digest)) cause.Taken) [] none).0 in
+        let neither = or_false (is_some (at h.operators name)) (is_some (operator_with_digest h digest)) taken in
+        add_operator_writes name role digest neither.0 neither.1
+    effect_writes (DisableOperator name) none = disabled_writes name (at h.operators name) refl
+    effect_writes (AddPool pool) none =
+        writes_aside refl (record {
+          row = write.PutPool (record { name = pool });
+          aside = tt;
+          keeps = none_is (at h.pools pool) (when_none (has_pool h pool) cause.Taken (first_none (when (has_pool h pool) cause.Taken) [] none).0);
+          rows_are = refl;
+        })
+    effect_writes (Grant pool name) none =
+        let pools = first_none (when (not (has_pool h pool)) cause.NoPool) _ none in
+        let operators = first_none (when (not (is_some (at h.operators name))) cause.NoOperator) _ pools.1 in
+        let members = first_none (when (has_member h pool name) cause.Taken) [] operators.1 in
+        writes_aside refl (record {
+          row = write.PutMember (record { pool = pool; operator = name });
+          aside = tt;
+          keeps = record {
+            new = none_is (at h.members (pair pool name)) (when_none (has_member h pool name) cause.Taken members.0);
+            pool = unless_none (has_pool h pool) cause.NoPool pools.0;
+            operator = unless_none (is_some (at h.operators name)) cause.NoOperator operators.0;
+          };
+          rows_are = refl;
+        })
+    effect_writes (AddImage image) none =
+        writes_aside refl (record {
+          row = write.PutImage image;
+          aside = (bearer, key, refl);
+          keeps = none_mapped (λ (i : BootImage). i.arch) (at h.images image.name) (when_none (is_some (image_arch h image.name)) cause.Taken (first_none (when (is_some (image_arch h image.name)) cause.Taken) [] none).0);
+          rows_are = refl;
+        })
+    effect_writes (DeleteImage image) none =
+        let images = first_none (when (not (is_some (image_arch h image))) cause.NoImage) _ none in
+        let used = first_none (when (is_image_used h image) cause.InUse) [] images.1 in
+        writes_aside refl (record { row = write.ImageGone image; aside = tt; keeps = when_none (is_image_used h image) cause.InUse used.0; rows_are = refl })
+    effect_writes (SetLive image) none = live_writes image (at h.images image) refl
+    effect_writes (AddMachine mac arch pool uuid) none =
+        let pools = first_none (when (not (has_pool h pool)) cause.NoPool) _ none in
+        let taken = first_none (when (is_some (by_mac h mac) || is_some (command_view h o (AddMachine mac arch pool uuid)).by_uuid) cause.Taken) _ pools.1 in
+        let neither = or_false (is_some (by_mac h mac)) (is_some (command_view h o (AddMachine mac arch pool uuid)).by_uuid) (when_none _ cause.Taken taken.0) in
+        machine_added mac arch pool uuid (none_mapped (λ (i : Interface). i.machine) (at h.interfaces mac) neither.0) (command_view h o (AddMachine mac arch pool uuid)) refl (next_number h.last.machine) refl
+    effect_writes (OnMachine id version command) none = on_machine id version command (at h.machines id) refl none
+
+    -- ---- the receipt, and repeated requests
+
+    module _ (command : HallCommand) where
+      abbrev Answers : Effect → Type 0
+      Answers e = WritesAll h (event.Command bearer key command) moment fresh (answered e)
+
+      refused_writes : (refusal : Refusal) → Answers (Err refusal)
+      refused_writes refusal = without_receipt (λ c. refl) (writes_nothing (λ e. cc) refl)
+
+      commanded_writes : at h.operators o.name ≡ Some o → o.enabled ≡ true → at h.receipts (pair o.name key) ≡ None → Answers (commanded (command_view h o command) o key command moment)
+      unfolding commanded
+      commanded_writes known enabled new = by_cause (first_of (causes (command_view h o command) o command)) refl
+        where
+          by_effect : (d : Effect) → Does command d → Says d → Answers (with_receipt o key command d)
+          by_effect (Err refusal) does says = refused_writes refusal
+          by_effect (Ok d) does says = and_receipt d.0 does (record {
+            operator = o;
+            bearer = bearer;
+            key = key;
+            command = command;
+            event_is = refl;
+            sender_is = sent;
+            recorded = known;
+            enabled = enabled;
+            new = new;
+            says = says;
+            rows_are = refl;
+          })
+
+          by_cause : (c : Option Refusal) → first_of (causes (command_view h o command) o command) ≡ c → Answers (unless c (with_receipt o key command (effect (command_view h o command) o command moment)))
+          by_cause (Some refusal) none = refused_writes refusal
+          by_cause None none = by_effect (effect (command_view h o command) o command moment) (effect_writes command none) (effect_says (command_view h o command) o command moment)
+
+      keyed_writes : at h.operators o.name ≡ Some o → o.enabled ≡ true → (r : Option Receipt) → at h.receipts (pair o.name key) ≡ r → Answers (keyed h o r key command moment)
+      keyed_writes known enabled (Some r) there = by (bytes_eq r.command (command_text command))
+        where
+          by : (b : Bool) → Answers (if b then Ok ([], stored r.status r.body) else Err cause.KeyReused)
+          by true = without_receipt (λ c. refl) (writes_nothing (λ e. cc) refl)
+          by false = refused_writes cause.KeyReused
+      keyed_writes known enabled None there = by (may_send o.role (needs_admin command))
+        where
+          by : (b : Bool) → Answers (if b then commanded (command_view h o command) o key command moment else Err cause.RoleNeeded)
+          by true = commanded_writes known enabled there
+          by false = refused_writes cause.RoleNeeded
+
+      sender_writes : at h.operators o.name ≡ Some o → Answers (of_sender h (Some o) key command moment)
+      sender_writes known = by o.enabled refl
+        where
+          by : (b : Bool) → o.enabled ≡ b → Answers (if b then keyed h o (at h.receipts (pair o.name key)) key command moment else Err cause.UnknownToken)
+          by true enabled = keyed_writes known enabled (at h.receipts (pair o.name key)) refl
+          by false enabled = refused_writes cause.UnknownToken
+
+-- what a command writes
+pub command_writes : (h : Hall) → IsSound h → (bearer : Option (List ℕ)) (key : List ℕ) (command : HallCommand) (moment : ℕ) (fresh : List ℕ)
+    → WritesAll h (event.Command bearer key command) moment fresh (answered (command_decision h bearer key command moment))
+unfolding command_decision
+command_writes h s None key command moment fresh = without_receipt (λ c. refl) (writes_nothing (λ e. cc) refl)
+command_writes h s (Some digest) key command moment fresh = by (operator_with_digest h digest) refl
+  where
+    by : (x : Option Operator) → operator_with_digest h digest ≡ x → WritesAll h (event.Command (Some digest) key command) moment fresh (answered (of_sender h x key command moment))
+    by None found = without_receipt (λ c. refl) (writes_nothing (λ e. cc) refl)
+    by (Some o) found =
+        sender_writes h s (Some digest) key moment fresh o found command
+        (found_listed (λ (x : Operator). x.name) h.operators s.keyed.operators (λ (x : Operator). bytes_eq x.digest digest) o found).0

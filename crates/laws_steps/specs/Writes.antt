@@ -1,0 +1,271 @@
+-- What a decision writes into a hall: each decision writes in one of these ways.
+use Rattle.std.specs.Prelude.{◌≡◌, ◌≢◌, ◌⊎◌, ⊤, ℕ, Bool, true, false, List, [], ◌∷◌, ◌++◌, Option, Some, None}
+use Rattle.pxe_vendor.specs.declared.arch.Arch.{Arch}
+use Rattle.pxe_vendor.specs.declared.clients.Client.{Client}
+use Rattle.hall_types.specs.Hall.{Hall, pair}
+use Rattle.hall_types.specs.Kinds.{stage_after}
+use Rattle.hall_types.specs.Number.{next_number}
+use Rattle.hall_types.specs.Rows.{at}
+use Rattle.hall_types.specs.declared.boot.Boot.{Boot}
+use Rattle.hall_types.specs.declared.change.RowWrite.{RowWrite}
+use Rattle.hall_types.specs.declared.change.RowWrite.TheVariants as write
+use Rattle.hall_types.specs.declared.kinds.OrderStage.TheVariants.{Waiting}
+use Rattle.hall_types.specs.declared.kinds.Outcome.{Outcome}
+use Rattle.hall_types.specs.declared.kinds.Progress.{Progress}
+use Rattle.hall_types.specs.declared.kinds.Purpose.{Purpose}
+use Rattle.hall_types.specs.declared.machine.Interface.{Interface}
+use Rattle.hall_types.specs.declared.machine.Machine.{Machine}
+use Rattle.hall_types.specs.declared.operator.Operator.{Operator}
+use Rattle.hall_types.specs.declared.order.Order.{Order}
+use Rattle.hall_types.specs.declared.port.Port.{Port}
+use Rattle.hall_store.specs.Rules.{IsFree, Keeps}
+use Rattle.hall_events.specs.Reply.{Content, counted, done, machine_gone, machine_is, script}
+use Rattle.hall_events.specs.declared.command.HallCommand.{HallCommand}
+use Rattle.hall_events.specs.declared.command.HallCommand.TheVariants.{AddImage, AddMachine, OnMachine}
+use Rattle.hall_events.specs.declared.command.MachineCommand.{MachineCommand}
+use Rattle.hall_events.specs.declared.event.Event.{Event}
+use Rattle.hall_events.specs.declared.event.Event.TheVariants as event
+use Rattle.life_cycle.specs.Entering.{entered}
+use Rattle.life_cycle.specs.Permission.{permission_for, who_acts}
+use Rattle.life_cycle.specs.Table.{step_of}
+use Rattle.life_cycle.specs.declared.action.Action.{Action}
+use Rattle.life_cycle.specs.declared.entering.Entered.{Entered}
+use Rattle.life_cycle.specs.declared.signal.Signal.{Signal}
+use Rattle.life_cycle.specs.declared.signal.Signal.TheVariants.{Answer, By, Expired, FourthBoot, Report}
+use Rattle.life_cycle.specs.declared.step.Step.{Step}
+use Rattle.boot_desk.specs.declared.class.ScriptClass.TheVariants.{Work}
+use Rattle.boot_desk.specs.Class.{class_of}
+use Rattle.boot_desk.specs.Expiry.{is_due}
+use Rattle.boot_desk.specs.Fetch.{booted, is_fourth, new_boot}
+use Rattle.boot_desk.specs.Following.{entry_rows, machine_row}
+use Rattle.boot_desk.specs.OrderAnswer.{idle, stage_for}
+use Rattle.boot_desk.specs.Promises.{Takes}
+use Rattle.boot_desk.specs.Texts.{hold_script}
+use Rattle.boot_desk.specs.Views.{row_at}
+use Rattle.desk_command.specs.Causes.{action_of}
+use Rattle.desk_command.specs.Command.{receipt_of, sender}
+use Rattle.desk_command.specs.Effect.{added_machine, prepared}
+use Rattle.laws_model.specs.Decision.{Decided}
+
+-- ---- why a machine takes a step of the table
+
+-- an operator who may act commands it, and the machine enters its status with what the command sets
+pub record IsCommanded (h : Hall) (e : Event) (m entering : Machine) (signal : Signal) : Type 0 where
+  pub operator : Operator
+  pub bearer : Option (List ℕ)
+  pub key : List ℕ
+  pub version : Option ℕ
+  pub command : MachineCommand
+  pub action : Action
+  pub member : Bool
+  pub event_is : e ≡ event.Command bearer key (OnMachine m.id version command)
+  pub sender_is : sender h bearer ≡ Some operator
+  pub acts : action_of command ≡ Some action
+  pub may : permission_for (who_acts action) operator m member ≡ None
+  pub sets : entering ≡ prepared command operator m
+  pub signal_is : signal ≡ By action
+
+-- a report of its current boot counts, which brings the boot's token and moves the boot's stage on
+pub record IsReported (h : Hall) (e : Event) (content : Content) (m : Machine) (b : Boot) (progress : Progress) : Type 0 where
+  pub token : List ℕ
+  pub event_is : e ≡ event.Report b.number token progress
+  pub answer : content ≡ counted
+  pub recorded : at h.boots b.number ≡ Some b
+  pub its : b.machine ≡ m.id
+  pub current : m.boot ≡ Some b.number
+  pub token_is : b.token ≡ token
+  pub takes : Takes b.stage progress
+
+-- an answer to the order that it waits for counts
+pub record IsAnswered (h : Hall) (e : Event) (content : Content) (m : Machine) (o : Order) (outcome : Outcome) : Type 0 where
+  pub bearer : Option (List ℕ)
+  pub event_is : e ≡ event.OrderAnswer bearer o.number outcome
+  pub answer : content ≡ counted
+  pub recorded : at h.orders o.number ≡ Some o
+  pub its : o.machine ≡ m.id
+  pub waits : o.stage ≡ Waiting
+
+-- its deadline has come at a quiet moment
+pub record IsExpired (e : Event) (moment : ℕ) (m : Machine) (signal : Signal) : Type 0 where
+  pub event_is : e ≡ event.Quiet
+  pub due : is_due m.deadline moment ≡ true
+  pub signal_is : signal ≡ Expired
+
+-- it asks for a fourth boot of its status, and is held
+pub record IsFourth (e : Event) (content : Content) (m : Machine) (signal : Signal) : Type 0 where
+  pub mac : List ℕ
+  pub event_is : e ≡ event.Script mac
+  pub answer : content ≡ script hold_script
+  pub fourth : is_fourth m ≡ true
+  pub signal_is : signal ≡ FourthBoot
+
+-- what is written before a machine enters a status: nothing, the boot that was reported, or the order that was answered
+pub data First : Type 0 where
+  nothing_first : First
+  boot_first : Boot → Progress → First
+  order_first : Order → Outcome → First
+
+abbrev pub first_rows : First → List RowWrite
+first_rows nothing_first = []
+first_rows (boot_first b progress) = write.PutBoot (record b { stage = stage_after progress }) ∷ []
+first_rows (order_first o outcome) = write.PutOrder (record o { stage = stage_for outcome }) ∷ []
+
+-- the order that is withdrawn: the one that waited, unless it was answered
+abbrev pub withdrawn_at : Hall → Machine → First → Option Order
+withdrawn_at h m nothing_first = row_at h.orders m.waiting
+withdrawn_at h m (boot_first b progress) = row_at h.orders m.waiting
+withdrawn_at h m (order_first o outcome) = None
+
+-- the machine enters its status as it is
+abbrev pub CauseOf : Hall → Event → ℕ → Content → Machine → Machine → Signal → First → Type 0
+CauseOf h e moment content m entering signal nothing_first =
+    IsCommanded h e m entering signal ⊎ ((entering ≡ m) × (IsExpired e moment m signal ⊎ IsFourth e content m signal))
+CauseOf h e moment content m entering signal (boot_first b progress) =
+    (entering ≡ m) × (signal ≡ Report progress) × IsReported h e content m b progress
+CauseOf h e moment content m entering signal (order_first o outcome) =
+    (entering ≡ m) × (signal ≡ Answer outcome) × IsAnswered h e content m o outcome
+
+-- ---- the ways
+
+-- a machine takes a step of the table, and enters another status
+pub record IsEntering (h : Hall) (e : Event) (moment : ℕ) (rows : List RowWrite) (content : Content) : Type 0 where
+  pub machine : Machine
+  pub entering : Machine
+  pub signal : Signal
+  pub first : First
+  pub step : Step
+  pub new : Entered
+  pub found : at h.machines machine.id ≡ Some machine
+  pub cause : CauseOf h e moment content machine entering signal first
+  pub leads : step_of machine signal ≡ Some step
+  pub enters : entered entering step moment h.last ≡ Some new
+  pub rows_are : rows ≡ first_rows first ++ entry_rows machine (withdrawn_at h machine first) new
+
+-- a new machine has one interface, and the next number
+pub record IsMaking (h : Hall) (rows : List RowWrite) : Type 0 where
+  pub machine : Machine
+  pub interface : Interface
+  pub new : machine ≡ added_machine machine.id machine.arch machine.pool machine.uuid
+  pub next : next_number h.last.machine ≡ Some machine.id
+  pub its : interface.machine ≡ machine.id
+  pub free : IsFree h.interfaces interface.mac
+  pub rows_are : rows ≡ write.PutMachine machine None ∷ write.PutInterface interface ∷ write.PutNumbers (record h.last { machine = machine.id }) ∷ []
+
+-- the client of a frame is enlisted, or an operator adds a machine
+abbrev pub Makes : Event → Type 0
+Makes e =
+    ((port : Port) × (client : Client) × (e ≡ event.Frame port client))
+    ⊎ ((bearer : Option (List ℕ)) × (key mac : List ℕ) × (arch : Arch) × (pool : List ℕ) × (uuid : Option (List ℕ)) × (e ≡ event.Command bearer key (AddMachine mac arch pool uuid)))
+
+-- a boot is issued for a machine that asks for its script
+pub record IsIssuing (h : Hall) (e : Event) (fresh : List ℕ) (rows : List RowWrite) : Type 0 where
+  pub machine : Machine
+  pub number : ℕ
+  pub purpose : Purpose
+  pub mac : List ℕ
+  pub event_is : e ≡ event.Script mac
+  pub found : at h.machines machine.id ≡ Some machine
+  pub works : class_of machine ≡ Work purpose
+  pub next : next_number h.last.boot ≡ Some number
+  pub rows_are : rows ≡
+      machine_row machine (booted number machine)
+      ∷ write.PutBoot (new_boot number machine purpose fresh)
+      ∷ write.PutNumbers (record h.last { boot = number })
+      ∷ []
+
+-- a report counts that leads its machine nowhere
+pub record IsNoted (h : Hall) (e : Event) (rows : List RowWrite) (content : Content) : Type 0 where
+  pub machine : Machine
+  pub boot : Boot
+  pub progress : Progress
+  pub found : at h.machines machine.id ≡ Some machine
+  pub cause : IsReported h e content machine boot progress
+  pub stays : step_of machine (Report progress) ≡ None
+  pub rows_are : rows ≡ first_rows (boot_first boot progress)
+
+-- an answer to an order counts that leads its machine nowhere: the machine waits no more
+pub record IsIdled (h : Hall) (e : Event) (rows : List RowWrite) (content : Content) : Type 0 where
+  pub machine : Machine
+  pub order : Order
+  pub outcome : Outcome
+  pub found : at h.machines machine.id ≡ Some machine
+  pub cause : IsAnswered h e content machine order outcome
+  pub stays : step_of machine (Answer outcome) ≡ None
+  pub rows_are : rows ≡ write.PutOrder (record order { stage = stage_for outcome }) ∷ machine_row machine (idle machine) ∷ []
+
+-- no interface, a new one of the machine, or one that goes
+abbrev pub EditsInterfaces : Hall → Machine → List RowWrite → Type 0
+EditsInterfaces h m [] = ⊤
+EditsInterfaces h m (write.PutInterface i ∷ []) = IsFree h.interfaces i.mac × (i.machine ≡ m.id)
+EditsInterfaces h m (write.InterfaceGone mac ∷ []) = ⊤
+EditsInterfaces h m other = ⊥
+
+-- a machine's version, its pool, its lock or its interfaces change
+pub record IsEditing (h : Hall) (rows : List RowWrite) : Type 0 where
+  pub machine : Machine
+  pub after : Machine
+  pub interfaces : List RowWrite
+  pub found : at h.machines machine.id ≡ Some machine
+  pub same : after ≡ record machine { pool = after.pool; locked = after.locked; version = after.version }
+  pub edits : EditsInterfaces h machine interfaces
+  pub rows_are : rows ≡ machine_row machine after ∷ interfaces
+
+-- a row of an operator, a pool, a member, an image or a live image; an operator keeps its digest, and an image is new by the
+-- command that brings it
+abbrev pub IsAside : RowWrite → Hall → Event → Type 0
+IsAside (write.PutOperator o) h e = (was : Operator) → at h.operators o.name ≡ Some was → was.digest ≡ o.digest
+IsAside (write.PutPool p) h e = ⊤
+IsAside (write.PutMember m) h e = ⊤
+IsAside (write.PutImage i) h e = (bearer : Option (List ℕ)) × (key : List ℕ) × (e ≡ event.Command bearer key (AddImage i))
+IsAside (write.ImageGone name) h e = ⊤
+IsAside (write.PutLive l) h e = ⊤
+IsAside other h e = ⊥
+
+-- one row of these is written, by the tables' rules
+pub record IsAsideWrite (h : Hall) (e : Event) (rows : List RowWrite) : Type 0 where
+  pub row : RowWrite
+  pub aside : IsAside row h e
+  pub keeps : Keeps row h
+  pub rows_are : rows ≡ row ∷ []
+
+abbrev pub is_command : Event → Bool
+is_command (event.Command bearer key command) = true
+is_command other = false
+
+pub data Writes (h : Hall) (e : Event) (moment : ℕ) (fresh : List ℕ) (rows : List RowWrite) (content : Content) : Type 0 where
+  -- no report and no answer counts by writing nothing
+  writes_nothing : content ≢ counted → rows ≡ [] → Writes h e moment fresh rows content
+  makes_machine : Makes e → IsMaking h rows → Writes h e moment fresh rows content
+  issues_boot : IsIssuing h e fresh rows → Writes h e moment fresh rows content
+  enters_status : IsEntering h e moment rows content → Writes h e moment fresh rows content
+  notes_report : IsNoted h e rows content → Writes h e moment fresh rows content
+  ends_waiting : IsIdled h e rows content → Writes h e moment fresh rows content
+  edits_machine : is_command e ≡ true → IsEditing h rows → Writes h e moment fresh rows content
+  machine_goes : is_command e ≡ true → (id : ℕ) → rows ≡ write.MachineGone id ∷ [] → Writes h e moment fresh rows content
+  writes_aside : is_command e ≡ true → IsAsideWrite h e rows → Writes h e moment fresh rows content
+
+-- what an operator's command that is carried out is answered
+abbrev pub is_done : Content → Bool
+is_done (machine_is id status version) = true
+is_done (machine_gone id) = true
+is_done done = true
+is_done other = false
+
+-- an operator's command leaves a receipt after its own rows, where there was none
+pub record LeavesReceipt (h : Hall) (e : Event) (own : List RowWrite) (decided : Decided) : Type 0 where
+  pub operator : Operator
+  pub bearer : Option (List ℕ)
+  pub key : List ℕ
+  pub command : HallCommand
+  pub event_is : e ≡ event.Command bearer key command
+  pub sender_is : sender h bearer ≡ Some operator
+  pub recorded : at h.operators operator.name ≡ Some operator
+  pub enabled : operator.enabled ≡ true
+  pub new : IsFree h.receipts (pair operator.name key)
+  pub says : is_done decided.content ≡ true
+  pub rows_are : decided.rows ≡ own ++ write.PutReceipt (receipt_of operator key command decided.content) ∷ []
+
+-- what all decisions write; a command that leaves no receipt writes nothing
+pub data WritesAll (h : Hall) (e : Event) (moment : ℕ) (fresh : List ℕ) (decided : Decided) : Type 0 where
+  without_receipt : (is_command e ≡ true → decided.rows ≡ []) → Writes h e moment fresh decided.rows decided.content → WritesAll h e moment fresh decided
+  with_receipt : (own : List RowWrite) → Writes h e moment fresh own decided.content → LeavesReceipt h e own decided → WritesAll h e moment fresh decided

@@ -1,8 +1,0 @@
-use Rattle.std.proofs.Common.{filter_map}
-use Rattle.memory_store.specs.Counted.{counted_in}
-use Rattle.memory_store.proofs.CountLemmas.{counted_few}
-use Rattle.memory_store.proofs.counting.count_all.Goals as goal
-
-pub count_one-requires-clause-few : goal.count_one-requires-clause-few
-count_one-requires-clause-few c = λ pool status.
-    counted_few (counted_in c.machines.counts pool status) pool status (filter_map (λ row. row) c.machines.row-iterator) c.args.machines.now (c.machines.invariant.1 pool status) c.values-row-items.ensures.fits

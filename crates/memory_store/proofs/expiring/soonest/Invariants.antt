@@ -1,9 +1,0 @@
-use Rattle.std.proofs.Common.{◌≡◌, filter_map}
-use Rattle.hall_types.specs.Lookup.{soonest}
-use Rattle.memory_store.specs.Expiry.{joined}
-use Rattle.memory_store.specs.Table.{rows_of}
-use Rattle.memory_store.proofs.expiring.soonest.Given as goal
-
--- what was found so far, joined with what the rows that are left have, is what all have
-abbrev pub invariant-machines : goal.invariant-machines
-invariant-machines l = joined l.best (soonest (filter_map (λ row. row) l.row-iterator)) ≡ soonest (rows_of l.machines)

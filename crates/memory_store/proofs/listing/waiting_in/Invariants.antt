@@ -1,8 +1,0 @@
-use Rattle.std.proofs.Common.{◌≡◌, ◌++◌, filter, filter_map}
-use Rattle.hall_types.specs.Lookup.{waits}
-use Rattle.memory_store.specs.Table.{rows_of}
-use Rattle.memory_store.proofs.listing.waiting_in.Given as goal
-
--- the orders so far, and those that wait among the rows that are left, are all that wait
-abbrev pub invariant-orders : goal.invariant-orders
-invariant-orders l = l.waiting.items ++ filter (λ o. waits o.stage) (filter_map (λ row. row) l.row-iterator) ≡ filter (λ o. waits o.stage) (rows_of l.orders)

@@ -1,7 +1,0 @@
-use Rattle.std.proofs.Common.{◌∙◌}
-use Rattle.std.proofs.lemmas.Result.{IfOk-weaker}
-use Rattle.memory_store.proofs.TableLemmas.{numbers_listed}
-use Rattle.memory_store.proofs.memory.MemoryStore.all_machines.Goals as goal
-
-pub returns : goal.returns
-returns c = IfOk-weaker c.rows.result _ _ (λ rows is h held. is ∙ numbers_listed c.args.self.now.machines h.machines c.rows.ensures.ordered held.machines) c.rows.ensures.rows

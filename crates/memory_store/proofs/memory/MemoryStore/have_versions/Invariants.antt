@@ -1,9 +1,0 @@
-use Rattle.std.proofs.Common.{take}
-use Rattle.hall_types.specs.Hall.{Hall}
-use Rattle.hall_store.specs.Versions.{HaveVersions}
-use Rattle.memory_store.specs.Held.{IsHeld}
-use Rattle.memory_store.proofs.memory.MemoryStore.have_versions.Given as goal
-
--- the writes so far have their versions
-abbrev pub invariant-writes : goal.invariant-writes
-invariant-writes l = (h : Hall) → IsHeld l.self h → HaveVersions (take l.i l.writes) h

@@ -1,9 +1,0 @@
-use Rattle.std.proofs.Common.{ap, ◌∙◌}
-use Rattle.std.specs.Str.{bytes_eq}
-use Rattle.memory_store.specs.Hashed.{entry_at}
-use Rattle.memory_store.proofs.IndexLemmas.{index_is}
-use Rattle.memory_store.proofs.memory.MemoryStore.machine_at_uuid.Goals as goal
-
-pub returns : goal.returns
-returns c = λ h held.
-    c.row.ensures ∙ (ap (entry_at bytes_eq c.args.self.now.uuids) c.octets.ensures.octets ∙ index_is c.args.self.now.uuids h held.keyed.machines held.uuids c.args.uuid)

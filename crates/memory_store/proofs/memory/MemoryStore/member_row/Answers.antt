@@ -1,5 +1,0 @@
-use Rattle.std.proofs.Common.{◌∙◌}
-use Rattle.memory_store.proofs.memory.MemoryStore.member_row.Goals as goal
-
-pub returns : goal.returns
-returns c = λ h held. c.row.ensures ∙ held.members (c.args.pool.now, c.args.operator.now)

@@ -1,7 +1,0 @@
-use Rattle.std.proofs.Common.{find, ap, ◌∙◌}
-use Rattle.std.specs.Str.{bytes_eq}
-use Rattle.memory_store.proofs.TableLemmas.{texts_listed}
-use Rattle.memory_store.proofs.memory.MemoryStore.operator_with.Goals as goal
-
-pub returns : goal.returns
-returns c = λ h held. c.operator_in.ensures.found ∙ ap (find (λ o. bytes_eq o.digest c.args.digest.now)) (texts_listed c.args.self.now.operators h.operators c.operator_in.ensures.ordered held.operators)

@@ -1,0 +1,53 @@
+-- What a connection sent, and what of its answer it has taken.
+use Rattle.std.specs.Prelude.{◌≡◌, ◌⊎◌, ℕ, List, [], ◌++◌, Bool, Option, None, Some, drop, is_some}
+use Rattle.std.specs.Io.KnownBytes.{Consumes, IsAtEnd, Keeps}
+use Rattle.http_requests.specs.Decided.{IsDecided}
+use Rattle.hall_desk.specs.Octets.{octets_of}
+use Rattle.serve_sockets.specs.declared.connection.Connection.{Connection}
+use Rattle.serve_sockets.specs.declared.connection.Sending.{Sending}
+use Rattle.serve_sockets.specs.declared.connection.Taken.{Taken}
+use Rattle.serve_sockets.specs.declared.connection.Taken.TheVariants as taken
+
+-- the octets of an answer that are to be written yet
+abbrev pub rest_of : Option Sending → List ℕ
+rest_of None = []
+rest_of (Some sending) = drop sending.written (octets_of sending.answer)
+
+module _ {T : Type 0} where
+  -- what it is a connection over
+  abbrev pub stream_of : Connection T → T
+  stream_of connection = connection.stream
+
+  -- the how-manieth connection it was
+  abbrev pub number_of : Connection T → ℕ
+  number_of connection = connection.number
+
+  -- when it was accepted or answered, or last took something of its answer
+  abbrev pub since_of : Connection T → ℕ
+  since_of connection = connection.since
+
+  -- what of its request was read
+  abbrev pub input_of : Connection T → List ℕ
+  input_of connection = connection.input.items
+
+  -- whether it has an answer
+  abbrev pub is_answered : Connection T → Bool
+  is_answered connection = is_some connection.sending
+
+  -- the octets of its answer that are to be written yet
+  abbrev pub left_of : Connection T → List ℕ
+  left_of connection = rest_of connection.sending
+
+-- octets left the stream, and stand at the end of the input in order
+pub record Moves (old new : Option (List ℕ)) (before after : List ℕ) : Type 0 where
+  pub octets : List ℕ
+  pub consumed : Consumes old new octets
+  pub kept : after ≡ before ++ octets
+
+-- what a read made of what the stream has left, and of the input
+abbrev pub IsTaken : Taken → Option (List ℕ) → Option (List ℕ) → List ℕ → List ℕ → Type 0
+IsTaken taken.Waits old new before after = Keeps old new × (after ≡ before)
+IsTaken taken.More old new before after = Moves old new before after
+IsTaken taken.Whole old new before after = Moves old new before after × (IsAtEnd new ⊎ IsDecided after)
+IsTaken taken.NoMemory old new before after = Unit {0}
+IsTaken taken.Failed old new before after = Unit {0}

@@ -1,0 +1,13 @@
+-- What a service is made of.
+use Rattle.std.specs.Prelude.{ℕ}
+use Rattle.hall_desk.specs.declared.desk.Desk.{Desk}
+use Rattle.serve_sockets.specs.declared.service.Service.{Service}
+
+module _ {S : Type 0} where
+  -- the desk to which what comes is handed
+  abbrev pub desk_of : Service S → Desk S
+  desk_of service = service.desk
+
+  -- how many turns there were since the last eighth one
+  abbrev pub turns_of : Service S → ℕ
+  turns_of service = service.turns

@@ -1,0 +1,106 @@
+-- What a turn did, and what a log says of it.
+use Rattle.std.specs.Prelude.{◌≡◌, ◌≤◌, ◌+◌, ◌-◌, ◌*◌, ℕ, List, [], length, slice_index}
+use Rattle.pxe_vendor.specs.Place.{Site}
+use Rattle.hall_types.specs.Hall.{Hall}
+use Rattle.boot_desk.specs.Sound.{IsSound}
+use Rattle.hall_desk.specs.Attempt.{IsAnswered, IsRan}
+use Rattle.hall_desk.specs.declared.arrival.Answer.{Answer}
+use Rattle.hall_desk.specs.declared.arrival.Answer.TheVariants as answer
+use Rattle.hall_desk.specs.declared.arrival.Arrival.{Arrival}
+use Rattle.hall_desk.specs.declared.arrival.Input.{Input}
+use Rattle.hall_desk.specs.declared.arrival.Input.TheVariants as input
+use Rattle.serve_sockets.specs.declared.turn.Handover.{Handover}
+use Rattle.serve_sockets.specs.declared.turn.Kind.{Kind}
+use Rattle.serve_sockets.specs.declared.turn.Kind.TheVariants as kind
+use Rattle.serve_sockets.specs.declared.turn.Said.{Said}
+use Rattle.serve_sockets.specs.declared.turn.Said.TheVariants as said
+use Rattle.serve_sockets.specs.declared.turn.Turn.{Turn}
+use Rattle.serve_sockets.specs.declared.turn.Turn.TheVariants as turn
+
+-- ---- handovers
+
+-- what came
+abbrev pub kind_of : Input → Kind
+kind_of (input.Datagram port octets) = kind.Datagram port
+kind_of (input.Request octets) = kind.Request
+kind_of input.Quiet = kind.Quiet
+
+-- the octets that came
+abbrev pub octets_in : Input → List ℕ
+octets_in (input.Datagram port octets) = octets
+octets_in (input.Request octets) = octets
+octets_in input.Quiet = []
+
+-- the number of a digit's octet
+abbrev pub digit_at : List ℕ → ℕ → ℕ
+digit_at octets at = slice_index octets at - 48
+
+-- the status code of a response, the three digits after `HTTP/1.1 ` (RFC 9112 section 4)
+abbrev pub status_in : List ℕ → ℕ
+status_in octets = 100 * digit_at octets 9 + 10 * digit_at octets 10 + digit_at octets 11
+
+-- what is said of the octets of an answer
+abbrev pub said_in : Kind → List ℕ → Said
+said_in (kind.Datagram port) octets = said.Frame (length octets)
+said_in kind.Request octets = said.Response (status_in octets) (length octets)
+said_in kind.Quiet octets = said.Frame (length octets)
+
+-- what is said of an answer
+abbrev pub said_of : Kind → Answer → Said
+said_of what (answer.Octets octets) = said_in what octets
+said_of what answer.Unavailable = said.Unavailable
+said_of what answer.Silence = said.Silence
+
+-- a log is told of an arrival and of its answer
+pub record Tells (handover : Handover) (what : Input) (a : Answer) : Type 0 where
+  pub kind : handover.kind ≡ kind_of what
+  pub size : handover.len ≡ length (octets_in what)
+  pub said : handover.said ≡ said_of (kind_of what) a
+
+-- ---- turns
+
+-- the turn handed nothing to the desk
+abbrev pub HandsNothing : Turn → Type 0
+HandsNothing (turn.Handed handover) = ⊥
+HandsNothing (turn.Unsent handover) = ⊥
+HandsNothing (turn.Accepted from instead_of) = Unit {0}
+HandsNothing (turn.Moved from) = Unit {0}
+HandsNothing (turn.Closed from cause) = Unit {0}
+HandsNothing turn.Nothing = Unit {0}
+HandsNothing turn.Failed = Unit {0}
+
+-- a fact of what the turn handed to the desk, if it did
+abbrev pub IfHanded : Turn → (Handover → Type 0) → Type 0
+IfHanded (turn.Handed handover) P = P handover
+IfHanded (turn.Unsent handover) P = P handover
+IfHanded (turn.Accepted from instead_of) P = Unit {0}
+IfHanded (turn.Moved from) P = Unit {0}
+IfHanded (turn.Closed from cause) P = Unit {0}
+IfHanded turn.Nothing P = Unit {0}
+IfHanded turn.Failed P = Unit {0}
+
+-- the turn was a quiet moment
+abbrev pub IsQuiet : Turn → Type 0
+IsQuiet (turn.Handed handover) = handover.kind ≡ kind.Quiet
+IsQuiet (turn.Unsent handover) = ⊥
+IsQuiet (turn.Accepted from instead_of) = ⊥
+IsQuiet (turn.Moved from) = ⊥
+IsQuiet (turn.Closed from cause) = ⊥
+IsQuiet turn.Nothing = ⊥
+IsQuiet turn.Failed = ⊥
+
+-- `holds` says which hall a store has, and `leaves` that a stop leaves one of these halls
+module _ {S : Type 0} (holds : S → Hall → Type 0) (leaves : S → List Hall → Type 0) (old new : S) (site : Site) where
+  -- an arrival was handed to the desk at a moment, with fresh octets, and answered
+  pub record IsHanded (moment : ℕ) (fresh : List ℕ) (handover : Handover) : Type 0 where
+    pub what : Input
+    pub said : Answer
+    pub tells : Tells handover what said
+    pub answered : IsAnswered holds leaves old new site what moment fresh said
+
+-- the hall went on by so many arrivals at most, one at a time; `holds` says which hall a store has
+pub record WentOn {S : Type 0} (holds : S → Hall → Type 0) (old new : S) (site : Site) (most : ℕ) : Type 0 where
+  pub arrivals : List Arrival
+  pub answers : List Answer
+  pub few : length arrivals ≤ most
+  pub ran : (h : Hall) → holds old h → IsSound h → IsRan holds new site h arrivals answers

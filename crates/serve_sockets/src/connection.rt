@@ -1,0 +1,211 @@
+//! One connection: what it sent, and what of its answer it has taken.
+ghost use Rattle.std.specs.Prelude.{◌≡◌, ◌≤◌, ◌-◌, ◌<◌, [], IsTrue, length, nat_le, vec_len};
+ghost use Rattle.std.specs.Io.KnownBytes.{Keeps, append_known};
+ghost use Rattle.hall_desk.specs.Octets.{octets_of};
+
+use hall_desk::Answer;
+use hall_http::is_decided;
+use pxe_vendor::Octets;
+use std::alloc::{AllocError, Global};
+use std::io::{ErrorKind, Read, Write};
+use std::mem;
+use std::net::SocketAddr;
+
+/// The maximum of a request's octets: a head of 8,192 and a body of 16,384. So many always decide a request.
+const MAX_INPUT: usize = 8_192 + 16_384;
+
+/// How long, in milliseconds, a connection may be undecided, and its answer stand still.
+const PATIENCE: u64 = 2_000;
+
+// An answer, and how many of its octets are written.
+#[derive(Drop)]
+struct Sending {
+    answer: Answer,
+    written: usize,
+    ghost within: { written ≤ length (octets_of answer) },
+}
+
+/// A connection over a stream whose calls don't wait.
+#[derive(Drop)]
+pub(crate) struct Connection<T> {
+    stream: T,
+    from: SocketAddr,
+    number: u64,
+    // When it was accepted or answered, or last took something of its answer.
+    since: u64,
+    input: Vec<u8>,
+    sending: Option<Sending>,
+    ghost bounded: { vec_len input ≤ 24576 },
+}
+
+/// What a read of a connection came to.
+#[derive(Clone, Copy)]
+pub(crate) enum Taken {
+    /// Nothing is there now.
+    Waits,
+    /// Octets came, and the request isn't decided.
+    More,
+    /// The request is decided, or the client has sent all.
+    Whole,
+    NoMemory,
+    Failed,
+}
+
+/// What a write of a connection came to.
+#[derive(Clone, Copy)]
+pub(crate) enum Put {
+    /// The client takes nothing now.
+    Waits,
+    /// The client took octets, and some are left.
+    More,
+    /// No octets are left.
+    Done,
+    Failed,
+}
+
+impl<T> Connection<T> {
+    ghost use Rattle.serve_sockets.specs.Connection.{input_of, is_answered, left_of, number_of, since_of, stream_of};
+
+    /// The connection that was accepted as the so-manieth, at a time in milliseconds.
+    pub(crate) fn new(
+        alloc: Global,
+        stream: T,
+        from: SocketAddr,
+        number: u64,
+        now: u64,
+    ) -> Connection<T>
+        ensures stream { stream_of result ≡ stream }
+        ensures number { number_of result ≡ number }
+        ensures since { since_of result ≡ now }
+        ensures input { input_of result ≡ [] }
+        ensures open { ¬ (IsTrue (is_answered result)) }
+    {
+        Connection {
+            stream,
+            from,
+            number,
+            since: now,
+            input: Vec::new(alloc),
+            sending: None,
+        }
+    }
+
+    pub(crate) fn stream(&self) -> &T
+        ensures { result.now ≡ stream_of self.now }
+    {
+        &self.stream
+    }
+
+    /// Where the client is.
+    pub(crate) fn from(&self) -> SocketAddr {
+        self.from
+    }
+
+    pub(crate) fn number(&self) -> u64
+        ensures { result ≡ number_of self.now }
+    {
+        self.number
+    }
+
+    /// Whether it was undecided, or its answer stood still, for two seconds.
+    pub(crate) fn is_late(&self, now: u64) -> bool
+        ensures { result ≡ nat_le 2000 (now - since_of self.now) }
+    {
+        now.saturating_sub(self.since) >= PATIENCE
+    }
+
+    pub(crate) fn is_answered(&self) -> bool
+        ensures { result ≡ is_answered self.now }
+    {
+        self.sending.is_some()
+    }
+
+    /// The request. The connection has no input then.
+    pub(crate) fn request(&mut self, alloc: Global) -> Octets
+        ensures request { result ≡ input_of self.old }
+        ensures stream { stream_of self.new ≡ stream_of self.old }
+        ensures number { number_of self.new ≡ number_of self.old }
+        ensures since { since_of self.new ≡ since_of self.old }
+    {
+        Octets::from(mem::replace(&mut self.input, Vec::new(alloc)))
+    }
+
+    /// Has an answer wait until the client takes it.
+    pub(crate) fn answer(&mut self, answer: Answer, now: u64)
+        ensures left { left_of self.new ≡ octets_of answer }
+        ensures answered { IsTrue (is_answered self.new) }
+        ensures since { since_of self.new ≡ now }
+        ensures stream { stream_of self.new ≡ stream_of self.old }
+        ensures number { number_of self.new ≡ number_of self.old }
+    {
+        self.sending = Some(Sending { answer, written: 0 });
+        self.since = now;
+    }
+}
+
+impl<T: Read> Connection<T> {
+    ghost use Rattle.serve_sockets.specs.Connection.{IsTaken, input_of, number_of, since_of, stream_of};
+
+    /// Reads once, into a buffer that isn't empty. The time that the connection has isn't prolonged.
+    pub(crate) fn take(&mut self, alloc: Global, buffer: &mut [u8]) -> Taken
+        ensures taken { IsTaken result (T.remaining (stream_of self.old)) (T.remaining (stream_of self.new)) (input_of self.old) (input_of self.new) }
+        ensures since { since_of self.new ≡ since_of self.old }
+        ensures number { number_of self.new ≡ number_of self.old }
+    {
+        let size = (MAX_INPUT - self.input.len()).min(buffer.len());
+        if size == 0 {
+            return Taken::Failed;
+        }
+        let count = match self.stream.read(&mut buffer[..size]) {
+            Ok(count) => count,
+            Err(error) if error.kind() == ErrorKind::WouldBlock => return Taken::Waits,
+            Err(_) => return Taken::Failed,
+        };
+        if count == 0 {
+            return Taken::Whole;
+        }
+        if self.input.extend_from_slice(&buffer[..count]).is_err() {
+            return Taken::NoMemory;
+        }
+        match is_decided(alloc, self.input.as_slice()) {
+            Ok(true) => Taken::Whole,
+            Ok(false) => Taken::More,
+            Err(AllocError) => Taken::NoMemory,
+        }
+    }
+}
+
+impl<T: Write> Connection<T> {
+    ghost use Rattle.serve_sockets.specs.Connection.{left_of, number_of, since_of, stream_of};
+
+    /// Writes once. What the client takes of the answer prolongs the connection's time.
+    pub(crate) fn put(&mut self, now: u64) -> Put
+        ensures octets { Keeps (append_known (T.contents (stream_of self.old)) (left_of self.old)) (append_known (T.contents (stream_of self.new)) (left_of self.new)) }
+        ensures done { result ≡ Put.Done → left_of self.new ≡ [] }
+        ensures more { result ≡ Put.More → since_of self.new ≡ now }
+        ensures waits { result ≡ Put.Waits → since_of self.new ≡ since_of self.old }
+        ensures number { number_of self.new ≡ number_of self.old }
+    {
+        let Some(sending) = &mut self.sending else {
+            return Put::Waits;
+        };
+        let octets = sending.answer.octets();
+        let len = octets.len();
+        if sending.written < len {
+            match self.stream.write(&octets[sending.written..]) {
+                Ok(0) => return Put::Failed,
+                Ok(count) => {
+                    sending.written += count;
+                    self.since = now;
+                }
+                Err(error) if error.kind() == ErrorKind::WouldBlock => return Put::Waits,
+                Err(_) => return Put::Failed,
+            }
+        }
+        if sending.written < len {
+            Put::More
+        } else {
+            Put::Done
+        }
+    }
+}

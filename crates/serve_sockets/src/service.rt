@@ -1,0 +1,226 @@
+//! Turns.
+ghost use Rattle.std.specs.Prelude.{◌<◌};
+
+use crate::handing::{hand, hand_datagram};
+use crate::handover::handover;
+use crate::ring::Origin;
+use crate::serving::{Step, advance};
+use crate::sockets::Sockets;
+use crate::turn::{Close, Handover, Kind, Source, Stamp, Turn, TurnLog};
+use hall_desk::{Answer, Desk, Input};
+use hall_store::HallStore;
+use hall_types::Port;
+use std::alloc::Global;
+use std::net::{Shutdown, SocketAddr};
+
+/// A desk, and the sockets at which it is reached. Contracts see the desk, and how many turns there were since the last
+/// eighth one.
+#[derive(Drop)]
+pub struct Service<S> {
+    alloc: Global,
+    desk: Desk<S>,
+    sockets: Sockets,
+    turns: u8,
+    ghost few: { turns < 8 },
+}
+
+impl<S: HallStore> Service<S> {
+    ghost use Rattle.std.specs.Prelude.{◌≡◌, ◌+◌, ◌%◌};
+    ghost use Rattle.hall_desk.specs.Desk.{site_of, store_of};
+    ghost use Rattle.serve_sockets.specs.Service.{desk_of, turns_of};
+    ghost use Rattle.serve_sockets.specs.Turn.{HandsNothing, IfHanded, IsHanded, IsQuiet, WentOn};
+
+    /// The service of a desk.
+    pub fn new(alloc: Global, desk: Desk<S>, sockets: Sockets) -> Service<S>
+        ensures desk { desk_of result ≡ desk }
+        ensures turns { turns_of result ≡ 0 }
+    {
+        Service {
+            alloc,
+            desk,
+            sockets,
+            turns: 0,
+        }
+    }
+
+    /// The sockets.
+    pub fn sockets(&self) -> &Sockets {
+        &self.sockets
+    }
+
+    /// The desk. The sockets are closed.
+    pub fn into_desk(self) -> Desk<S>
+        ensures { result ≡ desk_of self }
+    {
+        self.desk
+    }
+
+    /// Waits a little for something to come, if nothing is known to be there.
+    pub fn wait(&mut self)
+        ensures desk { desk_of self.new ≡ desk_of self.old }
+        ensures turns { turns_of self.new ≡ turns_of self.old }
+    {
+        self.sockets.wait();
+    }
+
+    /// Serves the next place that may have something: a socket for datagrams, the listener or a connection, from the last
+    /// one on, up and round. Every eighth turn, and one for which there is no such place, is a quiet moment. Nothing is
+    /// waited for.
+    ///
+    /// At most one arrival is handed to the desk, with the moment and the fresh octets of the stamp. A datagram's answer is
+    /// sent to where the datagram came from; that of a request waits until the client takes it. The log is told of the
+    /// arrival; the turn isn't noted.
+    pub fn turn<L: TurnLog>(&mut self, stamp: Stamp, log: &mut L) -> Turn
+        ensures clean { S.HallStore.is_clean (store_of (desk_of self.new)) → S.HallStore.is_clean (store_of (desk_of self.old)) }
+        ensures site { site_of (desk_of self.new) ≡ site_of (desk_of self.old) }
+        ensures handed { S.HallStore.is_clean (store_of (desk_of self.new)) → IfHanded result (IsHanded S.HallStore.holds S.HallStore.leaves
+            (store_of (desk_of self.old)) (store_of (desk_of self.new)) (site_of (desk_of self.old)) stamp.moment stamp.fresh) }
+        ensures same { HandsNothing result → desk_of self.new ≡ desk_of self.old }
+        ensures turns { turns_of self.new ≡ (turns_of self.old + 1) % 8 }
+        ensures eighth { turns_of self.old ≡ 7 → IsQuiet result }
+    {
+        self.turns = (self.turns + 1) % 8;
+        if self.turns == 0 {
+            return Turn::Handed(self.quiet(stamp, log));
+        }
+        if let Some(turn) = self.sockets.close_late(stamp.millis) {
+            return turn;
+        }
+        match self.sockets.pick() {
+            None => Turn::Handed(self.quiet(stamp, log)),
+            Some(Origin::Port(port)) => self.datagram(port, stamp, log),
+            Some(Origin::Listener) => self.sockets.accept(self.alloc, stamp.millis),
+            Some(Origin::Connection(slot)) => self.connection(slot, stamp, log),
+        }
+    }
+
+    // Nothing came.
+    fn quiet<L: TurnLog>(&mut self, stamp: Stamp, log: &mut L) -> Handover
+        ensures clean { S.HallStore.is_clean (store_of (desk_of self.new)) → S.HallStore.is_clean (store_of (desk_of self.old)) }
+        ensures site { site_of (desk_of self.new) ≡ site_of (desk_of self.old) }
+        ensures handed { S.HallStore.is_clean (store_of (desk_of self.new)) → IsHanded S.HallStore.holds S.HallStore.leaves
+            (store_of (desk_of self.old)) (store_of (desk_of self.new)) (site_of (desk_of self.old)) stamp.moment stamp.fresh result }
+        ensures kind { result.kind ≡ Kind.Quiet }
+        ensures turns { turns_of self.new ≡ turns_of self.old }
+    {
+        self.sockets.retry();
+        let answer = hand(self.alloc, &mut self.desk, log, stamp, Input::Quiet);
+        handover(Kind::Quiet, None, 0, &answer)
+    }
+
+    // Receives a datagram, and sends its answer to where it came from.
+    fn datagram<L: TurnLog>(&mut self, port: Port, stamp: Stamp, log: &mut L) -> Turn
+        ensures clean { S.HallStore.is_clean (store_of (desk_of self.new)) → S.HallStore.is_clean (store_of (desk_of self.old)) }
+        ensures site { site_of (desk_of self.new) ≡ site_of (desk_of self.old) }
+        ensures handed { S.HallStore.is_clean (store_of (desk_of self.new)) → IfHanded result (IsHanded S.HallStore.holds S.HallStore.leaves
+            (store_of (desk_of self.old)) (store_of (desk_of self.new)) (site_of (desk_of self.old)) stamp.moment stamp.fresh) }
+        ensures same { HandsNothing result → desk_of self.new ≡ desk_of self.old }
+        ensures turns { turns_of self.new ≡ turns_of self.old }
+    {
+        let (len, from) = match self.sockets.receive(port) {
+            Ok(received) => received,
+            Err(turn) => return turn,
+        };
+        let octets = &self.sockets.buffer.as_slice()[..len];
+        let answer = hand_datagram(self.alloc, &mut self.desk, log, stamp, port, octets);
+        let handover = handover(Kind::Datagram(port), Some(from), len, &answer);
+        if self.send(port, &answer, from) {
+            Turn::Handed(handover)
+        } else {
+            Turn::Unsent(handover)
+        }
+    }
+
+    // Sends an answer that is a reply, and says whether it could be sent.
+    fn send(&self, port: Port, answer: &Answer, target: SocketAddr) -> bool {
+        match answer {
+            Answer::Octets(octets) => self.sockets.send(port, octets.as_slice(), target),
+            Answer::Unavailable | Answer::Silence => true,
+        }
+    }
+
+    // Has a connection go on by one step.
+    fn connection<L: TurnLog>(&mut self, slot: usize, stamp: Stamp, log: &mut L) -> Turn
+        requires { slot < 64 }
+        ensures clean { S.HallStore.is_clean (store_of (desk_of self.new)) → S.HallStore.is_clean (store_of (desk_of self.old)) }
+        ensures site { site_of (desk_of self.new) ≡ site_of (desk_of self.old) }
+        ensures handed { S.HallStore.is_clean (store_of (desk_of self.new)) → IfHanded result (IsHanded S.HallStore.holds S.HallStore.leaves
+            (store_of (desk_of self.old)) (store_of (desk_of self.new)) (site_of (desk_of self.old)) stamp.moment stamp.fresh) }
+        ensures same { HandsNothing result → desk_of self.new ≡ desk_of self.old }
+        ensures turns { turns_of self.new ≡ turns_of self.old }
+    {
+        let Some(mut connection) = self.sockets.take(slot) else {
+            self.sockets.rest(Origin::Connection(slot));
+            return Turn::Nothing;
+        };
+        let from = connection.from();
+        let buffer = self.sockets.buffer.as_mut_slice();
+        let step = advance(
+            &mut connection,
+            self.alloc,
+            &mut self.desk,
+            log,
+            stamp,
+            buffer,
+        );
+        match step {
+            Step::Handed(handover) => {
+                self.sockets.keep(slot, connection);
+                Turn::Handed(handover)
+            }
+            Step::Moved => {
+                self.sockets.keep(slot, connection);
+                Turn::Moved(from)
+            }
+            Step::Waits => {
+                self.sockets.keep(slot, connection);
+                self.sockets.rest(Origin::Connection(slot));
+                Turn::Nothing
+            }
+            Step::Done => {
+                let _ = connection.stream().shutdown(Shutdown::Write);
+                self.sockets.rest(Origin::Connection(slot));
+                Turn::Closed {
+                    from,
+                    cause: Close::Answered,
+                }
+            }
+            Step::Failed => {
+                self.sockets.rest(Origin::Connection(slot));
+                Turn::Closed {
+                    from,
+                    cause: Close::Failed,
+                }
+            }
+        }
+    }
+
+    // Serves one turn with a stamp of the source, if it has one.
+    fn serve_turn<C: Source, L: TurnLog>(&mut self, source: &mut C, log: &mut L)
+        ensures clean { S.HallStore.is_clean (store_of (desk_of self.new)) → S.HallStore.is_clean (store_of (desk_of self.old)) }
+        ensures site { site_of (desk_of self.new) ≡ site_of (desk_of self.old) }
+        ensures went_on { S.HallStore.is_clean (store_of (desk_of self.new)) → WentOn S.HallStore.holds
+            (store_of (desk_of self.old)) (store_of (desk_of self.new)) (site_of (desk_of self.old)) 1 }
+    {
+        self.wait();
+        let Some(stamp) = source.stamp() else {
+            return;
+        };
+        let moment = stamp.moment;
+        let turn = self.turn(stamp, log);
+        log.note(moment, &turn);
+    }
+
+    /// Serves so many turns, each with a stamp of the source, and tells each to the log. A turn without a stamp does
+    /// nothing.
+    pub fn serve_turns<C: Source, L: TurnLog>(&mut self, source: &mut C, log: &mut L, turns: u64)
+        ensures clean { S.HallStore.is_clean (store_of (desk_of self.new)) → S.HallStore.is_clean (store_of (desk_of self.old)) }
+        ensures site { site_of (desk_of self.new) ≡ site_of (desk_of self.old) }
+        ensures went_on { S.HallStore.is_clean (store_of (desk_of self.new)) → WentOn S.HallStore.holds
+            (store_of (desk_of self.old)) (store_of (desk_of self.new)) (site_of (desk_of self.old)) turns }
+    {
+        for _ in 0..turns {
+            self.serve_turn(source, log);
+        }
+    }
+}

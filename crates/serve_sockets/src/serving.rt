@@ -1,0 +1,129 @@
+//! Serving a connection by steps.
+ghost use Rattle.std.specs.Prelude.{◌≡◌};
+ghost use Rattle.hall_desk.specs.Desk.{site_of, store_of};
+ghost use Rattle.hall_desk.specs.Octets.{octets_of};
+ghost use Rattle.hall_desk.specs.declared.arrival.Answer.TheVariants.{Unavailable};
+ghost use Rattle.hall_desk.specs.declared.arrival.Input.TheVariants.{Request};
+ghost use Rattle.serve_sockets.specs.Connection.{input_of, left_of, stream_of};
+ghost use Rattle.serve_sockets.specs.Serving.{IfRequest, IsOnlyMoved, IsRequest, IsWaiting};
+ghost use Rattle.serve_sockets.specs.Turn.{Tells};
+
+use crate::connection::{Connection, Put, Taken};
+use crate::handing::hand;
+use crate::handover::handover;
+use crate::turn::{Handover, Kind, Stamp, TurnLog};
+use hall_desk::{Answer, Desk, Input};
+use hall_store::HallStore;
+use std::alloc::Global;
+use std::io::{Read, Write};
+
+/// What a step of a connection came to.
+pub(crate) enum Step {
+    /// The client gives or takes nothing now.
+    Waits,
+    /// Octets were read or written, and nothing was handed over.
+    Moved,
+    /// The request was handed over, and its answer waits.
+    Handed(Handover),
+    /// The client has taken all of its answer.
+    Done,
+    Failed,
+}
+
+// Hands the request over. Its answer waits then.
+fn hand_request<T, S: HallStore, L: TurnLog>(
+    connection: &mut Connection<T>,
+    alloc: Global,
+    desk: &mut Desk<S>,
+    log: &mut L,
+    stamp: Stamp,
+) -> Handover
+    ensures clean { S.HallStore.is_clean (store_of desk.new) → S.HallStore.is_clean (store_of desk.old) }
+    ensures site { site_of desk.new ≡ site_of desk.old }
+    ensures waits { S.HallStore.is_clean (store_of desk.new) → IsWaiting S.HallStore.holds S.HallStore.leaves (store_of desk.old) (store_of desk.new) (site_of desk.old)
+        stamp.moment stamp.fresh (input_of connection.old) (left_of connection.new) result }
+{
+    let now = stamp.millis;
+    let from = connection.from();
+    let octets = connection.request(alloc);
+    let len = octets.as_slice().len();
+    let answer = hand(alloc, desk, log, stamp, Input::Request(octets));
+    let handover = handover(Kind::Request, Some(from), len, &answer);
+    connection.answer(answer, now);
+    handover
+}
+
+// Refuses a request for which there is no memory. The refusal waits then.
+fn refuse<T>(connection: &mut Connection<T>, alloc: Global, now: u64) -> Handover
+    ensures tells { Tells result (Request (input_of connection.old)) Unavailable }
+    ensures waits { left_of connection.new ≡ octets_of Unavailable }
+{
+    let from = connection.from();
+    let octets = connection.request(alloc);
+    let len = octets.as_slice().len();
+    let answer = Answer::Unavailable;
+    let handover = handover(Kind::Request, Some(from), len, &answer);
+    connection.answer(answer, now);
+    handover
+}
+
+// Reads once, and hands the request over once it is decided.
+fn take<T: Read, S: HallStore, L: TurnLog>(
+    connection: &mut Connection<T>,
+    alloc: Global,
+    desk: &mut Desk<S>,
+    log: &mut L,
+    stamp: Stamp,
+    buffer: &mut [u8],
+) -> Step
+    ensures clean { S.HallStore.is_clean (store_of desk.new) → S.HallStore.is_clean (store_of desk.old) }
+    ensures site { site_of desk.new ≡ site_of desk.old }
+    ensures request { S.HallStore.is_clean (store_of desk.new) → IfRequest result (IsRequest S.HallStore.holds S.HallStore.leaves (store_of desk.old) (store_of desk.new) (site_of desk.old)
+        stamp.moment stamp.fresh (input_of connection.old) (T.remaining (stream_of connection.old)) (left_of connection.new)) }
+    ensures same { IsOnlyMoved result → desk.new ≡ desk.old }
+{
+    let now = stamp.millis;
+    match connection.take(alloc, buffer) {
+        Taken::Waits => Step::Waits,
+        Taken::More => Step::Moved,
+        Taken::Whole => Step::Handed(hand_request(connection, alloc, desk, log, stamp)),
+        Taken::NoMemory => Step::Handed(refuse(connection, alloc, now)),
+        Taken::Failed => Step::Failed,
+    }
+}
+
+// Writes once.
+fn put<T: Write>(connection: &mut Connection<T>, now: u64) -> Step
+    ensures { IsOnlyMoved result }
+{
+    match connection.put(now) {
+        Put::Waits => Step::Waits,
+        Put::More => Step::Moved,
+        Put::Done => Step::Done,
+        Put::Failed => Step::Failed,
+    }
+}
+
+/// Reads or writes once. A request that is decided is handed to the desk, and its answer waits then until the client takes
+/// it.
+pub(crate) fn advance<T: Read + Write, S: HallStore, L: TurnLog>(
+    connection: &mut Connection<T>,
+    alloc: Global,
+    desk: &mut Desk<S>,
+    log: &mut L,
+    stamp: Stamp,
+    buffer: &mut [u8],
+) -> Step
+    ensures clean { S.HallStore.is_clean (store_of desk.new) → S.HallStore.is_clean (store_of desk.old) }
+    ensures site { site_of desk.new ≡ site_of desk.old }
+    ensures request { S.HallStore.is_clean (store_of desk.new) → IfRequest result (IsRequest S.HallStore.holds S.HallStore.leaves (store_of desk.old) (store_of desk.new) (site_of desk.old)
+        stamp.moment stamp.fresh (input_of connection.old) (T.remaining (stream_of connection.old)) (left_of connection.new)) }
+    ensures same { IsOnlyMoved result → desk.new ≡ desk.old }
+{
+    let now = stamp.millis;
+    if connection.is_answered() {
+        put(connection, now)
+    } else {
+        take(connection, alloc, desk, log, stamp, buffer)
+    }
+}

@@ -1,0 +1,10 @@
+use Rattle.std.proofs.Common.{arith}
+use Rattle.sqlite.specs.Held.{state}
+use Rattle.sqlite.specs.State.{HasCleanDisk}
+use Rattle.sql_machines.proofs.orders.put_order.Goals as goal
+
+pub returns-in-Ok-clause-made : goal.returns-in-Ok-clause-made
+returns-in-Ok-clause-made g c clean before was held =
+    let mid : HasCleanDisk (state g.S.Store c.set_order.new.tx.conn.now) = omega (arith, c.add_order.ensures.survives.clean, clean) in
+    let none = rw c.in-Ok-false.field-0-test at (c.in-Ok-false.ensures.made mid before was held) in
+    c.in-Ok.ensures.made clean before was none.0

@@ -1,0 +1,38 @@
+-- Machines of a hall, changed.
+use Rattle.std.specs.Prelude.{◌≡◌, ◌==◌, ℕ, false, [], ◌∷◌, ◌++◌, Some}
+use Rattle.sqlite.specs.Order.{Row}
+use Rattle.sqlite_rules.specs.Lists.{Has}
+use Rattle.hall_types.specs.Rows.{Keys, Rows, at, put, gone, listed}
+use Rattle.hall_types.specs.declared.machine.Machine.{Machine}
+use Rattle.hall_types.specs.declared.machine.Interface.{Interface}
+use Rattle.hall_types.specs.declared.boot.Boot.{Boot}
+use Rattle.hall_types.specs.declared.order.Order.{Order}
+use Rattle.sql_rows.specs.Columns.{Wipe, number, machine_values}
+use Rattle.sql_rows.specs.Spelling.{Content}
+
+-- with this row of a machine
+abbrev pub with_machine : Content → Machine → Content
+with_machine c m = record c { hall = record c.hall { machines = put m.id m c.hall.machines } }
+
+-- without the row of the machine with this number
+abbrev pub without_row : Content → ℕ → Content
+without_row c id = record c { hall = record c.hall { machines = gone id c.hall.machines } }
+
+-- the values of a machine, and the version that its row is to have before
+abbrev pub checked_values : Machine → ℕ → Row
+checked_values m was = machine_values m ++ number was ∷ []
+
+-- none of the rows points to the machine with this number
+abbrev pub NonePointTo : {K X : Type 0} {keys : Keys K} → (X → ℕ) → Rows keys X → ℕ → Type 0
+NonePointTo {X = X} machine_of rows id = (x : X) → Has (listed rows) x → (machine_of x == id) ≡ false
+
+-- no interface, boot, order or kind of erasing points to it
+pub record HasNoChild (c : Content) (id : ℕ) : Type 0 where
+  pub interfaces : NonePointTo (λ (i : Interface). i.machine) c.hall.interfaces id
+  pub boots : NonePointTo (λ (b : Boot). b.machine) c.hall.boots id
+  pub orders : NonePointTo (λ (o : Order). o.machine) c.hall.orders id
+  pub wipes : NonePointTo (λ (w : Wipe). w.machine) c.wipes id
+
+-- the machine with this number is there, with this version
+abbrev pub HasVersion : Content → ℕ → ℕ → Type 0
+HasVersion c id was = (there : Machine) × (at c.hall.machines id ≡ Some there) × (there.version ≡ was)

@@ -1,0 +1,16 @@
+use Rattle.std.proofs.Common.{[]}
+use Rattle.sqlite.specs.Held.{state}
+use Rattle.sql_tables.proofs.MakingLemmas.{index_made}
+use Rattle.sql_tables.proofs.TransactionLemmas.{inside, inside_keeps}
+use Rattle.sql_tables.proofs.making.make_index.Goals as goal
+
+pub returns-clause-made : goal.returns-clause-made
+returns-clause-made g c clean =
+    let old = state g.S.Store c.args.tx.now.conn.now in
+    let new = state g.S.Store c.execute.new.self.conn.now in
+    inside c.args.sql.now [] old new c.execute.result _ (c.execute.ensures.runs clean) (λ out. (c.execute.ensures.ended out).0)
+    (λ count ran going. λ before after place t i makes was. (index_made before after c.args.sql.now place t i makes old new count ran was, going))
+
+pub returns-clause-kept : goal.returns-clause-kept
+returns-clause-kept g c clean =
+    inside_keeps g.S.Store c.args.sql.now [] c.args.tx.now.conn.now c.execute.new.self.conn.now c.execute.result (c.execute.ensures.runs clean) c.execute.ensures.ended

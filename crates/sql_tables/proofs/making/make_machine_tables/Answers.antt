@@ -1,0 +1,18 @@
+use Rattle.std.proofs.Common.{arith}
+use Rattle.sqlite.specs.Held.{state}
+use Rattle.sqlite.specs.State.{HasCleanDisk}
+use Rattle.sql_schema.specs.CreatingLaws as law
+use Rattle.sql_schema.specs.Tables.{stage, images_table, lives_table, machines_table, interfaces_table}
+use Rattle.sql_tables.proofs.TransactionLemmas.{on_ok}
+use Rattle.sql_tables.proofs.making.make_machine_tables.Goals as goal
+
+pub returns-clause-made : goal.returns-clause-made
+returns-clause-made g c clean =
+    let third : HasCleanDisk (state g.S.Store c.make_table-3.new.tx.conn.now) = omega (arith, c.make_table-4.ensures.survives.clean, clean) in
+    let second : HasCleanDisk (state g.S.Store c.make_table-2.new.tx.conn.now) = omega (arith, c.make_table-3.ensures.survives.clean, third) in
+    let first : HasCleanDisk (state g.S.Store c.make_table.new.tx.conn.now) = omega (arith, c.make_table-2.ensures.survives.clean, second) in
+    on_ok _ _ c.make_table-4.result (c.make_table-4.ensures.made clean) (λ made was.
+    let made1 = c.in_ok-make_table.ensures.made first (stage 4 4) (stage 5 5) images_table (record { text = law.create_images_is; defined = law.create_images_defined; next = law.create_images_next; unlisted = law.create_images_unlisted }) was in
+    let made2 = c.in_ok-make_table-2.ensures.made second (stage 5 5) (stage 6 5) lives_table (record { text = law.create_lives_is; defined = law.create_lives_defined; next = law.create_lives_next; unlisted = law.create_lives_unlisted }) made1.0 in
+    let made3 = c.in_ok-make_table-3.ensures.made third (stage 6 5) (stage 7 6) machines_table (record { text = law.create_machines_is; defined = law.create_machines_defined; next = law.create_machines_next; unlisted = law.create_machines_unlisted }) made2.0 in
+    made (stage 7 6) (stage 8 7) interfaces_table (record { text = law.create_interfaces_is; defined = law.create_interfaces_defined; next = law.create_interfaces_next; unlisted = law.create_interfaces_unlisted }) made3.0)

@@ -1,0 +1,18 @@
+use Rattle.std.proofs.Common.{arith}
+use Rattle.sqlite.specs.Held.{state}
+use Rattle.sqlite.specs.State.{HasCleanDisk}
+use Rattle.sql_schema.specs.CreatingLaws as law
+use Rattle.sql_schema.specs.Tables.{stage, boots_table, orders_table, receipts_table, counts_table}
+use Rattle.sql_tables.proofs.TransactionLemmas.{on_ok}
+use Rattle.sql_tables.proofs.making.make_record_tables.Goals as goal
+
+pub returns-clause-made : goal.returns-clause-made
+returns-clause-made g c clean =
+    let third : HasCleanDisk (state g.S.Store c.make_table-3.new.tx.conn.now) = omega (arith, c.make_table-4.ensures.survives.clean, clean) in
+    let second : HasCleanDisk (state g.S.Store c.make_table-2.new.tx.conn.now) = omega (arith, c.make_table-3.ensures.survives.clean, third) in
+    let first : HasCleanDisk (state g.S.Store c.make_table.new.tx.conn.now) = omega (arith, c.make_table-2.ensures.survives.clean, second) in
+    on_ok _ _ c.make_table-4.result (c.make_table-4.ensures.made clean) (λ made was.
+    let made1 = c.in_ok-make_table.ensures.made first (stage 8 7) (stage 9 7) boots_table (record { text = law.create_boots_is; defined = law.create_boots_defined; next = law.create_boots_next; unlisted = law.create_boots_unlisted }) was in
+    let made2 = c.in_ok-make_table-2.ensures.made second (stage 9 7) (stage 10 7) orders_table (record { text = law.create_orders_is; defined = law.create_orders_defined; next = law.create_orders_next; unlisted = law.create_orders_unlisted }) made1.0 in
+    let made3 = c.in_ok-make_table-3.ensures.made third (stage 10 7) (stage 11 8) receipts_table (record { text = law.create_receipts_is; defined = law.create_receipts_defined; next = law.create_receipts_next; unlisted = law.create_receipts_unlisted }) made2.0 in
+    made (stage 11 8) (stage 12 9) counts_table (record { text = law.create_counts_is; defined = law.create_counts_defined; next = law.create_counts_next; unlisted = law.create_counts_unlisted }) made3.0)

@@ -1,0 +1,81 @@
+-- What is asked of a file before its hall is used, and what each refusal says.
+use Rattle.std.specs.Prelude.{◌≡◌, ◌≢◌, ℕ, ℤ, pos, List, [], ◌∷◌, ⊤, Result, Ok, Err, OnOk}
+use Rattle.std.specs.List.{AllByRecursion}
+use Rattle.sqlite.specs.declared.types.Value.TheVariants.{Null, Int}
+use Rattle.sqlite.specs.Effect.{Database}
+use Rattle.sqlite.specs.Listing.{understood}
+use Rattle.sqlite.specs.Order.{Row}
+use Rattle.sqlite.specs.Schema.{Schema}
+use Rattle.sqlite.specs.State.{State, KeepsCommit}
+use Rattle.sqlite_resolve.specs.declared.compiled.Compiled.{Compiled}
+use Rattle.sql_statements.specs.Statements.{IsQueryText}
+use Rattle.sql_schema.specs.NameStatements.{find_numbers_text, find_numbers_query, find_numbers_columns, find_operator_text, find_pool_text, find_member_text, find_image_text, find_live_text, find_receipt_text}
+use Rattle.sql_schema.specs.MachineStatements.{find_machine_text, find_interface_text, find_boot_text, find_order_text, find_wipe_text}
+use Rattle.sql_schema.specs.CountStatements.{list_counts_text}
+use Rattle.sql_tables.specs.declared.fault.OpenFault.{OpenFault}
+use Rattle.sql_tables.specs.declared.fault.OpenFault.TheVariants.{NotAHall, OtherVersion, Unavailable}
+
+-- queries that name all columns of each table but `hall`
+abbrev pub whole_rows : List (List ℕ)
+whole_rows = find_operator_text ∷ find_pool_text ∷ find_member_text ∷ find_image_text ∷ find_live_text ∷ find_machine_text ∷ find_interface_text ∷ find_boot_text ∷ find_order_text ∷ find_receipt_text ∷ list_counts_text ∷ find_wipe_text ∷ []
+
+-- the text is a statement over these tables
+abbrev pub IsUnderstood : Schema → List ℕ → Type 0
+IsUnderstood schema sql = (c : Compiled) × (understood schema sql ≡ Ok c)
+
+abbrev pub AreUnderstood : Schema → List (List ℕ) → Type 0
+AreUnderstood schema texts = AllByRecursion (IsUnderstood schema) texts
+
+-- each table but `hall` is there with its columns
+abbrev pub HasTables : Schema → Type 0
+HasTables schema = AreUnderstood schema whole_rows
+
+-- the table `hall` is there with its columns, and its one row says that the schema has this number
+pub record SaysSchema (db : Database) (n : ℤ) : Type 0 where
+  pub reads : IsQueryText db.schema find_numbers_text find_numbers_query find_numbers_columns
+  pub last : (machine : ℤ) × (boot : ℤ) × (order : ℤ) × (db.trees 0 ≡ (Int (pos 1) ∷ Null ∷ Int n ∷ Int machine ∷ Int boot ∷ Int order ∷ []) ∷ [])
+
+-- what is answered of tables whose schema has this number: a want of memory or of the disk can be answered of any
+abbrev pub Tells : ℤ → Result (Unit {0}) OpenFault → Type 0
+Tells n (Ok done) = n ≡ pos 2
+Tells n (Err NotAHall) = n ≡ pos 2
+Tells n (Err OtherVersion) = n ≢ pos 2
+Tells n (Err Unavailable) = ⊤
+
+-- what the answer says of the tables of a file
+pub record IsAnswered (db : Database) (r : Result (Unit {0}) OpenFault) : Type 0 where
+  pub version : (n : ℤ) → SaysSchema db n → Tells n r
+  -- none is missing
+  pub complete : (n : ℤ) → SaysSchema db n → OnOk r (HasTables db.schema)
+  -- where all are there, NotAHall isn't answered
+  pub whole : SaysSchema db (pos 2) → HasTables db.schema → r ≢ Err NotAHall
+
+-- ---- steps within a transaction
+
+-- the same tables are seen, in a transaction that goes on if it did
+pub record IsStill (old new : State) : Type 0 where
+  pub now : new.now ≡ old.now
+  pub mode : new.in_transaction ≡ old.in_transaction
+
+-- whether these texts are understood was asked; NotAHall says that one isn't
+pub record AreLookedFor (texts : List (List ℕ)) (old new : State) (r : Result (Unit {0}) OpenFault) : Type 0 where
+  pub kept : KeepsCommit old new
+  pub found : OnOk r (IsStill old new × AreUnderstood old.now.schema texts)
+  pub missing : r ≡ Err NotAHall → AreUnderstood old.now.schema texts → ⊥
+  pub never : r ≢ Err OtherVersion
+
+-- what is answered of the number of the schema, where it can be read
+abbrev pub TellsVersion : ℤ → Result (Unit {0}) OpenFault → Type 0
+TellsVersion n (Ok done) = n ≡ pos 2
+TellsVersion n (Err NotAHall) = ⊥
+TellsVersion n (Err OtherVersion) = n ≢ pos 2
+TellsVersion n (Err Unavailable) = ⊤
+
+-- all was asked for
+pub record IsLook (old new : State) (r : Result (Unit {0}) OpenFault) : Type 0 where
+  pub kept : KeepsCommit old new
+  pub answered : IsAnswered old.now r
+
+-- the one row of `hall`, with the number of the schema first
+abbrev pub IsSchemaRow : ℤ → List Row → Type 0
+IsSchemaRow n rows = (machine : ℤ) × (boot : ℤ) × (order : ℤ) × (rows ≡ (Int n ∷ Int machine ∷ Int boot ∷ Int order ∷ []) ∷ [])

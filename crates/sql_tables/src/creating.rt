@@ -1,0 +1,113 @@
+//! A new hall is made.
+ghost use Rattle.std.specs.Prelude.{◌≡◌, ◌≢◌, ◌↔◌, IsTrue, OnOk, OnErr, Err, false, [], ◌∷◌};
+ghost use Rattle.std.specs.List.{list_any};
+ghost use Rattle.sqlite.specs.Change.{is_used};
+ghost use Rattle.sqlite.specs.Held.{state};
+ghost use Rattle.sqlite.specs.State.{HasCleanDisk};
+ghost use Rattle.hall_types.specs.Hall.{new_hall, second};
+ghost use Rattle.sql_schema.specs.Tables.{no_schema};
+ghost use Rattle.sql_rows.specs.Holding.{IsHeld, Leaves};
+ghost use Rattle.sql_tables.specs.Creating.{IsFlat, KeepsTables, MayLeaveBesides, is_a_name_taken};
+
+use crate::fault::CreateFault;
+use crate::making::make_hall;
+use hall_types::{Digest, Name};
+use sqlite::{Alter, Connection};
+use sqlite_schema::schema::Schema;
+
+// Whether a table, an index or a view has this name.
+fn is_used(schema: &Schema, name: &str) -> bool
+    ensures { result ≡ is_used schema.now name.now }
+{
+    let name = name.as_bytes();
+    schema.table_named(name).is_some()
+        || schema.index_named(name).is_some()
+        || schema.view_named(name).is_some()
+}
+
+fn is_any_used(schema: &Schema, names: &[&str]) -> bool
+    ensures { result ≡ list_any (λ name. is_used schema.now name.now) names.now }
+{
+    names.iter().any(|name| is_used(schema, name))
+}
+
+// Whether the name of one of a hall's tables is taken.
+fn is_a_name_taken(schema: &Schema) -> bool
+    ensures { result ≡ is_a_name_taken schema.now }
+{
+    is_any_used(
+        schema,
+        &[
+            "hall",
+            "operators",
+            "pools",
+            "members",
+            "images",
+            "lives",
+            "machines",
+            "interfaces",
+            "boots",
+            "orders",
+            "receipts",
+            "counts",
+            "wipes",
+        ],
+    )
+}
+
+fn is_blank(schema: &Schema) -> bool
+    ensures { IsTrue result ↔ (schema.now ≡ no_schema) }
+{
+    schema.tables.is_empty() && schema.indexes.is_empty() && schema.views.is_empty()
+}
+
+// The tables are made in one transaction, where there are none.
+fn make_in<S: Alter>(
+    conn: &mut Connection<S>,
+    admin: Name,
+    digest: Digest,
+) -> Result<(), CreateFault>
+    requires blank { (state S.Store conn.old).now.schema ≡ no_schema }
+    requires autocommit { (state S.Store conn.old).in_transaction ≡ false }
+    ensures clean { HasCleanDisk (state S.Store conn.new) → HasCleanDisk (state S.Store conn.old) }
+    ensures made { HasCleanDisk (state S.Store conn.new) → OnOk result (IsHeld (state S.Store conn.new) (new_hall second admin digest)) }
+    ensures never { result ≢ Err CreateFault.NotEmpty }
+    ensures refused { HasCleanDisk (state S.Store conn.new) → IsFlat (state S.Store conn.old) → OnErr result (KeepsTables (state S.Store conn.old) (state S.Store conn.new)) }
+    ensures crash { HasCleanDisk (state S.Store conn.new) → MayLeaveBesides (new_hall second admin digest) (state S.Store conn.old) (state S.Store conn.new) }
+{
+    let mut tx = conn.transaction();
+    match make_hall(&mut tx, admin, digest) {
+        Ok(_) => match tx.commit() {
+            Ok(()) => Ok(()),
+            Err(_) => Err(CreateFault::Unavailable),
+        },
+        Err(_) => {
+            tx.rollback();
+            Err(CreateFault::Unavailable)
+        }
+    }
+}
+
+/// Makes the tables of a new hall in a file without tables, in one transaction, with this enabled admin and this digest of
+/// its token: all of them or none. A hall's tables have numbers in the file that go by the order in which they're made, so
+/// a file with other tables is refused as `Unavailable`, also where no name is taken.
+pub fn create_tables<S: Alter>(
+    conn: &mut Connection<S>,
+    admin: Name,
+    digest: Digest,
+) -> Result<(), CreateFault>
+    ensures clean { HasCleanDisk (state S.Store conn.new) → HasCleanDisk (state S.Store conn.old) }
+    ensures made { HasCleanDisk (state S.Store conn.new) → OnOk result (IsHeld (state S.Store conn.new) (new_hall second admin digest)) }
+    ensures settled { HasCleanDisk (state S.Store conn.new) → OnOk result (Leaves (state S.Store conn.new) (new_hall second admin digest ∷ [])) }
+    ensures taken { (result ≡ Err CreateFault.NotEmpty) ↔ IsTrue (is_a_name_taken (state S.Store conn.old).now.schema) }
+    ensures refused { HasCleanDisk (state S.Store conn.new) → OnErr result (KeepsTables (state S.Store conn.old) (state S.Store conn.new)) }
+    ensures crash { HasCleanDisk (state S.Store conn.new) → MayLeaveBesides (new_hall second admin digest) (state S.Store conn.old) (state S.Store conn.new) }
+{
+    if is_a_name_taken(conn.schema()) {
+        return Err(CreateFault::NotEmpty);
+    }
+    if !is_blank(conn.schema()) || !conn.is_autocommit() {
+        return Err(CreateFault::Unavailable);
+    }
+    make_in(conn, admin, digest)
+}

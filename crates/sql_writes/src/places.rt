@@ -1,0 +1,135 @@
+//! Where a machine is counted, and its count.
+ghost use Rattle.std.specs.Prelude.{◌≡◌, ◌⊎◌, ℕ, IfOk, IfErr, OnOk, IsTrue, map, option_map, [], ◌∷◌, Option, None, Some, true};
+ghost use Rattle.std.specs.Option.{option_to_list};
+ghost use Rattle.sqlite.specs.Held.{state};
+ghost use Rattle.sqlite.specs.State.{HasCleanDisk, KeepsCommit, Survives, Shown, FailsToQuery, IsTooLate};
+ghost use Rattle.hall_types.specs.Hall.{Hall};
+ghost use Rattle.hall_types.specs.Rows.{Rows, numbers, at, put, gone};
+ghost use Rattle.hall_types.specs.declared.machine.Machine.{Machine};
+ghost use Rattle.sql_schema.specs.MachineStatements.{find_machine_text};
+ghost use Rattle.sql_rows.specs.Columns.{machine_values, number};
+ghost use Rattle.sql_rows.specs.Holding.{IsWithin};
+ghost use Rattle.sql_rows.specs.Spelling.{Content};
+ghost use Rattle.sql_writes.specs.Between.{IsBetween};
+ghost use Rattle.sql_writes.specs.Places.{place_of};
+ghost use Rattle.sql_writes.specs.Within.{IsWithinHall};
+
+use hall_types::{Machine, Name, Number, Status};
+use sql_counts::{count_down, count_up};
+use sql_rows::{name_in, number_value, status_in};
+use sql_schema::FIND_MACHINE;
+use sqlite::{Alter, Error, Row, Transaction};
+
+/// Where a machine is counted.
+#[derive(Clone, Copy)]
+pub(crate) struct Place {
+    pub(crate) pool: Name,
+    pub(crate) status: Status,
+}
+
+// What the query of the machine with a number shows.
+fn machine_rows<S: Alter>(tx: &mut Transaction<'_, S>, id: Number) -> Result<Vec<Row>, Error>
+    ensures same_reference { tx.new.conn.ghost_name ≡ tx.old.conn.ghost_name }
+    ensures ok { HasCleanDisk (state S.Store tx.new.conn.now) → IfOk result (λ rows. Shown find_machine_text (number id ∷ []) (state S.Store tx.old.conn.now) (state S.Store tx.new.conn.now) rows.items) }
+    ensures err { HasCleanDisk (state S.Store tx.new.conn.now) → IfErr result (λ e. FailsToQuery find_machine_text (number id ∷ []) (state S.Store tx.old.conn.now) (state S.Store tx.new.conn.now) e ⊎ IsTooLate find_machine_text (number id ∷ []) (state S.Store tx.old.conn.now) (state S.Store tx.new.conn.now) e) }
+    ensures survives { Survives (state S.Store tx.old.conn.now) (state S.Store tx.new.conn.now) (λ _. ⊥) }
+{
+    tx.query_all(FIND_MACHINE, &[number_value(id.get())])
+}
+
+// The same, in the words of the hall.
+fn rows_of_machine<S: Alter>(tx: &mut Transaction<'_, S>, id: Number) -> Result<Vec<Row>, Error>
+    ensures same_reference { tx.new.conn.ghost_name ≡ tx.old.conn.ghost_name }
+    ensures found { HasCleanDisk (state S.Store tx.new.conn.now) → IfOk result (λ rows. (before h : Hall) → IsWithinHall (state S.Store tx.old.conn.now) before h → (rows.items ≡ map machine_values (option_to_list (at h.machines id))) × IsWithinHall (state S.Store tx.new.conn.now) before h) }
+    ensures mode { HasCleanDisk (state S.Store tx.new.conn.now) → OnOk result (IsTrue (state S.Store tx.old.conn.now).in_transaction → (state S.Store tx.new.conn.now).in_transaction ≡ true) }
+    ensures kept { HasCleanDisk (state S.Store tx.new.conn.now) → IsTrue (state S.Store tx.old.conn.now).in_transaction → KeepsCommit (state S.Store tx.old.conn.now) (state S.Store tx.new.conn.now) }
+    ensures survives { Survives (state S.Store tx.old.conn.now) (state S.Store tx.new.conn.now) (λ _. ⊥) }
+{
+    machine_rows(tx, id)
+}
+
+fn place_in(row: &Row) -> Result<Place, Error>
+    ensures { IfOk result (λ place. (machine : Machine) → row.now ≡ machine_values machine → place ≡ place_of machine) }
+{
+    let pool = name_in(row, 3)?;
+    let status = status_in(row, 4)?;
+    Ok(Place { pool, status })
+}
+
+fn first_place(rows: &Vec<Row>) -> Result<Option<Place>, Error>
+    ensures { IfOk result (λ found. (machine : Option Machine) → rows.now.items ≡ map machine_values (option_to_list machine) → found ≡ option_map place_of machine) }
+{
+    match rows.first() {
+        None => Ok(None),
+        Some(row) => Ok(Some(place_in(row)?)),
+    }
+}
+
+/// The place of the machine with this number, if there is one.
+pub(crate) fn find_place<S: Alter>(
+    tx: &mut Transaction<'_, S>,
+    id: Number,
+) -> Result<Option<Place>, Error>
+    ensures same_reference { tx.new.conn.ghost_name ≡ tx.old.conn.ghost_name }
+    ensures found { HasCleanDisk (state S.Store tx.new.conn.now) → IfOk result (λ place. (before h : Hall) → IsWithinHall (state S.Store tx.old.conn.now) before h → (place ≡ option_map place_of (at h.machines id)) × IsWithinHall (state S.Store tx.new.conn.now) before h) }
+    ensures mode { HasCleanDisk (state S.Store tx.new.conn.now) → OnOk result (IsTrue (state S.Store tx.old.conn.now).in_transaction → (state S.Store tx.new.conn.now).in_transaction ≡ true) }
+    ensures kept { HasCleanDisk (state S.Store tx.new.conn.now) → IsTrue (state S.Store tx.old.conn.now).in_transaction → KeepsCommit (state S.Store tx.old.conn.now) (state S.Store tx.new.conn.now) }
+    ensures survives { Survives (state S.Store tx.old.conn.now) (state S.Store tx.new.conn.now) (λ _. ⊥) }
+{
+    match rows_of_machine(tx, id) {
+        Ok(rows) => first_place(&rows),
+        Err(error) => Err(error),
+    }
+}
+
+/// A machine is counted that wasn't.
+pub(crate) fn count_in<S: Alter>(
+    tx: &mut Transaction<'_, S>,
+    machine: &Machine,
+) -> Result<(), Error>
+    ensures same_reference { tx.new.conn.ghost_name ≡ tx.old.conn.ghost_name }
+    ensures made { HasCleanDisk (state S.Store tx.new.conn.now) → OnOk result ((before h : Hall) (counted wiped : Rows numbers Machine) → IsBetween (state S.Store tx.old.conn.now) before h counted wiped → at counted machine.now.id ≡ None → IsBetween (state S.Store tx.new.conn.now) before h (put machine.now.id machine.now counted) wiped) }
+    ensures mode { HasCleanDisk (state S.Store tx.new.conn.now) → OnOk result (IsTrue (state S.Store tx.old.conn.now).in_transaction → (state S.Store tx.new.conn.now).in_transaction ≡ true) }
+    ensures kept { HasCleanDisk (state S.Store tx.new.conn.now) → IsTrue (state S.Store tx.old.conn.now).in_transaction → KeepsCommit (state S.Store tx.old.conn.now) (state S.Store tx.new.conn.now) }
+    ensures survives { Survives (state S.Store tx.old.conn.now) (state S.Store tx.new.conn.now) (λ _. ⊥) }
+{
+    match count_up(tx, &machine.pool, machine.status) {
+        Ok(_) => Ok(()),
+        Err(error) => Err(error),
+    }
+}
+
+/// A machine that was counted at its place is counted no more.
+pub(crate) fn count_out<S: Alter>(tx: &mut Transaction<'_, S>, place: &Place) -> Result<(), Error>
+    ensures same_reference { tx.new.conn.ghost_name ≡ tx.old.conn.ghost_name }
+    ensures made { HasCleanDisk (state S.Store tx.new.conn.now) → OnOk result ((before h : Hall) (counted wiped : Rows numbers Machine) → IsBetween (state S.Store tx.old.conn.now) before h counted wiped → (id : ℕ) (machine : Machine) → at counted id ≡ Some machine → place.now ≡ place_of machine → IsBetween (state S.Store tx.new.conn.now) before h (gone id counted) wiped) }
+    ensures mode { HasCleanDisk (state S.Store tx.new.conn.now) → OnOk result (IsTrue (state S.Store tx.old.conn.now).in_transaction → (state S.Store tx.new.conn.now).in_transaction ≡ true) }
+    ensures kept { HasCleanDisk (state S.Store tx.new.conn.now) → IsTrue (state S.Store tx.old.conn.now).in_transaction → KeepsCommit (state S.Store tx.old.conn.now) (state S.Store tx.new.conn.now) }
+    ensures survives { Survives (state S.Store tx.old.conn.now) (state S.Store tx.new.conn.now) (λ _. ⊥) }
+{
+    match count_down(tx, &place.pool, place.status) {
+        Ok(_) => Ok(()),
+        Err(error) => Err(error),
+    }
+}
+
+/// A machine that was counted at a place is counted where it is now.
+pub(crate) fn move_count<S: Alter>(
+    tx: &mut Transaction<'_, S>,
+    from: &Place,
+    machine: &Machine,
+) -> Result<(), Error>
+    ensures same_reference { tx.new.conn.ghost_name ≡ tx.old.conn.ghost_name }
+    ensures made { HasCleanDisk (state S.Store tx.new.conn.now) → OnOk result ((before h : Hall) (counted wiped : Rows numbers Machine) → IsBetween (state S.Store tx.old.conn.now) before h counted wiped → (was : Machine) → at counted machine.now.id ≡ Some was → from.now ≡ place_of was → IsBetween (state S.Store tx.new.conn.now) before h (put machine.now.id machine.now counted) wiped) }
+    ensures mode { HasCleanDisk (state S.Store tx.new.conn.now) → OnOk result (IsTrue (state S.Store tx.old.conn.now).in_transaction → (state S.Store tx.new.conn.now).in_transaction ≡ true) }
+    ensures kept { HasCleanDisk (state S.Store tx.new.conn.now) → IsTrue (state S.Store tx.old.conn.now).in_transaction → KeepsCommit (state S.Store tx.old.conn.now) (state S.Store tx.new.conn.now) }
+    ensures survives { Survives (state S.Store tx.old.conn.now) (state S.Store tx.new.conn.now) (λ _. ⊥) }
+{
+    if from.pool == machine.pool && from.status.number() == machine.status.number() {
+        return Ok(());
+    }
+    match count_out(tx, from) {
+        Ok(()) => count_in(tx, machine),
+        Err(error) => Err(error),
+    }
+}

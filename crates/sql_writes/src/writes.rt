@@ -1,0 +1,73 @@
+//! One row write, by its kind.
+ghost use Rattle.std.specs.Prelude.{◌≡◌, OnOk, IsTrue, true};
+ghost use Rattle.sqlite.specs.Held.{state};
+ghost use Rattle.sqlite.specs.State.{HasCleanDisk, KeepsCommit, Survives};
+ghost use Rattle.hall_types.specs.Hall.{Hall, written};
+ghost use Rattle.hall_types.specs.declared.change.RowWrite.TheVariants.{PutMachine};
+ghost use Rattle.hall_store.specs.Rules.{Keeps};
+ghost use Rattle.hall_store.specs.Versions.{HasVersion};
+ghost use Rattle.sql_writes.specs.Within.{IsWithinHall};
+
+use crate::machines::{add_whole, set_whole};
+use crate::removal::remove_machine;
+use hall_types::{Machine, RowWrite, Version};
+use sql_images::{add_image, put_live, remove_image};
+use sql_interfaces::{add_interface, remove_interface};
+use sql_machines::{put_boot, put_order};
+use sql_names::{add_member, add_pool, put_operator};
+use sql_receipts::{add_receipt, set_numbers};
+use sqlite::{Alter, Error, Transaction};
+use std::alloc::Global;
+
+// A machine's row is put: over the version that it had, or new.
+fn put_machine<S: Alter>(
+    tx: &mut Transaction<'_, S>,
+    machine: &Machine,
+    was: Option<Version>,
+) -> Result<(), Error>
+    ensures same_reference { tx.new.conn.ghost_name ≡ tx.old.conn.ghost_name }
+    ensures made { HasCleanDisk (state S.Store tx.new.conn.now) → OnOk result ((before h : Hall) → IsWithinHall (state S.Store tx.old.conn.now) before h → IsWithinHall (state S.Store tx.new.conn.now) before (written (PutMachine machine.now was) h)) }
+    ensures version { HasCleanDisk (state S.Store tx.new.conn.now) → OnOk result ((before h : Hall) → IsWithinHall (state S.Store tx.old.conn.now) before h → HasVersion (PutMachine machine.now was) h) }
+    ensures mode { HasCleanDisk (state S.Store tx.new.conn.now) → OnOk result (IsTrue (state S.Store tx.old.conn.now).in_transaction → (state S.Store tx.new.conn.now).in_transaction ≡ true) }
+    ensures kept { HasCleanDisk (state S.Store tx.new.conn.now) → IsTrue (state S.Store tx.old.conn.now).in_transaction → KeepsCommit (state S.Store tx.old.conn.now) (state S.Store tx.new.conn.now) }
+    ensures survives { Survives (state S.Store tx.old.conn.now) (state S.Store tx.new.conn.now) (λ _. ⊥) }
+{
+    match was {
+        Some(was) => set_whole(tx, machine, was),
+        None => add_whole(tx, machine),
+    }
+}
+
+/// Writes one row inside a transaction. It is to keep the tables' rules. `alloc` is for the text of an image's arguments.
+/// A machine's row that was to have another version is an error, and so is a machine that was to be new and is there, or one
+/// whose deadline is past the greatest number of a column, 2^63 - 1.
+pub fn write_row<S: Alter>(
+    alloc: Global,
+    tx: &mut Transaction<'_, S>,
+    write: &RowWrite,
+) -> Result<(), Error>
+    ensures same_reference { tx.new.conn.ghost_name ≡ tx.old.conn.ghost_name }
+    ensures made { HasCleanDisk (state S.Store tx.new.conn.now) → OnOk result ((before h : Hall) → IsWithinHall (state S.Store tx.old.conn.now) before h → Keeps write.now h → IsWithinHall (state S.Store tx.new.conn.now) before (written write.now h)) }
+    ensures version { HasCleanDisk (state S.Store tx.new.conn.now) → OnOk result ((before h : Hall) → IsWithinHall (state S.Store tx.old.conn.now) before h → Keeps write.now h → HasVersion write.now h) }
+    ensures mode { HasCleanDisk (state S.Store tx.new.conn.now) → OnOk result (IsTrue (state S.Store tx.old.conn.now).in_transaction → (state S.Store tx.new.conn.now).in_transaction ≡ true) }
+    ensures kept { HasCleanDisk (state S.Store tx.new.conn.now) → IsTrue (state S.Store tx.old.conn.now).in_transaction → KeepsCommit (state S.Store tx.old.conn.now) (state S.Store tx.new.conn.now) }
+    ensures survives { Survives (state S.Store tx.old.conn.now) (state S.Store tx.new.conn.now) (λ _. ⊥) }
+{
+    match write {
+        RowWrite::PutOperator(operator) => put_operator(tx, operator)?,
+        RowWrite::PutPool(pool) => _ = add_pool(tx, pool)?,
+        RowWrite::PutMember(member) => _ = add_member(tx, member)?,
+        RowWrite::PutImage(image) => _ = add_image(alloc, tx, image)?,
+        RowWrite::ImageGone(name) => _ = remove_image(tx, name)?,
+        RowWrite::PutLive(live) => put_live(tx, live)?,
+        RowWrite::PutMachine { machine, was } => put_machine(tx, machine, *was)?,
+        RowWrite::MachineGone(id) => remove_machine(tx, *id)?,
+        RowWrite::PutInterface(interface) => _ = add_interface(tx, interface)?,
+        RowWrite::InterfaceGone(mac) => _ = remove_interface(tx, *mac)?,
+        RowWrite::PutBoot(boot) => put_boot(tx, boot)?,
+        RowWrite::PutOrder(order) => put_order(tx, order)?,
+        RowWrite::PutReceipt(receipt) => _ = add_receipt(tx, receipt)?,
+        RowWrite::PutNumbers(numbers) => _ = set_numbers(tx, *numbers)?,
+    }
+    Ok(())
+}

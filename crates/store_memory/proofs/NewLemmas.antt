@@ -1,0 +1,30 @@
+-- What a store has of no machines.
+use Rattle.std.proofs.Common.{◌≡◌, ℕ, List, Some, refl, sym, ap, ◌∙◌}
+use Rattle.std.specs.HashMap.{IsEmpty}
+use Rattle.std.specs.FinMap.{len-empty}
+use Rattle.std.specs.Map.{lookup}
+use Rattle.std.specs.Ordering.{nat_cmp}
+use Rattle.std.specs.Str.{bytes_eq}
+use Rattle.std.proofs.lemmas.Option.{none-some}
+use Rattle.hall_types.specs.Rows.{at, no_rows, numbers, size}
+use Rattle.hall_types.specs.RowLaws.{at-no_rows}
+use Rattle.hall_types.specs.declared.machine.Machine.{Machine}
+use Rattle.store_memory.specs.Hashed.{Hashed}
+use Rattle.store_memory.specs.Held.{IsEarliest, IsIndex}
+use Rattle.store_memory.specs.Table.{row_in}
+
+no_machine : (id : ℕ) (m : Machine) → at (no_rows {K = ℕ} {X = Machine} {keys = numbers}) id ≡ Some m → ⊥
+no_machine id m there = none-some m (sym (at-no_rows numbers id no_rows refl) ∙ there)
+
+pub new_index : (index : Hashed (List ℕ) ℕ) → IsEmpty index → IsIndex index no_rows
+new_index index empty uuid id = (
+  λ found. absurd (none-some id (sym (ap (λ es. row_in (lookup (bytes_eq uuid) es)) empty) ∙ found)),
+  λ there. absurd (no_machine id there.0 there.1),
+)
+
+pub new_count : 0 ≡ size (no_rows {K = ℕ} {X = Machine} {keys = numbers})
+unfolding size no_rows numbers
+new_count = sym (len-empty nat_cmp Machine)
+
+pub new_earliest : (earliest : ℕ) → IsEarliest earliest no_rows
+new_earliest earliest id m deadline there is = absurd (no_machine id m there)

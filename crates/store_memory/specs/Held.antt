@@ -1,0 +1,99 @@
+-- Which hall a store in memory has.
+use Rattle.std.specs.Prelude.{◌≡◌, ℕ, ◌≤◌, ◌↔◌, ⊤, List, [], ◌∷◌, Option, Some, None, if◌then◌else◌}
+use Rattle.std.specs.Cmp.Lexicographic.{slice_cmp}
+use Rattle.std.specs.Ordering.{nat_cmp, ordering_then}
+use Rattle.std.specs.Str.{bytes_eq}
+use Rattle.std.specs.declared.cmp.Ordering.{Ordering}
+use Rattle.hall_types.specs.Hall.{Hall, pair, second}
+use Rattle.hall_types.specs.Kinds.{arch_number}
+use Rattle.hall_types.specs.Keyed.{IsKeyed}
+use Rattle.hall_types.specs.Lookup.{has_uuid}
+use Rattle.hall_types.specs.Rows.{Rows, numbers, texts, at, size}
+use Rattle.hall_types.specs.declared.change.RowWrite.{RowWrite}
+use Rattle.hall_types.specs.declared.change.RowWrite.TheVariants.{PutOperator, PutPool, PutMember, PutImage, ImageGone, PutLive, PutMachine, MachineGone, PutInterface, InterfaceGone, PutBoot, PutOrder, PutReceipt, PutNumbers}
+use Rattle.hall_types.specs.declared.machine.Interface.{Interface}
+use Rattle.hall_types.specs.declared.machine.Machine.{Machine}
+use Rattle.store_memory.specs.Hashed.{HasEntry, Hashed, entry_at}
+use Rattle.store_memory.specs.Table.{HasPlace, IsTable}
+use Rattle.store_memory.specs.declared.memory.MemoryStore.{MemoryStore}
+
+abbrev pub text_cmp : List ℕ → List ℕ → Ordering
+text_cmp = slice_cmp nat_cmp
+
+-- pairs, by their first parts and then by the second
+abbrev pub pair_cmp : List ℕ × List ℕ → List ℕ × List ℕ → Ordering
+pair_cmp one other = ordering_then (text_cmp one.0 other.0) (text_cmp one.1 other.1)
+
+abbrev pub itself : {K : Type 0} → K → K
+itself key = key
+
+abbrev pub as_pair : List ℕ × List ℕ → List (List ℕ)
+as_pair key = pair key.0 key.1
+
+-- the interfaces are found by their addresses
+abbrev pub AreFound : Hashed (List ℕ) Interface → Rows texts Interface → Type 0
+AreFound table interfaces = (mac : List ℕ) → entry_at bytes_eq table mac ≡ at interfaces mac
+
+-- the index has the number of the machine with each UUID
+abbrev pub IsIndex : Hashed (List ℕ) ℕ → Rows numbers Machine → Type 0
+IsIndex index machines = (uuid : List ℕ) (id : ℕ) →
+    (entry_at bytes_eq index uuid ≡ Some id) ↔ ((m : Machine) × (at machines id ≡ Some m) × (m.uuid ≡ Some uuid))
+
+-- the UUID of a machine, if there is a machine and it has one
+abbrev pub uuid_of : Option Machine → Option (List ℕ)
+uuid_of None = None
+uuid_of (Some m) = m.uuid
+
+-- the entry of a UUID, if one is given, is this one now, and the others are as before
+abbrev pub SetsEntry : Hashed (List ℕ) ℕ → Hashed (List ℕ) ℕ → Option (List ℕ) → Option ℕ → Type 0
+SetsEntry old new given entry = (uuid : List ℕ) → entry_at bytes_eq new uuid ≡ (if has_uuid given uuid then entry else entry_at bytes_eq old uuid)
+
+-- no machine has an earlier deadline
+abbrev pub IsEarliest : ℕ → Rows numbers Machine → Type 0
+IsEarliest earliest machines = (id : ℕ) (m : Machine) (deadline : ℕ) → at machines id ≡ Some m → m.deadline ≡ Some deadline → earliest ≤ deadline
+
+-- the store has this hall: each table has its rows, and what is kept beside the tables is theirs
+pub record IsHeld (s : MemoryStore) (h : Hall) : Type 0 where
+  pub schema : h.schema ≡ second
+  pub keyed : IsKeyed h
+  pub operators : IsTable text_cmp itself s.operators h.operators
+  pub pools : IsTable text_cmp itself s.pools h.pools
+  pub members : IsTable pair_cmp as_pair s.members h.members
+  pub images : IsTable text_cmp itself s.images h.images
+  pub lives : IsTable nat_cmp itself s.lives h.lives
+  pub machines : IsTable nat_cmp itself s.machines h.machines
+  pub interfaces : IsTable text_cmp itself s.interfaces h.interfaces
+  pub boots : IsTable nat_cmp itself s.boots h.boots
+  pub orders : IsTable nat_cmp itself s.orders h.orders
+  pub receipts : IsTable pair_cmp as_pair s.receipts h.receipts
+  pub last : s.numbers ≡ h.last
+  pub addresses : AreFound s.addresses h.interfaces
+  pub uuids : IsIndex s.uuids h.machines
+  pub count : s.machine_count ≡ size h.machines
+  pub earliest : IsEarliest s.earliest h.machines
+
+-- there is a place for what the row write puts
+abbrev pub HasPlaces : RowWrite → MemoryStore → Type 0
+HasPlaces (PutOperator o) s = HasPlace text_cmp s.operators o.name
+HasPlaces (PutPool p) s = HasPlace text_cmp s.pools p.name
+HasPlaces (PutMember m) s = HasPlace pair_cmp s.members (m.pool, m.operator)
+HasPlaces (PutImage i) s = HasPlace text_cmp s.images i.name
+HasPlaces (ImageGone name) s = ⊤
+HasPlaces (PutLive l) s = HasPlace nat_cmp s.lives (arch_number l.arch)
+HasPlaces (PutMachine m was) s = HasPlace nat_cmp s.machines m.id × ((uuid : List ℕ) → m.uuid ≡ Some uuid → HasEntry bytes_eq s.uuids uuid)
+HasPlaces (MachineGone id) s = ⊤
+HasPlaces (PutInterface i) s = HasPlace text_cmp s.interfaces i.mac × HasEntry bytes_eq s.addresses i.mac
+HasPlaces (InterfaceGone mac) s = ⊤
+HasPlaces (PutBoot b) s = HasPlace nat_cmp s.boots b.number
+HasPlaces (PutOrder o) s = HasPlace nat_cmp s.orders o.number
+HasPlaces (PutReceipt r) s = HasPlace pair_cmp s.receipts (r.operator, r.key)
+HasPlaces (PutNumbers n) s = ⊤
+
+-- each place is still there
+abbrev pub KeepsAllPlaces : MemoryStore → MemoryStore → Type 0
+KeepsAllPlaces old new = (w : RowWrite) → HasPlaces w old → HasPlaces w new
+
+-- there are places for what all row writes put
+abbrev pub HaveAllPlaces : List RowWrite → MemoryStore → Type 0
+HaveAllPlaces [] s = ⊤
+HaveAllPlaces (w ∷ ws) s = HasPlaces w s × HaveAllPlaces ws s
