@@ -26,8 +26,8 @@ use Rattle.boot_desk.specs.Following.{entry_rows, machine_row}
 use Rattle.boot_desk.specs.declared.fault.DeskFault.{DeskFault}
 use Rattle.boot_desk.specs.declared.fault.DeskFault.TheVariants.{Refused, Memory}
 use Rattle.desk_command.specs.Causes.{release_action}
-use Rattle.desk_command.specs.declared.effects.Said.{Said}
-use Rattle.desk_command.specs.declared.effects.Said.TheVariants as said
+use Rattle.desk_command.specs.declared.effects.Subject.{Subject}
+use Rattle.desk_command.specs.declared.effects.Subject.TheVariants as subject
 use Rattle.desk_command.specs.declared.view.CommandView.{CommandView}
 
 -- the rows to write and what is answered, or a refusal
@@ -159,13 +159,13 @@ effect v o (OnMachine id version command) moment = machine_effect_if v.machine v
 
 -- ---- what the code answers before it has a text
 
-abbrev pub content_of : Said → Content
-content_of (said.Machine m) = about m
-content_of (said.Gone id) = machine_gone id
-content_of said.Done = done
+abbrev pub content_of : Subject → Content
+content_of (subject.Machine m) = about m
+content_of (subject.Gone id) = machine_gone id
+content_of subject.Done = done
 
 -- the rows and the answer are the effect's, or its refusal, or memory was wanting
-abbrev pub Effects : Result (List RowWrite × Said) DeskFault → Effect → Type 0
+abbrev pub Effects : Result (List RowWrite × Subject) DeskFault → Effect → Type 0
 Effects (Ok made) is = is ≡ Ok (made.0, content_of made.1)
 Effects (Err (Refused refusal)) is = is ≡ Err refusal
 Effects (Err Memory) is = ⊤

@@ -8,7 +8,7 @@ ghost use Rattle.desk_command.specs.Command.{body_of, commanded, receipt_of, rep
 ghost use Rattle.desk_command.specs.Effect.{content_of};
 
 use crate::cause::cause;
-use crate::effects::{Said, effect};
+use crate::effects::{Subject, effect};
 use crate::view::CommandView;
 use boot_desk::DeskFault;
 use hall_events::{HallCommand, Reply};
@@ -16,13 +16,13 @@ use hall_types::{Change, Moment, Operator, Receipt, Refusal, RequestKey, RowWrit
 use std::alloc::{AllocError, Global};
 
 // The answer with its text.
-fn reply(alloc: Global, said: &Said) -> Result<Reply, AllocError>
-    ensures { IfOk result (λ reply. reply ≡ reply_of second (content_of said.now)) }
+fn reply(alloc: Global, said: &Subject) -> Result<Reply, AllocError>
+    ensures { IfOk result (λ reply. reply ≡ reply_of second (content_of subject.now)) }
 {
     match said {
-        Said::Machine(machine) => Reply::machine(alloc, machine),
-        Said::Gone(id) => Reply::gone(alloc, *id),
-        Said::Done => Reply::done(alloc),
+        Subject::Machine(machine) => Reply::machine(alloc, machine),
+        Subject::Gone(id) => Reply::gone(alloc, *id),
+        Subject::Done => Reply::done(alloc),
     }
 }
 

@@ -3,7 +3,7 @@ ghost use Rattle.std.specs.Prelude.{◌≡◌, [], ◌∷◌, IfOk, IfErr, Ok, N
 ghost use Rattle.hall_types.specs.declared.change.RowWrite.TheVariants.{PutImage, PutInterface, PutMachine, PutNumbers};
 ghost use Rattle.hall_events.specs.Reply.{done};
 ghost use Rattle.hall_types.specs.Number.{next_number};
-ghost use Rattle.desk_command.specs.declared.effects.Said.TheVariants as said;
+ghost use Rattle.desk_command.specs.declared.effects.Subject.TheVariants as subject;
 ghost use Rattle.desk_command.specs.Effect.{Effects, acted, added, added_machine, disabled, edited, effect, live_image, machine_effect, moved_to_pool, prepared, raised};
 
 use crate::action::release_action;
@@ -19,7 +19,7 @@ use std::alloc::{AllocError, Global};
 
 /// What a command is answered, before it is a text.
 #[derive(Clone, Copy)]
-pub enum Said {
+pub enum Subject {
     /// The machine as it is afterwards.
     Machine(Machine),
     /// The number of the machine that is gone.
@@ -27,7 +27,7 @@ pub enum Said {
     Done,
 }
 
-type Effect = Result<(Change, Said), DeskFault>;
+type Effect = Result<(Change, Subject), DeskFault>;
 
 // What a command sets before the machine enters its status.
 fn prepared(command: &MachineCommand, by: &Operator, machine: &Machine) -> Machine
@@ -68,7 +68,7 @@ fn acted(
         return Err(DeskFault::Refused(Refusal::Exhausted));
     };
     match entry_rows(alloc, machine, view.order, &entered) {
-        Ok(rows) => Ok((Change::from(rows), Said::Machine(entered.machine))),
+        Ok(rows) => Ok((Change::from(rows), Subject::Machine(entered.machine))),
         Err(AllocError) => Err(DeskFault::Memory),
     }
 }
@@ -84,10 +84,10 @@ fn raised(machine: &Machine) -> Machine
 }
 
 // The answer about a machine.
-fn about(machine: &Machine) -> Said
-    ensures { result ≡ said.Machine machine.now }
+fn about(machine: &Machine) -> Subject
+    ensures { result ≡ subject.Machine machine.now }
 {
-    Said::Machine(*machine)
+    Subject::Machine(*machine)
 }
 
 // A row and another one.
@@ -134,7 +134,7 @@ fn moved_to_pool(alloc: Global, machine: &Machine, pool: Name) -> Effect
     ensures { Effects result (moved_to_pool machine.now pool) }
 {
     if machine.pool.text() == pool.text() {
-        return Ok((Change::from(Vec::new(alloc)), Said::Machine(*machine)));
+        return Ok((Change::from(Vec::new(alloc)), Subject::Machine(*machine)));
     }
     let after = Machine {
         pool,
@@ -178,7 +178,7 @@ fn machine_effect(
         MachineCommand::SetPool { pool } => return moved_to_pool(alloc, machine, pool),
         MachineCommand::Delete => {
             let rows = one(alloc, RowWrite::MachineGone(machine.id))?;
-            return Ok((rows, Said::Gone(machine.id)));
+            return Ok((rows, Subject::Gone(machine.id)));
         }
         MachineCommand::Lock => return locked(alloc, machine, true),
         MachineCommand::Unlock => return locked(alloc, machine, false),
@@ -271,13 +271,13 @@ fn disabled(alloc: Global, operator: Option<Operator>) -> Effect
         return Err(DeskFault::Refused(Refusal::NoOperator));
     };
     if !operator.enabled {
-        return Ok((Change::from(Vec::new(alloc)), Said::Done));
+        return Ok((Change::from(Vec::new(alloc)), Subject::Done));
     }
     let row = RowWrite::PutOperator(Operator {
         enabled: false,
         ..operator
     });
-    Ok((one(alloc, row)?, Said::Done))
+    Ok((one(alloc, row)?, Subject::Done))
 }
 
 fn live_image(alloc: Global, image: Name, arch: Option<Arch>) -> Effect
@@ -287,14 +287,14 @@ fn live_image(alloc: Global, image: Name, arch: Option<Arch>) -> Effect
         return Err(DeskFault::Refused(Refusal::NoImage));
     };
     let row = RowWrite::PutLive(Live { arch, image });
-    Ok((one(alloc, row)?, Said::Done))
+    Ok((one(alloc, row)?, Subject::Done))
 }
 
 // One row is put, and nothing else is to be said.
 fn put(alloc: Global, row: RowWrite) -> Effect
     ensures { Effects result (Ok (row ∷ [], done)) }
 {
-    Ok((one(alloc, row)?, Said::Done))
+    Ok((one(alloc, row)?, Subject::Done))
 }
 
 fn put_image(alloc: Global, image: &Image) -> Effect

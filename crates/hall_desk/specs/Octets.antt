@@ -1,4 +1,4 @@
--- Arrivals and answers in octets, and what they mean to the hall machine.
+-- Arrivals and answers in octets, and what they mean to the model.
 use Rattle.std.specs.Prelude.{◌≡◌, ◌≢◌, ◌⊎◌, ℕ, List, [], ◌∷◌, Ok, Err}
 use Rattle.dhcp_frame.specs.Message.{Message, IsFrame}
 use Rattle.dhcp_frame.specs.Reply.{reply_octets}

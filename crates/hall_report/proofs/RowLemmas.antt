@@ -18,12 +18,12 @@ unfolding rows_from
 good_row number fields row rows later good = rw good (regrouped rows row (rows_from (number + 1) later))
 
 -- the rows so far with one more
-pub more_rows : (later : List Row) (place : ℕ) (one : Row) (row : ImportRow) (rows new : List ImportRow) (all : Result (List ImportRow) ImportFault)
-    → place < length later → one ≡ get_or later place one → Some row ≡ row_of (fields_of one) → new ≡ rows ++ row ∷ []
-    → with_ok (λ more. rows ++ more) (rows_from (place + 1) (map fields_of (drop place later))) ≡ all
-    → with_ok (λ more. new ++ more) (rows_from (place + 1 + 1) (map fields_of (drop (place + 1) later))) ≡ all
-more_rows later place one row rows new all inside at good pushed so_far =
-    let here : drop place later ≡ one ∷ drop (place + 1) later =
-    rw add-one (drop-cons later place one inside ∙ ap (λ (first : Row). first ∷ drop (suc place) later) (sym at)) in
-    rw pushed (good_row (place + 1) (fields_of one) row rows (map fields_of (drop (place + 1) later)) (sym good)
-    ∙ ap (λ (values : List Row). with_ok (λ more. rows ++ more) (rows_from (place + 1) (map fields_of values))) (sym here) ∙ so_far)
+pub more_rows : (later : List Row) (column : ℕ) (one : Row) (row : ImportRow) (rows new : List ImportRow) (all : Result (List ImportRow) ImportFault)
+    → column < length later → one ≡ get_or later column one → Some row ≡ row_of (fields_of one) → new ≡ rows ++ row ∷ []
+    → with_ok (λ more. rows ++ more) (rows_from (column + 1) (map fields_of (drop column later))) ≡ all
+    → with_ok (λ more. new ++ more) (rows_from (column + 1 + 1) (map fields_of (drop (column + 1) later))) ≡ all
+more_rows later column one row rows new all inside at good pushed so_far =
+    let here : drop column later ≡ one ∷ drop (column + 1) later =
+    rw add-one (drop-cons later column one inside ∙ ap (λ (first : Row). first ∷ drop (suc column) later) (sym at)) in
+    rw pushed (good_row (column + 1) (fields_of one) row rows (map fields_of (drop (column + 1) later)) (sym good)
+    ∙ ap (λ (values : List Row). with_ok (λ more. rows ++ more) (rows_from (column + 1) (map fields_of values))) (sym here) ∙ so_far)

@@ -20,9 +20,9 @@ use Rattle.hall_report.specs.declared.row.ImportRow.{ImportRow}
 abbrev pub text_of : List ℕ → Option (List ℕ)
 text_of octets = if is_utf8 octets then Some octets else None
 
--- the text of the field at a place, from 0 on
+-- the text of the field at a column, from 0 on
 abbrev pub text_at : ℕ → List (List ℕ) → Option (List ℕ)
-text_at place fields = option_and_then text_of (field_at fields place)
+text_at column fields = option_and_then text_of (field_at fields column)
 
 abbrev pub name_of : List ℕ → Option (List ℕ)
 name_of text = if is_name text then Some text else None

@@ -27,10 +27,10 @@ fn records_of(alloc: Global, octets: &[u8]) -> Result<Vec<ByteRecord>, AllocErro
     Ok(all)
 }
 
-fn has_field(values: &ByteRecord, place: usize, name: &str) -> bool
-    ensures { result ≡ is_field name.now (field_at (fields_of values.now) place) }
+fn has_field(values: &ByteRecord, column: usize, name: &str) -> bool
+    ensures { result ≡ is_field name.now (field_at (fields_of values.now) column) }
 {
-    match values.get(place) {
+    match values.get(column) {
         Some(field) => field == name.as_bytes(),
         None => false,
     }
@@ -66,7 +66,7 @@ fn import_of(alloc: Global, all: &[ByteRecord]) -> Result<Vec<ImportRow>, Import
 /// A byte order mark at the start and empty lines are passed over.
 ///
 /// Faults, in this order: `BadHeader`, also where there is no record; `BadRow` with the number, from 1 on, of the first record
-/// after the header that has another number of fields or a bad field. `Memory` may come at any place.
+/// after the header that has another number of fields or a bad field. `Memory` may come in the place of each.
 pub fn import_rows(alloc: Global, octets: &[u8]) -> Result<Vec<ImportRow>, ImportFault>
     ensures { Answers (with_ok (λ rows. rows.items) result) (import_in octets.now) }
 {

@@ -35,10 +35,10 @@ fn text_of(octets: &[u8]) -> Option<&str>
     }
 }
 
-fn text_at(values: &ByteRecord, place: usize) -> Option<&str>
-    ensures { option_copied result ≡ text_at place (fields_of values.now) }
+fn text_at(values: &ByteRecord, column: usize) -> Option<&str>
+    ensures { option_copied result ≡ text_at column (fields_of values.now) }
 {
-    match values.get(place) {
+    match values.get(column) {
         Some(field) => text_of(field),
         None => None,
     }
@@ -184,10 +184,10 @@ pub(crate) fn rows_of(alloc: Global, later: &[ByteRecord]) -> Result<Vec<ImportR
     ensures { Answers (with_ok (λ rows. rows.items) result) (rows_from 1 (map fields_of later.now)) }
 {
     let mut rows = Vec::new(alloc);
-    for (place, values) in later.iter().enumerate() {
+    for (column, values) in later.iter().enumerate() {
         match row_of(values) {
             Some(row) => push_row(&mut rows, row)?,
-            None => return Err(ImportFault::BadRow(place as u64 + 1)),
+            None => return Err(ImportFault::BadRow(column as u64 + 1)),
         }
     }
     Ok(rows)

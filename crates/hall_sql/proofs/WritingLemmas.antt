@@ -45,7 +45,7 @@ pub record Going (s0 s : State) (left all : List RowWrite) : Type 0 where
   pub made : HasCleanDisk s → (h : Hall) → IsHeld s0 h → AllKeep all h → Leads s left all h
 
 spells_now : (s : State) (before h : Hall) → IsWithinHall s before h → SpellHall s.now.trees h
-spells_now s before h it = record { content = it.content; tables = it.within.spelt.tables; agrees = it.agrees }
+spells_now s before h it = record { hall_rows = it.hall_rows; tables = it.within.spelt.tables; agrees = it.agrees }
 
 pub begins : {S : Type 0} (g : trees.Ghosts S) (h0 h1 : Held S) (all : List RowWrite) → h1 ≡ record h0 { in_transaction = true } → Going (state g h0) (state g h1) all all
 begins g h0 h1 all is = rw is (record {
@@ -55,7 +55,7 @@ begins g h0 h1 all is = rw is (record {
   made = λ _ h held keep. record {
     now = h;
     within = record {
-      content = held.spelt.content;
+      hall_rows = held.spelt.hall_rows;
       within = record {
         spelt = record { schema = held.schema; tables = held.spelt.tables };
         committed_schema = ap (λ (d : Database). d.schema) held.kept ∙ held.schema;

@@ -89,97 +89,97 @@ outcome_word outcome.Failed = refl
 pub outcome_by_text : (text : List ℕ) (k : Outcome) → (outcome_of_text text ≡ Some k) ↔ (outcome_text k ≡ text)
 outcome_by_text text k = exact_text outcome_text outcomes outcome_word text k
 
-arch_place : (k : Arch) → arch_of_number (arch_number k) ≡ Some k
+arch_found : (k : Arch) → arch_of_number (arch_number k) ≡ Some k
 unfolding arch_number
-arch_place arch.Bios = refl
-arch_place arch.Uefi32 = refl
-arch_place arch.Uefi64 = refl
-arch_place arch.Arm64 = refl
+arch_found arch.Bios = refl
+arch_found arch.Uefi32 = refl
+arch_found arch.Uefi64 = refl
+arch_found arch.Arm64 = refl
 
 pub arch_by_number : (number : ℕ) (k : Arch) → (arch_of_number number ≡ Some k) ↔ (arch_number k ≡ number)
-arch_by_number number k = exact_number arch_number archs arch_place number k
+arch_by_number number k = exact_number arch_number archs arch_found number k
 
-role_place : (k : Role) → role_of_number (role_number k) ≡ Some k
+role_found : (k : Role) → role_of_number (role_number k) ≡ Some k
 unfolding role_number
-role_place role.Admin = refl
-role_place role.User = refl
-role_place role.Power = refl
+role_found role.Admin = refl
+role_found role.User = refl
+role_found role.Power = refl
 
 pub role_by_number : (number : ℕ) (k : Role) → (role_of_number number ≡ Some k) ↔ (role_number k ≡ number)
-role_by_number number k = exact_number role_number roles role_place number k
+role_by_number number k = exact_number role_number roles role_found number k
 
-purpose_place : (k : Purpose) → purpose_of_number (purpose_number k) ≡ Some k
+purpose_found : (k : Purpose) → purpose_of_number (purpose_number k) ≡ Some k
 unfolding purpose_number
-purpose_place purpose.Commission = refl
-purpose_place purpose.Test = refl
-purpose_place purpose.Deploy = refl
-purpose_place purpose.Erase = refl
-purpose_place purpose.Rescue = refl
+purpose_found purpose.Commission = refl
+purpose_found purpose.Test = refl
+purpose_found purpose.Deploy = refl
+purpose_found purpose.Erase = refl
+purpose_found purpose.Rescue = refl
 
 pub purpose_by_number : (number : ℕ) (k : Purpose) → (purpose_of_number number ≡ Some k) ↔ (purpose_number k ≡ number)
-purpose_by_number number k = exact_number purpose_number purposes purpose_place number k
+purpose_by_number number k = exact_number purpose_number purposes purpose_found number k
 
-stage_place : (k : Stage) → stage_of_number (stage_number k) ≡ Some k
+stage_found : (k : Stage) → stage_of_number (stage_number k) ≡ Some k
 unfolding stage_number
-stage_place stage.Offered = refl
-stage_place stage.Started = refl
-stage_place stage.Done = refl
-stage_place stage.Failed = refl
+stage_found stage.Offered = refl
+stage_found stage.Started = refl
+stage_found stage.Done = refl
+stage_found stage.Failed = refl
 
 pub stage_by_number : (number : ℕ) (k : Stage) → (stage_of_number number ≡ Some k) ↔ (stage_number k ≡ number)
-stage_by_number number k = exact_number stage_number stages stage_place number k
+stage_by_number number k = exact_number stage_number stages stage_found number k
 
-order_kind_place : (k : OrderKind) → order_kind_of_number (order_kind_number k) ≡ Some k
+order_kind_found : (k : OrderKind) → order_kind_of_number (order_kind_number k) ≡ Some k
 unfolding order_kind_number
-order_kind_place orderkind.Cycle = refl
-order_kind_place orderkind.Off = refl
+order_kind_found orderkind.Cycle = refl
+order_kind_found orderkind.Off = refl
 
 pub order_kind_by_number : (number : ℕ) (k : OrderKind) → (order_kind_of_number number ≡ Some k) ↔ (order_kind_number k ≡ number)
-order_kind_by_number number k = exact_number order_kind_number order_kinds order_kind_place number k
+order_kind_by_number number k = exact_number order_kind_number order_kinds order_kind_found number k
 
-order_stage_place : (k : OrderStage) → order_stage_of_number (order_stage_number k) ≡ Some k
+order_stage_found : (k : OrderStage) → order_stage_of_number (order_stage_number k) ≡ Some k
 unfolding order_stage_number
-order_stage_place orderstage.Waiting = refl
-order_stage_place orderstage.Done = refl
-order_stage_place orderstage.Failed = refl
-order_stage_place orderstage.Withdrawn = refl
+order_stage_found orderstage.Waiting = refl
+order_stage_found orderstage.Done = refl
+order_stage_found orderstage.Failed = refl
+order_stage_found orderstage.Withdrawn = refl
 
 pub order_stage_by_number : (number : ℕ) (k : OrderStage) → (order_stage_of_number number ≡ Some k) ↔ (order_stage_number k ≡ number)
-order_stage_by_number number k = exact_number order_stage_number order_stages order_stage_place number k
+order_stage_by_number number k = exact_number order_stage_number order_stages order_stage_found number k
 
-erase_place : (k : Erase) → erase_of_number (erase_number k) ≡ Some k
+erase_found : (k : Erase) → erase_of_number (erase_number k) ≡ Some k
 unfolding erase_number
-erase_place erase.Quick = refl
-erase_place erase.Full = refl
+erase_found erase.Quick = refl
+erase_found erase.Full = refl
 
 pub erase_by_number : (number : ℕ) (k : Erase) → (erase_of_number number ≡ Some k) ↔ (erase_number k ≡ number)
-erase_by_number number k = exact_number erase_number erases erase_place number k
+erase_by_number number k = exact_number erase_number erases erase_found number k
 
-status_place : (k : Status) → status_of_number (status_number k) ≡ Some k
+status_found : (k : Status) → status_of_number (status_number k) ≡ Some k
 unfolding status_number
-status_place status.New = refl
-status_place status.Commissioning = refl
-status_place status.FailedCommissioning = refl
-status_place status.Testing = refl
-status_place status.FailedTesting = refl
-status_place status.Ready = refl
-status_place status.Allocated = refl
-status_place status.Deploying = refl
-status_place status.FailedDeployment = refl
-status_place status.Deployed = refl
-status_place status.Releasing = refl
-status_place status.FailedReleasing = refl
-status_place status.DiskErasing = refl
-status_place status.FailedDiskErasing = refl
-status_place status.EnteringRescue = refl
-status_place status.FailedToEnterRescue = refl
-status_place status.Rescue = refl
-status_place status.ExitingRescue = refl
-status_place status.FailedToExitRescue = refl
-status_place status.Broken = refl
+status_found status.New = refl
+status_found status.Commissioning = refl
+status_found status.FailedCommissioning = refl
+status_found status.Testing = refl
+status_found status.FailedTesting = refl
+status_found status.Ready = refl
+status_found status.Allocated = refl
+status_found status.Deploying = refl
+status_found status.FailedDeployment = refl
+status_found status.Deployed = refl
+status_found status.Releasing = refl
+status_found status.FailedReleasing = refl
+status_found status.DiskErasing = refl
+status_found status.FailedDiskErasing = refl
+status_found status.EnteringRescue = refl
+status_found status.FailedToEnterRescue = refl
+status_found status.Rescue = refl
+status_found status.ExitingRescue = refl
+status_found status.FailedToExitRescue = refl
+status_found status.Broken = refl
 
 pub status_by_number : (number : ℕ) (k : Status) → (status_of_number number ≡ Some k) ↔ (status_number k ≡ number)
-status_by_number number k = exact_number status_number statuses status_place number k
+status_by_number number k = exact_number status_number statuses status_found number k
 
 pub ruleset by_text = (role_by_text, erase_by_text, progress_by_text, outcome_by_text)
 

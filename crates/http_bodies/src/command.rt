@@ -1,7 +1,7 @@
 //! Commands with their keys.
 ghost use Rattle.std.specs.Prelude.{◌≡◌, codes, IfOk};
 ghost use Rattle.serde_json.specs.View.{view};
-ghost use Rattle.http_bodies.specs.Command as said;
+ghost use Rattle.http_bodies.specs.Command as from_json;
 ghost use Rattle.hall_events.specs.declared.command.HallCommand.TheVariants as made;
 
 use crate::body::value_of;
@@ -23,7 +23,7 @@ pub struct KeyedCommand {
 }
 
 fn add_operator(json: &Value) -> Option<HallCommand>
-    ensures { result ≡ said.operator_command (view json.now) }
+    ensures { result ≡ from_json.operator_command (view json.now) }
 {
     let operator = name_at(json, "operator")?;
     let role = role_at(json)?;
@@ -36,21 +36,21 @@ fn add_operator(json: &Value) -> Option<HallCommand>
 }
 
 fn disable_operator(json: &Value) -> Option<HallCommand>
-    ensures { result ≡ said.named_command made.DisableOperator (codes "operator") (view json.now) }
+    ensures { result ≡ from_json.named_command made.DisableOperator (codes "operator") (view json.now) }
 {
     let operator = name_at(json, "operator")?;
     Some(HallCommand::DisableOperator { operator })
 }
 
 fn add_pool(json: &Value) -> Option<HallCommand>
-    ensures { result ≡ said.named_command made.AddPool (codes "pool") (view json.now) }
+    ensures { result ≡ from_json.named_command made.AddPool (codes "pool") (view json.now) }
 {
     let pool = name_at(json, "pool")?;
     Some(HallCommand::AddPool { pool })
 }
 
 fn grant(json: &Value) -> Option<HallCommand>
-    ensures { result ≡ said.grant_command (view json.now) }
+    ensures { result ≡ from_json.grant_command (view json.now) }
 {
     let pool = name_at(json, "pool")?;
     let operator = name_at(json, "operator")?;
@@ -58,7 +58,7 @@ fn grant(json: &Value) -> Option<HallCommand>
 }
 
 fn add_image(alloc: Global, json: &Value) -> Result<Option<HallCommand>, AllocError>
-    ensures { IfOk result (λ command. command ≡ said.image_command (view json.now)) }
+    ensures { IfOk result (λ command. command ≡ from_json.image_command (view json.now)) }
 {
     match image_at(alloc, json)? {
         Some(image) => Ok(Some(HallCommand::AddImage { image })),
@@ -67,21 +67,21 @@ fn add_image(alloc: Global, json: &Value) -> Result<Option<HallCommand>, AllocEr
 }
 
 fn delete_image(json: &Value) -> Option<HallCommand>
-    ensures { result ≡ said.named_command made.DeleteImage (codes "image") (view json.now) }
+    ensures { result ≡ from_json.named_command made.DeleteImage (codes "image") (view json.now) }
 {
     let image = name_at(json, "image")?;
     Some(HallCommand::DeleteImage { image })
 }
 
 fn set_live(json: &Value) -> Option<HallCommand>
-    ensures { result ≡ said.named_command made.SetLive (codes "image") (view json.now) }
+    ensures { result ≡ from_json.named_command made.SetLive (codes "image") (view json.now) }
 {
     let image = name_at(json, "image")?;
     Some(HallCommand::SetLive { image })
 }
 
 fn add_machine(json: &Value) -> Option<HallCommand>
-    ensures { result ≡ said.new_machine_command (view json.now) }
+    ensures { result ≡ from_json.new_machine_command (view json.now) }
 {
     let mac = mac_at(json)?;
     let arch = arch_at(json)?;
@@ -102,7 +102,7 @@ fn command_of(
     kind: CommandKind,
     json: &Value,
 ) -> Result<Option<HallCommand>, AllocError>
-    ensures { IfOk result (λ command. command ≡ said.command_of kind (view json.now)) }
+    ensures { IfOk result (λ command. command ≡ from_json.command_of kind (view json.now)) }
 {
     match kind {
         CommandKind::AddOperator => Ok(add_operator(json)),
@@ -118,7 +118,7 @@ fn command_of(
 }
 
 fn fits_kind(kind: CommandKind, json: &Value) -> bool
-    ensures { result ≡ said.fits_kind kind (view json.now) }
+    ensures { result ≡ from_json.fits_kind kind (view json.now) }
 {
     fits(
         json,
@@ -129,7 +129,7 @@ fn fits_kind(kind: CommandKind, json: &Value) -> bool
 }
 
 fn kind_at(json: &Value) -> Option<CommandKind>
-    ensures { result ≡ said.kind_at (view json.now) }
+    ensures { result ≡ from_json.kind_at (view json.now) }
 {
     match text_at(json, "command") {
         Some(word) => kind_of(word),
@@ -142,7 +142,7 @@ fn with_key(
     kind: CommandKind,
     json: &Value,
 ) -> Result<Option<KeyedCommand>, AllocError>
-    ensures { IfOk result (λ command. command ≡ said.with_key kind (view json.now)) }
+    ensures { IfOk result (λ command. command ≡ from_json.with_key kind (view json.now)) }
 {
     let Some(key) = key_at(json) else {
         return Ok(None);
@@ -155,7 +155,7 @@ fn with_key(
 
 #[tactic(auto, unfolding(crate::specs::Command::keyed_command))]
 fn keyed_command(alloc: Global, json: &Value) -> Result<Option<KeyedCommand>, AllocError>
-    ensures { IfOk result (λ command. command ≡ said.keyed_command (view json.now)) }
+    ensures { IfOk result (λ command. command ≡ from_json.keyed_command (view json.now)) }
 {
     let Some(kind) = kind_at(json) else {
         return Ok(None);
@@ -171,7 +171,7 @@ fn keyed_command(alloc: Global, json: &Value) -> Result<Option<KeyedCommand>, Al
 /// exactly the members of a command, each of its kind and in its range. The error is want of memory.
 #[tactic(auto, unfolding(crate::specs::Command::command_in))]
 pub fn command_in(alloc: Global, body: &[u8]) -> Result<Option<KeyedCommand>, AllocError>
-    ensures { IfOk result (λ command. command ≡ said.command_in body.now) }
+    ensures { IfOk result (λ command. command ≡ from_json.command_in body.now) }
 {
     match value_of(alloc, body)? {
         Some(json) => keyed_command(alloc, &json),

@@ -1,7 +1,7 @@
 //! Reports of boots, and answers to orders.
 ghost use Rattle.std.specs.Prelude.{◌≡◌, IfOk};
 ghost use Rattle.serde_json.specs.View.{view};
-ghost use Rattle.http_bodies.specs.Command as said;
+ghost use Rattle.http_bodies.specs.Command as from_json;
 
 use crate::body::value_of;
 use crate::member::{outcome_at, progress_at};
@@ -11,7 +11,7 @@ use serde_json::Value;
 use std::alloc::{AllocError, Global};
 
 fn is_sole(json: &Value, name: &str) -> bool
-    ensures { result ≡ said.is_sole name.now (view json.now) }
+    ensures { result ≡ from_json.is_sole name.now (view json.now) }
 {
     fits(json, &[name], &[], &[])
 }
@@ -20,7 +20,7 @@ fn is_sole(json: &Value, name: &str) -> bool
 /// else. The error is want of memory.
 #[tactic(auto, unfolding(crate::specs::Command::progress_in))]
 pub fn progress_in(alloc: Global, body: &[u8]) -> Result<Option<Progress>, AllocError>
-    ensures { IfOk result (λ progress. progress ≡ said.progress_in body.now) }
+    ensures { IfOk result (λ progress. progress ≡ from_json.progress_in body.now) }
 {
     match value_of(alloc, body)? {
         Some(json) => {
@@ -38,7 +38,7 @@ pub fn progress_in(alloc: Global, body: &[u8]) -> Result<Option<Progress>, Alloc
 /// is anything else. The error is want of memory.
 #[tactic(auto, unfolding(crate::specs::Command::outcome_in))]
 pub fn outcome_in(alloc: Global, body: &[u8]) -> Result<Option<Outcome>, AllocError>
-    ensures { IfOk result (λ outcome. outcome ≡ said.outcome_in body.now) }
+    ensures { IfOk result (λ outcome. outcome ≡ from_json.outcome_in body.now) }
 {
     match value_of(alloc, body)? {
         Some(json) => {

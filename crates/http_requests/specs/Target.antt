@@ -9,13 +9,13 @@ use Rattle.http_bodies.specs.Value.{in_range}
 use Rattle.http_requests.specs.Fields.{decimal_value}
 
 -- where the first slash stands, or the end
-abbrev pub slash_place : List ℕ → ℕ
-slash_place octets = unwrap_or (position (λ octet. octet == 47) octets) (length octets)
+abbrev pub slash_index : List ℕ → ℕ
+slash_index octets = unwrap_or (position (λ octet. octet == 47) octets) (length octets)
 
 -- a segment, counted from what stands before the first slash
 abbrev pub segment : ℕ → List ℕ → List ℕ
-segment zero octets = take (slash_place octets) octets
-segment (suc n) octets = segment n (drop (slash_place octets + 1) octets)
+segment zero octets = take (slash_index octets) octets
+segment (suc n) octets = segment n (drop (slash_index octets + 1) octets)
 
 -- a percent sign, `3`, and `A` or `a`: a colon (RFC 3986 section 2.1)
 abbrev pub is_coded_colon : ℕ → ℕ → ℕ → Bool

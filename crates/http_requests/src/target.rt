@@ -1,7 +1,7 @@
 //! What the segments of a target mean.
 ghost use Rattle.std.specs.Prelude.{◌≡◌, ◌≤◌, ◌<◌, ◌+◌, ◌==◌, IfOk, IfSome, length, drop, position};
 ghost use Rattle.http_bodies.specs.Value.{in_range};
-ghost use Rattle.http_requests.specs.Target.{slash_place, segment, is_coded_colon, begins_with_coded_colon, with_colons, address_of, is_numeral, number_of, token_of};
+ghost use Rattle.http_requests.specs.Target.{slash_index, segment, is_coded_colon, begins_with_coded_colon, with_colons, address_of, is_numeral, number_of, token_of};
 
 use crate::fields::{are_digits, decimal};
 use crate::slices::suffix;
@@ -17,8 +17,8 @@ fn first_slash(octets: &[u8]) -> Option<usize>
 }
 
 // Where the first slash stands, or the end.
-fn slash_place(octets: &[u8]) -> usize
-    ensures place { result ≡ slash_place octets.now }
+fn slash_index(octets: &[u8]) -> usize
+    ensures place { result ≡ slash_index octets.now }
     ensures within { result ≤ length octets.now }
 {
     match first_slash(octets) {
@@ -30,13 +30,13 @@ fn slash_place(octets: &[u8]) -> usize
 fn before_slash(octets: &[u8]) -> &[u8]
     ensures { result.now ≡ segment 0 octets.now }
 {
-    &octets[..slash_place(octets)]
+    &octets[..slash_index(octets)]
 }
 
 fn after_slash(octets: &[u8]) -> &[u8]
-    ensures { result.now ≡ drop (slash_place octets.now + 1) octets.now }
+    ensures { result.now ≡ drop (slash_index octets.now + 1) octets.now }
 {
-    let at = slash_place(octets);
+    let at = slash_index(octets);
     if at < octets.len() {
         &octets[at + 1..]
     } else {

@@ -1,4 +1,4 @@
--- The hall machine: one step for each event, and runs of steps.
+-- The model: one step for each event, and runs of steps.
 use Rattle.std.specs.Prelude.{◌≡◌, ◌⊎◌, ℕ, List, [], ◌∷◌, Option, Some, None}
 use Rattle.pxe_vendor.specs.Place.{Site}
 use Rattle.hall_types.specs.Hall.{Hall, applied}
@@ -31,7 +31,7 @@ pub record Missed (s : Step) : Type 0 where
   pub answer : s.answer ≡ None
   pub after : s.after ≡ s.before
 
--- the one free choice of the hall machine
+-- the one free choice of the model
 abbrev pub IsStep : Step → Type 0
 IsStep s = Came s ⊎ Missed s
 

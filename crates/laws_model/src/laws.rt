@@ -1,4 +1,4 @@
-//! Laws of the hall machine.
+//! Laws of the model.
 ghost use Rattle.std.specs.Prelude.{◌≡◌, ℕ, List, [], Some};
 ghost use Rattle.pxe_vendor.specs.Place.{Site};
 ghost use Rattle.pxe_vendor.specs.declared.clients.Client.{Client};

@@ -1,4 +1,4 @@
-//! The hall machine: what a hall makes of each event, and runs of its steps, as definitions with their laws.
+//! The model: what a hall makes of each event, and runs of its steps, as definitions with their laws.
 #![tactic(auto)]
 
 mod laws;

@@ -1,4 +1,4 @@
--- Exchanges as steps of the hall machine.
+-- Exchanges as steps of the model.
 use Rattle.std.proofs.Common.{◌≡◌, ◌⊎◌, ℕ, List, [], ◌∷◌, ◌++◌, Result, Ok, Err, Option, Some, None, refl, sym, ap, subst, ◌∙◌, inl, inr}
 use Rattle.std.specs.Prelude.{IfOk, IfSome}
 use Rattle.pxe_vendor.specs.Place.{Site}

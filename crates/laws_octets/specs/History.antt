@@ -1,4 +1,4 @@
--- What came to a hall since it was new, in octets, and the steps of the hall machine that it was.
+-- What came to a hall since it was new, in octets, and the steps of the model that it was.
 use Rattle.std.specs.Prelude.{◌≡◌, ◌⊎◌, ℕ, List, [], ◌∷◌, ◌++◌, Option, Some}
 use Rattle.pxe_vendor.specs.Place.{Site}
 use Rattle.hall_types.specs.Hall.{Hall}
@@ -78,7 +78,7 @@ pub record KeepTheLaws (steps : List Step) (end : Hall) : Type 0 where
   pub waits_no_more : AtEachStep WaitsNoMore steps
   pub answers_once : AtEachStep CountsAnswerOnce steps
 
--- what came is a run of the hall machine, whose steps keep the laws, to a sound hall
+-- what came is a run of the model, whose steps keep the laws, to a sound hall
 pub record IsHistory (h : Hall) (xs : List Exchange) (end : Hall) : Type 0 where
   pub steps : List Step
   pub run : IsRun h steps end

@@ -14,7 +14,7 @@ use laws_past::{
 };
 use laws_steps::steps_keep_halls_sound;
 
-/// What came in octets is a run of the hall machine: each arrival that asked the hall and came is one step of it, whose
+/// What came in octets is a run of the model: each arrival that asked the hall and came is one step of it, whose
 /// content was sent; all others changed nothing.
 pub fn exchanges_are_steps()
     ensures { (h : Hall) (xs : List Exchange) (end : Hall) → AllLead h xs end
@@ -28,7 +28,7 @@ pub fn runs_go_on()
         → AllLead h (past ++ exchanges site arrivals answers) end }
 {}
 
-/// Whatever came to a hall since it was new, it is a run of the hall machine that keeps all laws of the past, and leads to
+/// Whatever came to a hall since it was new, it is a run of the model that keeps all laws of the past, and leads to
 /// a sound hall. That no image has an argument that begins `hall.` is no premise here: no octets bring one.
 pub fn histories_keep_the_laws()
     ensures { (admin digest : List ℕ) (xs : List Exchange) (end : Hall) → AllLead (new_hall second admin digest) xs end

@@ -169,7 +169,7 @@ module _ (h : Hall) (bearer : Option (List ℕ)) (o : Operator) (key : List ℕ)
   unfolding command_decision
   decision_again known there = subst (λ x. Again (of_sender h x key command moment)) (sym known) (sender_again there)
 
--- what the hall machine makes of a command
+-- what the model makes of a command
 command_of : (site : Site) (h : Hall) (bearer : Option (List ℕ)) (key : List ℕ) (command : HallCommand) (moment : ℕ) (fresh : List ℕ) → decision_of site h (event.Command bearer key command) moment fresh ≡ commanded (command_decision h bearer key command moment)
 unfolding decision_of
 command_of site h bearer key command moment fresh = refl

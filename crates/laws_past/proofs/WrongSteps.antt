@@ -1,4 +1,4 @@
--- Steps that a wrong hall machine makes: for each law of the past some of which the law is false.
+-- Steps that a wrong model makes: for each law of the past some of which the law is false.
 use Rattle.std.proofs.Common.{◌≡◌, ◌≢◌, ◌⊎◌, ℕ, Bool, true, false, List, [], ◌∷◌, ◌++◌, Option, Some, None, refl, sym, ap, ◌∙◌, inl, inr}
 use Rattle.pxe_vendor.specs.Place.{Site}
 use Rattle.pxe_vendor.specs.declared.arch.Arch.{Arch}

@@ -1,4 +1,4 @@
-//! What holds of the whole past of a hall, in each run of the hall machine from a new hall.
+//! What holds of the whole past of a hall, in each run of the model from a new hall.
 #![tactic(auto)]
 
 mod laws;

@@ -1,4 +1,4 @@
-//! Laws of every step of the hall machine.
+//! Laws of every step of the model.
 ghost use Rattle.std.specs.Prelude.{◌≡◌, ℕ, List};
 ghost use Rattle.pxe_vendor.specs.Place.{Site};
 ghost use Rattle.hall_types.specs.Hall.{Hall, applied, new_hall, second};

@@ -1,4 +1,4 @@
-//! What each step of the hall machine keeps: sound halls stay sound, and the rows that are written keep the tables' rules.
+//! What each step of the model keeps: sound halls stay sound, and the rows that are written keep the tables' rules.
 #![tactic(auto)]
 
 mod laws;

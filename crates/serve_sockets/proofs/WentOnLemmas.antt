@@ -83,15 +83,15 @@ module _ {S : Type 0} (holds : S → Hall → Type 0) where
           ran = λ h held sound. ran_one h arrival it.said (it.answered.step h held sound) sound;
         }
 
-    same_place : new ≡ old → WentOn holds old new site 1
-    same_place same = subst (λ (s : S). WentOn holds old s site 1) (sym same) (went_nowhere old site 1)
+    same_seat : new ≡ old → WentOn holds old new site 1
+    same_seat same = subst (λ (s : S). WentOn holds old s site 1) (sym same) (went_nowhere old site 1)
 
     -- one turn
     pub went_one : (t : Turn) → IfHanded t (IsHanded holds leaves old new site moment fresh) → (HandsNothing t → new ≡ old) → WentOn holds old new site 1
     went_one (turn.Handed handover) handed same = went_by handover handed
     went_one (turn.Unsent handover) handed same = went_by handover handed
-    went_one (turn.Accepted from instead_of) handed same = same_place (same tt)
-    went_one (turn.Moved from) handed same = same_place (same tt)
-    went_one (turn.Closed from cause) handed same = same_place (same tt)
-    went_one turn.Nothing handed same = same_place (same tt)
-    went_one turn.Failed handed same = same_place (same tt)
+    went_one (turn.Accepted from instead_of) handed same = same_seat (same tt)
+    went_one (turn.Moved from) handed same = same_seat (same tt)
+    went_one (turn.Closed from cause) handed same = same_seat (same tt)
+    went_one turn.Nothing handed same = same_seat (same tt)
+    went_one turn.Failed handed same = same_seat (same tt)

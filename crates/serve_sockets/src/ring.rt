@@ -1,13 +1,13 @@
 //! Whose turn it is.
 ghost use Rattle.std.specs.Prelude.{◌≡◌, ◌<◌, ◌+◌, ◌↔◌, All, false, IfNone, IfSome, IsTrue, length, true};
-ghost use Rattle.serve_sockets.specs.Ring.{IsAt, IsNext, IsOpenable, next_of, ready_of, with_place};
+ghost use Rattle.serve_sockets.specs.Ring.{IsAt, IsNext, IsOpenable, next_of, ready_of, with_seat};
 
 use hall_types::Port;
 
-/// The places: two sockets for datagrams, the listener, and 64 connections.
-pub(crate) const PLACES: usize = 67;
+/// The seats: two sockets for datagrams, the listener, and 64 connections.
+pub(crate) const SEATS: usize = 67;
 
-/// What a place stands for.
+/// What a seat stands for.
 #[derive(Clone, Copy)]
 pub(crate) enum Origin {
     Port(Port),
@@ -16,23 +16,23 @@ pub(crate) enum Origin {
 }
 
 impl Origin {
-    /// What a place stands for.
-    pub(crate) fn at(place: usize) -> Origin
-        requires { place < 67 }
-        ensures { IsAt place result }
+    /// What a seat stands for.
+    pub(crate) fn at(seat: usize) -> Origin
+        requires { seat < 67 }
+        ensures { IsAt seat result }
     {
-        match place {
+        match seat {
             0 => Origin::Port(Port::Discover),
             1 => Origin::Port(Port::Boot),
             2 => Origin::Listener,
-            _ => Origin::Connection(place - 3),
+            _ => Origin::Connection(seat - 3),
         }
     }
 
-    /// The place.
-    pub(crate) fn place(self) -> usize
+    /// The seat.
+    pub(crate) fn seat(self) -> usize
         requires { IsOpenable self }
-        ensures place { IsAt result self }
+        ensures seat { IsAt result self }
         ensures within { result < 67 }
     {
         match self {
@@ -44,72 +44,72 @@ impl Origin {
     }
 }
 
-// The first ready place from `from` on, up and round.
+// The first ready seat from `from` on, up and round.
 fn next_ready(ready: &[bool], from: usize) -> Option<usize>
     ensures next { IfSome result (IsNext ready.now from) }
-    ensures within { IfSome result (λ place. place < length ready.now) }
+    ensures within { IfSome result (λ seat. seat < length ready.now) }
     ensures none { IfNone result (All (λ is. is ≡ false) ready.now) }
 {
-    for place in from..ready.len() {
-        if ready[place] {
-            return Some(place);
+    for seat in from..ready.len() {
+        if ready[seat] {
+            return Some(seat);
         }
     }
     ready.iter().position(|is| *is)
 }
 
-/// Which places may have something, and the one from which the next ready place is looked for.
+/// Which seats may have something, and the one from which the next ready seat is looked for.
 #[derive(Drop)]
 pub(crate) struct Ring {
-    ready: [bool; PLACES],
+    ready: [bool; SEATS],
     next: usize,
 }
 
 impl Ring {
     pub(crate) fn new() -> Ring {
         Ring {
-            ready: [false; PLACES],
+            ready: [false; SEATS],
             next: 0,
         }
     }
 
-    /// A place may have something. There is none from `PLACES` on.
-    pub(crate) fn mark(&mut self, place: usize)
-        ensures ready { ready_of self.new ≡ with_place (ready_of self.old) place true }
+    /// A seat may have something. There is none from `SEATS` on.
+    pub(crate) fn mark(&mut self, seat: usize)
+        ensures ready { ready_of self.new ≡ with_seat (ready_of self.old) seat true }
         ensures next { next_of self.new ≡ next_of self.old }
     {
-        if place < PLACES {
-            self.ready[place] = true;
+        if seat < SEATS {
+            self.ready[seat] = true;
         }
     }
 
-    /// A place has nothing.
-    pub(crate) fn clear(&mut self, place: usize)
-        ensures ready { ready_of self.new ≡ with_place (ready_of self.old) place false }
+    /// A seat has nothing.
+    pub(crate) fn clear(&mut self, seat: usize)
+        ensures ready { ready_of self.new ≡ with_seat (ready_of self.old) seat false }
         ensures next { next_of self.new ≡ next_of self.old }
     {
-        if place < PLACES {
-            self.ready[place] = false;
+        if seat < SEATS {
+            self.ready[seat] = false;
         }
     }
 
-    /// Whether no place may have something.
+    /// Whether no seat may have something.
     pub(crate) fn is_idle(&self) -> bool
         ensures { IsTrue result → All (λ is. is ≡ false) (ready_of self.now) }
     {
         next_ready(&self.ready, 0).is_none()
     }
 
-    /// The next ready place. The one after it is asked first at the next call.
+    /// The next ready seat. The one after it is asked first at the next call.
     pub(crate) fn pick(&mut self) -> Option<usize>
         ensures next { IfSome result (IsNext (ready_of self.old) (next_of self.old)) }
-        ensures within { IfSome result (λ place. place < PLACES) }
-        ensures after { IfSome result (λ place. next_of self.new ≡ place + 1) }
+        ensures within { IfSome result (λ seat. seat < SEATS) }
+        ensures after { IfSome result (λ seat. next_of self.new ≡ seat + 1) }
         ensures none { IfNone result (All (λ is. is ≡ false) (ready_of self.old)) }
         ensures same { ready_of self.new ≡ ready_of self.old }
     {
-        let place = next_ready(&self.ready, self.next)?;
-        self.next = place + 1;
-        Some(place)
+        let seat = next_ready(&self.ready, self.next)?;
+        self.next = seat + 1;
+        Some(seat)
     }
 }

@@ -63,8 +63,8 @@ impl<S: HallStore> Service<S> {
         self.sockets.wait();
     }
 
-    /// Serves the next place that may have something: a socket for datagrams, the listener or a connection, from the last
-    /// one on, up and round. Every eighth turn, and one for which there is no such place, is a quiet moment. Nothing is
+    /// Serves the next seat that may have something: a socket for datagrams, the listener or a connection, from the last
+    /// one on, up and round. Every eighth turn, and one for which there is no such seat, is a quiet moment. Nothing is
     /// waited for.
     ///
     /// At most one arrival is handed to the desk, with the moment and the fresh octets of the stamp. A datagram's answer is

@@ -121,14 +121,14 @@ impl Sockets {
         let mut boot = UdpSocket::bind(net, addresses.boot)?;
         let mut listener = TcpListener::bind(net, addresses.http)?;
         let registry = poll.registry();
-        let places = [
-            Origin::Port(Port::Discover).place(),
-            Origin::Port(Port::Boot).place(),
-            Origin::Listener.place(),
+        let seats = [
+            Origin::Port(Port::Discover).seat(),
+            Origin::Port(Port::Boot).seat(),
+            Origin::Listener.seat(),
         ];
-        registry.register(&mut discover, Token(places[0]), Interest::READABLE)?;
-        registry.register(&mut boot, Token(places[1]), Interest::READABLE)?;
-        registry.register(&mut listener, Token(places[2]), Interest::READABLE)?;
+        registry.register(&mut discover, Token(seats[0]), Interest::READABLE)?;
+        registry.register(&mut boot, Token(seats[1]), Interest::READABLE)?;
+        registry.register(&mut listener, Token(seats[2]), Interest::READABLE)?;
         Ok(Sockets {
             poll,
             events: Events::with_capacity(alloc, MAX_EVENTS)?,
@@ -176,32 +176,32 @@ impl Sockets {
         }
     }
 
-    /// The next place that may have something.
+    /// The next seat that may have something.
     pub(crate) fn pick(&mut self) -> Option<Origin>
         ensures { IfSome result IsOpenable }
     {
-        let place = self.ring.pick()?;
-        Some(Origin::at(place))
+        let seat = self.ring.pick()?;
+        Some(Origin::at(seat))
     }
 
-    /// A place has nothing more now.
+    /// A seat has nothing more now.
     pub(crate) fn rest(&mut self, origin: Origin)
         requires { IsOpenable origin }
     {
-        self.ring.clear(origin.place());
+        self.ring.clear(origin.seat());
     }
 
     /// Has the sockets of which a call failed asked again.
     pub(crate) fn retry(&mut self) {
         if self.is_lame {
             self.is_lame = false;
-            self.ring.mark(Origin::Port(Port::Discover).place());
-            self.ring.mark(Origin::Port(Port::Boot).place());
-            self.ring.mark(Origin::Listener.place());
+            self.ring.mark(Origin::Port(Port::Discover).seat());
+            self.ring.mark(Origin::Port(Port::Boot).seat());
+            self.ring.mark(Origin::Listener.seat());
         }
     }
 
-    // A place gave nothing.
+    // A seat gave nothing.
     fn missed(&mut self, origin: Origin, error: &io::Error) -> Turn
         requires { IsOpenable origin }
         ensures { HandsNothing result }
@@ -244,16 +244,16 @@ impl Sockets {
         ensures { HandsNothing result }
     {
         let slot = self.table.slot_for_new();
-        let place = Origin::Connection(slot).place();
+        let seat = Origin::Connection(slot).seat();
         let both = Interest::READABLE | Interest::WRITABLE;
         let registry = self.poll.registry();
-        if registry.register(&mut stream, Token(place), both).is_err() {
+        if registry.register(&mut stream, Token(seat), both).is_err() {
             return Turn::Failed;
         }
         self.accepted = self.accepted.saturating_add(1);
         let connection = Connection::new(alloc, stream, from, self.accepted, now);
         let instead_of = self.table.open(slot, connection);
-        self.ring.mark(place);
+        self.ring.mark(seat);
         Turn::Accepted { from, instead_of }
     }
 

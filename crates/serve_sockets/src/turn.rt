@@ -80,7 +80,7 @@ pub enum Turn {
         from: SocketAddr,
         cause: Close,
     },
-    /// A place that might have had something had nothing.
+    /// A seat that might have had something had nothing.
     Nothing,
     /// A datagram couldn't be received, or a connection not be accepted. It is tried again at a quiet turn.
     Failed,

@@ -18,7 +18,7 @@ use Rattle.sqlite_keyed.proofs.ListLemmas.{map-map}
 use Rattle.sqlite_keyed.proofs.KeyedLemmas.{IsKeyedBy-insert_by, IsKeyedBy-delete_where, IsKeyedBy-update_where, next_key_is_free}
 use Rattle.hall_types.specs.Hall.{Hall}
 use Rattle.hall_types.specs.RowLaws.{same_number}
-use Rattle.sql_statements.specs.Queries.{parameter, equals, place, rising}
+use Rattle.sql_statements.specs.Queries.{parameter, equals, cell, rising}
 use Rattle.sql_statements.specs.QueryLaws.{items_in_order, shown_answer}
 use Rattle.sql_statements.specs.StatementLaws.{shown_same}
 use Rattle.sql_statements.specs.ListLaws.{any_order, and_true}
@@ -30,7 +30,7 @@ use Rattle.sql_schema.specs.CountStatementLaws.{find_count_is, add_count_is, set
 use Rattle.sql_schema.specs.Tables.{hall_schema, counts_table}
 use Rattle.sql_schema.specs.CascadeLaws.{never_follows, counts_go_alone}
 use Rattle.sql_rows.specs.Columns.{CountRow, number, count_columns}
-use Rattle.sql_rows.specs.Spelling.{SpellHall, Content, Counts, AreCounts, Spells, is_count_of, in_rows}
+use Rattle.sql_rows.specs.Spelling.{SpellHall, HallRows, Counts, AreCounts, Spells, is_count_of, in_rows}
 use Rattle.sql_rows.specs.SpellingLaws.{sets_counts}
 use Rattle.sql_rows.specs.NumberedLaws.{number_key}
 use Rattle.sql_rows.specs.Holding.{IsWithin}
@@ -92,14 +92,14 @@ no_entry [] e = refl
 no_entry (x ∷ es) e = absurd (let l = ap length e in omega (arith, l))
 
 -- the row of a count above 0
-pub finds_count : (old new : State) (before : Hall) (c : Content) → IsWithin old before c → (pool : List ℕ) (status : ℕ) (rows : List Row) → Shown find_count_text (Text pool ∷ number status ∷ []) old new rows
+pub finds_count : (old new : State) (before : Hall) (c : HallRows) → IsWithin old before c → (pool : List ℕ) (status : ℕ) (rows : List Row) → Shown find_count_text (Text pool ∷ number status ∷ []) old new rows
     → (rows ≡ map (λ n. number n ∷ []) (in_rows (c.counts pool status))) × IsWithin new before c
 finds_count old new before c held pool status rows shown =
     let are = held.spelt.tables.counts in
     let params = Text pool ∷ number status ∷ [] in
     let answer = shown_answer hall_schema find_count_text find_count_query find_count_columns find_count_is params old new rows held.spelt.schema shown in
     let same = shown_same find_count_text params hall_schema find_count_is.plain old new rows held.spelt.schema shown in (
-      items_in_order rowid_of columns (equals 1 0 ∷ equals 2 1 ∷ []) params (is_count_of pool status) (λ e. text_and_number e.item.pool pool e.item.status status) _ 19 (place 3 ∷ []) (rising 1 ∷ rising 2 ∷ []) are.entries old.now.trees are.spelt refl rows answer
+      items_in_order rowid_of columns (equals 1 0 ∷ equals 2 1 ∷ []) params (is_count_of pool status) (λ e. text_and_number e.item.pool pool e.item.status status) _ 19 (cell 3 ∷ []) (rising 1 ∷ rising 2 ∷ []) are.entries old.now.trees are.spelt refl rows answer
           (any_order _ _ (few (old.now.trees 19) c.counts are pool status))
           ∙ sym (map-map (λ n. number n ∷ []) machines_of _) ∙ ap (map (λ n. number n ∷ [])) (are.counted pool status),
       record {
@@ -110,7 +110,7 @@ finds_count old new before c held pool status rows shown =
       },
     )
 
-pub adds_count : (old new : State) (before : Hall) (c : Content) → IsWithin old before c → (pool : List ℕ) (status : ℕ) → c.counts pool status ≡ 0 → (count : ℕ)
+pub adds_count : (old new : State) (before : Hall) (c : HallRows) → IsWithin old before c → (pool : List ℕ) (status : ℕ) → c.counts pool status ≡ 0 → (count : ℕ)
     → ExecutesInside 0 add_count_text (Text pool ∷ number status ∷ number 1 ∷ []) old new (Ok count) → IsWithin new before (with_count c pool status 1)
 adds_count old new before c held pool status none count ran =
     let are = held.spelt.tables.counts in
@@ -129,14 +129,14 @@ adds_count old new before c held pool status none count ran =
           (λ p s other. ap (map machines_of) (filter_insert_none rowid_of (is_count_of p s) fresh are.entries free (apart (old.now.trees 19) c.counts are pool status p s other fresh (pair_refl pool status))) ∙ are.counted p s);
     }))
 
-pub sets_count : (old new : State) (before : Hall) (c : Content) → IsWithin old before c → (pool : List ℕ) (status n : ℕ) → 0 < c.counts pool status → 0 < n → (count : ℕ)
+pub sets_count : (old new : State) (before : Hall) (c : HallRows) → IsWithin old before c → (pool : List ℕ) (status n : ℕ) → 0 < c.counts pool status → 0 < n → (count : ℕ)
     → ExecutesInside 0 set_count_text (Text pool ∷ number status ∷ number n ∷ []) old new (Ok count) → IsWithin new before (with_count c pool status n)
 sets_count old new before c held pool status n some high count ran =
     let are = held.spelt.tables.counts in
     let params = Text pool ∷ number status ∷ number n ∷ [] in
     let mine = is_count_of pool status in
     let it = changes rowid_of columns hall_schema 11 counts_table refl old new held.spelt.schema are.entries are.spelt (equals 1 0 ∷ equals 2 1 ∷ []) params mine
-    (λ e. text_and_number e.item.pool pool e.item.status status) are.keyed refl (place 0 ∷ place 1 ∷ place 2 ∷ parameter 2 ∷ []) (few (old.now.trees 19) c.counts are pool status) never_follows (recounted n) (λ e. refl)
+    (λ e. text_and_number e.item.pool pool e.item.status status) are.keyed refl (cell 0 ∷ cell 1 ∷ cell 2 ∷ parameter 2 ∷ []) (few (old.now.trees 19) c.counts are pool status) never_follows (recounted n) (λ e. refl)
     (λ e. rw (value.cast-Int, value.cast-Int, value.cast-Int) refl) set_count_text set_count_is count ran.0 in
     within set_count_text params old new before c _ count held ran (sets_counts old.now new.now c held.spelt (map row (update_where mine (recounted n) are.entries)) (counting c.counts pool status n) it (record {
       entries = update_where mine (recounted n) are.entries;
@@ -156,7 +156,7 @@ sets_count old new before c held pool status n some high count ran =
     the_one (x ∷ []) e = refl
     the_one (x ∷ y ∷ es) e = absurd (let l = ap length e in omega (arith, l))
 
-pub removes_count : (old new : State) (before : Hall) (c : Content) → IsWithin old before c → (pool : List ℕ) (status count : ℕ) → ExecutesInside 0 remove_count_text (Text pool ∷ number status ∷ []) old new (Ok count)
+pub removes_count : (old new : State) (before : Hall) (c : HallRows) → IsWithin old before c → (pool : List ℕ) (status count : ℕ) → ExecutesInside 0 remove_count_text (Text pool ∷ number status ∷ []) old new (Ok count)
     → IsWithin new before (with_count c pool status 0)
 removes_count old new before c held pool status count ran =
     let are = held.spelt.tables.counts in

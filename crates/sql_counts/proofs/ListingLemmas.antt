@@ -23,13 +23,13 @@ use Rattle.hall_types.specs.Status.{status_number}
 use Rattle.hall_types.specs.declared.status.Status.{Status}
 use Rattle.hall_store.specs.declared.count.Count.{Count}
 use Rattle.hall_store.specs.Counts.{AreCounts, count_cmp, counted, is_about}
-use Rattle.sql_statements.specs.Queries.{place, rising, IsBefore}
+use Rattle.sql_statements.specs.Queries.{cell, rising, IsBefore}
 use Rattle.sql_statements.specs.QueryLaws.{items_by}
 use Rattle.sql_statements.specs.ListLaws.{IsPermutation-map, map_has}
 use Rattle.sql_statements.specs.Rows.{Entry, rowid_of, item_of}
 use Rattle.sql_schema.specs.CountStatements.{list_counts_query}
 use Rattle.sql_rows.specs.Columns.{CountRow, number, count_columns}
-use Rattle.sql_rows.specs.ListedLaws.{AreRising, place_in, AreRising-place_in, place_in-permutes, filter_has}
+use Rattle.sql_rows.specs.ListedLaws.{AreRising, put_in, AreRising-put_in, put_in-permutes, filter_has}
 use Rattle.sql_rows.specs.NumberedLaws.{number_order}
 use Rattle.sql_rows.specs.Spelling.{SpellHall, in_rows, is_in}
 use Rattle.sql_counts.specs.Listing.{IsListing, count_row, is_at, row_cmp}
@@ -61,14 +61,14 @@ keys = record { cmp = key_cmp; total = then_total (on_total (λ k. k.0) nat_list
 
 abbrev ordered : List CountRow → List CountRow
 ordered [] = []
-ordered (c ∷ cs) = place_in keys key_of (ordered cs) c
+ordered (c ∷ cs) = put_in keys key_of (ordered cs) c
 
 -- no two rows have the same key
 abbrev AreApart : List CountRow → Type 0
 AreApart [] = Unit {0}
 AreApart (c ∷ cs) = ((z : CountRow) → Has cs z → key_of z ≢ key_of c) × AreApart cs
 
-placed_has : (xs : List CountRow) (new z : CountRow) → Has (place_in keys key_of xs new) z → (z ≡ new) ⊎ Has xs z
+placed_has : (xs : List CountRow) (new z : CountRow) → Has (put_in keys key_of xs new) z → (z ≡ new) ⊎ Has xs z
 placed_has [] new z (inl same) = inl same
 placed_has [] new z (inr h) = absurd h
 placed_has (x ∷ xs) new z h = go (key_cmp (key_of x) (key_of new)) (placed_has xs new z) h
@@ -77,7 +77,7 @@ placed_has (x ∷ xs) new z h = go (key_cmp (key_of x) (key_of new)) (placed_has
     later (inl same) = inl same
     later (inr h) = inr (inr h)
 
-    go : (o : Ordering) → (Has (place_in keys key_of xs new) z → (z ≡ new) ⊎ Has xs z) → Has (match_ordering o (x ∷ place_in keys key_of xs new) (new ∷ xs) (new ∷ x ∷ xs)) z → (z ≡ new) ⊎ Has (x ∷ xs) z
+    go : (o : Ordering) → (Has (put_in keys key_of xs new) z → (z ≡ new) ⊎ Has xs z) → Has (match_ordering o (x ∷ put_in keys key_of xs new) (new ∷ xs) (new ∷ x ∷ xs)) z → (z ≡ new) ⊎ Has (x ∷ xs) z
     go Less more (inl same) = inr (inl same)
     go Less more (inr h) = later (more h)
     go Equal more (inl same) = inl same
@@ -92,11 +92,11 @@ ordered_has (x ∷ xs) z h = elim (placed_has (ordered xs) x z h) [ inl same ↦
 ordered_permutes : (xs : List CountRow) → AreApart xs → IsPermutation (ordered xs) xs
 ordered_permutes [] apart = IsPermutation-refl []
 ordered_permutes (x ∷ xs) apart =
-    IsPermutation-trans _ _ _ (place_in-permutes keys key_of x (ordered xs) (λ z h. apart.0 z (ordered_has xs z h))) (IsPermutation-cons x _ _ (ordered_permutes xs apart.1))
+    IsPermutation-trans _ _ _ (put_in-permutes keys key_of x (ordered xs) (λ z h. apart.0 z (ordered_has xs z h))) (IsPermutation-cons x _ _ (ordered_permutes xs apart.1))
 
 ordered_rises : (xs : List CountRow) → AreRising keys key_of (ordered xs)
 ordered_rises [] = tt
-ordered_rises (x ∷ xs) = AreRising-place_in keys key_of (ordered xs) x (ordered_rises xs)
+ordered_rises (x ∷ xs) = AreRising-put_in keys key_of (ordered xs) x (ordered_rises xs)
 
 -- ---- a key has one row at most
 
@@ -155,7 +155,7 @@ pub lists_counts : (db : Trees) (h : Hall) → SpellHall db h → (rows : List R
 lists_counts db h spells rows a =
     let are = spells.tables.counts in
     let items = map item_of are.entries in
-    let all = spells.content.counts in
+    let all = spells.hall_rows.counts in
     let counted_items : (pool : List ℕ) (status : ℕ) → map (λ (c : CountRow). c.machines) (filter (is_at pool status) items) ≡ in_rows (all pool status) =
     λ pool status. ap (map (λ (c : CountRow). c.machines)) (filter-map (is_at pool status) item_of are.entries) ∙ map-map (λ (c : CountRow). c.machines) item_of _ ∙ are.counted pool status in
     let short : (pool : List ℕ) (status : ℕ) → length (filter (is_at pool status) items) ≤ 1 =
@@ -170,7 +170,7 @@ lists_counts db h spells rows a =
             ∙ counted_items pool status ∙ ap in_rows (spells.agrees.counts pool status);
         rising = ordered_rises items;
       },
-      items_by rowid_of (λ (e : Entry CountRow). count_columns e.item) [] [] (λ e. true) (λ e. refl) _ 19 (place 1 ∷ place 2 ∷ place 3 ∷ []) (rising 1 ∷ rising 2 ∷ []) are.entries db are.spelt refl rows a outputs (ordered items)
+      items_by rowid_of (λ (e : Entry CountRow). count_columns e.item) [] [] (λ e. true) (λ e. refl) _ 19 (cell 1 ∷ cell 2 ∷ cell 3 ∷ []) (rising 1 ∷ rising 2 ∷ []) are.entries db are.spelt refl rows a outputs (ordered items)
           (subst (IsPermutation (map outputs (ordered items))) shown (IsPermutation-map outputs _ _ same))
           (ascending_weaker _ _ before (ordered items) (ordered_rises items)),
     )

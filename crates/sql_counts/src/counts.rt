@@ -9,7 +9,7 @@ ghost use Rattle.hall_types.specs.Status.{status_number};
 ghost use Rattle.sql_schema.specs.CountStatements.{add_count_text, find_count_text, remove_count_text, set_count_text};
 ghost use Rattle.sql_rows.specs.Columns.{number};
 ghost use Rattle.sql_rows.specs.Holding.{IsWithin};
-ghost use Rattle.sql_rows.specs.Spelling.{Content, in_rows};
+ghost use Rattle.sql_rows.specs.Spelling.{HallRows, in_rows};
 ghost use Rattle.sql_counts.specs.Counts.{with_count};
 
 use hall_types::{Name, Status};
@@ -44,7 +44,7 @@ fn rows_of_count<S: Alter>(
     status: Status,
 ) -> Result<Vec<Row>, Error>
     ensures same_reference { tx.new.conn.ghost_name ≡ tx.old.conn.ghost_name }
-    ensures counted { HasCleanDisk (state S.Store tx.new.conn.now) → IfOk result (λ rows. (before : Hall) (c : Content) → IsWithin (state S.Store tx.old.conn.now) before c → (rows.items ≡ map (λ n. number n ∷ []) (in_rows (c.counts pool.now (status_number status)))) × IsWithin (state S.Store tx.new.conn.now) before c) }
+    ensures counted { HasCleanDisk (state S.Store tx.new.conn.now) → IfOk result (λ rows. (before : Hall) (c : HallRows) → IsWithin (state S.Store tx.old.conn.now) before c → (rows.items ≡ map (λ n. number n ∷ []) (in_rows (c.counts pool.now (status_number status)))) × IsWithin (state S.Store tx.new.conn.now) before c) }
     ensures mode { HasCleanDisk (state S.Store tx.new.conn.now) → OnOk result (IsTrue (state S.Store tx.old.conn.now).in_transaction → (state S.Store tx.new.conn.now).in_transaction ≡ true) }
     ensures kept { HasCleanDisk (state S.Store tx.new.conn.now) → IsTrue (state S.Store tx.old.conn.now).in_transaction → KeepsCommit (state S.Store tx.old.conn.now) (state S.Store tx.new.conn.now) }
     ensures survives { Survives (state S.Store tx.old.conn.now) (state S.Store tx.new.conn.now) (λ _. ⊥) }
@@ -80,7 +80,7 @@ fn count_of<S: Alter>(
     status: Status,
 ) -> Result<u64, Error>
     ensures same_reference { tx.new.conn.ghost_name ≡ tx.old.conn.ghost_name }
-    ensures counted { HasCleanDisk (state S.Store tx.new.conn.now) → IfOk result (λ n. (before : Hall) (c : Content) → IsWithin (state S.Store tx.old.conn.now) before c → (n ≡ c.counts pool.now (status_number status)) × IsWithin (state S.Store tx.new.conn.now) before c) }
+    ensures counted { HasCleanDisk (state S.Store tx.new.conn.now) → IfOk result (λ n. (before : Hall) (c : HallRows) → IsWithin (state S.Store tx.old.conn.now) before c → (n ≡ c.counts pool.now (status_number status)) × IsWithin (state S.Store tx.new.conn.now) before c) }
     ensures range { IfOk result (λ n. n < 2 ^ 63) }
     ensures mode { HasCleanDisk (state S.Store tx.new.conn.now) → OnOk result (IsTrue (state S.Store tx.old.conn.now).in_transaction → (state S.Store tx.new.conn.now).in_transaction ≡ true) }
     ensures kept { HasCleanDisk (state S.Store tx.new.conn.now) → IsTrue (state S.Store tx.old.conn.now).in_transaction → KeepsCommit (state S.Store tx.old.conn.now) (state S.Store tx.new.conn.now) }
@@ -119,7 +119,7 @@ fn add_count<S: Alter>(
     status: Status,
 ) -> Result<usize, Error>
     ensures same_reference { tx.new.conn.ghost_name ≡ tx.old.conn.ghost_name }
-    ensures made { HasCleanDisk (state S.Store tx.new.conn.now) → OnOk result ((before : Hall) (c : Content) → IsWithin (state S.Store tx.old.conn.now) before c → c.counts pool.now (status_number status) ≡ 0 → IsWithin (state S.Store tx.new.conn.now) before (with_count c pool.now (status_number status) 1)) }
+    ensures made { HasCleanDisk (state S.Store tx.new.conn.now) → OnOk result ((before : Hall) (c : HallRows) → IsWithin (state S.Store tx.old.conn.now) before c → c.counts pool.now (status_number status) ≡ 0 → IsWithin (state S.Store tx.new.conn.now) before (with_count c pool.now (status_number status) 1)) }
     ensures mode { HasCleanDisk (state S.Store tx.new.conn.now) → OnOk result (IsTrue (state S.Store tx.old.conn.now).in_transaction → (state S.Store tx.new.conn.now).in_transaction ≡ true) }
     ensures kept { HasCleanDisk (state S.Store tx.new.conn.now) → IsTrue (state S.Store tx.old.conn.now).in_transaction → KeepsCommit (state S.Store tx.old.conn.now) (state S.Store tx.new.conn.now) }
     ensures survives { Survives (state S.Store tx.old.conn.now) (state S.Store tx.new.conn.now) (λ _. ⊥) }
@@ -158,7 +158,7 @@ fn set_count<S: Alter>(
 ) -> Result<usize, Error>
     requires { count < 2 ^ 63 }
     ensures same_reference { tx.new.conn.ghost_name ≡ tx.old.conn.ghost_name }
-    ensures made { HasCleanDisk (state S.Store tx.new.conn.now) → OnOk result ((before : Hall) (c : Content) → IsWithin (state S.Store tx.old.conn.now) before c → 0 < c.counts pool.now (status_number status) → 0 < count → IsWithin (state S.Store tx.new.conn.now) before (with_count c pool.now (status_number status) count)) }
+    ensures made { HasCleanDisk (state S.Store tx.new.conn.now) → OnOk result ((before : Hall) (c : HallRows) → IsWithin (state S.Store tx.old.conn.now) before c → 0 < c.counts pool.now (status_number status) → 0 < count → IsWithin (state S.Store tx.new.conn.now) before (with_count c pool.now (status_number status) count)) }
     ensures mode { HasCleanDisk (state S.Store tx.new.conn.now) → OnOk result (IsTrue (state S.Store tx.old.conn.now).in_transaction → (state S.Store tx.new.conn.now).in_transaction ≡ true) }
     ensures kept { HasCleanDisk (state S.Store tx.new.conn.now) → IsTrue (state S.Store tx.old.conn.now).in_transaction → KeepsCommit (state S.Store tx.old.conn.now) (state S.Store tx.new.conn.now) }
     ensures survives { Survives (state S.Store tx.old.conn.now) (state S.Store tx.new.conn.now) (λ _. ⊥) }
@@ -189,7 +189,7 @@ fn remove_count<S: Alter>(
     status: Status,
 ) -> Result<usize, Error>
     ensures same_reference { tx.new.conn.ghost_name ≡ tx.old.conn.ghost_name }
-    ensures made { HasCleanDisk (state S.Store tx.new.conn.now) → OnOk result ((before : Hall) (c : Content) → IsWithin (state S.Store tx.old.conn.now) before c → IsWithin (state S.Store tx.new.conn.now) before (with_count c pool.now (status_number status) 0)) }
+    ensures made { HasCleanDisk (state S.Store tx.new.conn.now) → OnOk result ((before : Hall) (c : HallRows) → IsWithin (state S.Store tx.old.conn.now) before c → IsWithin (state S.Store tx.new.conn.now) before (with_count c pool.now (status_number status) 0)) }
     ensures mode { HasCleanDisk (state S.Store tx.new.conn.now) → OnOk result (IsTrue (state S.Store tx.old.conn.now).in_transaction → (state S.Store tx.new.conn.now).in_transaction ≡ true) }
     ensures kept { HasCleanDisk (state S.Store tx.new.conn.now) → IsTrue (state S.Store tx.old.conn.now).in_transaction → KeepsCommit (state S.Store tx.old.conn.now) (state S.Store tx.new.conn.now) }
     ensures survives { Survives (state S.Store tx.old.conn.now) (state S.Store tx.new.conn.now) (λ _. ⊥) }
@@ -204,7 +204,7 @@ pub fn count_up<S: Alter>(
     status: Status,
 ) -> Result<usize, Error>
     ensures same_reference { tx.new.conn.ghost_name ≡ tx.old.conn.ghost_name }
-    ensures made { HasCleanDisk (state S.Store tx.new.conn.now) → OnOk result ((before : Hall) (c : Content) → IsWithin (state S.Store tx.old.conn.now) before c → IsWithin (state S.Store tx.new.conn.now) before (with_count c pool.now (status_number status) (c.counts pool.now (status_number status) + 1))) }
+    ensures made { HasCleanDisk (state S.Store tx.new.conn.now) → OnOk result ((before : Hall) (c : HallRows) → IsWithin (state S.Store tx.old.conn.now) before c → IsWithin (state S.Store tx.new.conn.now) before (with_count c pool.now (status_number status) (c.counts pool.now (status_number status) + 1))) }
     ensures mode { HasCleanDisk (state S.Store tx.new.conn.now) → OnOk result (IsTrue (state S.Store tx.old.conn.now).in_transaction → (state S.Store tx.new.conn.now).in_transaction ≡ true) }
     ensures kept { HasCleanDisk (state S.Store tx.new.conn.now) → IsTrue (state S.Store tx.old.conn.now).in_transaction → KeepsCommit (state S.Store tx.old.conn.now) (state S.Store tx.new.conn.now) }
     ensures survives { Survives (state S.Store tx.old.conn.now) (state S.Store tx.new.conn.now) (λ _. ⊥) }
@@ -230,7 +230,7 @@ pub fn count_down<S: Alter>(
     status: Status,
 ) -> Result<usize, Error>
     ensures same_reference { tx.new.conn.ghost_name ≡ tx.old.conn.ghost_name }
-    ensures made { HasCleanDisk (state S.Store tx.new.conn.now) → OnOk result ((before : Hall) (c : Content) → IsWithin (state S.Store tx.old.conn.now) before c → IsWithin (state S.Store tx.new.conn.now) before (with_count c pool.now (status_number status) (c.counts pool.now (status_number status) - 1)) × (0 < c.counts pool.now (status_number status))) }
+    ensures made { HasCleanDisk (state S.Store tx.new.conn.now) → OnOk result ((before : Hall) (c : HallRows) → IsWithin (state S.Store tx.old.conn.now) before c → IsWithin (state S.Store tx.new.conn.now) before (with_count c pool.now (status_number status) (c.counts pool.now (status_number status) - 1)) × (0 < c.counts pool.now (status_number status))) }
     ensures mode { HasCleanDisk (state S.Store tx.new.conn.now) → OnOk result (IsTrue (state S.Store tx.old.conn.now).in_transaction → (state S.Store tx.new.conn.now).in_transaction ≡ true) }
     ensures kept { HasCleanDisk (state S.Store tx.new.conn.now) → IsTrue (state S.Store tx.old.conn.now).in_transaction → KeepsCommit (state S.Store tx.old.conn.now) (state S.Store tx.new.conn.now) }
     ensures survives { Survives (state S.Store tx.old.conn.now) (state S.Store tx.new.conn.now) (λ _. ⊥) }

@@ -13,7 +13,7 @@ use Rattle.hall_types.specs.Kinds.{arch_number}
 use Rattle.hall_types.specs.Rows.{at}
 use Rattle.hall_types.specs.RowLaws.{same_text, put_cases, gone_found}
 use Rattle.hall_types.specs.Hall.{Hall}
-use Rattle.sql_statements.specs.Queries.{parameter, equals, place, rising}
+use Rattle.sql_statements.specs.Queries.{parameter, equals, cell, rising}
 use Rattle.sql_statements.specs.ListLaws.{and_true}
 use Rattle.sql_statements.specs.ValueLaws as value
 use Rattle.sql_schema.specs.NameStatements.{find_image_query, add_image_text, remove_image_text}
@@ -22,7 +22,7 @@ use Rattle.sql_schema.specs.Tables.{hall_schema, images_table}
 use Rattle.sql_schema.specs.CascadeLaws.{images_go_alone}
 use Rattle.sql_rows.specs.Columns.{HasWords, number, image_columns, joined, words_in}
 use Rattle.sql_rows.specs.ColumnLaws.{same_arch}
-use Rattle.sql_rows.specs.Spelling.{SpellHall, Content}
+use Rattle.sql_rows.specs.Spelling.{SpellHall, HallRows}
 use Rattle.sql_rows.specs.SpellingLaws.{sets_images}
 use Rattle.sql_rows.specs.Holding.{IsWithin}
 use Rattle.sql_rows.specs.HoldingLaws.{within}
@@ -37,12 +37,12 @@ pub finds_image : (db : Trees) (h : Hall) → SpellHall db h → (name : List �
     → (rows ≡ map image_columns (option_to_list (at h.images name))) × IfSome (at h.images name) HasWords
 finds_image db h spells name rows a =
     subst (λ (x : Hall). (rows ≡ map image_columns (option_to_list (at x.images name))) × IfSome (at x.images name) HasWords) spells.agrees.hall (
-      finds_named (λ (i : BootImage). i.name) image_columns (db 8) spells.content.hall.images spells.tables.images.named 8 (equals 1 0 ∷ []) (place 1 ∷ place 2 ∷ place 3 ∷ place 4 ∷ place 5 ∷ []) (rising 1 ∷ []) (Text name ∷ []) db refl refl rows a name
+      finds_named (λ (i : BootImage). i.name) image_columns (db 8) spells.hall_rows.hall.images spells.tables.images.named 8 (equals 1 0 ∷ []) (cell 1 ∷ cell 2 ∷ cell 3 ∷ cell 4 ∷ cell 5 ∷ []) (rising 1 ∷ []) (Text name ∷ []) db refl refl rows a name
           (λ e. and_true _ ∙ value.same_text e.item.name name ∙ sym (same_text e.item.name name)) image_columns (λ e. refl),
-      if_there (at spells.content.hall.images name) (spells.tables.images.words name),
+      if_there (at spells.hall_rows.hall.images name) (spells.tables.images.words name),
     )
 
-pub adds_image : (old new : State) (before : Hall) (c : Content) → IsWithin old before c → (i : BootImage) → HasWords i → at c.hall.images i.name ≡ None → (count : ℕ) → ExecutesInside 0 add_image_text (image_columns i) old new (Ok count)
+pub adds_image : (old new : State) (before : Hall) (c : HallRows) → IsWithin old before c → (i : BootImage) → HasWords i → at c.hall.images i.name ≡ None → (count : ℕ) → ExecutesInside 0 add_image_text (image_columns i) old new (Ok count)
     → IsWithin new before (with_image c i)
 adds_image old new before c held i words free count ran =
     let it = adds_named (λ (q : BootImage). q.name) image_columns (old.now.trees 8) c.hall.images held.spelt.tables.images.named hall_schema 4 images_table refl old new held.spelt.schema refl add_image_text (image_columns i) count ran.0
@@ -55,7 +55,7 @@ adds_image old new before c held i words free count ran =
       ];
     }))
 
-pub removes_image : (old new : State) (before : Hall) (c : Content) → IsWithin old before c → (name : List ℕ) (count : ℕ) → ExecutesInside 0 remove_image_text (Text name ∷ []) old new (Ok count) → IsWithin new before (without_image c name)
+pub removes_image : (old new : State) (before : Hall) (c : HallRows) → IsWithin old before c → (name : List ℕ) (count : ℕ) → ExecutesInside 0 remove_image_text (Text name ∷ []) old new (Ok count) → IsWithin new before (without_image c name)
 removes_image old new before c held name count ran =
     let it = removes_named (λ (q : BootImage). q.name) image_columns (old.now.trees 8) c.hall.images held.spelt.tables.images.named hall_schema 4 images_table refl old new held.spelt.schema refl remove_image_text (Text name ∷ [])
     (equals 1 0 ∷ []) refl count ran.0 remove_image_is name (λ e. and_true _ ∙ value.same_text e.item.name name ∙ sym (same_text e.item.name name)) images_go_alone in

@@ -2,12 +2,12 @@
 use Rattle.std.specs.Prelude.{ℕ, List}
 use Rattle.hall_types.specs.Image.{BootImage}
 use Rattle.hall_types.specs.Rows.{put, gone}
-use Rattle.sql_rows.specs.Spelling.{Content}
+use Rattle.sql_rows.specs.Spelling.{HallRows}
 
 -- with this image
-abbrev pub with_image : Content → BootImage → Content
+abbrev pub with_image : HallRows → BootImage → HallRows
 with_image c i = record c { hall = record c.hall { images = put i.name i c.hall.images } }
 
 -- without the image with this name
-abbrev pub without_image : Content → List ℕ → Content
+abbrev pub without_image : HallRows → List ℕ → HallRows
 without_image c name = record c { hall = record c.hall { images = gone name c.hall.images } }

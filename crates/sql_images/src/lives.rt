@@ -12,7 +12,7 @@ ghost use Rattle.hall_types.specs.Hall.{Hall};
 ghost use Rattle.sql_schema.specs.NameStatements.{add_live_text, find_live_text, find_live_with_image_text, set_live_text};
 ghost use Rattle.sql_rows.specs.Columns.{number, live_values};
 ghost use Rattle.sql_rows.specs.Holding.{IsAsked, IsWithin};
-ghost use Rattle.sql_rows.specs.Spelling.{Content};
+ghost use Rattle.sql_rows.specs.Spelling.{HallRows};
 ghost use Rattle.sql_images.specs.Lives.{with_live};
 
 use hall_types::{Live, Name, arch_number};
@@ -115,7 +115,7 @@ fn add_raw<S: Alter>(tx: &mut Transaction<'_, S>, live: &Live) -> Result<usize, 
 // The live image of an architecture that had none.
 fn add_live<S: Alter>(tx: &mut Transaction<'_, S>, live: &Live) -> Result<usize, Error>
     ensures same_reference { tx.new.conn.ghost_name ≡ tx.old.conn.ghost_name }
-    ensures made { HasCleanDisk (state S.Store tx.new.conn.now) → OnOk result ((before : Hall) (c : Content) → IsWithin (state S.Store tx.old.conn.now) before c → IsWithin (state S.Store tx.new.conn.now) before (with_live c live.now)) }
+    ensures made { HasCleanDisk (state S.Store tx.new.conn.now) → OnOk result ((before : Hall) (c : HallRows) → IsWithin (state S.Store tx.old.conn.now) before c → IsWithin (state S.Store tx.new.conn.now) before (with_live c live.now)) }
     ensures mode { HasCleanDisk (state S.Store tx.new.conn.now) → OnOk result (IsTrue (state S.Store tx.old.conn.now).in_transaction → (state S.Store tx.new.conn.now).in_transaction ≡ true) }
     ensures kept { HasCleanDisk (state S.Store tx.new.conn.now) → IsTrue (state S.Store tx.old.conn.now).in_transaction → KeepsCommit (state S.Store tx.old.conn.now) (state S.Store tx.new.conn.now) }
     ensures survives { Survives (state S.Store tx.old.conn.now) (state S.Store tx.new.conn.now) (λ _. ⊥) }
@@ -139,7 +139,7 @@ fn set_raw<S: Alter>(tx: &mut Transaction<'_, S>, live: &Live) -> Result<Vec<Row
 // A live image that is there is changed. Answers whether it is there.
 fn set_live<S: Alter>(tx: &mut Transaction<'_, S>, live: &Live) -> Result<bool, Error>
     ensures same_reference { tx.new.conn.ghost_name ≡ tx.old.conn.ghost_name }
-    ensures made { HasCleanDisk (state S.Store tx.new.conn.now) → IfOk result (λ there. (before : Hall) (c : Content) → IsWithin (state S.Store tx.old.conn.now) before c → MatchBool there (IsWithin (state S.Store tx.new.conn.now) before (with_live c live.now)) (IsWithin (state S.Store tx.new.conn.now) before c × (at c.hall.lives (arch_number live.now.arch) ≡ None))) }
+    ensures made { HasCleanDisk (state S.Store tx.new.conn.now) → IfOk result (λ there. (before : Hall) (c : HallRows) → IsWithin (state S.Store tx.old.conn.now) before c → MatchBool there (IsWithin (state S.Store tx.new.conn.now) before (with_live c live.now)) (IsWithin (state S.Store tx.new.conn.now) before c × (at c.hall.lives (arch_number live.now.arch) ≡ None))) }
     ensures mode { HasCleanDisk (state S.Store tx.new.conn.now) → OnOk result (IsTrue (state S.Store tx.old.conn.now).in_transaction → (state S.Store tx.new.conn.now).in_transaction ≡ true) }
     ensures kept { HasCleanDisk (state S.Store tx.new.conn.now) → IsTrue (state S.Store tx.old.conn.now).in_transaction → KeepsCommit (state S.Store tx.old.conn.now) (state S.Store tx.new.conn.now) }
     ensures survives { Survives (state S.Store tx.old.conn.now) (state S.Store tx.new.conn.now) (λ _. ⊥) }
@@ -153,7 +153,7 @@ fn set_live<S: Alter>(tx: &mut Transaction<'_, S>, live: &Live) -> Result<bool, 
 /// A live image's row, new or in place of the one that has its key.
 pub fn put_live<S: Alter>(tx: &mut Transaction<'_, S>, live: &Live) -> Result<(), Error>
     ensures same_reference { tx.new.conn.ghost_name ≡ tx.old.conn.ghost_name }
-    ensures made { HasCleanDisk (state S.Store tx.new.conn.now) → OnOk result ((before : Hall) (c : Content) → IsWithin (state S.Store tx.old.conn.now) before c → IsWithin (state S.Store tx.new.conn.now) before (with_live c live.now)) }
+    ensures made { HasCleanDisk (state S.Store tx.new.conn.now) → OnOk result ((before : Hall) (c : HallRows) → IsWithin (state S.Store tx.old.conn.now) before c → IsWithin (state S.Store tx.new.conn.now) before (with_live c live.now)) }
     ensures mode { HasCleanDisk (state S.Store tx.new.conn.now) → OnOk result (IsTrue (state S.Store tx.old.conn.now).in_transaction → (state S.Store tx.new.conn.now).in_transaction ≡ true) }
     ensures kept { HasCleanDisk (state S.Store tx.new.conn.now) → IsTrue (state S.Store tx.old.conn.now).in_transaction → KeepsCommit (state S.Store tx.old.conn.now) (state S.Store tx.new.conn.now) }
     ensures survives { Survives (state S.Store tx.old.conn.now) (state S.Store tx.new.conn.now) (λ _. ⊥) }

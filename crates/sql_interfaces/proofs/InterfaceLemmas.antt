@@ -16,7 +16,7 @@ use Rattle.hall_types.specs.RowLaws.{same_text, same_number}
 use Rattle.hall_types.specs.Hall.{Hall}
 use Rattle.hall_types.specs.Lookup.{interfaces_of}
 use Rattle.hall_types.specs.declared.machine.Interface.{Interface}
-use Rattle.sql_statements.specs.Queries.{parameter, equals, place, rising, from_one}
+use Rattle.sql_statements.specs.Queries.{parameter, equals, cell, rising, from_one}
 use Rattle.sql_statements.specs.Rows.{Entry, row_of, rowid_of}
 use Rattle.sql_statements.specs.ListLaws.{and_true}
 use Rattle.sql_statements.specs.ValueLaws as value
@@ -25,7 +25,7 @@ use Rattle.sql_schema.specs.MachineStatementLaws.{add_interface_is, remove_inter
 use Rattle.sql_schema.specs.Tables.{hall_schema, interfaces_table}
 use Rattle.sql_schema.specs.CascadeLaws.{interfaces_go_alone}
 use Rattle.sql_rows.specs.Columns.{number, interface_columns}
-use Rattle.sql_rows.specs.Spelling.{SpellHall, IsNamed, Content}
+use Rattle.sql_rows.specs.Spelling.{SpellHall, IsNamed, HallRows}
 use Rattle.sql_rows.specs.SpellingLaws.{sets_interfaces}
 use Rattle.sql_rows.specs.Holding.{IsWithin}
 use Rattle.sql_rows.specs.HoldingLaws.{within}
@@ -38,30 +38,30 @@ use Rattle.sql_interfaces.specs.Interfaces.{with_interface, without_interface, w
 pub finds_interface : (db : Trees) (h : Hall) → SpellHall db h → (mac : List ℕ) (rows : List Row) → IsAnswer find_interface_query (overlay db []) (Blob mac ∷ []) rows
     → rows ≡ map interface_columns (option_to_list (at h.interfaces mac))
 finds_interface db h spells mac rows a =
-    finds_named (λ (i : Interface). i.mac) interface_columns (db 13) spells.content.hall.interfaces spells.tables.interfaces 13 (equals 1 0 ∷ []) (place 1 ∷ place 2 ∷ []) (rising 1 ∷ []) (Blob mac ∷ []) db refl refl rows a mac
+    finds_named (λ (i : Interface). i.mac) interface_columns (db 13) spells.hall_rows.hall.interfaces spells.tables.interfaces 13 (equals 1 0 ∷ []) (cell 1 ∷ cell 2 ∷ []) (rising 1 ∷ []) (Blob mac ∷ []) db refl refl rows a mac
     (λ e. and_true _ ∙ value.same_blob e.item.mac mac ∙ sym (same_text e.item.mac mac)) interface_columns (λ e. refl)
     ∙ ap (λ (x : Hall). map interface_columns (option_to_list (at x.interfaces mac))) spells.agrees.hall
 
 -- the interfaces that pass, by address
 lists : (db : Trees) (interfaces : Rows texts Interface) → IsNamed (λ (i : Interface). i.mac) interface_columns (db 13) interfaces → (filters : List Term) (params : Row) (p : Interface → Bool)
     → ((e : Entry Interface) → list_all (holds (params ∷ row_of rowid_of (λ e. interface_columns e.item) e ∷ [])) filters ≡ p e.item)
-    → (rows : List Row) → IsAnswer (from_one 13 filters (place 1 ∷ place 2 ∷ []) (rising 1 ∷ [])) (overlay db []) params rows → rows ≡ map interface_columns (filter p (listed interfaces))
+    → (rows : List Row) → IsAnswer (from_one 13 filters (cell 1 ∷ cell 2 ∷ []) (rising 1 ∷ [])) (overlay db []) params rows → rows ≡ map interface_columns (filter p (listed interfaces))
 unfolding texts
 lists db interfaces is filters params p tests rows a =
-    lists_named (λ (i : Interface). i.mac) interface_columns (db 13) interfaces is 13 filters (place 1 ∷ place 2 ∷ []) (rising 1 ∷ []) params db refl refl rows a p tests
+    lists_named (λ (i : Interface). i.mac) interface_columns (db 13) interfaces is 13 filters (cell 1 ∷ cell 2 ∷ []) (rising 1 ∷ []) params db refl refl rows a p tests
     (λ i. (Blob i.mac ∷ [], interface_columns i)) (λ e. refl) (λ one other low. rw (value_cmp-Blob one.mac other.mac, low) refl)
 
 pub finds_interfaces : (db : Trees) (h : Hall) → SpellHall db h → (id : ℕ) (rows : List Row) → IsAnswer find_interfaces_query (overlay db []) (number id ∷ []) rows
     → rows ≡ map interface_columns (interfaces_of h id)
 finds_interfaces db h spells id rows a =
-    lists db spells.content.hall.interfaces spells.tables.interfaces (equals 2 0 ∷ []) (number id ∷ []) (λ i. i.machine == id)
+    lists db spells.hall_rows.hall.interfaces spells.tables.interfaces (equals 2 0 ∷ []) (number id ∷ []) (λ i. i.machine == id)
     (λ e. and_true _ ∙ value.same_number (pos e.item.machine) (pos id) ∙ number_key e.item.machine id ∙ same_number e.item.machine id) rows a
     ∙ ap (λ (x : Hall). map interface_columns (interfaces_of x id)) spells.agrees.hall
 
 pub lists_interfaces : (db : Trees) (h : Hall) → SpellHall db h → (rows : List Row) → IsAnswer list_interfaces_query (overlay db []) [] rows
     → rows ≡ map interface_columns (listed h.interfaces)
 lists_interfaces db h spells rows a =
-    lists db spells.content.hall.interfaces spells.tables.interfaces [] [] (λ _. true) (λ e. refl) rows a
+    lists db spells.hall_rows.hall.interfaces spells.tables.interfaces [] [] (λ _. true) (λ e. refl) rows a
     ∙ ap (map interface_columns) (filter_all (λ _. true) _ (all_of (λ _. true ≡ true) (λ _. refl) _))
     ∙ ap (λ (x : Hall). map interface_columns (listed x.interfaces)) spells.agrees.hall
 
@@ -84,21 +84,21 @@ same_interfaces (x ∷ xs) (y ∷ ys) e =
 
 -- ---- writes
 
-pub adds_interface : (old new : State) (before : Hall) (c : Content) → IsWithin old before c → (i : Interface) → at c.hall.interfaces i.mac ≡ None → (count : ℕ) → ExecutesInside 0 add_interface_text (interface_columns i) old new (Ok count)
+pub adds_interface : (old new : State) (before : Hall) (c : HallRows) → IsWithin old before c → (i : Interface) → at c.hall.interfaces i.mac ≡ None → (count : ℕ) → ExecutesInside 0 add_interface_text (interface_columns i) old new (Ok count)
     → IsWithin new before (with_interface c i)
 adds_interface old new before c held i free count ran =
     let it = adds_named (λ (x : Interface). x.mac) interface_columns (old.now.trees 13) c.hall.interfaces held.spelt.tables.interfaces hall_schema 7 interfaces_table refl old new held.spelt.schema refl add_interface_text (interface_columns i) count ran.0
     (lit Null ∷ parameter 0 ∷ parameter 1 ∷ []) 3 add_interface_is i free (Null ∷ interface_columns i) refl (λ id is. rw (value.cast-Null, value.cast-Int, is) refl) in
     within add_interface_text (interface_columns i) old new before c _ count held ran (sets_interfaces old.now new.now c held.spelt it.0 _ it.1 it.2)
 
-pub removes_interface : (old new : State) (before : Hall) (c : Content) → IsWithin old before c → (mac : List ℕ) (count : ℕ) → ExecutesInside 0 remove_interface_text (Blob mac ∷ []) old new (Ok count)
+pub removes_interface : (old new : State) (before : Hall) (c : HallRows) → IsWithin old before c → (mac : List ℕ) (count : ℕ) → ExecutesInside 0 remove_interface_text (Blob mac ∷ []) old new (Ok count)
     → IsWithin new before (without_interface c mac)
 removes_interface old new before c held mac count ran =
     let it = removes_named (λ (x : Interface). x.mac) interface_columns (old.now.trees 13) c.hall.interfaces held.spelt.tables.interfaces hall_schema 7 interfaces_table refl old new held.spelt.schema refl remove_interface_text (Blob mac ∷ [])
     (equals 1 0 ∷ []) refl count ran.0 remove_interface_is mac (λ e. and_true _ ∙ value.same_blob e.item.mac mac ∙ sym (same_text e.item.mac mac)) interfaces_go_alone in
     within remove_interface_text (Blob mac ∷ []) old new before c _ count held ran (sets_interfaces old.now new.now c held.spelt it.0 _ it.1 it.2)
 
-pub removes_interfaces : (old new : State) (before : Hall) (c : Content) → IsWithin old before c → (id count : ℕ) → ExecutesInside 0 remove_interfaces_text (number id ∷ []) old new (Ok count)
+pub removes_interfaces : (old new : State) (before : Hall) (c : HallRows) → IsWithin old before c → (id count : ℕ) → ExecutesInside 0 remove_interfaces_text (number id ∷ []) old new (Ok count)
     → IsWithin new before (without_interfaces c id)
 removes_interfaces old new before c held id count ran =
     let it = removes_named_where (λ (x : Interface). x.mac) interface_columns (old.now.trees 13) c.hall.interfaces held.spelt.tables.interfaces hall_schema 7 interfaces_table refl old new held.spelt.schema refl remove_interfaces_text (number id ∷ [])

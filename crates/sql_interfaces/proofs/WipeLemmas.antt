@@ -21,7 +21,7 @@ use Rattle.hall_types.specs.Hall.{Hall}
 use Rattle.hall_types.specs.declared.kinds.Erase.{Erase}
 use Rattle.hall_types.specs.declared.machine.Machine.{Machine}
 use Rattle.sql_statements.specs.Cascades.{IsIdle}
-use Rattle.sql_statements.specs.Queries.{parameter, equals, place, rising}
+use Rattle.sql_statements.specs.Queries.{parameter, equals, cell, rising}
 use Rattle.sql_statements.specs.ListLaws.{and_true}
 use Rattle.sql_statements.specs.ValueLaws as value
 use Rattle.sql_schema.specs.MachineStatements.{find_wipe_query, list_wipes_query, add_wipe_text, remove_wipe_text}
@@ -30,7 +30,7 @@ use Rattle.sql_schema.specs.Tables.{hall_schema, wipes_table}
 use Rattle.sql_schema.specs.CascadeLaws.{wipes_go_alone}
 use Rattle.sql_rows.specs.Columns.{Wipe, number, wipe_columns}
 use Rattle.sql_rows.specs.ColumnLaws.{same_erase}
-use Rattle.sql_rows.specs.Spelling.{SpellHall, Content, wipe_of}
+use Rattle.sql_rows.specs.Spelling.{SpellHall, HallRows, wipe_of}
 use Rattle.sql_rows.specs.SpellingLaws.{sets_wipes}
 use Rattle.sql_rows.specs.Holding.{IsWithin}
 use Rattle.sql_rows.specs.HoldingLaws.{within}
@@ -134,7 +134,7 @@ listed_wipes wipes machines under stand agree =
 pub finds_wipe : (db : Trees) (h : Hall) → SpellHall db h → (id : ℕ) (rows : List Row) → IsAnswer find_wipe_query (overlay db []) (number id ∷ []) rows
     → rows ≡ map erasing_values (option_to_list (found_erasing h id))
 finds_wipe db h spells id rows a =
-    finds_numbered (λ (w : Wipe). w.machine) wipe_columns (db 24) spells.content.wipes spells.tables.wipes _ 24 (equals 0 0 ∷ []) (place 0 ∷ place 2 ∷ []) [] (number id ∷ []) db refl refl rows a id
+    finds_numbered (λ (w : Wipe). w.machine) wipe_columns (db 24) spells.hall_rows.wipes spells.tables.wipes _ 24 (equals 0 0 ∷ []) (cell 0 ∷ cell 2 ∷ []) [] (number id ∷ []) db refl refl rows a id
     (λ x. and_true _ ∙ value.same_number (pos x.machine) (pos id) ∙ number_key x.machine id)
     ∙ ap (λ o. map wipe_values (option_to_list o)) (spells.agrees.wipes id) ∙ same_found (at h.machines id)
 
@@ -142,9 +142,9 @@ pub lists_wipes : (db : Trees) (h : Hall) → SpellHall db h → (rows : List Ro
     → rows ≡ map erasing_values (erasings h)
 lists_wipes db h spells rows a =
     let stand : StandUnder (λ (m : Machine). m.id) h.machines = subst (λ (x : Hall). StandUnder (λ (m : Machine). m.id) x.machines) spells.agrees.hall spells.tables.machines.under in
-    lists_numbered (λ (w : Wipe). w.machine) wipe_columns (db 24) spells.content.wipes spells.tables.wipes _ 24 [] (place 0 ∷ place 2 ∷ []) (rising 0 ∷ []) [] db refl refl rows a (λ _. true) (λ x. refl)
+    lists_numbered (λ (w : Wipe). w.machine) wipe_columns (db 24) spells.hall_rows.wipes spells.tables.wipes _ 24 [] (cell 0 ∷ cell 2 ∷ []) (rising 0 ∷ []) [] db refl refl rows a (λ _. true) (λ x. refl)
     (λ one other low. rw (value_cmp-Int (pos one.machine) (pos other.machine), low) refl)
-    ∙ ap (map wipe_values) (filter_all (λ _. true) _ (all_of (λ _. true ≡ true) (λ _. refl) _) ∙ listed_wipes spells.content.wipes h.machines spells.tables.wipes.under stand spells.agrees.wipes)
+    ∙ ap (map wipe_values) (filter_all (λ _. true) _ (all_of (λ _. true ≡ true) (λ _. refl) _) ∙ listed_wipes spells.hall_rows.wipes h.machines spells.tables.wipes.under stand spells.agrees.wipes)
     ∙ same_listed (listed h.machines)
 
 -- a row is that of one kind of erasing
@@ -177,7 +177,7 @@ found_erase h id = go (at h.machines id)
 
 -- ---- writes
 
-pub adds_wipe : (old new : State) (before : Hall) (c : Content) → IsWithin old before c → (id : ℕ) (erase : Erase) (count : ℕ) → ExecutesInside 0 add_wipe_text (number id ∷ number (erase_number erase) ∷ []) old new (Ok count)
+pub adds_wipe : (old new : State) (before : Hall) (c : HallRows) → IsWithin old before c → (id : ℕ) (erase : Erase) (count : ℕ) → ExecutesInside 0 add_wipe_text (number id ∷ number (erase_number erase) ∷ []) old new (Ok count)
     → IsWithin new before (with_wipe c id (Some erase))
 adds_wipe old new before c held id erase count ran =
     let x : Wipe = record { machine = id; erase = erase } in
@@ -185,7 +185,7 @@ adds_wipe old new before c held id erase count ran =
     (parameter 0 ∷ lit Null ∷ parameter 1 ∷ []) 3 add_wipe_is count ran.0 x (number id ∷ wipe_columns x) refl (rw (value.cast-Int, value.cast-Null, value.cast-Int) refl) in
     within add_wipe_text (number id ∷ number (erase_number erase) ∷ []) old new before c _ count held ran (sets_wipes old.now new.now c held.spelt it.0 _ it.1 it.2)
 
-pub removes_wipe : (old new : State) (before : Hall) (c : Content) → IsWithin old before c → (id count : ℕ) → ExecutesInside 0 remove_wipe_text (number id ∷ []) old new (Ok count) → IsWithin new before (with_wipe c id None)
+pub removes_wipe : (old new : State) (before : Hall) (c : HallRows) → IsWithin old before c → (id count : ℕ) → ExecutesInside 0 remove_wipe_text (number id ∷ []) old new (Ok count) → IsWithin new before (with_wipe c id None)
 removes_wipe old new before c held id count ran =
     let it = removes_numbered (λ (w : Wipe). w.machine) wipe_columns (old.now.trees 24) c.wipes held.spelt.tables.wipes hall_schema 12 wipes_table refl old new held.spelt.schema refl remove_wipe_text (number id ∷ [])
     (equals 0 0 ∷ []) refl remove_wipe_is count ran.0 id (λ x. and_true _ ∙ value.same_number (pos x.machine) (pos id) ∙ number_key x.machine id)

@@ -8,7 +8,7 @@ use Rattle.hall_types.specs.Hall.{Hall}
 use Rattle.hall_types.specs.declared.kinds.Erase.{Erase}
 use Rattle.hall_types.specs.declared.machine.Machine.{Machine}
 use Rattle.sql_rows.specs.Columns.{Wipe, number}
-use Rattle.sql_rows.specs.Spelling.{Content}
+use Rattle.sql_rows.specs.Spelling.{HallRows}
 use Rattle.sql_interfaces.specs.declared.wipes.Erasing.{Erasing}
 
 -- this machine's disks are to be erased so, or not at all
@@ -16,8 +16,8 @@ abbrev pub wipe_set : ℕ → Option Erase → Rows numbers Wipe → Rows number
 wipe_set id None wipes = gone id wipes
 wipe_set id (Some erase) wipes = put id (record { machine = id; erase = erase }) wipes
 
--- the content where this machine's disks are to be erased so, or not at all
-abbrev pub with_wipe : Content → ℕ → Option Erase → Content
+-- the rows where this machine's disks are to be erased so, or not at all
+abbrev pub with_wipe : HallRows → ℕ → Option Erase → HallRows
 with_wipe c id erase = record c { wipes = wipe_set id erase c.wipes }
 
 -- how the disks of the machine with this number are erased, if they are to be

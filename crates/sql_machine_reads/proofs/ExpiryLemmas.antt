@@ -22,7 +22,7 @@ use Rattle.hall_types.specs.Hall.{Hall}
 use Rattle.hall_types.specs.Lookup.{has_come, is_before, is_due, next_expired, sooner, soonest}
 use Rattle.hall_types.specs.LookupLaws.{next_expired-is}
 use Rattle.hall_types.specs.declared.machine.Machine.{Machine}
-use Rattle.sql_statements.specs.Queries.{at_most, place, rising, IsBefore}
+use Rattle.sql_statements.specs.Queries.{at_most, cell, rising, IsBefore}
 use Rattle.sql_statements.specs.QueryLaws.{items_by}
 use Rattle.sql_statements.specs.ListLaws.{and_true, all_passed, IsPermutation-map}
 use Rattle.sql_schema.specs.MachineStatements.{find_expired_query}
@@ -194,11 +194,11 @@ one_shown (m ∷ ms) = refl
 pub finds_expired : (db : Trees) (h : Hall) → SpellHall db h → (moment : ℕ) (rows : List Row) → IsAnswer find_expired_query (overlay db []) (number moment ∷ []) rows
     → rows ≡ map machine_values (option_to_list (next_expired h moment))
 finds_expired db h spells moment rows a =
-    let machines = spells.content.hall.machines in
+    let machines = spells.hall_rows.hall.machines in
     let tables = spells.tables.machines in
     let due = filter (is_due moment) (listed machines) in
     items_by (λ (x : Machine). pos x.id) machine_columns (at_most 12 0 ∷ []) (number moment ∷ []) (is_due moment) (λ m. and_true _ ∙ due_test m.deadline moment) _ 11
-    (place 0 ∷ place 2 ∷ place 3 ∷ place 4 ∷ place 5 ∷ place 6 ∷ place 7 ∷ place 8 ∷ place 9 ∷ place 10 ∷ place 11 ∷ place 12 ∷ place 13 ∷ place 14 ∷ place 15 ∷ []) (rising 12 ∷ rising 0 ∷ [])
+    (cell 0 ∷ cell 2 ∷ cell 3 ∷ cell 4 ∷ cell 5 ∷ cell 6 ∷ cell 7 ∷ cell 8 ∷ cell 9 ∷ cell 10 ∷ cell 11 ∷ cell 12 ∷ cell 13 ∷ cell 14 ∷ cell 15 ∷ []) (rising 12 ∷ rising 0 ∷ [])
     (listed machines) db tables.spelt refl rows a output_for (in_turn due) (IsPermutation-map output_for _ _ (in_turn_permutes due))
     (ascending_weaker Before _ output_before (in_turn due) (in_turn_rises due (all_passed HasDeadline (is_due moment) (due_has_deadline moment) (listed machines))
     (ascending-filter _ (is_due moment) (listed machines) (ascending_weaker _ _ (λ x y low. below x.id y.id low) (listed machines) (AreRising-listed numbers (λ (m : Machine). m.id) machines tables.under)))))

@@ -12,7 +12,7 @@ use Rattle.hall_types.specs.Rows.{numbers, listed}
 use Rattle.hall_types.specs.Hall.{Hall}
 use Rattle.hall_types.specs.declared.kinds.Erase.{Erase}
 use Rattle.hall_types.specs.declared.machine.Machine.{Machine}
-use Rattle.sql_statements.specs.Queries.{place, rising}
+use Rattle.sql_statements.specs.Queries.{cell, rising}
 use Rattle.sql_schema.specs.MachineStatements.{list_machines_query}
 use Rattle.sql_rows.specs.Columns.{machine_columns, machine_values}
 use Rattle.sql_rows.specs.ListedLaws.{AreRising-listed}
@@ -97,8 +97,8 @@ in_number_order db h spells = ascending_weaker _ _ (λ x y low. below x.id y.id 
 
 pub lists_machines : (db : Trees) (h : Hall) → SpellHall db h → (rows : List Row) → IsAnswer list_machines_query (overlay db []) [] rows → rows ≡ map machine_values (listed h.machines)
 lists_machines db h spells rows a =
-    lists_numbered (λ (x : Machine). x.id) machine_columns (db 11) spells.content.hall.machines spells.tables.machines _ 11 []
-    (place 0 ∷ place 2 ∷ place 3 ∷ place 4 ∷ place 5 ∷ place 6 ∷ place 7 ∷ place 8 ∷ place 9 ∷ place 10 ∷ place 11 ∷ place 12 ∷ place 13 ∷ place 14 ∷ place 15 ∷ []) (rising 0 ∷ []) [] db refl refl rows a
+    lists_numbered (λ (x : Machine). x.id) machine_columns (db 11) spells.hall_rows.hall.machines spells.tables.machines _ 11 []
+    (cell 0 ∷ cell 2 ∷ cell 3 ∷ cell 4 ∷ cell 5 ∷ cell 6 ∷ cell 7 ∷ cell 8 ∷ cell 9 ∷ cell 10 ∷ cell 11 ∷ cell 12 ∷ cell 13 ∷ cell 14 ∷ cell 15 ∷ []) (rising 0 ∷ []) [] db refl refl rows a
     (λ _. true) (λ x. refl) (λ one other low. rw (value_cmp-Int _ _, low) refl)
     ∙ ap (map machine_values) (filter_all (λ _. true) _ (all_of (λ _. true ≡ true) (λ _. refl) _))
     ∙ ap (λ (x : Hall). map machine_values (listed x.machines)) spells.agrees.hall

@@ -18,7 +18,7 @@ use Rattle.hall_types.specs.Keyed.{StandUnder}
 use Rattle.hall_types.specs.Lookup.{has_uuid, is_named, machine_with_uuid}
 use Rattle.hall_types.specs.Hall.{Hall}
 use Rattle.hall_types.specs.declared.machine.Machine.{Machine}
-use Rattle.sql_statements.specs.Queries.{equals, place, rising}
+use Rattle.sql_statements.specs.Queries.{equals, cell, rising}
 use Rattle.sql_statements.specs.ListLaws.{and_true}
 use Rattle.sql_statements.specs.ValueLaws as value
 use Rattle.sql_schema.specs.MachineStatements.{find_machine_query, find_uuid_query, find_machine_with_image_query}
@@ -34,8 +34,8 @@ machines_stand db h spells = subst (λ (x : Hall). StandUnder (λ (m : Machine).
 pub finds_machine : (db : Trees) (h : Hall) → SpellHall db h → (id : ℕ) (rows : List Row) → IsAnswer find_machine_query (overlay db []) (number id ∷ []) rows
     → rows ≡ map machine_values (option_to_list (at h.machines id))
 finds_machine db h spells id rows a =
-    finds_numbered (λ (x : Machine). x.id) machine_columns (db 11) spells.content.hall.machines spells.tables.machines _ 11 (equals 0 0 ∷ [])
-    (place 0 ∷ place 2 ∷ place 3 ∷ place 4 ∷ place 5 ∷ place 6 ∷ place 7 ∷ place 8 ∷ place 9 ∷ place 10 ∷ place 11 ∷ place 12 ∷ place 13 ∷ place 14 ∷ place 15 ∷ []) [] (number id ∷ []) db refl refl rows a id
+    finds_numbered (λ (x : Machine). x.id) machine_columns (db 11) spells.hall_rows.hall.machines spells.tables.machines _ 11 (equals 0 0 ∷ [])
+    (cell 0 ∷ cell 2 ∷ cell 3 ∷ cell 4 ∷ cell 5 ∷ cell 6 ∷ cell 7 ∷ cell 8 ∷ cell 9 ∷ cell 10 ∷ cell 11 ∷ cell 12 ∷ cell 13 ∷ cell 14 ∷ cell 15 ∷ []) [] (number id ∷ []) db refl refl rows a id
     (λ x. and_true _ ∙ value.same_number (pos x.id) (pos id) ∙ number_key x.id id)
     ∙ ap (λ (x : Hall). map machine_values (option_to_list (at x.machines id))) spells.agrees.hall
 
@@ -51,7 +51,7 @@ uuid_test (Some its) uuid = value.same_blob its uuid
 pub finds_uuid : (db : Trees) (h : Hall) → SpellHall db h → (uuid : List ℕ) (rows : List Row) → IsAnswer find_uuid_query (overlay db []) (Blob uuid ∷ []) rows
     → rows ≡ map number_shown (filter (λ m. has_uuid m.uuid uuid) (listed h.machines))
 finds_uuid db h spells uuid rows a =
-    lists_numbered (λ (x : Machine). x.id) machine_columns (db 11) spells.content.hall.machines spells.tables.machines _ 11 (equals 3 0 ∷ []) (place 0 ∷ []) (rising 0 ∷ []) (Blob uuid ∷ []) db refl refl rows a
+    lists_numbered (λ (x : Machine). x.id) machine_columns (db 11) spells.hall_rows.hall.machines spells.tables.machines _ 11 (equals 3 0 ∷ []) (cell 0 ∷ []) (rising 0 ∷ []) (Blob uuid ∷ []) db refl refl rows a
     (λ m. has_uuid m.uuid uuid) (λ m. and_true _ ∙ uuid_test m.uuid uuid) (λ one other low. rw (value_cmp-Int (pos one.id) (pos other.id), low) refl)
     ∙ ap (λ (x : Hall). map number_shown (filter (λ m. has_uuid m.uuid uuid) (listed x.machines))) spells.agrees.hall
 
@@ -68,7 +68,7 @@ image_test (Some its) name = value.same_text its name
 pub finds_image : (db : Trees) (h : Hall) → SpellHall db h → (name : List ℕ) (rows : List Row) → IsAnswer find_machine_with_image_query (overlay db []) (Text name ∷ []) rows
     → rows ≡ take 1 (map number_shown (filter (λ m. is_named m.image name) (listed h.machines)))
 finds_image db h spells name rows a =
-    lists_numbered (λ (x : Machine). x.id) machine_columns (db 11) spells.content.hall.machines spells.tables.machines _ 11 (equals 7 0 ∷ []) (place 0 ∷ []) (rising 0 ∷ []) (Text name ∷ []) db refl refl rows a
+    lists_numbered (λ (x : Machine). x.id) machine_columns (db 11) spells.hall_rows.hall.machines spells.tables.machines _ 11 (equals 7 0 ∷ []) (cell 0 ∷ []) (rising 0 ∷ []) (Text name ∷ []) db refl refl rows a
     (λ m. is_named m.image name) (λ m. and_true _ ∙ image_test m.image name) (λ one other low. rw (value_cmp-Int (pos one.id) (pos other.id), low) refl)
     ∙ ap (λ (x : Hall). take 1 (map number_shown (filter (λ m. is_named m.image name) (listed x.machines)))) spells.agrees.hall
 

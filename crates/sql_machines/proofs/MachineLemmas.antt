@@ -28,7 +28,7 @@ use Rattle.hall_types.specs.declared.machine.Interface.{Interface}
 use Rattle.hall_types.specs.declared.boot.Boot.{Boot}
 use Rattle.hall_types.specs.declared.order.Order.{Order}
 use Rattle.sql_statements.specs.CascadeLaws.{no_row_points}
-use Rattle.sql_statements.specs.Queries.{parameter, equals, place}
+use Rattle.sql_statements.specs.Queries.{parameter, equals, cell}
 use Rattle.sql_statements.specs.ListLaws.{and_true, any_along}
 use Rattle.sql_statements.specs.Rows.{Entry, row_of, rowid_of, item_of}
 use Rattle.sql_statements.specs.ValueLaws as value
@@ -37,7 +37,7 @@ use Rattle.sql_schema.specs.MachineStatementLaws.{add_machine_is, set_machine_is
 use Rattle.sql_schema.specs.Tables.{hall_schema, machines_table, interfaces_table, boots_table, orders_table, wipes_table, belongs_to_machine}
 use Rattle.sql_schema.specs.CascadeLaws.{never_follows, machines_go_alone}
 use Rattle.sql_rows.specs.Columns.{Wipe, number, truth_number, or_null, machine_columns, machine_values, interface_columns, boot_columns, order_columns, wipe_columns}
-use Rattle.sql_rows.specs.Spelling.{Content}
+use Rattle.sql_rows.specs.Spelling.{HallRows}
 use Rattle.sql_rows.specs.ListedLaws.{listed_with_key}
 use Rattle.sql_rows.specs.SpellingLaws.{sets_machines}
 use Rattle.sql_rows.specs.Holding.{IsWithin}
@@ -79,7 +79,7 @@ was_free rows id under free = none (at rows id) (sym (ap is_some found) ∙ free
     none None e = refl
     none (Some m) e = cc
 
-pub adds_machine : (old new : State) (before : Hall) (c : Content) → IsWithin old before c → (m : Machine) (count : ℕ) → ExecutesInside 0 add_machine_text (machine_values m) old new (Ok count)
+pub adds_machine : (old new : State) (before : Hall) (c : HallRows) → IsWithin old before c → (m : Machine) (count : ℕ) → ExecutesInside 0 add_machine_text (machine_values m) old new (Ok count)
     → IsWithin new before (with_machine c m) × (at c.hall.machines m.id ≡ None)
 adds_machine old new before c held m count ran =
     let it = adds_numbered (λ (x : Machine). x.id) machine_columns (old.now.trees 11) c.hall.machines held.spelt.tables.machines hall_schema 6 machines_table refl old new held.spelt.schema refl add_machine_text (machine_values m)
@@ -103,11 +103,11 @@ adds_machine old new before c held m count ran =
     (within add_machine_text (machine_values m) old new before c _ count held ran (sets_machines old.now new.now c held.spelt it.0 _ it.1 it.2), was_free c.hall.machines m.id held.spelt.tables.machines.under it.3)
 
 -- the row is changed where its version is the one that was read, and one row comes back for it; else none comes back
-pub sets_machine : (old new : State) (before : Hall) (c : Content) → IsWithin old before c → (m : Machine) (was : ℕ) (rows : List Row) → Shown set_machine_text (checked_values m was) old new rows
+pub sets_machine : (old new : State) (before : Hall) (c : HallRows) → IsWithin old before c → (m : Machine) (was : ℕ) (rows : List Row) → Shown set_machine_text (checked_values m was) old new rows
     → (length rows ≡ 0) ⊎ ((length rows ≡ 1) × IsWithin new before (with_machine c m) × HasVersion c m.id was)
 sets_machine old new before c held m was rows shown =
     let it = sets_numbered_if (λ (x : Machine). x.id) machine_columns (old.now.trees 11) c.hall.machines held.spelt.tables.machines hall_schema 6 machines_table refl old new held.spelt.schema refl set_machine_text (checked_values m was)
-    (equals 0 0 ∷ equals 11 15 ∷ []) refl (place 0 ∷ lit Null ∷ parameter 1 ∷ parameter 2 ∷ parameter 3 ∷ parameter 4 ∷ parameter 5 ∷ parameter 6 ∷ parameter 7 ∷ parameter 8 ∷ parameter 9 ∷ parameter 10 ∷ parameter 11 ∷ parameter 12 ∷ parameter 13 ∷ parameter 14 ∷ []) never_follows m (λ y. same_key numbers y.id m.id && same_key numbers y.version was)
+    (equals 0 0 ∷ equals 11 15 ∷ []) refl (cell 0 ∷ lit Null ∷ parameter 1 ∷ parameter 2 ∷ parameter 3 ∷ parameter 4 ∷ parameter 5 ∷ parameter 6 ∷ parameter 7 ∷ parameter 8 ∷ parameter 9 ∷ parameter 10 ∷ parameter 11 ∷ parameter 12 ∷ parameter 13 ∷ parameter 14 ∷ []) never_follows m (λ y. same_key numbers y.id m.id && same_key numbers y.version was)
     (λ y. ap₂ (λ a b. a && (b && true)) (value.same_number (pos y.id) (pos m.id) ∙ number_key y.id m.id) (value.same_number (pos y.version) (pos was) ∙ number_key y.version was)
     ∙ ap (λ b. same_key numbers y.id m.id && b) (and_true (same_key numbers y.version was)))
     (λ y t. both_first (same_key numbers y.id m.id) (same_key numbers y.version was) t) (λ (y : Machine). record m { id = y.id }) (λ y. refl) (λ y t. ap (λ n. record m { id = n }) (key-same numbers y.id m.id t))
@@ -150,7 +150,7 @@ mapped_any : {Y Z : Type 0} (p : Z → Bool) (g : Y → Z) (ys : List Y) → lis
 mapped_any p g [] = refl
 mapped_any p g (y ∷ ys) = ap (λ b. p (g y) || b) (mapped_any p g ys)
 
-pub removes_machine : (old new : State) (before : Hall) (c : Content) → IsWithin old before c → (id : ℕ) → HasNoChild c id → (count : ℕ) → ExecutesInside 0 remove_machine_text (number id ∷ []) old new (Ok count) → IsWithin new before (without_row c id)
+pub removes_machine : (old new : State) (before : Hall) (c : HallRows) → IsWithin old before c → (id : ℕ) → HasNoChild c id → (count : ℕ) → ExecutesInside 0 remove_machine_text (number id ∷ []) old new (Ok count) → IsWithin new before (without_row c id)
 removes_machine old new before c held id alone count ran =
     let tables = held.spelt.tables in
     let it = removes_numbered (λ (x : Machine). x.id) machine_columns (old.now.trees 11) c.hall.machines tables.machines hall_schema 6 machines_table refl old new held.spelt.schema refl remove_machine_text (number id ∷ [])
@@ -170,7 +170,7 @@ removes_machine old new before c held id alone count ran =
     within remove_machine_text (number id ∷ []) old new before c _ count held ran (sets_machines old.now new.now c held.spelt it.0 _ it.1 it.2)
 
 -- where one row was shown, it was changed
-pub changed_machine : (old new : State) (before : Hall) (c : Content) → IsWithin old before c → (m : Machine) (was : ℕ) (rows : List Row) → Shown set_machine_text (checked_values m was) old new rows → length rows ≡ 1
+pub changed_machine : (old new : State) (before : Hall) (c : HallRows) → IsWithin old before c → (m : Machine) (was : ℕ) (rows : List Row) → Shown set_machine_text (checked_values m was) old new rows → length rows ≡ 1
     → IsWithin new before (with_machine c m) × HasVersion c m.id was
 changed_machine old new before c held m was rows shown one =
     elim (sets_machine old new before c held m was rows shown) [ inl none ↦ absurd (let e = sym none ∙ one in omega (arith, e)) | inr it ↦ (it.1, it.2) ]

@@ -8,14 +8,14 @@ use Rattle.hall_types.specs.declared.machine.Interface.{Interface}
 use Rattle.hall_types.specs.declared.boot.Boot.{Boot}
 use Rattle.hall_types.specs.declared.order.Order.{Order}
 use Rattle.sql_rows.specs.Columns.{Wipe, number, machine_values}
-use Rattle.sql_rows.specs.Spelling.{Content}
+use Rattle.sql_rows.specs.Spelling.{HallRows}
 
 -- with this row of a machine
-abbrev pub with_machine : Content → Machine → Content
+abbrev pub with_machine : HallRows → Machine → HallRows
 with_machine c m = record c { hall = record c.hall { machines = put m.id m c.hall.machines } }
 
 -- without the row of the machine with this number
-abbrev pub without_row : Content → ℕ → Content
+abbrev pub without_row : HallRows → ℕ → HallRows
 without_row c id = record c { hall = record c.hall { machines = gone id c.hall.machines } }
 
 -- the values of a machine, and the version that its row is to have before
@@ -27,12 +27,12 @@ abbrev pub NonePointTo : {K X : Type 0} {keys : Keys K} → (X → ℕ) → Rows
 NonePointTo {X = X} machine_of rows id = (x : X) → Has (listed rows) x → (machine_of x == id) ≡ false
 
 -- no interface, boot, order or kind of erasing points to it
-pub record HasNoChild (c : Content) (id : ℕ) : Type 0 where
+pub record HasNoChild (c : HallRows) (id : ℕ) : Type 0 where
   pub interfaces : NonePointTo (λ (i : Interface). i.machine) c.hall.interfaces id
   pub boots : NonePointTo (λ (b : Boot). b.machine) c.hall.boots id
   pub orders : NonePointTo (λ (o : Order). o.machine) c.hall.orders id
   pub wipes : NonePointTo (λ (w : Wipe). w.machine) c.wipes id
 
 -- the machine with this number is there, with this version
-abbrev pub HasVersion : Content → ℕ → ℕ → Type 0
+abbrev pub HasVersion : HallRows → ℕ → ℕ → Type 0
 HasVersion c id was = (there : Machine) × (at c.hall.machines id ≡ Some there) × (there.version ≡ was)

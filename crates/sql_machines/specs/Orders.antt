@@ -2,12 +2,12 @@
 use Rattle.std.specs.Prelude.{ℕ, ◌==◌, not}
 use Rattle.hall_types.specs.Rows.{put, rows_where}
 use Rattle.hall_types.specs.declared.order.Order.{Order}
-use Rattle.sql_rows.specs.Spelling.{Content}
+use Rattle.sql_rows.specs.Spelling.{HallRows}
 
 -- with this order
-abbrev pub with_order : Content → Order → Content
+abbrev pub with_order : HallRows → Order → HallRows
 with_order c x = record c { hall = record c.hall { orders = put ((λ (x : Order). x.number) x) x c.hall.orders } }
 
 -- without those of this machine
-abbrev pub without_orders : Content → ℕ → Content
+abbrev pub without_orders : HallRows → ℕ → HallRows
 without_orders c id = record c { hall = record c.hall { orders = rows_where (λ (x : Order). not (x.machine == id)) c.hall.orders } }

@@ -11,7 +11,7 @@ ghost use Rattle.hall_types.specs.Status.{status_number};
 ghost use Rattle.sql_schema.specs.MachineStatements.{add_machine_text, remove_machine_text, set_machine_text};
 ghost use Rattle.sql_rows.specs.Columns.{machine_values, number, or_null};
 ghost use Rattle.sql_rows.specs.Holding.{IsWithin};
-ghost use Rattle.sql_rows.specs.Spelling.{Content};
+ghost use Rattle.sql_rows.specs.Spelling.{HallRows};
 ghost use Rattle.sql_machines.specs.Machines.{HasNoChild, HasVersion, checked_values, with_machine, without_row};
 
 use hall_types::{Machine, MachineUuid, Name, Number, Status, Version, arch_number};
@@ -129,8 +129,8 @@ fn add_raw<S: Alter>(tx: &mut Transaction<'_, S>, machine: &Machine) -> Result<u
 pub fn add_machine<S: Alter>(tx: &mut Transaction<'_, S>, machine: &Machine) -> Result<usize, Error>
     requires { IfSome machine.now.deadline (λ moment. moment < 2 ^ 63) }
     ensures same_reference { tx.new.conn.ghost_name ≡ tx.old.conn.ghost_name }
-    ensures made { HasCleanDisk (state S.Store tx.new.conn.now) → OnOk result ((before : Hall) (c : Content) → IsWithin (state S.Store tx.old.conn.now) before c → IsWithin (state S.Store tx.new.conn.now) before (with_machine c machine.now)) }
-    ensures new { HasCleanDisk (state S.Store tx.new.conn.now) → OnOk result ((before : Hall) (c : Content) → IsWithin (state S.Store tx.old.conn.now) before c → at c.hall.machines machine.now.id ≡ None) }
+    ensures made { HasCleanDisk (state S.Store tx.new.conn.now) → OnOk result ((before : Hall) (c : HallRows) → IsWithin (state S.Store tx.old.conn.now) before c → IsWithin (state S.Store tx.new.conn.now) before (with_machine c machine.now)) }
+    ensures new { HasCleanDisk (state S.Store tx.new.conn.now) → OnOk result ((before : Hall) (c : HallRows) → IsWithin (state S.Store tx.old.conn.now) before c → at c.hall.machines machine.now.id ≡ None) }
     ensures mode { HasCleanDisk (state S.Store tx.new.conn.now) → OnOk result (IsTrue (state S.Store tx.old.conn.now).in_transaction → (state S.Store tx.new.conn.now).in_transaction ≡ true) }
     ensures kept { HasCleanDisk (state S.Store tx.new.conn.now) → IsTrue (state S.Store tx.old.conn.now).in_transaction → KeepsCommit (state S.Store tx.old.conn.now) (state S.Store tx.new.conn.now) }
     ensures survives { Survives (state S.Store tx.old.conn.now) (state S.Store tx.new.conn.now) (λ _. ⊥) }
@@ -164,8 +164,8 @@ pub fn set_machine<S: Alter>(
 ) -> Result<(), Error>
     requires { IfSome machine.now.deadline (λ moment. moment < 2 ^ 63) }
     ensures same_reference { tx.new.conn.ghost_name ≡ tx.old.conn.ghost_name }
-    ensures made { HasCleanDisk (state S.Store tx.new.conn.now) → OnOk result ((before : Hall) (c : Content) → IsWithin (state S.Store tx.old.conn.now) before c → IsWithin (state S.Store tx.new.conn.now) before (with_machine c machine.now)) }
-    ensures version { HasCleanDisk (state S.Store tx.new.conn.now) → OnOk result ((before : Hall) (c : Content) → IsWithin (state S.Store tx.old.conn.now) before c → HasVersion c machine.now.id was) }
+    ensures made { HasCleanDisk (state S.Store tx.new.conn.now) → OnOk result ((before : Hall) (c : HallRows) → IsWithin (state S.Store tx.old.conn.now) before c → IsWithin (state S.Store tx.new.conn.now) before (with_machine c machine.now)) }
+    ensures version { HasCleanDisk (state S.Store tx.new.conn.now) → OnOk result ((before : Hall) (c : HallRows) → IsWithin (state S.Store tx.old.conn.now) before c → HasVersion c machine.now.id was) }
     ensures mode { HasCleanDisk (state S.Store tx.new.conn.now) → OnOk result (IsTrue (state S.Store tx.old.conn.now).in_transaction → (state S.Store tx.new.conn.now).in_transaction ≡ true) }
     ensures kept { HasCleanDisk (state S.Store tx.new.conn.now) → IsTrue (state S.Store tx.old.conn.now).in_transaction → KeepsCommit (state S.Store tx.old.conn.now) (state S.Store tx.new.conn.now) }
     ensures survives { Survives (state S.Store tx.old.conn.now) (state S.Store tx.new.conn.now) (λ _. ⊥) }
@@ -194,7 +194,7 @@ fn remove_raw<S: Alter>(tx: &mut Transaction<'_, S>, id: Number) -> Result<usize
 /// The row of the machine with this number goes, after its interfaces, boots, orders and kind of erasing went.
 pub fn remove_row<S: Alter>(tx: &mut Transaction<'_, S>, id: Number) -> Result<usize, Error>
     ensures same_reference { tx.new.conn.ghost_name ≡ tx.old.conn.ghost_name }
-    ensures made { HasCleanDisk (state S.Store tx.new.conn.now) → OnOk result ((before : Hall) (c : Content) → IsWithin (state S.Store tx.old.conn.now) before c → HasNoChild c id → IsWithin (state S.Store tx.new.conn.now) before (without_row c id)) }
+    ensures made { HasCleanDisk (state S.Store tx.new.conn.now) → OnOk result ((before : Hall) (c : HallRows) → IsWithin (state S.Store tx.old.conn.now) before c → HasNoChild c id → IsWithin (state S.Store tx.new.conn.now) before (without_row c id)) }
     ensures mode { HasCleanDisk (state S.Store tx.new.conn.now) → OnOk result (IsTrue (state S.Store tx.old.conn.now).in_transaction → (state S.Store tx.new.conn.now).in_transaction ≡ true) }
     ensures kept { HasCleanDisk (state S.Store tx.new.conn.now) → IsTrue (state S.Store tx.old.conn.now).in_transaction → KeepsCommit (state S.Store tx.old.conn.now) (state S.Store tx.new.conn.now) }
     ensures survives { Survives (state S.Store tx.old.conn.now) (state S.Store tx.new.conn.now) (λ _. ⊥) }

@@ -9,7 +9,7 @@ ghost use Rattle.hall_types.specs.Lookup.{waiting};
 ghost use Rattle.sql_schema.specs.MachineStatements.{add_order_text, find_order_text, list_waiting_orders_text, remove_orders_text, set_order_text};
 ghost use Rattle.sql_rows.specs.Columns.{number, order_values};
 ghost use Rattle.sql_rows.specs.Holding.{IsAsked, IsWithin};
-ghost use Rattle.sql_rows.specs.Spelling.{Content};
+ghost use Rattle.sql_rows.specs.Spelling.{HallRows};
 ghost use Rattle.sql_machines.specs.Orders.{with_order, without_orders};
 
 use hall_types::{Number, Order};
@@ -135,7 +135,7 @@ fn add_raw<S: Alter>(tx: &mut Transaction<'_, S>, order: &Order) -> Result<usize
 
 fn add_order<S: Alter>(tx: &mut Transaction<'_, S>, order: &Order) -> Result<usize, Error>
     ensures same_reference { tx.new.conn.ghost_name ≡ tx.old.conn.ghost_name }
-    ensures made { HasCleanDisk (state S.Store tx.new.conn.now) → OnOk result ((before : Hall) (c : Content) → IsWithin (state S.Store tx.old.conn.now) before c → IsWithin (state S.Store tx.new.conn.now) before (with_order c order.now)) }
+    ensures made { HasCleanDisk (state S.Store tx.new.conn.now) → OnOk result ((before : Hall) (c : HallRows) → IsWithin (state S.Store tx.old.conn.now) before c → IsWithin (state S.Store tx.new.conn.now) before (with_order c order.now)) }
     ensures mode { HasCleanDisk (state S.Store tx.new.conn.now) → OnOk result (IsTrue (state S.Store tx.old.conn.now).in_transaction → (state S.Store tx.new.conn.now).in_transaction ≡ true) }
     ensures kept { HasCleanDisk (state S.Store tx.new.conn.now) → IsTrue (state S.Store tx.old.conn.now).in_transaction → KeepsCommit (state S.Store tx.old.conn.now) (state S.Store tx.new.conn.now) }
     ensures survives { Survives (state S.Store tx.old.conn.now) (state S.Store tx.new.conn.now) (λ _. ⊥) }
@@ -164,7 +164,7 @@ fn set_raw<S: Alter>(tx: &mut Transaction<'_, S>, order: &Order) -> Result<Vec<R
 // An order that is there is changed. Answers whether it is there.
 fn set_order<S: Alter>(tx: &mut Transaction<'_, S>, order: &Order) -> Result<bool, Error>
     ensures same_reference { tx.new.conn.ghost_name ≡ tx.old.conn.ghost_name }
-    ensures made { HasCleanDisk (state S.Store tx.new.conn.now) → IfOk result (λ there. (before : Hall) (c : Content) → IsWithin (state S.Store tx.old.conn.now) before c → MatchBool there (IsWithin (state S.Store tx.new.conn.now) before (with_order c order.now)) (IsWithin (state S.Store tx.new.conn.now) before c × (at c.hall.orders order.now.number ≡ None))) }
+    ensures made { HasCleanDisk (state S.Store tx.new.conn.now) → IfOk result (λ there. (before : Hall) (c : HallRows) → IsWithin (state S.Store tx.old.conn.now) before c → MatchBool there (IsWithin (state S.Store tx.new.conn.now) before (with_order c order.now)) (IsWithin (state S.Store tx.new.conn.now) before c × (at c.hall.orders order.now.number ≡ None))) }
     ensures mode { HasCleanDisk (state S.Store tx.new.conn.now) → OnOk result (IsTrue (state S.Store tx.old.conn.now).in_transaction → (state S.Store tx.new.conn.now).in_transaction ≡ true) }
     ensures kept { HasCleanDisk (state S.Store tx.new.conn.now) → IsTrue (state S.Store tx.old.conn.now).in_transaction → KeepsCommit (state S.Store tx.old.conn.now) (state S.Store tx.new.conn.now) }
     ensures survives { Survives (state S.Store tx.old.conn.now) (state S.Store tx.new.conn.now) (λ _. ⊥) }
@@ -178,7 +178,7 @@ fn set_order<S: Alter>(tx: &mut Transaction<'_, S>, order: &Order) -> Result<boo
 /// An order's row, new or in place of the one that has its key.
 pub fn put_order<S: Alter>(tx: &mut Transaction<'_, S>, order: &Order) -> Result<(), Error>
     ensures same_reference { tx.new.conn.ghost_name ≡ tx.old.conn.ghost_name }
-    ensures made { HasCleanDisk (state S.Store tx.new.conn.now) → OnOk result ((before : Hall) (c : Content) → IsWithin (state S.Store tx.old.conn.now) before c → IsWithin (state S.Store tx.new.conn.now) before (with_order c order.now)) }
+    ensures made { HasCleanDisk (state S.Store tx.new.conn.now) → OnOk result ((before : Hall) (c : HallRows) → IsWithin (state S.Store tx.old.conn.now) before c → IsWithin (state S.Store tx.new.conn.now) before (with_order c order.now)) }
     ensures mode { HasCleanDisk (state S.Store tx.new.conn.now) → OnOk result (IsTrue (state S.Store tx.old.conn.now).in_transaction → (state S.Store tx.new.conn.now).in_transaction ≡ true) }
     ensures kept { HasCleanDisk (state S.Store tx.new.conn.now) → IsTrue (state S.Store tx.old.conn.now).in_transaction → KeepsCommit (state S.Store tx.old.conn.now) (state S.Store tx.new.conn.now) }
     ensures survives { Survives (state S.Store tx.old.conn.now) (state S.Store tx.new.conn.now) (λ _. ⊥) }
@@ -205,7 +205,7 @@ fn remove_raw<S: Alter>(tx: &mut Transaction<'_, S>, id: Number) -> Result<usize
 /// The orders of the machine with this number go.
 pub fn remove_orders<S: Alter>(tx: &mut Transaction<'_, S>, id: Number) -> Result<usize, Error>
     ensures same_reference { tx.new.conn.ghost_name ≡ tx.old.conn.ghost_name }
-    ensures made { HasCleanDisk (state S.Store tx.new.conn.now) → OnOk result ((before : Hall) (c : Content) → IsWithin (state S.Store tx.old.conn.now) before c → IsWithin (state S.Store tx.new.conn.now) before (without_orders c id)) }
+    ensures made { HasCleanDisk (state S.Store tx.new.conn.now) → OnOk result ((before : Hall) (c : HallRows) → IsWithin (state S.Store tx.old.conn.now) before c → IsWithin (state S.Store tx.new.conn.now) before (without_orders c id)) }
     ensures mode { HasCleanDisk (state S.Store tx.new.conn.now) → OnOk result (IsTrue (state S.Store tx.old.conn.now).in_transaction → (state S.Store tx.new.conn.now).in_transaction ≡ true) }
     ensures kept { HasCleanDisk (state S.Store tx.new.conn.now) → IsTrue (state S.Store tx.old.conn.now).in_transaction → KeepsCommit (state S.Store tx.old.conn.now) (state S.Store tx.new.conn.now) }
     ensures survives { Survives (state S.Store tx.old.conn.now) (state S.Store tx.new.conn.now) (λ _. ⊥) }

@@ -11,14 +11,14 @@ use Rattle.sqlite.specs.State.{State, ExecutesInside}
 use Rattle.hall_types.specs.Rows.{at}
 use Rattle.hall_types.specs.Hall.{Hall, pair}
 use Rattle.hall_types.specs.declared.operator.Member.{Member}
-use Rattle.sql_statements.specs.Queries.{parameter, equals, place, rising}
+use Rattle.sql_statements.specs.Queries.{parameter, equals, cell, rising}
 use Rattle.sql_statements.specs.ValueLaws as value
 use Rattle.sql_schema.specs.NameStatements.{find_member_query, add_member_text}
 use Rattle.sql_schema.specs.NameStatementLaws.{add_member_is}
 use Rattle.sql_schema.specs.Tables.{hall_schema, members_table}
 use Rattle.sql_rows.specs.Columns.{member_columns}
 use Rattle.sql_rows.specs.PairLaws.{two_texts}
-use Rattle.sql_rows.specs.Spelling.{SpellHall, Content}
+use Rattle.sql_rows.specs.Spelling.{SpellHall, HallRows}
 use Rattle.sql_rows.specs.SpellingLaws.{sets_members}
 use Rattle.sql_rows.specs.Holding.{IsWithin}
 use Rattle.sql_rows.specs.HoldingLaws.{within}
@@ -28,11 +28,11 @@ use Rattle.sql_names.specs.Members.{with_member}
 pub finds_member : (db : Trees) (h : Hall) → SpellHall db h → (pool operator : List ℕ) (rows : List Row) → IsAnswer find_member_query (overlay db []) (Text pool ∷ Text operator ∷ []) rows
     → rows ≡ map member_columns (option_to_list (at h.members (pair pool operator)))
 finds_member db h spells pool operator rows a =
-    finds_named (λ (m : Member). pair m.pool m.operator) member_columns (db 6) spells.content.hall.members spells.tables.members 6 (equals 1 0 ∷ equals 2 1 ∷ []) (place 1 ∷ place 2 ∷ []) (rising 1 ∷ rising 2 ∷ [])
+    finds_named (λ (m : Member). pair m.pool m.operator) member_columns (db 6) spells.hall_rows.hall.members spells.tables.members 6 (equals 1 0 ∷ equals 2 1 ∷ []) (cell 1 ∷ cell 2 ∷ []) (rising 1 ∷ rising 2 ∷ [])
     (Text pool ∷ Text operator ∷ []) db refl refl rows a (pair pool operator) (λ e. two_texts e.item.pool e.item.operator pool operator) member_columns (λ e. refl)
     ∙ ap (λ (x : Hall). map member_columns (option_to_list (at x.members (pair pool operator)))) spells.agrees.hall
 
-pub adds_member : (old new : State) (before : Hall) (c : Content) → IsWithin old before c → (m : Member) → at c.hall.members (pair m.pool m.operator) ≡ None → (count : ℕ) → ExecutesInside 0 add_member_text (member_columns m) old new (Ok count)
+pub adds_member : (old new : State) (before : Hall) (c : HallRows) → IsWithin old before c → (m : Member) → at c.hall.members (pair m.pool m.operator) ≡ None → (count : ℕ) → ExecutesInside 0 add_member_text (member_columns m) old new (Ok count)
     → IsWithin new before (with_member c m)
 adds_member old new before c held m free count ran =
     let it = adds_named (λ (q : Member). pair q.pool q.operator) member_columns (old.now.trees 6) c.hall.members held.spelt.tables.members hall_schema 3 members_table refl old new held.spelt.schema refl add_member_text (member_columns m) count ran.0

@@ -16,7 +16,7 @@ use Rattle.hall_types.specs.RowLaws.{same_text, key-same}
 use Rattle.hall_types.specs.Kinds.{role_number}
 use Rattle.hall_types.specs.Hall.{Hall}
 use Rattle.hall_types.specs.declared.operator.Operator.{Operator}
-use Rattle.sql_statements.specs.Queries.{parameter, equals, place, rising}
+use Rattle.sql_statements.specs.Queries.{parameter, equals, cell, rising}
 use Rattle.sql_statements.specs.ListLaws.{and_true}
 use Rattle.sql_statements.specs.ValueLaws as value
 use Rattle.sql_schema.specs.NameStatements.{find_digest_query, find_operator_query, add_operator_text, set_operator_text}
@@ -26,7 +26,7 @@ use Rattle.sql_schema.specs.CascadeLaws.{never_follows}
 use Rattle.sql_rows.specs.Columns.{operator_columns, truth_number}
 use Rattle.sql_rows.specs.ColumnLaws.{same_role, same_truth}
 use Rattle.sql_names.specs.Operators.{with_operator}
-use Rattle.sql_rows.specs.Spelling.{SpellHall, Content}
+use Rattle.sql_rows.specs.Spelling.{SpellHall, HallRows}
 use Rattle.sql_rows.specs.SpellingLaws.{sets_operators}
 use Rattle.sql_rows.specs.Holding.{IsWithin}
 use Rattle.sql_rows.specs.HoldingLaws.{within, shown_within}
@@ -35,7 +35,7 @@ use Rattle.sql_rows.specs.NamedLaws.{finds_named, lists_named, adds_named, sets_
 pub finds_operator : (db : Trees) (h : Hall) → SpellHall db h → (name : List ℕ) (rows : List Row) → IsAnswer find_operator_query (overlay db []) (Text name ∷ []) rows
     → rows ≡ map operator_columns (option_to_list (at h.operators name))
 finds_operator db h spells name rows a =
-    finds_named (λ (o : Operator). o.name) operator_columns (db 1) spells.content.hall.operators spells.tables.operators 1 (equals 1 0 ∷ []) (place 1 ∷ place 2 ∷ place 3 ∷ place 4 ∷ []) (rising 1 ∷ []) (Text name ∷ []) db refl refl rows a name
+    finds_named (λ (o : Operator). o.name) operator_columns (db 1) spells.hall_rows.hall.operators spells.tables.operators 1 (equals 1 0 ∷ []) (cell 1 ∷ cell 2 ∷ cell 3 ∷ cell 4 ∷ []) (rising 1 ∷ []) (Text name ∷ []) db refl refl rows a name
     (λ e. and_true _ ∙ value.same_text e.item.name name ∙ sym (same_text e.item.name name)) operator_columns (λ e. refl)
     ∙ ap (λ (x : Hall). map operator_columns (option_to_list (at x.operators name))) spells.agrees.hall
 
@@ -44,7 +44,7 @@ pub finds_digest : (db : Trees) (h : Hall) → SpellHall db h → (digest : List
     → rows ≡ map operator_columns (filter (λ (o : Operator). bytes_eq o.digest digest) (listed h.operators))
 unfolding texts
 finds_digest db h spells digest rows a =
-    lists_named (λ (o : Operator). o.name) operator_columns (db 1) spells.content.hall.operators spells.tables.operators 1 (equals 3 0 ∷ []) (place 1 ∷ place 2 ∷ place 3 ∷ place 4 ∷ []) (rising 1 ∷ []) (Blob digest ∷ []) db refl refl rows a
+    lists_named (λ (o : Operator). o.name) operator_columns (db 1) spells.hall_rows.hall.operators spells.tables.operators 1 (equals 3 0 ∷ []) (cell 1 ∷ cell 2 ∷ cell 3 ∷ cell 4 ∷ []) (rising 1 ∷ []) (Blob digest ∷ []) db refl refl rows a
     (λ (o : Operator). bytes_eq o.digest digest) (λ e. and_true _ ∙ value.same_blob e.item.digest digest) (λ (o : Operator). ((Text o.name ∷ []), operator_columns o)) (λ e. refl)
     (λ one other low. rw (value_cmp-Text one.name other.name, low) refl)
     ∙ ap (λ (x : Hall). map operator_columns (filter (λ (o : Operator). bytes_eq o.digest digest) (listed x.operators))) spells.agrees.hall
@@ -76,7 +76,7 @@ pub no_item : {X : Type 0} (columns : X → Row) (rows : List Row) → slice_get
 no_item columns rows first [] all = refl
 no_item columns rows first (y ∷ ys) all = absurd (let e : Some (columns y) ≡ None = sym (ap (λ l. slice_get l 0) all) ∙ first in cc)
 
-pub adds_operator : (old new : State) (before : Hall) (c : Content) → IsWithin old before c → (o : Operator) → at c.hall.operators o.name ≡ None → (count : ℕ) → ExecutesInside 0 add_operator_text (operator_columns o) old new (Ok count)
+pub adds_operator : (old new : State) (before : Hall) (c : HallRows) → IsWithin old before c → (o : Operator) → at c.hall.operators o.name ≡ None → (count : ℕ) → ExecutesInside 0 add_operator_text (operator_columns o) old new (Ok count)
     → IsWithin new before (with_operator c o)
 adds_operator old new before c held o free count ran =
     let it = adds_named (λ (q : Operator). q.name) operator_columns (old.now.trees 1) c.hall.operators held.spelt.tables.operators hall_schema 1 operators_table refl old new held.spelt.schema refl add_operator_text (operator_columns o) count ran.0
@@ -84,11 +84,11 @@ adds_operator old new before c held o free count ran =
     within add_operator_text (operator_columns o) old new before c _ count held ran (sets_operators old.now new.now c held.spelt it.0 _ it.1 it.2)
 
 -- one row is shown where the operator was there
-pub sets_operator : (old new : State) (before : Hall) (c : Content) → IsWithin old before c → (o : Operator) (rows : List Row) → Shown set_operator_text (operator_columns o) old new rows
+pub sets_operator : (old new : State) (before : Hall) (c : HallRows) → IsWithin old before c → (o : Operator) (rows : List Row) → Shown set_operator_text (operator_columns o) old new rows
     → (IsWithin new before c × (at c.hall.operators o.name ≡ None) × (length rows ≡ 0)) ⊎ (IsWithin new before (with_operator c o) × (length rows ≡ 1))
 sets_operator old new before c held o rows shown =
     let it = sets_named (λ (q : Operator). q.name) operator_columns (old.now.trees 1) c.hall.operators held.spelt.tables.operators hall_schema 1 operators_table refl old new held.spelt.schema refl set_operator_text (operator_columns o)
-    (equals 1 0 ∷ []) refl (place 0 ∷ place 1 ∷ parameter 1 ∷ parameter 2 ∷ parameter 3 ∷ []) _ _ 1 refl set_operator_is never_follows rows shown o
+    (equals 1 0 ∷ []) refl (cell 0 ∷ cell 1 ∷ parameter 1 ∷ parameter 2 ∷ parameter 3 ∷ []) _ _ 1 refl set_operator_is never_follows rows shown o
     (λ e. and_true _ ∙ value.same_text e.item.name o.name ∙ sym (same_text e.item.name o.name)) (λ y. record o { name = y.name }) (λ y t. ap (λ n. record o { name = n }) (key-same texts y.name o.name t)) (λ e. rw (value.cast-Int, value.cast-Int, value.cast-Int) refl) in
     elim it.2 [
       | inl none ↦ inl (shown_within set_operator_text (operator_columns o) _ _ set_operator_is old new before c _ rows held shown (sets_operators old.now new.now c held.spelt it.0 c.hall.operators it.1 none.2), none.0, none.1)

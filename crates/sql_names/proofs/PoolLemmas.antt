@@ -12,14 +12,14 @@ use Rattle.hall_types.specs.Rows.{at, put}
 use Rattle.hall_types.specs.RowLaws.{same_text}
 use Rattle.hall_types.specs.Hall.{Hall}
 use Rattle.hall_types.specs.declared.operator.Pool.{Pool}
-use Rattle.sql_statements.specs.Queries.{parameter, equals, place, rising}
+use Rattle.sql_statements.specs.Queries.{parameter, equals, cell, rising}
 use Rattle.sql_statements.specs.ListLaws.{and_true}
 use Rattle.sql_statements.specs.ValueLaws as value
 use Rattle.sql_schema.specs.NameStatements.{find_pool_query, add_pool_text}
 use Rattle.sql_schema.specs.NameStatementLaws.{add_pool_is}
 use Rattle.sql_schema.specs.Tables.{hall_schema, pools_table}
 use Rattle.sql_rows.specs.Columns.{pool_columns}
-use Rattle.sql_rows.specs.Spelling.{SpellHall, Content}
+use Rattle.sql_rows.specs.Spelling.{SpellHall, HallRows}
 use Rattle.sql_rows.specs.SpellingLaws.{sets_pools}
 use Rattle.sql_rows.specs.Holding.{IsWithin}
 use Rattle.sql_rows.specs.HoldingLaws.{within}
@@ -28,11 +28,11 @@ use Rattle.sql_rows.specs.NamedLaws.{finds_named, adds_named}
 pub finds_pool : (db : Trees) (h : Hall) → SpellHall db h → (name : List ℕ) (rows : List Row) → IsAnswer find_pool_query (overlay db []) (Text name ∷ []) rows
     → rows ≡ map pool_columns (option_to_list (at h.pools name))
 finds_pool db h spells name rows a =
-    finds_named (λ (p : Pool). p.name) pool_columns (db 4) spells.content.hall.pools spells.tables.pools 4 (equals 1 0 ∷ []) (place 1 ∷ []) (rising 1 ∷ []) (Text name ∷ []) db refl refl rows a name
+    finds_named (λ (p : Pool). p.name) pool_columns (db 4) spells.hall_rows.hall.pools spells.tables.pools 4 (equals 1 0 ∷ []) (cell 1 ∷ []) (rising 1 ∷ []) (Text name ∷ []) db refl refl rows a name
     (λ e. and_true _ ∙ value.same_text e.item.name name ∙ sym (same_text e.item.name name)) pool_columns (λ e. refl)
     ∙ ap (λ (x : Hall). map pool_columns (option_to_list (at x.pools name))) spells.agrees.hall
 
-pub adds_pool : (old new : State) (before : Hall) (c : Content) → IsWithin old before c → (p : Pool) → at c.hall.pools p.name ≡ None → (count : ℕ) → ExecutesInside 0 add_pool_text (Text p.name ∷ []) old new (Ok count)
+pub adds_pool : (old new : State) (before : Hall) (c : HallRows) → IsWithin old before c → (p : Pool) → at c.hall.pools p.name ≡ None → (count : ℕ) → ExecutesInside 0 add_pool_text (Text p.name ∷ []) old new (Ok count)
     → IsWithin new before (record c { hall = record c.hall { pools = put p.name p c.hall.pools } })
 adds_pool old new before c held p free count ran =
     let it = adds_named (λ (q : Pool). q.name) pool_columns (old.now.trees 4) c.hall.pools held.spelt.tables.pools hall_schema 2 pools_table refl old new held.spelt.schema refl add_pool_text (Text p.name ∷ []) count ran.0

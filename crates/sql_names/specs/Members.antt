@@ -2,8 +2,8 @@
 use Rattle.hall_types.specs.Rows.{put}
 use Rattle.hall_types.specs.Hall.{pair}
 use Rattle.hall_types.specs.declared.operator.Member.{Member}
-use Rattle.sql_rows.specs.Spelling.{Content}
+use Rattle.sql_rows.specs.Spelling.{HallRows}
 
 -- with this member
-abbrev pub with_member : Content → Member → Content
+abbrev pub with_member : HallRows → Member → HallRows
 with_member c m = record c { hall = record c.hall { members = put (pair m.pool m.operator) m c.hall.members } }

@@ -9,7 +9,7 @@ ghost use Rattle.hall_types.specs.Hall.{Hall, pair};
 ghost use Rattle.sql_schema.specs.NameStatements.{add_member_text, find_member_text};
 ghost use Rattle.sql_rows.specs.Columns.{member_columns};
 ghost use Rattle.sql_rows.specs.Holding.{IsAsked, IsWithin};
-ghost use Rattle.sql_rows.specs.Spelling.{Content};
+ghost use Rattle.sql_rows.specs.Spelling.{HallRows};
 ghost use Rattle.sql_names.specs.Members.{with_member};
 
 use hall_types::{Member, Name};
@@ -92,7 +92,7 @@ fn add_raw<S: Alter>(tx: &mut Transaction<'_, S>, member: &Member) -> Result<usi
 /// A new member, whose pool and operator have to be free together.
 pub fn add_member<S: Alter>(tx: &mut Transaction<'_, S>, member: &Member) -> Result<usize, Error>
     ensures same_reference { tx.new.conn.ghost_name ≡ tx.old.conn.ghost_name }
-    ensures made { HasCleanDisk (state S.Store tx.new.conn.now) → OnOk result ((before : Hall) (c : Content) → IsWithin (state S.Store tx.old.conn.now) before c → at c.hall.members (pair member.now.pool member.now.operator) ≡ None → IsWithin (state S.Store tx.new.conn.now) before (with_member c member.now)) }
+    ensures made { HasCleanDisk (state S.Store tx.new.conn.now) → OnOk result ((before : Hall) (c : HallRows) → IsWithin (state S.Store tx.old.conn.now) before c → at c.hall.members (pair member.now.pool member.now.operator) ≡ None → IsWithin (state S.Store tx.new.conn.now) before (with_member c member.now)) }
     ensures mode { HasCleanDisk (state S.Store tx.new.conn.now) → OnOk result (IsTrue (state S.Store tx.old.conn.now).in_transaction → (state S.Store tx.new.conn.now).in_transaction ≡ true) }
     ensures kept { HasCleanDisk (state S.Store tx.new.conn.now) → IsTrue (state S.Store tx.old.conn.now).in_transaction → KeepsCommit (state S.Store tx.old.conn.now) (state S.Store tx.new.conn.now) }
     ensures survives { Survives (state S.Store tx.old.conn.now) (state S.Store tx.new.conn.now) (λ _. ⊥) }

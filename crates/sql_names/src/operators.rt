@@ -11,7 +11,7 @@ ghost use Rattle.hall_types.specs.Hall.{Hall};
 ghost use Rattle.sql_schema.specs.NameStatements.{add_operator_text, find_digest_text, find_operator_text, set_operator_text};
 ghost use Rattle.sql_rows.specs.Columns.{operator_columns};
 ghost use Rattle.sql_rows.specs.Holding.{IsAsked, IsWithin};
-ghost use Rattle.sql_rows.specs.Spelling.{Content};
+ghost use Rattle.sql_rows.specs.Spelling.{HallRows};
 ghost use Rattle.sql_names.specs.Operators.{with_operator};
 
 use hall_types::{Digest, Name, Operator};
@@ -130,7 +130,7 @@ fn add_raw<S: Alter>(tx: &mut Transaction<'_, S>, operator: &Operator) -> Result
 // A new operator, whose name has to be free.
 fn add_operator<S: Alter>(tx: &mut Transaction<'_, S>, operator: &Operator) -> Result<usize, Error>
     ensures same_reference { tx.new.conn.ghost_name ≡ tx.old.conn.ghost_name }
-    ensures made { HasCleanDisk (state S.Store tx.new.conn.now) → OnOk result ((before : Hall) (c : Content) → IsWithin (state S.Store tx.old.conn.now) before c → at c.hall.operators operator.now.name ≡ None → IsWithin (state S.Store tx.new.conn.now) before (with_operator c operator.now)) }
+    ensures made { HasCleanDisk (state S.Store tx.new.conn.now) → OnOk result ((before : Hall) (c : HallRows) → IsWithin (state S.Store tx.old.conn.now) before c → at c.hall.operators operator.now.name ≡ None → IsWithin (state S.Store tx.new.conn.now) before (with_operator c operator.now)) }
     ensures mode { HasCleanDisk (state S.Store tx.new.conn.now) → OnOk result (IsTrue (state S.Store tx.old.conn.now).in_transaction → (state S.Store tx.new.conn.now).in_transaction ≡ true) }
     ensures kept { HasCleanDisk (state S.Store tx.new.conn.now) → IsTrue (state S.Store tx.old.conn.now).in_transaction → KeepsCommit (state S.Store tx.old.conn.now) (state S.Store tx.new.conn.now) }
     ensures survives { Survives (state S.Store tx.old.conn.now) (state S.Store tx.new.conn.now) (λ _. ⊥) }
@@ -160,7 +160,7 @@ fn set_raw<S: Alter>(tx: &mut Transaction<'_, S>, operator: &Operator) -> Result
 // An operator that is there is changed. Answers whether it is there.
 fn set_operator<S: Alter>(tx: &mut Transaction<'_, S>, operator: &Operator) -> Result<bool, Error>
     ensures same_reference { tx.new.conn.ghost_name ≡ tx.old.conn.ghost_name }
-    ensures made { HasCleanDisk (state S.Store tx.new.conn.now) → IfOk result (λ there. (before : Hall) (c : Content) → IsWithin (state S.Store tx.old.conn.now) before c → MatchBool there (IsWithin (state S.Store tx.new.conn.now) before (with_operator c operator.now)) (IsWithin (state S.Store tx.new.conn.now) before c × (at c.hall.operators operator.now.name ≡ None))) }
+    ensures made { HasCleanDisk (state S.Store tx.new.conn.now) → IfOk result (λ there. (before : Hall) (c : HallRows) → IsWithin (state S.Store tx.old.conn.now) before c → MatchBool there (IsWithin (state S.Store tx.new.conn.now) before (with_operator c operator.now)) (IsWithin (state S.Store tx.new.conn.now) before c × (at c.hall.operators operator.now.name ≡ None))) }
     ensures mode { HasCleanDisk (state S.Store tx.new.conn.now) → OnOk result (IsTrue (state S.Store tx.old.conn.now).in_transaction → (state S.Store tx.new.conn.now).in_transaction ≡ true) }
     ensures kept { HasCleanDisk (state S.Store tx.new.conn.now) → IsTrue (state S.Store tx.old.conn.now).in_transaction → KeepsCommit (state S.Store tx.old.conn.now) (state S.Store tx.new.conn.now) }
     ensures survives { Survives (state S.Store tx.old.conn.now) (state S.Store tx.new.conn.now) (λ _. ⊥) }
@@ -174,7 +174,7 @@ fn set_operator<S: Alter>(tx: &mut Transaction<'_, S>, operator: &Operator) -> R
 /// An operator's row, new or in place of the one with its name.
 pub fn put_operator<S: Alter>(tx: &mut Transaction<'_, S>, operator: &Operator) -> Result<(), Error>
     ensures same_reference { tx.new.conn.ghost_name ≡ tx.old.conn.ghost_name }
-    ensures made { HasCleanDisk (state S.Store tx.new.conn.now) → OnOk result ((before : Hall) (c : Content) → IsWithin (state S.Store tx.old.conn.now) before c → IsWithin (state S.Store tx.new.conn.now) before (with_operator c operator.now)) }
+    ensures made { HasCleanDisk (state S.Store tx.new.conn.now) → OnOk result ((before : Hall) (c : HallRows) → IsWithin (state S.Store tx.old.conn.now) before c → IsWithin (state S.Store tx.new.conn.now) before (with_operator c operator.now)) }
     ensures mode { HasCleanDisk (state S.Store tx.new.conn.now) → OnOk result (IsTrue (state S.Store tx.old.conn.now).in_transaction → (state S.Store tx.new.conn.now).in_transaction ≡ true) }
     ensures kept { HasCleanDisk (state S.Store tx.new.conn.now) → IsTrue (state S.Store tx.old.conn.now).in_transaction → KeepsCommit (state S.Store tx.old.conn.now) (state S.Store tx.new.conn.now) }
     ensures survives { Survives (state S.Store tx.old.conn.now) (state S.Store tx.new.conn.now) (λ _. ⊥) }

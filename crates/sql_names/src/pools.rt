@@ -9,7 +9,7 @@ ghost use Rattle.hall_types.specs.Hall.{Hall};
 ghost use Rattle.sql_schema.specs.NameStatements.{find_pool_text};
 ghost use Rattle.sql_rows.specs.Columns.{pool_columns};
 ghost use Rattle.sql_rows.specs.Holding.{IsAsked, IsWithin};
-ghost use Rattle.sql_rows.specs.Spelling.{Content};
+ghost use Rattle.sql_rows.specs.Spelling.{HallRows};
 
 use hall_types::{Name, Pool};
 use sql_schema::{ADD_POOL, FIND_POOL};
@@ -68,7 +68,7 @@ pub fn find_pool<S: Alter>(conn: &mut Connection<S>, name: &Name) -> Result<Opti
 /// A new pool, whose name has to be free.
 pub fn add_pool<S: Alter>(tx: &mut Transaction<'_, S>, pool: &Pool) -> Result<usize, Error>
     ensures same_reference { tx.new.conn.ghost_name ≡ tx.old.conn.ghost_name }
-    ensures made { HasCleanDisk (state S.Store tx.new.conn.now) → OnOk result ((before : Hall) (c : Content) → IsWithin (state S.Store tx.old.conn.now) before c → at c.hall.pools pool.now.name ≡ None → IsWithin (state S.Store tx.new.conn.now) before (record c { hall = record c.hall { pools = put pool.now.name pool.now c.hall.pools } })) }
+    ensures made { HasCleanDisk (state S.Store tx.new.conn.now) → OnOk result ((before : Hall) (c : HallRows) → IsWithin (state S.Store tx.old.conn.now) before c → at c.hall.pools pool.now.name ≡ None → IsWithin (state S.Store tx.new.conn.now) before (record c { hall = record c.hall { pools = put pool.now.name pool.now c.hall.pools } })) }
     ensures mode { HasCleanDisk (state S.Store tx.new.conn.now) → OnOk result (IsTrue (state S.Store tx.old.conn.now).in_transaction → (state S.Store tx.new.conn.now).in_transaction ≡ true) }
     ensures kept { HasCleanDisk (state S.Store tx.new.conn.now) → IsTrue (state S.Store tx.old.conn.now).in_transaction → KeepsCommit (state S.Store tx.old.conn.now) (state S.Store tx.new.conn.now) }
     ensures survives { Survives (state S.Store tx.old.conn.now) (state S.Store tx.new.conn.now) (λ _. ⊥) }

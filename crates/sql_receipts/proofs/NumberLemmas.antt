@@ -12,7 +12,7 @@ use Rattle.sqlite_sql.specs.declared.ops.BinaryOp.TheVariants.{Compare}
 use Rattle.sqlite_sql.specs.declared.ops.CompareOp.TheVariants.{Eq}
 use Rattle.hall_types.specs.Hall.{Hall}
 use Rattle.hall_types.specs.declared.number.Numbers.{Numbers}
-use Rattle.sql_statements.specs.Queries.{parameter, place}
+use Rattle.sql_statements.specs.Queries.{parameter, cell}
 use Rattle.sql_statements.specs.QueryLaws.{items_in_order}
 use Rattle.sql_statements.specs.TableLaws.{changes}
 use Rattle.sql_statements.specs.ListLaws.{and_true}
@@ -21,7 +21,7 @@ use Rattle.sql_schema.specs.NameStatements.{find_numbers_query, set_numbers_text
 use Rattle.sql_schema.specs.NameStatementLaws.{set_numbers_is}
 use Rattle.sql_schema.specs.Tables.{hall_schema, hall_table}
 use Rattle.sql_schema.specs.CascadeLaws.{never_follows}
-use Rattle.sql_rows.specs.Spelling.{SpellHall, Content}
+use Rattle.sql_rows.specs.Spelling.{SpellHall, HallRows}
 use Rattle.sql_rows.specs.SpellingLaws.{sets_last}
 use Rattle.sql_rows.specs.Holding.{IsWithin}
 use Rattle.sql_rows.specs.HoldingLaws.{within}
@@ -33,13 +33,13 @@ columns last = Null ∷ schema_values last
 
 pub finds_numbers : (db : Trees) (h : Hall) → SpellHall db h → (rows : List Row) → IsAnswer find_numbers_query (overlay db []) [] rows → rows ≡ schema_values h.last ∷ []
 finds_numbers db h spells rows a =
-    items_in_order (λ (last : Numbers). pos 1) columns [] [] (λ last. true) (λ last. refl) _ 0 (place 2 ∷ place 3 ∷ place 4 ∷ place 5 ∷ []) [] (spells.content.hall.last ∷ []) db spells.tables.last refl rows a (tt, tt)
+    items_in_order (λ (last : Numbers). pos 1) columns [] [] (λ last. true) (λ last. refl) _ 0 (cell 2 ∷ cell 3 ∷ cell 4 ∷ cell 5 ∷ []) [] (spells.hall_rows.hall.last ∷ []) db spells.tables.last refl rows a (tt, tt)
     ∙ ap (λ (x : Hall). schema_values x.last ∷ []) spells.agrees.hall
 
-pub sets_numbers : (old new : State) (before : Hall) (c : Content) → IsWithin old before c → (last : Numbers) (count : ℕ) → ExecutesInside 0 set_numbers_text (last_values last) old new (Ok count) → IsWithin new before (with_numbers c last)
+pub sets_numbers : (old new : State) (before : Hall) (c : HallRows) → IsWithin old before c → (last : Numbers) (count : ℕ) → ExecutesInside 0 set_numbers_text (last_values last) old new (Ok count) → IsWithin new before (with_numbers c last)
 sets_numbers old new before c held last count ran =
-    let it = changes (λ (last : Numbers). pos 1) columns hall_schema 0 hall_table refl old new held.spelt.schema (c.hall.last ∷ []) held.spelt.tables.last (op2 (Compare Eq Binary) (place 0) (lit (Int (pos 1))) ∷ []) (last_values last) (λ x. true)
-    (λ x. and_true _ ∙ value.same_number (pos 1) (pos 1)) (tt, tt) refl (place 0 ∷ lit Null ∷ place 2 ∷ parameter 0 ∷ parameter 1 ∷ parameter 2 ∷ []) (omega arith) never_follows (λ x. last) (λ x. refl)
+    let it = changes (λ (last : Numbers). pos 1) columns hall_schema 0 hall_table refl old new held.spelt.schema (c.hall.last ∷ []) held.spelt.tables.last (op2 (Compare Eq Binary) (cell 0) (lit (Int (pos 1))) ∷ []) (last_values last) (λ x. true)
+    (λ x. and_true _ ∙ value.same_number (pos 1) (pos 1)) (tt, tt) refl (cell 0 ∷ lit Null ∷ cell 2 ∷ parameter 0 ∷ parameter 1 ∷ parameter 2 ∷ []) (omega arith) never_follows (λ x. last) (λ x. refl)
     (λ x. rw (value.cast-Int, value.cast-Null, value.cast-Int, value.cast-Int, value.cast-Int, value.cast-Int) refl) set_numbers_text set_numbers_is count ran.0 in
     within set_numbers_text (last_values last) old new before c _ count held ran (sets_last old.now new.now c held.spelt _ last it refl)
 

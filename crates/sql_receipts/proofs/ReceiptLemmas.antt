@@ -11,14 +11,14 @@ use Rattle.sqlite.specs.State.{State, ExecutesInside}
 use Rattle.hall_types.specs.Rows.{at}
 use Rattle.hall_types.specs.Hall.{Hall, pair}
 use Rattle.hall_types.specs.declared.receipt.Receipt.{Receipt}
-use Rattle.sql_statements.specs.Queries.{parameter, equals, place, rising}
+use Rattle.sql_statements.specs.Queries.{parameter, equals, cell, rising}
 use Rattle.sql_statements.specs.ValueLaws as value
 use Rattle.sql_schema.specs.NameStatements.{find_receipt_query, add_receipt_text}
 use Rattle.sql_schema.specs.NameStatementLaws.{add_receipt_is}
 use Rattle.sql_schema.specs.Tables.{hall_schema, receipts_table}
 use Rattle.sql_rows.specs.Columns.{receipt_columns}
 use Rattle.sql_rows.specs.PairLaws.{text_and_octets}
-use Rattle.sql_rows.specs.Spelling.{SpellHall, Content}
+use Rattle.sql_rows.specs.Spelling.{SpellHall, HallRows}
 use Rattle.sql_rows.specs.SpellingLaws.{sets_receipts}
 use Rattle.sql_rows.specs.Holding.{IsWithin}
 use Rattle.sql_rows.specs.HoldingLaws.{within}
@@ -28,11 +28,11 @@ use Rattle.sql_receipts.specs.Receipts.{with_receipt}
 pub finds_receipt : (db : Trees) (h : Hall) → SpellHall db h → (operator key : List ℕ) (rows : List Row) → IsAnswer find_receipt_query (overlay db []) (Text operator ∷ Blob key ∷ []) rows
     → rows ≡ map receipt_columns (option_to_list (at h.receipts (pair operator key)))
 finds_receipt db h spells operator key rows a =
-    finds_named (λ (r : Receipt). pair r.operator r.key) receipt_columns (db 17) spells.content.hall.receipts spells.tables.receipts 17 (equals 1 0 ∷ equals 2 1 ∷ []) (place 1 ∷ place 2 ∷ place 3 ∷ place 4 ∷ place 5 ∷ []) (rising 1 ∷ rising 2 ∷ [])
+    finds_named (λ (r : Receipt). pair r.operator r.key) receipt_columns (db 17) spells.hall_rows.hall.receipts spells.tables.receipts 17 (equals 1 0 ∷ equals 2 1 ∷ []) (cell 1 ∷ cell 2 ∷ cell 3 ∷ cell 4 ∷ cell 5 ∷ []) (rising 1 ∷ rising 2 ∷ [])
     (Text operator ∷ Blob key ∷ []) db refl refl rows a (pair operator key) (λ e. text_and_octets e.item.operator e.item.key operator key) receipt_columns (λ e. refl)
     ∙ ap (λ (x : Hall). map receipt_columns (option_to_list (at x.receipts (pair operator key)))) spells.agrees.hall
 
-pub adds_receipt : (old new : State) (before : Hall) (c : Content) → IsWithin old before c → (r : Receipt) → at c.hall.receipts (pair r.operator r.key) ≡ None → (count : ℕ) → ExecutesInside 0 add_receipt_text (receipt_columns r) old new (Ok count)
+pub adds_receipt : (old new : State) (before : Hall) (c : HallRows) → IsWithin old before c → (r : Receipt) → at c.hall.receipts (pair r.operator r.key) ≡ None → (count : ℕ) → ExecutesInside 0 add_receipt_text (receipt_columns r) old new (Ok count)
     → IsWithin new before (with_receipt c r)
 adds_receipt old new before c held r free count ran =
     let it = adds_named (λ (q : Receipt). pair q.operator q.key) receipt_columns (old.now.trees 17) c.hall.receipts held.spelt.tables.receipts hall_schema 10 receipts_table refl old new held.spelt.schema refl add_receipt_text (receipt_columns r) count ran.0

@@ -3,10 +3,10 @@ use Rattle.std.specs.Prelude.{◌∷◌, []}
 use Rattle.sqlite.specs.Order.{Row}
 use Rattle.hall_types.specs.declared.number.Numbers.{Numbers}
 use Rattle.sql_rows.specs.Columns.{number}
-use Rattle.sql_rows.specs.Spelling.{Content}
+use Rattle.sql_rows.specs.Spelling.{HallRows}
 
 -- with these last numbers
-abbrev pub with_numbers : Content → Numbers → Content
+abbrev pub with_numbers : HallRows → Numbers → HallRows
 with_numbers c last = record c { hall = record c.hall { last = last } }
 
 -- the last numbers, as they are given

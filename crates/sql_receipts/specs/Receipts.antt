@@ -2,8 +2,8 @@
 use Rattle.hall_types.specs.Rows.{put}
 use Rattle.hall_types.specs.Hall.{pair}
 use Rattle.hall_types.specs.declared.receipt.Receipt.{Receipt}
-use Rattle.sql_rows.specs.Spelling.{Content}
+use Rattle.sql_rows.specs.Spelling.{HallRows}
 
 -- with this receipt
-abbrev pub with_receipt : Content → Receipt → Content
+abbrev pub with_receipt : HallRows → Receipt → HallRows
 with_receipt c r = record c { hall = record c.hall { receipts = put (pair r.operator r.key) r c.hall.receipts } }

@@ -8,7 +8,7 @@ ghost use Rattle.hall_types.specs.declared.number.Numbers.{Numbers as Last};
 ghost use Rattle.sql_schema.specs.NameStatements.{find_numbers_text, set_numbers_text};
 ghost use Rattle.sql_rows.specs.Columns.{number};
 ghost use Rattle.sql_rows.specs.Holding.{IsAsked, IsWithin};
-ghost use Rattle.sql_rows.specs.Spelling.{Content};
+ghost use Rattle.sql_rows.specs.Spelling.{HallRows};
 ghost use Rattle.sql_receipts.specs.Numbers.{last_values, schema_values, with_numbers};
 
 use hall_types::{LastIssued, Numbers};
@@ -106,7 +106,7 @@ fn set_raw<S: Alter>(tx: &mut Transaction<'_, S>, last: Numbers) -> Result<usize
 /// The last numbers, in place of those before.
 pub fn set_numbers<S: Alter>(tx: &mut Transaction<'_, S>, last: Numbers) -> Result<usize, Error>
     ensures same_reference { tx.new.conn.ghost_name ≡ tx.old.conn.ghost_name }
-    ensures made { HasCleanDisk (state S.Store tx.new.conn.now) → OnOk result ((before : Hall) (c : Content) → IsWithin (state S.Store tx.old.conn.now) before c → IsWithin (state S.Store tx.new.conn.now) before (with_numbers c last)) }
+    ensures made { HasCleanDisk (state S.Store tx.new.conn.now) → OnOk result ((before : Hall) (c : HallRows) → IsWithin (state S.Store tx.old.conn.now) before c → IsWithin (state S.Store tx.new.conn.now) before (with_numbers c last)) }
     ensures mode { HasCleanDisk (state S.Store tx.new.conn.now) → OnOk result (IsTrue (state S.Store tx.old.conn.now).in_transaction → (state S.Store tx.new.conn.now).in_transaction ≡ true) }
     ensures kept { HasCleanDisk (state S.Store tx.new.conn.now) → IsTrue (state S.Store tx.old.conn.now).in_transaction → KeepsCommit (state S.Store tx.old.conn.now) (state S.Store tx.new.conn.now) }
     ensures survives { Survives (state S.Store tx.old.conn.now) (state S.Store tx.new.conn.now) (λ _. ⊥) }

@@ -10,7 +10,7 @@ ghost use Rattle.hall_types.specs.Hall.{Hall, pair};
 ghost use Rattle.sql_schema.specs.NameStatements.{add_receipt_text, find_receipt_text};
 ghost use Rattle.sql_rows.specs.Columns.{number, receipt_columns};
 ghost use Rattle.sql_rows.specs.Holding.{IsAsked, IsWithin};
-ghost use Rattle.sql_rows.specs.Spelling.{Content};
+ghost use Rattle.sql_rows.specs.Spelling.{HallRows};
 ghost use Rattle.sql_receipts.specs.Receipts.{with_receipt};
 
 use hall_types::{Name, Receipt, RequestKey};
@@ -121,7 +121,7 @@ fn add_raw<S: Alter>(tx: &mut Transaction<'_, S>, receipt: &Receipt) -> Result<u
 /// A new receipt, whose operator and key have to be free together.
 pub fn add_receipt<S: Alter>(tx: &mut Transaction<'_, S>, receipt: &Receipt) -> Result<usize, Error>
     ensures same_reference { tx.new.conn.ghost_name ≡ tx.old.conn.ghost_name }
-    ensures made { HasCleanDisk (state S.Store tx.new.conn.now) → OnOk result ((before : Hall) (c : Content) → IsWithin (state S.Store tx.old.conn.now) before c → at c.hall.receipts (pair receipt.now.operator receipt.now.key) ≡ None → IsWithin (state S.Store tx.new.conn.now) before (with_receipt c receipt.now)) }
+    ensures made { HasCleanDisk (state S.Store tx.new.conn.now) → OnOk result ((before : Hall) (c : HallRows) → IsWithin (state S.Store tx.old.conn.now) before c → at c.hall.receipts (pair receipt.now.operator receipt.now.key) ≡ None → IsWithin (state S.Store tx.new.conn.now) before (with_receipt c receipt.now)) }
     ensures mode { HasCleanDisk (state S.Store tx.new.conn.now) → OnOk result (IsTrue (state S.Store tx.old.conn.now).in_transaction → (state S.Store tx.new.conn.now).in_transaction ≡ true) }
     ensures kept { HasCleanDisk (state S.Store tx.new.conn.now) → IsTrue (state S.Store tx.old.conn.now).in_transaction → KeepsCommit (state S.Store tx.old.conn.now) (state S.Store tx.new.conn.now) }
     ensures survives { Survives (state S.Store tx.old.conn.now) (state S.Store tx.new.conn.now) (λ _. ⊥) }

@@ -5,7 +5,7 @@ use Rattle.sqlite.specs.State.{State}
 use Rattle.sqlite_rules.specs.Lists.{Has}
 use Rattle.hall_types.specs.Hall.{Hall}
 use Rattle.sql_schema.specs.Tables.{hall_schema}
-use Rattle.sql_rows.specs.Spelling.{Content, Spells, SpellHall}
+use Rattle.sql_rows.specs.Spelling.{HallRows, Spells, SpellHall}
 
 -- between calls: the connection is open, its tables spell this hall, and all of it is committed
 pub record IsHeld (s : State) (h : Hall) : Type 0 where
@@ -23,8 +23,8 @@ Holds s h = IsTrue s.is_open → IsHeld s h
 abbrev pub Leaves : State → List Hall → Type 0
 Leaves s hs = (db : Trees) → s.may_leave db → (h : Hall) × Has hs h × SpellHall db h
 
--- inside a transaction: the content as the transaction sees it, over the hall that was there before it
-pub record IsWithin (s : State) (before : Hall) (now : Content) : Type 0 where
+-- inside a transaction: the rows as the transaction sees it, over the hall that was there before it
+pub record IsWithin (s : State) (before : Hall) (now : HallRows) : Type 0 where
   pub spelt : Spells s.now now
   pub committed_schema : s.committed.schema ≡ hall_schema
   pub kept : SpellHall s.committed.trees before

@@ -14,7 +14,7 @@ use Rattle.sql_statements.specs.WriteLaws.{shown_wrote}
 use Rattle.sql_statements.specs.StatementLaws.{query_refused, shown_same, query_survives}
 use Rattle.sql_statements.specs.QueryLaws.{shown_answer}
 use Rattle.sql_schema.specs.Tables.{hall_schema}
-use Rattle.sql_rows.specs.Spelling.{Content, Spells, SpellHall}
+use Rattle.sql_rows.specs.Spelling.{HallRows, Spells, SpellHall}
 use Rattle.sql_rows.specs.Holding.{Holds, Leaves, IsWithin, IsAsked}
 
 pub same_held : (old new : State) (h : Hall) → IsUnchanged old new → Holds old h → Holds new h
@@ -76,7 +76,7 @@ pub asked_failed : {X Y : Type 0} (old new : State) (Right : Hall → X → Type
 asked_failed old new Right Reads e a = record { answer = tt; same = tt; back = a.back; crash = a.crash }
 
 -- a write inside a transaction, of which the tables say what it makes
-pub within : (sql : List ℕ) (params : Row) (old new : State) (before : Hall) (was now : Content) (count : ℕ) → IsWithin old before was → ExecutesInside 0 sql params old new (Ok count) → Spells new.now now → IsWithin new before now
+pub within : (sql : List ℕ) (params : Row) (old new : State) (before : Hall) (was now : HallRows) (count : ℕ) → IsWithin old before was → ExecutesInside 0 sql params old new (Ok count) → Spells new.now now → IsWithin new before now
 within sql params old new before was now count held ran spells = record {
   spelt = spells;
   committed_schema = ap (λ (d : Database). d.schema) ran.1.committed_is ∙ held.committed_schema;
@@ -85,7 +85,7 @@ within sql params old new before was now count held ran spells = record {
 }
 
 -- a write with RETURNING inside a transaction
-pub shown_within : (sql : List ℕ) (params : Row) (command : Command) (what : Returning) → IsReturningText hall_schema sql command what → (old new : State) (before : Hall) (was now : Content) (rows : List Row)
+pub shown_within : (sql : List ℕ) (params : Row) (command : Command) (what : Returning) → IsReturningText hall_schema sql command what → (old new : State) (before : Hall) (was now : HallRows) (rows : List Row)
     → IsWithin old before was → Shown sql params old new rows → Spells new.now now → IsWithin new before now
 shown_within sql params command what text old new before was now rows held shown spells =
     let it = shown_wrote sql params hall_schema command what text old new rows held.spelt.schema shown in

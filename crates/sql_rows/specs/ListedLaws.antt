@@ -57,9 +57,9 @@ module _ {K X : Type 0} (keys : Keys K) (key_of : X → K) where
   AreRising = IsAscending (λ a b. keys.cmp (key_of a) (key_of b) ≡ Less)
 
   -- the rows, with this one in its place, and in place of one that has its key
-  abbrev pub place_in : List X → X → List X
-  place_in [] new = new ∷ []
-  place_in (x ∷ xs) new = match_ordering (keys.cmp (key_of x) (key_of new)) (x ∷ place_in xs new) (new ∷ xs) (new ∷ x ∷ xs)
+  abbrev pub put_in : List X → X → List X
+  put_in [] new = new ∷ []
+  put_in (x ∷ xs) new = match_ordering (keys.cmp (key_of x) (key_of new)) (x ∷ put_in xs new) (new ∷ xs) (new ∷ x ∷ xs)
 
   backwards : (one other : K) → keys.cmp one other ≡ Less → keys.cmp other one ≡ Greater
   backwards one other low = keys.total.antisymm other one ∙ ap ordering_reverse low
@@ -94,11 +94,11 @@ module _ {K X : Type 0} (keys : Keys K) (key_of : X → K) where
 
   -- ---- a row put in its place
 
-  all_placed : (P : X → Type 0) (xs : List X) (new : X) → P new → AllByRecursion P xs → AllByRecursion P (place_in xs new)
+  all_placed : (P : X → Type 0) (xs : List X) (new : X) → P new → AllByRecursion P xs → AllByRecursion P (put_in xs new)
   all_placed P [] new fits all = (fits, tt)
   all_placed P (x ∷ xs) new fits all = go (keys.cmp (key_of x) (key_of new)) (all_placed P xs new fits all.1)
     where
-      go : (o : Ordering) → AllByRecursion P (place_in xs new) → AllByRecursion P (match_ordering o (x ∷ place_in xs new) (new ∷ xs) (new ∷ x ∷ xs))
+      go : (o : Ordering) → AllByRecursion P (put_in xs new) → AllByRecursion P (match_ordering o (x ∷ put_in xs new) (new ∷ xs) (new ∷ x ∷ xs))
       go Less more = (all.0, more)
       go Equal more = (fits, all.1)
       go Greater more = (fits, all)
@@ -110,11 +110,11 @@ module _ {K X : Type 0} (keys : Keys K) (key_of : X → K) where
   same_above : (x new : X) (xs : List X) → key_of x ≡ key_of new → AllByRecursion (λ y. keys.cmp (key_of x) (key_of y) ≡ Less) xs → AllByRecursion (λ y. keys.cmp (key_of new) (key_of y) ≡ Less) xs
   same_above x new xs same all = subst (λ k. AllByRecursion (λ y. keys.cmp k (key_of y) ≡ Less) xs) same all
 
-  pub AreRising-place_in : (xs : List X) (new : X) → AreRising xs → AreRising (place_in xs new)
-  AreRising-place_in [] new up = (tt, tt)
-  AreRising-place_in (x ∷ xs) new up = go (keys.cmp (key_of x) (key_of new)) refl (AreRising-place_in xs new up.1)
+  pub AreRising-put_in : (xs : List X) (new : X) → AreRising xs → AreRising (put_in xs new)
+  AreRising-put_in [] new up = (tt, tt)
+  AreRising-put_in (x ∷ xs) new up = go (keys.cmp (key_of x) (key_of new)) refl (AreRising-put_in xs new up.1)
     where
-      go : (o : Ordering) → keys.cmp (key_of x) (key_of new) ≡ o → AreRising (place_in xs new) → AreRising (match_ordering o (x ∷ place_in xs new) (new ∷ xs) (new ∷ x ∷ xs))
+      go : (o : Ordering) → keys.cmp (key_of x) (key_of new) ≡ o → AreRising (put_in xs new) → AreRising (match_ordering o (x ∷ put_in xs new) (new ∷ xs) (new ∷ x ∷ xs))
       go Less e more = (all_placed (λ y. keys.cmp (key_of x) (key_of y) ≡ Less) xs new e up.0, more)
       go Equal e more = (same_above x new xs (keys.same (key_of x) (key_of new) e) up.0, up.1)
       go Greater e more =
@@ -122,21 +122,21 @@ module _ {K X : Type 0} (keys : Keys K) (key_of : X → K) where
           ((below, lower x new xs below up.0), up)
 
   -- the new row is there
-  placed_new : (xs : List X) (new : X) → Has (place_in xs new) new
+  placed_new : (xs : List X) (new : X) → Has (put_in xs new) new
   placed_new [] new = inl refl
   placed_new (x ∷ xs) new = go (keys.cmp (key_of x) (key_of new)) (placed_new xs new)
     where
-      go : (o : Ordering) → Has (place_in xs new) new → Has (match_ordering o (x ∷ place_in xs new) (new ∷ xs) (new ∷ x ∷ xs)) new
+      go : (o : Ordering) → Has (put_in xs new) new → Has (match_ordering o (x ∷ put_in xs new) (new ∷ xs) (new ∷ x ∷ xs)) new
       go Less more = inr more
       go Equal more = inl refl
       go Greater more = inl refl
 
   -- so is each row with another key
-  placed_other : (xs : List X) (new z : X) → Has xs z → key_of z ≢ key_of new → Has (place_in xs new) z
+  placed_other : (xs : List X) (new z : X) → Has xs z → key_of z ≢ key_of new → Has (put_in xs new) z
   placed_other [] new z h apart = absurd h
   placed_other (x ∷ xs) new z h apart = go (keys.cmp (key_of x) (key_of new)) refl (λ found. placed_other xs new z found apart) h
     where
-      go : (o : Ordering) → keys.cmp (key_of x) (key_of new) ≡ o → (Has xs z → Has (place_in xs new) z) → Has (x ∷ xs) z → Has (match_ordering o (x ∷ place_in xs new) (new ∷ xs) (new ∷ x ∷ xs)) z
+      go : (o : Ordering) → keys.cmp (key_of x) (key_of new) ≡ o → (Has xs z → Has (put_in xs new) z) → Has (x ∷ xs) z → Has (match_ordering o (x ∷ put_in xs new) (new ∷ xs) (new ∷ x ∷ xs)) z
       go Less e more (inl same) = inl same
       go Less e more (inr h) = inr (more h)
       go Equal e more (inl same) = absurd (apart (ap key_of same ∙ keys.same (key_of x) (key_of new) e))
@@ -144,7 +144,7 @@ module _ {K X : Type 0} (keys : Keys K) (key_of : X → K) where
       go Greater e more h = inr h
 
   -- and no other row
-  placed_only : (xs : List X) (new z : X) → AreRising xs → Has (place_in xs new) z → (z ≡ new) ⊎ (Has xs z × (key_of z ≢ key_of new))
+  placed_only : (xs : List X) (new z : X) → AreRising xs → Has (put_in xs new) z → (z ≡ new) ⊎ (Has xs z × (key_of z ≢ key_of new))
   placed_only [] new z up (inl same) = inl same
   placed_only [] new z up (inr h) = absurd h
   placed_only (x ∷ xs) new z up h = go (keys.cmp (key_of x) (key_of new)) refl (placed_only xs new z up.1) h
@@ -156,8 +156,8 @@ module _ {K X : Type 0} (keys : Keys K) (key_of : X → K) where
       later (inl same) = inl same
       later (inr it) = inr (inr it.0, it.1)
 
-      go : (o : Ordering) → keys.cmp (key_of x) (key_of new) ≡ o → (Has (place_in xs new) z → (z ≡ new) ⊎ (Has xs z × (key_of z ≢ key_of new)))
-          → Has (match_ordering o (x ∷ place_in xs new) (new ∷ xs) (new ∷ x ∷ xs)) z → (z ≡ new) ⊎ (Has (x ∷ xs) z × (key_of z ≢ key_of new))
+      go : (o : Ordering) → keys.cmp (key_of x) (key_of new) ≡ o → (Has (put_in xs new) z → (z ≡ new) ⊎ (Has xs z × (key_of z ≢ key_of new)))
+          → Has (match_ordering o (x ∷ put_in xs new) (new ∷ xs) (new ∷ x ∷ xs)) z → (z ≡ new) ⊎ (Has (x ∷ xs) z × (key_of z ≢ key_of new))
       go Less e more (inl same) =
           inr (inl same, λ k. let low = subst (λ q. keys.cmp q (key_of new) ≡ Less) (sym (ap key_of same) ∙ k) e in absurd (not_both (key_of new) (key_of new) low low))
       go Less e more (inr h) = later (more h)
@@ -176,11 +176,11 @@ module _ {K X : Type 0} (keys : Keys K) (key_of : X → K) where
           )
 
   -- where the key is free, the list has one row more
-  pub place_in-permutes : (new : X) (xs : List X) → ((z : X) → Has xs z → key_of z ≢ key_of new) → IsPermutation (place_in xs new) (new ∷ xs)
-  place_in-permutes new [] free = IsPermutation-refl _
-  place_in-permutes new (x ∷ xs) free = go (keys.cmp (key_of x) (key_of new)) refl (place_in-permutes new xs (λ z h. free z (inr h)))
+  pub put_in-permutes : (new : X) (xs : List X) → ((z : X) → Has xs z → key_of z ≢ key_of new) → IsPermutation (put_in xs new) (new ∷ xs)
+  put_in-permutes new [] free = IsPermutation-refl _
+  put_in-permutes new (x ∷ xs) free = go (keys.cmp (key_of x) (key_of new)) refl (put_in-permutes new xs (λ z h. free z (inr h)))
     where
-      go : (o : Ordering) → keys.cmp (key_of x) (key_of new) ≡ o → IsPermutation (place_in xs new) (new ∷ xs) → IsPermutation (match_ordering o (x ∷ place_in xs new) (new ∷ xs) (new ∷ x ∷ xs)) (new ∷ x ∷ xs)
+      go : (o : Ordering) → keys.cmp (key_of x) (key_of new) ≡ o → IsPermutation (put_in xs new) (new ∷ xs) → IsPermutation (match_ordering o (x ∷ put_in xs new) (new ∷ xs) (new ∷ x ∷ xs)) (new ∷ x ∷ xs)
       go Less e more = IsPermutation-trans _ _ _ (IsPermutation-cons x _ _ more) (IsPermutation-middle (x ∷ []) new xs)
       go Equal e more = absurd (free x (inl refl) (keys.same (key_of x) (key_of new) e))
       go Greater e more = IsPermutation-refl _
@@ -237,13 +237,13 @@ module _ {K X : Type 0} (keys : Keys K) (key_of : X → K) where
   -- ---- the list of all rows after a change
 
   module _ (rows : Rows keys X) (under : StandUnder key_of rows) where
-    pub listed-put : (x : X) → listed (put (key_of x) x rows) ≡ place_in (listed rows) x
+    pub listed-put : (x : X) → listed (put (key_of x) x rows) ≡ put_in (listed rows) x
     listed-put x =
         let after = put (key_of x) x rows in
         let stands = StandUnder-put rows under x in
-        same_lists (listed after) (place_in (listed rows) x) (AreRising-listed after stands) (AreRising-place_in (listed rows) x (AreRising-listed rows under))
+        same_lists (listed after) (put_in (listed rows) x) (AreRising-listed after stands) (AreRising-put_in (listed rows) x (AreRising-listed rows under))
         (λ z h. elim (put_cases rows (key_of x) x (key_of z) z (listed_at after stands z h)) [
-          | inl it ↦ subst (Has (place_in (listed rows) x)) (sym it.1) (placed_new (listed rows) x)
+          | inl it ↦ subst (Has (put_in (listed rows) x)) (sym it.1) (placed_new (listed rows) x)
           | inr it ↦ placed_other (listed rows) x z (at_listed rows under (key_of z) z it.1) it.0
         ])
         (λ z h. elim (placed_only (listed rows) x z (AreRising-listed rows under) h) [
@@ -254,7 +254,7 @@ module _ {K X : Type 0} (keys : Keys K) (key_of : X → K) where
     -- where the key was free, one row more
     pub listed-put-new : (x : X) → at rows (key_of x) ≡ None → IsPermutation (listed (put (key_of x) x rows)) (x ∷ listed rows)
     listed-put-new x free = subst (λ l. IsPermutation l (x ∷ listed rows)) (sym (listed-put x))
-        (place_in-permutes x (listed rows) (λ z h same. absurd (let e = sym (subst (λ k. at rows k ≡ Some z) same (listed_at rows under z h)) ∙ free in cc)))
+        (put_in-permutes x (listed rows) (λ z h same. absurd (let e = sym (subst (λ k. at rows k ≡ Some z) same (listed_at rows under z h)) ∙ free in cc)))
 
     pub listed-gone : (key : K) → listed (gone key rows) ≡ filter (λ x. not (same_key keys (key_of x) key)) (listed rows)
     listed-gone key =

@@ -36,7 +36,7 @@ use Rattle.sql_statements.specs.QueryLaws.{items_in_order}
 use Rattle.sql_statements.specs.Rows.{row_of, uncounted}
 use Rattle.sql_statements.specs.Statements.{IsCommandText, IsReturningText, SetsRows, only}
 use Rattle.sql_statements.specs.TableLaws.{inserts, deletes_alone, deletes_quietly, changes, changes_showing}
-use Rattle.sql_rows.specs.ListedLaws.{AreRising-listed, listed_at, place_in, listed_with_key, listed-put, listed-put-there, listed-gone, listed-where, StandUnder-put, StandUnder-gone, StandUnder-where}
+use Rattle.sql_rows.specs.ListedLaws.{AreRising-listed, listed_at, put_in, listed_with_key, listed-put, listed-put-there, listed-gone, listed-where, StandUnder-put, StandUnder-gone, StandUnder-where}
 use Rattle.sql_rows.specs.NamedLaws.{update_none}
 use Rattle.sql_rows.specs.Spelling.{IsNumbered}
 
@@ -92,12 +92,12 @@ module _ {X : Type 0} (number_of : X → ℕ) where
   abbrev key : X → ℤ
   key x = pos (number_of x)
 
-  inserted : (xs : List X) (x : X) → insert_by key xs x ≡ place_in numbers number_of xs x
+  inserted : (xs : List X) (x : X) → insert_by key xs x ≡ put_in numbers number_of xs x
   inserted [] x = refl
   inserted (y ∷ ys) x = go (numbers.cmp (number_of y) (number_of x)) (number_order (number_of y) (number_of x)) (inserted ys x)
     where
-      go : (o : Ordering) → int_cmp (key y) (key x) ≡ o → insert_by key ys x ≡ place_in numbers number_of ys x
-          → match_ordering (int_cmp (key y) (key x)) (y ∷ insert_by key ys x) (x ∷ ys) (x ∷ y ∷ ys) ≡ match_ordering o (y ∷ place_in numbers number_of ys x) (x ∷ ys) (x ∷ y ∷ ys)
+      go : (o : Ordering) → int_cmp (key y) (key x) ≡ o → insert_by key ys x ≡ put_in numbers number_of ys x
+          → match_ordering (int_cmp (key y) (key x)) (y ∷ insert_by key ys x) (x ∷ ys) (x ∷ y ∷ ys) ≡ match_ordering o (y ∷ put_in numbers number_of ys x) (x ∷ ys) (x ∷ y ∷ ys)
       go o e more = ap (λ q. match_ordering q (y ∷ insert_by key ys x) (x ∷ ys) (x ∷ y ∷ ys)) e ∙ ap (λ l. match_ordering o (y ∷ l) (x ∷ ys) (x ∷ y ∷ ys)) more
 
 module _ {X : Type 0} (number_of : X → ℕ) (columns : X → Row) (stored : List Row) (rows : Rows numbers X) (is : IsNumbered number_of columns stored rows) where

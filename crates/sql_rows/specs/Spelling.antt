@@ -60,13 +60,13 @@ pub record AreCounts (stored : List Row) (all : Counts) : Type 0 where
 
 -- What the tables hold: a hall's rows, the counts, and how disks are erased. Between the statements of one write the last
 -- two may be behind the machines.
-pub record Content : Type 0 where
+pub record HallRows : Type 0 where
   pub hall : Hall
   pub counts : Counts
   pub wipes : Rows numbers Wipe
 
 -- the trees of the tables have these rows
-pub record AreTables (db : Trees) (c : Content) : Type 0 where
+pub record AreTables (db : Trees) (c : HallRows) : Type 0 where
   -- the trees list the schema of a hall and no other, and obey it
   pub sound : IsSound hall_schema db
   pub schema : c.hall.schema ≡ second
@@ -92,19 +92,19 @@ is_in pool status m = bytes_eq m.pool pool && (status_number m.status == status)
 abbrev pub wipe_of : Machine → Option Wipe
 wipe_of m = option_map (λ erase. record { machine = m.id; erase = erase }) m.erase
 
--- the content is this hall, with the counts of its machines and their kinds of erasing
-pub record IsContentOf (h : Hall) (c : Content) : Type 0 where
+-- the rows are this hall, with the counts of its machines and their kinds of erasing
+pub record AreRowsOf (h : Hall) (c : HallRows) : Type 0 where
   pub hall : c.hall ≡ h
   pub counts : (pool : List ℕ) (status : ℕ) → c.counts pool status ≡ how_many (is_in pool status) h.machines
   pub wipes : (id : ℕ) → at c.wipes id ≡ option_and_then wipe_of (at h.machines id)
 
--- the database has the schema of a hall, and its tables this content
-pub record Spells (db : Database) (c : Content) : Type 0 where
+-- the database has the schema of a hall, and its tables these rows
+pub record Spells (db : Database) (c : HallRows) : Type 0 where
   pub schema : db.schema ≡ hall_schema
   pub tables : AreTables db.trees c
 
 -- the trees spell this hall
 pub record SpellHall (db : Trees) (h : Hall) : Type 0 where
-  pub content : Content
-  pub tables : AreTables db content
-  pub agrees : IsContentOf h content
+  pub hall_rows : HallRows
+  pub tables : AreTables db hall_rows
+  pub agrees : AreRowsOf h hall_rows

@@ -19,9 +19,9 @@ use Rattle.hall_types.specs.declared.number.Numbers.{Numbers}
 use Rattle.sql_statements.specs.Statements.{SetsRows}
 use Rattle.sql_schema.specs.Tables.{hall_schema}
 use Rattle.sql_rows.specs.Columns.{Wipe, operator_columns, pool_columns, member_columns, live_columns, machine_columns, interface_columns, boot_columns, order_columns, receipt_columns, wipe_columns, numbers_row}
-use Rattle.sql_rows.specs.Spelling.{IsNumbered, IsNamed, AreImages, AreCounts, Counts, Content, AreTables, Spells}
+use Rattle.sql_rows.specs.Spelling.{IsNumbered, IsNamed, AreImages, AreCounts, Counts, HallRows, AreTables, Spells}
 
-module _ (old new : Database) (c : Content) (spells : Spells old c) where
+module _ (old new : Database) (c : HallRows) (spells : Spells old c) where
   abbrev was : AreTables old.trees c
   was = spells.tables
 

@@ -6,7 +6,7 @@ use Rattle.sqlite.specs.Query.{Query}
 use Rattle.sqlite.specs.Command.{Command}
 use Rattle.sqlite.specs.Command.TheVariants.{Insert, Update, Delete}
 use Rattle.sqlite.specs.Source.TheVariants.{Values}
-use Rattle.sql_statements.specs.Queries.{parameter, place, equals, rising, from_one}
+use Rattle.sql_statements.specs.Queries.{parameter, cell, equals, rising, from_one}
 use Rattle.sql_statements.specs.Statements.{only}
 
 -- the count of a pool and a status that had none
@@ -21,7 +21,7 @@ abbrev pub find_count_text : List ℕ
 find_count_text = codes "SELECT machines FROM counts WHERE pool = ?1 AND status = ?2 ORDER BY pool, status"
 
 abbrev pub find_count_query : Query
-find_count_query = from_one 19 (equals 1 0 ∷ equals 2 1 ∷ []) (place 3 ∷ []) (rising 1 ∷ rising 2 ∷ [])
+find_count_query = from_one 19 (equals 1 0 ∷ equals 2 1 ∷ []) (cell 3 ∷ []) (rising 1 ∷ rising 2 ∷ [])
 
 abbrev pub find_count_columns : List (List ℕ)
 find_count_columns = codes "machines" ∷ []
@@ -31,7 +31,7 @@ abbrev pub list_counts_text : List ℕ
 list_counts_text = codes "SELECT pool, status, machines FROM counts ORDER BY pool, status"
 
 abbrev pub list_counts_query : Query
-list_counts_query = from_one 19 [] (place 1 ∷ place 2 ∷ place 3 ∷ []) (rising 1 ∷ rising 2 ∷ [])
+list_counts_query = from_one 19 [] (cell 1 ∷ cell 2 ∷ cell 3 ∷ []) (rising 1 ∷ rising 2 ∷ [])
 
 abbrev pub list_counts_columns : List (List ℕ)
 list_counts_columns = codes "pool" ∷ codes "status" ∷ codes "machines" ∷ []
@@ -41,11 +41,11 @@ abbrev pub set_count_text : List ℕ
 set_count_text = codes "UPDATE counts SET machines = ?3 WHERE pool = ?1 AND status = ?2"
 
 abbrev pub set_count_command : Command
-set_count_command = Update 11 (only (from_one 19 (equals 1 0 ∷ equals 2 1 ∷ []) (place 0 ∷ place 0 ∷ place 1 ∷ place 2 ∷ parameter 2 ∷ []) []))
+set_count_command = Update 11 (only (from_one 19 (equals 1 0 ∷ equals 2 1 ∷ []) (cell 0 ∷ cell 0 ∷ cell 1 ∷ cell 2 ∷ parameter 2 ∷ []) []))
 
 -- the count of a pool and a status goes
 abbrev pub remove_count_text : List ℕ
 remove_count_text = codes "DELETE FROM counts WHERE pool = ?1 AND status = ?2"
 
 abbrev pub remove_count_command : Command
-remove_count_command = Delete 11 (only (from_one 19 (equals 1 0 ∷ equals 2 1 ∷ []) (place 0 ∷ []) []))
+remove_count_command = Delete 11 (only (from_one 19 (equals 1 0 ∷ equals 2 1 ∷ []) (cell 0 ∷ []) []))

@@ -16,7 +16,7 @@ pub record MakesTable (before : Schema) (sql : List ℕ) (t : Table) (after : Sc
   pub next : created before (record t { tree = 0 }) ≡ after
   pub unlisted : lacks_sequence after ≡ false
 
--- over the first schema the text defines this index on the table at this place, and the second schema has it too
+-- over the first schema the text defines this index on the table at this position, and the second schema has it too
 pub record MakesIndex (before : Schema) (sql : List ℕ) (at : ℕ) (t : Table) (i : Index) (after : Schema) : Type 0 where
   pub text : IsKeptText before sql (CreateIndex at)
   pub there : slice_get before.tables at ≡ Some t

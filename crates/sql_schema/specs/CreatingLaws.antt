@@ -1,4 +1,4 @@
--- Laws of the texts that make the tables and indexes, for the proofs of callers: each defines its table or index, in its place.
+-- Laws of the texts that make the tables and indexes, for the proofs of callers: each defines its table or index, at its position.
 use Rattle.std.proofs.Common.{◌≡◌, Ok, refl, false}
 use Rattle.sqlite_tied.specs.Compute.{everything}
 use Rattle.sqlite.specs.Command.TheVariants.{CreateTable, CreateIndex}

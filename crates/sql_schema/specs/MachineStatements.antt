@@ -10,7 +10,7 @@ use Rattle.sqlite.specs.Command.{Command}
 use Rattle.sqlite.specs.Command.TheVariants.{Insert, Update, Delete}
 use Rattle.sqlite.specs.Source.TheVariants.{Values}
 use Rattle.sqlite_schema.specs.declared.command.Returning.{Returning}
-use Rattle.sql_statements.specs.Queries.{parameter, place, equals, at_most, rising, from_one, first_from}
+use Rattle.sql_statements.specs.Queries.{parameter, cell, equals, at_most, rising, from_one, first_from}
 use Rattle.sql_statements.specs.Statements.{only}
 
 -- a new machine
@@ -25,7 +25,7 @@ abbrev pub find_machine_text : List ℕ
 find_machine_text = codes "SELECT id, arch, uuid, pool, status, owner, image, tests, back, locked, version, deadline, boot, boots, waiting FROM machines WHERE id = ?1"
 
 abbrev pub find_machine_query : Query
-find_machine_query = from_one 11 (equals 0 0 ∷ []) (place 0 ∷ place 2 ∷ place 3 ∷ place 4 ∷ place 5 ∷ place 6 ∷ place 7 ∷ place 8 ∷ place 9 ∷ place 10 ∷ place 11 ∷ place 12 ∷ place 13 ∷ place 14 ∷ place 15 ∷ []) []
+find_machine_query = from_one 11 (equals 0 0 ∷ []) (cell 0 ∷ cell 2 ∷ cell 3 ∷ cell 4 ∷ cell 5 ∷ cell 6 ∷ cell 7 ∷ cell 8 ∷ cell 9 ∷ cell 10 ∷ cell 11 ∷ cell 12 ∷ cell 13 ∷ cell 14 ∷ cell 15 ∷ []) []
 
 abbrev pub find_machine_columns : List (List ℕ)
 find_machine_columns = codes "id" ∷ codes "arch" ∷ codes "uuid" ∷ codes "pool" ∷ codes "status" ∷ codes "owner" ∷ codes "image" ∷ codes "tests" ∷ codes "back" ∷ codes "locked" ∷ codes "version" ∷ codes "deadline" ∷ codes "boot" ∷ codes "boots" ∷ codes "waiting" ∷ []
@@ -35,7 +35,7 @@ abbrev pub find_uuid_text : List ℕ
 find_uuid_text = codes "SELECT id FROM machines WHERE uuid = ?1 ORDER BY id"
 
 abbrev pub find_uuid_query : Query
-find_uuid_query = from_one 11 (equals 3 0 ∷ []) (place 0 ∷ []) (rising 0 ∷ [])
+find_uuid_query = from_one 11 (equals 3 0 ∷ []) (cell 0 ∷ []) (rising 0 ∷ [])
 
 abbrev pub find_uuid_columns : List (List ℕ)
 find_uuid_columns = codes "id" ∷ []
@@ -45,7 +45,7 @@ abbrev pub find_machine_with_image_text : List ℕ
 find_machine_with_image_text = codes "SELECT id FROM machines WHERE image = ?1 ORDER BY id LIMIT 1"
 
 abbrev pub find_machine_with_image_query : Query
-find_machine_with_image_query = first_from 11 (equals 7 0 ∷ []) (place 0 ∷ []) (rising 0 ∷ [])
+find_machine_with_image_query = first_from 11 (equals 7 0 ∷ []) (cell 0 ∷ []) (rising 0 ∷ [])
 
 abbrev pub find_machine_with_image_columns : List (List ℕ)
 find_machine_with_image_columns = codes "id" ∷ []
@@ -55,7 +55,7 @@ abbrev pub find_expired_text : List ℕ
 find_expired_text = codes "SELECT id, arch, uuid, pool, status, owner, image, tests, back, locked, version, deadline, boot, boots, waiting FROM machines WHERE deadline <= ?1 ORDER BY deadline, id LIMIT 1"
 
 abbrev pub find_expired_query : Query
-find_expired_query = first_from 11 (at_most 12 0 ∷ []) (place 0 ∷ place 2 ∷ place 3 ∷ place 4 ∷ place 5 ∷ place 6 ∷ place 7 ∷ place 8 ∷ place 9 ∷ place 10 ∷ place 11 ∷ place 12 ∷ place 13 ∷ place 14 ∷ place 15 ∷ []) (rising 12 ∷ rising 0 ∷ [])
+find_expired_query = first_from 11 (at_most 12 0 ∷ []) (cell 0 ∷ cell 2 ∷ cell 3 ∷ cell 4 ∷ cell 5 ∷ cell 6 ∷ cell 7 ∷ cell 8 ∷ cell 9 ∷ cell 10 ∷ cell 11 ∷ cell 12 ∷ cell 13 ∷ cell 14 ∷ cell 15 ∷ []) (rising 12 ∷ rising 0 ∷ [])
 
 abbrev pub find_expired_columns : List (List ℕ)
 find_expired_columns = codes "id" ∷ codes "arch" ∷ codes "uuid" ∷ codes "pool" ∷ codes "status" ∷ codes "owner" ∷ codes "image" ∷ codes "tests" ∷ codes "back" ∷ codes "locked" ∷ codes "version" ∷ codes "deadline" ∷ codes "boot" ∷ codes "boots" ∷ codes "waiting" ∷ []
@@ -65,7 +65,7 @@ abbrev pub list_machines_text : List ℕ
 list_machines_text = codes "SELECT id, arch, uuid, pool, status, owner, image, tests, back, locked, version, deadline, boot, boots, waiting FROM machines ORDER BY id"
 
 abbrev pub list_machines_query : Query
-list_machines_query = from_one 11 [] (place 0 ∷ place 2 ∷ place 3 ∷ place 4 ∷ place 5 ∷ place 6 ∷ place 7 ∷ place 8 ∷ place 9 ∷ place 10 ∷ place 11 ∷ place 12 ∷ place 13 ∷ place 14 ∷ place 15 ∷ []) (rising 0 ∷ [])
+list_machines_query = from_one 11 [] (cell 0 ∷ cell 2 ∷ cell 3 ∷ cell 4 ∷ cell 5 ∷ cell 6 ∷ cell 7 ∷ cell 8 ∷ cell 9 ∷ cell 10 ∷ cell 11 ∷ cell 12 ∷ cell 13 ∷ cell 14 ∷ cell 15 ∷ []) (rising 0 ∷ [])
 
 abbrev pub list_machines_columns : List (List ℕ)
 list_machines_columns = codes "id" ∷ codes "arch" ∷ codes "uuid" ∷ codes "pool" ∷ codes "status" ∷ codes "owner" ∷ codes "image" ∷ codes "tests" ∷ codes "back" ∷ codes "locked" ∷ codes "version" ∷ codes "deadline" ∷ codes "boot" ∷ codes "boots" ∷ codes "waiting" ∷ []
@@ -75,7 +75,7 @@ abbrev pub set_machine_text : List ℕ
 set_machine_text = codes "UPDATE machines SET arch = ?2, uuid = ?3, pool = ?4, status = ?5, owner = ?6, image = ?7, tests = ?8, back = ?9, locked = ?10, version = ?11, deadline = ?12, boot = ?13, boots = ?14, waiting = ?15 WHERE id = ?1 AND version = ?16 RETURNING version"
 
 abbrev pub set_machine_command : Command
-set_machine_command = Update 6 (only (from_one 11 (equals 0 0 ∷ equals 11 15 ∷ []) (place 0 ∷ place 0 ∷ lit Null ∷ parameter 1 ∷ parameter 2 ∷ parameter 3 ∷ parameter 4 ∷ parameter 5 ∷ parameter 6 ∷ parameter 7 ∷ parameter 8 ∷ parameter 9 ∷ parameter 10 ∷ parameter 11 ∷ parameter 12 ∷ parameter 13 ∷ parameter 14 ∷ []) []))
+set_machine_command = Update 6 (only (from_one 11 (equals 0 0 ∷ equals 11 15 ∷ []) (cell 0 ∷ cell 0 ∷ lit Null ∷ parameter 1 ∷ parameter 2 ∷ parameter 3 ∷ parameter 4 ∷ parameter 5 ∷ parameter 6 ∷ parameter 7 ∷ parameter 8 ∷ parameter 9 ∷ parameter 10 ∷ parameter 11 ∷ parameter 12 ∷ parameter 13 ∷ parameter 14 ∷ []) []))
 
 -- RETURNING reads the parameters, NULL, and then the stored row with its rowid
 abbrev pub set_machine_shows : Returning
@@ -86,7 +86,7 @@ abbrev pub remove_machine_text : List ℕ
 remove_machine_text = codes "DELETE FROM machines WHERE id = ?1"
 
 abbrev pub remove_machine_command : Command
-remove_machine_command = Delete 6 (only (from_one 11 (equals 0 0 ∷ []) (place 0 ∷ []) []))
+remove_machine_command = Delete 6 (only (from_one 11 (equals 0 0 ∷ []) (cell 0 ∷ []) []))
 
 -- how the disks of a machine are erased
 abbrev pub add_wipe_text : List ℕ
@@ -100,7 +100,7 @@ abbrev pub find_wipe_text : List ℕ
 find_wipe_text = codes "SELECT machine, erase FROM wipes WHERE machine = ?1"
 
 abbrev pub find_wipe_query : Query
-find_wipe_query = from_one 24 (equals 0 0 ∷ []) (place 0 ∷ place 2 ∷ []) []
+find_wipe_query = from_one 24 (equals 0 0 ∷ []) (cell 0 ∷ cell 2 ∷ []) []
 
 abbrev pub find_wipe_columns : List (List ℕ)
 find_wipe_columns = codes "machine" ∷ codes "erase" ∷ []
@@ -110,7 +110,7 @@ abbrev pub list_wipes_text : List ℕ
 list_wipes_text = codes "SELECT machine, erase FROM wipes ORDER BY machine"
 
 abbrev pub list_wipes_query : Query
-list_wipes_query = from_one 24 [] (place 0 ∷ place 2 ∷ []) (rising 0 ∷ [])
+list_wipes_query = from_one 24 [] (cell 0 ∷ cell 2 ∷ []) (rising 0 ∷ [])
 
 abbrev pub list_wipes_columns : List (List ℕ)
 list_wipes_columns = codes "machine" ∷ codes "erase" ∷ []
@@ -120,7 +120,7 @@ abbrev pub remove_wipe_text : List ℕ
 remove_wipe_text = codes "DELETE FROM wipes WHERE machine = ?1"
 
 abbrev pub remove_wipe_command : Command
-remove_wipe_command = Delete 12 (only (from_one 24 (equals 0 0 ∷ []) (place 0 ∷ []) []))
+remove_wipe_command = Delete 12 (only (from_one 24 (equals 0 0 ∷ []) (cell 0 ∷ []) []))
 
 -- a new interface
 abbrev pub add_interface_text : List ℕ
@@ -134,7 +134,7 @@ abbrev pub find_interface_text : List ℕ
 find_interface_text = codes "SELECT mac, machine FROM interfaces WHERE mac = ?1 ORDER BY mac"
 
 abbrev pub find_interface_query : Query
-find_interface_query = from_one 13 (equals 1 0 ∷ []) (place 1 ∷ place 2 ∷ []) (rising 1 ∷ [])
+find_interface_query = from_one 13 (equals 1 0 ∷ []) (cell 1 ∷ cell 2 ∷ []) (rising 1 ∷ [])
 
 abbrev pub find_interface_columns : List (List ℕ)
 find_interface_columns = codes "mac" ∷ codes "machine" ∷ []
@@ -144,7 +144,7 @@ abbrev pub find_interfaces_text : List ℕ
 find_interfaces_text = codes "SELECT mac, machine FROM interfaces WHERE machine = ?1 ORDER BY mac"
 
 abbrev pub find_interfaces_query : Query
-find_interfaces_query = from_one 13 (equals 2 0 ∷ []) (place 1 ∷ place 2 ∷ []) (rising 1 ∷ [])
+find_interfaces_query = from_one 13 (equals 2 0 ∷ []) (cell 1 ∷ cell 2 ∷ []) (rising 1 ∷ [])
 
 abbrev pub find_interfaces_columns : List (List ℕ)
 find_interfaces_columns = codes "mac" ∷ codes "machine" ∷ []
@@ -154,7 +154,7 @@ abbrev pub list_interfaces_text : List ℕ
 list_interfaces_text = codes "SELECT mac, machine FROM interfaces ORDER BY mac"
 
 abbrev pub list_interfaces_query : Query
-list_interfaces_query = from_one 13 [] (place 1 ∷ place 2 ∷ []) (rising 1 ∷ [])
+list_interfaces_query = from_one 13 [] (cell 1 ∷ cell 2 ∷ []) (rising 1 ∷ [])
 
 abbrev pub list_interfaces_columns : List (List ℕ)
 list_interfaces_columns = codes "mac" ∷ codes "machine" ∷ []
@@ -164,14 +164,14 @@ abbrev pub remove_interface_text : List ℕ
 remove_interface_text = codes "DELETE FROM interfaces WHERE mac = ?1"
 
 abbrev pub remove_interface_command : Command
-remove_interface_command = Delete 7 (only (from_one 13 (equals 1 0 ∷ []) (place 0 ∷ []) []))
+remove_interface_command = Delete 7 (only (from_one 13 (equals 1 0 ∷ []) (cell 0 ∷ []) []))
 
 -- the interfaces of a machine go
 abbrev pub remove_interfaces_text : List ℕ
 remove_interfaces_text = codes "DELETE FROM interfaces WHERE machine = ?1"
 
 abbrev pub remove_interfaces_command : Command
-remove_interfaces_command = Delete 7 (only (from_one 13 (equals 2 0 ∷ []) (place 0 ∷ []) []))
+remove_interfaces_command = Delete 7 (only (from_one 13 (equals 2 0 ∷ []) (cell 0 ∷ []) []))
 
 -- a new boot
 abbrev pub add_boot_text : List ℕ
@@ -185,7 +185,7 @@ abbrev pub find_boot_text : List ℕ
 find_boot_text = codes "SELECT number, machine, purpose, token, stage FROM boots WHERE number = ?1"
 
 abbrev pub find_boot_query : Query
-find_boot_query = from_one 15 (equals 0 0 ∷ []) (place 0 ∷ place 2 ∷ place 3 ∷ place 4 ∷ place 5 ∷ []) []
+find_boot_query = from_one 15 (equals 0 0 ∷ []) (cell 0 ∷ cell 2 ∷ cell 3 ∷ cell 4 ∷ cell 5 ∷ []) []
 
 abbrev pub find_boot_columns : List (List ℕ)
 find_boot_columns = codes "number" ∷ codes "machine" ∷ codes "purpose" ∷ codes "token" ∷ codes "stage" ∷ []
@@ -195,7 +195,7 @@ abbrev pub set_boot_text : List ℕ
 set_boot_text = codes "UPDATE boots SET machine = ?2, purpose = ?3, token = ?4, stage = ?5 WHERE number = ?1 RETURNING number"
 
 abbrev pub set_boot_command : Command
-set_boot_command = Update 8 (only (from_one 15 (equals 0 0 ∷ []) (place 0 ∷ place 0 ∷ lit Null ∷ parameter 1 ∷ parameter 2 ∷ parameter 3 ∷ parameter 4 ∷ []) []))
+set_boot_command = Update 8 (only (from_one 15 (equals 0 0 ∷ []) (cell 0 ∷ cell 0 ∷ lit Null ∷ parameter 1 ∷ parameter 2 ∷ parameter 3 ∷ parameter 4 ∷ []) []))
 
 -- RETURNING reads the parameters, NULL, and then the stored row with its rowid
 abbrev pub set_boot_shows : Returning
@@ -206,7 +206,7 @@ abbrev pub remove_boots_text : List ℕ
 remove_boots_text = codes "DELETE FROM boots WHERE machine = ?1"
 
 abbrev pub remove_boots_command : Command
-remove_boots_command = Delete 8 (only (from_one 15 (equals 2 0 ∷ []) (place 0 ∷ []) []))
+remove_boots_command = Delete 8 (only (from_one 15 (equals 2 0 ∷ []) (cell 0 ∷ []) []))
 
 -- a new order
 abbrev pub add_order_text : List ℕ
@@ -220,7 +220,7 @@ abbrev pub find_order_text : List ℕ
 find_order_text = codes "SELECT number, machine, kind, stage FROM orders WHERE number = ?1"
 
 abbrev pub find_order_query : Query
-find_order_query = from_one 16 (equals 0 0 ∷ []) (place 0 ∷ place 2 ∷ place 3 ∷ place 4 ∷ []) []
+find_order_query = from_one 16 (equals 0 0 ∷ []) (cell 0 ∷ cell 2 ∷ cell 3 ∷ cell 4 ∷ []) []
 
 abbrev pub find_order_columns : List (List ℕ)
 find_order_columns = codes "number" ∷ codes "machine" ∷ codes "kind" ∷ codes "stage" ∷ []
@@ -230,7 +230,7 @@ abbrev pub list_waiting_orders_text : List ℕ
 list_waiting_orders_text = codes "SELECT number, machine, kind, stage FROM orders WHERE stage = 0 ORDER BY number"
 
 abbrev pub list_waiting_orders_query : Query
-list_waiting_orders_query = from_one 16 (op2 (Compare Eq Binary) (place 4) (lit (Int (pos 0))) ∷ []) (place 0 ∷ place 2 ∷ place 3 ∷ place 4 ∷ []) (rising 0 ∷ [])
+list_waiting_orders_query = from_one 16 (op2 (Compare Eq Binary) (cell 4) (lit (Int (pos 0))) ∷ []) (cell 0 ∷ cell 2 ∷ cell 3 ∷ cell 4 ∷ []) (rising 0 ∷ [])
 
 abbrev pub list_waiting_orders_columns : List (List ℕ)
 list_waiting_orders_columns = codes "number" ∷ codes "machine" ∷ codes "kind" ∷ codes "stage" ∷ []
@@ -240,7 +240,7 @@ abbrev pub set_order_text : List ℕ
 set_order_text = codes "UPDATE orders SET machine = ?2, kind = ?3, stage = ?4 WHERE number = ?1 RETURNING number"
 
 abbrev pub set_order_command : Command
-set_order_command = Update 9 (only (from_one 16 (equals 0 0 ∷ []) (place 0 ∷ place 0 ∷ lit Null ∷ parameter 1 ∷ parameter 2 ∷ parameter 3 ∷ []) []))
+set_order_command = Update 9 (only (from_one 16 (equals 0 0 ∷ []) (cell 0 ∷ cell 0 ∷ lit Null ∷ parameter 1 ∷ parameter 2 ∷ parameter 3 ∷ []) []))
 
 -- RETURNING reads the parameters, NULL, and then the stored row with its rowid
 abbrev pub set_order_shows : Returning
@@ -251,4 +251,4 @@ abbrev pub remove_orders_text : List ℕ
 remove_orders_text = codes "DELETE FROM orders WHERE machine = ?1"
 
 abbrev pub remove_orders_command : Command
-remove_orders_command = Delete 9 (only (from_one 16 (equals 2 0 ∷ []) (place 0 ∷ []) []))
+remove_orders_command = Delete 9 (only (from_one 16 (equals 2 0 ∷ []) (cell 0 ∷ []) []))

@@ -10,7 +10,7 @@ use Rattle.sqlite.specs.Command.{Command}
 use Rattle.sqlite.specs.Command.TheVariants.{Insert, Update, Delete}
 use Rattle.sqlite.specs.Source.TheVariants.{Values}
 use Rattle.sqlite_schema.specs.declared.command.Returning.{Returning}
-use Rattle.sql_statements.specs.Queries.{parameter, place, equals, rising, from_one, first_from}
+use Rattle.sql_statements.specs.Queries.{parameter, cell, equals, rising, from_one, first_from}
 use Rattle.sql_statements.specs.Statements.{only}
 
 -- the row of a new hall
@@ -25,7 +25,7 @@ abbrev pub find_numbers_text : List ℕ
 find_numbers_text = codes "SELECT schema, machine, boot, orders FROM hall"
 
 abbrev pub find_numbers_query : Query
-find_numbers_query = from_one 0 [] (place 2 ∷ place 3 ∷ place 4 ∷ place 5 ∷ []) []
+find_numbers_query = from_one 0 [] (cell 2 ∷ cell 3 ∷ cell 4 ∷ cell 5 ∷ []) []
 
 abbrev pub find_numbers_columns : List (List ℕ)
 find_numbers_columns = codes "schema" ∷ codes "machine" ∷ codes "boot" ∷ codes "orders" ∷ []
@@ -35,7 +35,7 @@ abbrev pub set_numbers_text : List ℕ
 set_numbers_text = codes "UPDATE hall SET machine = ?1, boot = ?2, orders = ?3 WHERE one = 1"
 
 abbrev pub set_numbers_command : Command
-set_numbers_command = Update 0 (only (from_one 0 (op2 (Compare Eq Binary) (place 0) (lit (Int (pos 1))) ∷ []) (place 0 ∷ place 0 ∷ lit Null ∷ place 2 ∷ parameter 0 ∷ parameter 1 ∷ parameter 2 ∷ []) []))
+set_numbers_command = Update 0 (only (from_one 0 (op2 (Compare Eq Binary) (cell 0) (lit (Int (pos 1))) ∷ []) (cell 0 ∷ cell 0 ∷ lit Null ∷ cell 2 ∷ parameter 0 ∷ parameter 1 ∷ parameter 2 ∷ []) []))
 
 -- a new operator
 abbrev pub add_operator_text : List ℕ
@@ -49,7 +49,7 @@ abbrev pub find_operator_text : List ℕ
 find_operator_text = codes "SELECT name, role, digest, enabled FROM operators WHERE name = ?1 ORDER BY name"
 
 abbrev pub find_operator_query : Query
-find_operator_query = from_one 1 (equals 1 0 ∷ []) (place 1 ∷ place 2 ∷ place 3 ∷ place 4 ∷ []) (rising 1 ∷ [])
+find_operator_query = from_one 1 (equals 1 0 ∷ []) (cell 1 ∷ cell 2 ∷ cell 3 ∷ cell 4 ∷ []) (rising 1 ∷ [])
 
 abbrev pub find_operator_columns : List (List ℕ)
 find_operator_columns = codes "name" ∷ codes "role" ∷ codes "digest" ∷ codes "enabled" ∷ []
@@ -59,7 +59,7 @@ abbrev pub find_digest_text : List ℕ
 find_digest_text = codes "SELECT name, role, digest, enabled FROM operators WHERE digest = ?1 ORDER BY name"
 
 abbrev pub find_digest_query : Query
-find_digest_query = from_one 1 (equals 3 0 ∷ []) (place 1 ∷ place 2 ∷ place 3 ∷ place 4 ∷ []) (rising 1 ∷ [])
+find_digest_query = from_one 1 (equals 3 0 ∷ []) (cell 1 ∷ cell 2 ∷ cell 3 ∷ cell 4 ∷ []) (rising 1 ∷ [])
 
 abbrev pub find_digest_columns : List (List ℕ)
 find_digest_columns = codes "name" ∷ codes "role" ∷ codes "digest" ∷ codes "enabled" ∷ []
@@ -69,7 +69,7 @@ abbrev pub set_operator_text : List ℕ
 set_operator_text = codes "UPDATE operators SET role = ?2, digest = ?3, enabled = ?4 WHERE name = ?1 RETURNING name"
 
 abbrev pub set_operator_command : Command
-set_operator_command = Update 1 (only (from_one 1 (equals 1 0 ∷ []) (place 0 ∷ place 0 ∷ place 1 ∷ parameter 1 ∷ parameter 2 ∷ parameter 3 ∷ []) []))
+set_operator_command = Update 1 (only (from_one 1 (equals 1 0 ∷ []) (cell 0 ∷ cell 0 ∷ cell 1 ∷ parameter 1 ∷ parameter 2 ∷ parameter 3 ∷ []) []))
 
 -- RETURNING reads the parameters, NULL, and then the stored row with its rowid
 abbrev pub set_operator_shows : Returning
@@ -87,7 +87,7 @@ abbrev pub find_pool_text : List ℕ
 find_pool_text = codes "SELECT name FROM pools WHERE name = ?1 ORDER BY name"
 
 abbrev pub find_pool_query : Query
-find_pool_query = from_one 4 (equals 1 0 ∷ []) (place 1 ∷ []) (rising 1 ∷ [])
+find_pool_query = from_one 4 (equals 1 0 ∷ []) (cell 1 ∷ []) (rising 1 ∷ [])
 
 abbrev pub find_pool_columns : List (List ℕ)
 find_pool_columns = codes "name" ∷ []
@@ -104,7 +104,7 @@ abbrev pub find_member_text : List ℕ
 find_member_text = codes "SELECT pool, operator FROM members WHERE pool = ?1 AND operator = ?2 ORDER BY pool, operator"
 
 abbrev pub find_member_query : Query
-find_member_query = from_one 6 (equals 1 0 ∷ equals 2 1 ∷ []) (place 1 ∷ place 2 ∷ []) (rising 1 ∷ rising 2 ∷ [])
+find_member_query = from_one 6 (equals 1 0 ∷ equals 2 1 ∷ []) (cell 1 ∷ cell 2 ∷ []) (rising 1 ∷ rising 2 ∷ [])
 
 abbrev pub find_member_columns : List (List ℕ)
 find_member_columns = codes "pool" ∷ codes "operator" ∷ []
@@ -121,7 +121,7 @@ abbrev pub find_image_text : List ℕ
 find_image_text = codes "SELECT name, arch, kernel, initrd, args FROM images WHERE name = ?1 ORDER BY name"
 
 abbrev pub find_image_query : Query
-find_image_query = from_one 8 (equals 1 0 ∷ []) (place 1 ∷ place 2 ∷ place 3 ∷ place 4 ∷ place 5 ∷ []) (rising 1 ∷ [])
+find_image_query = from_one 8 (equals 1 0 ∷ []) (cell 1 ∷ cell 2 ∷ cell 3 ∷ cell 4 ∷ cell 5 ∷ []) (rising 1 ∷ [])
 
 abbrev pub find_image_columns : List (List ℕ)
 find_image_columns = codes "name" ∷ codes "arch" ∷ codes "kernel" ∷ codes "initrd" ∷ codes "args" ∷ []
@@ -131,7 +131,7 @@ abbrev pub remove_image_text : List ℕ
 remove_image_text = codes "DELETE FROM images WHERE name = ?1"
 
 abbrev pub remove_image_command : Command
-remove_image_command = Delete 4 (only (from_one 8 (equals 1 0 ∷ []) (place 0 ∷ []) []))
+remove_image_command = Delete 4 (only (from_one 8 (equals 1 0 ∷ []) (cell 0 ∷ []) []))
 
 -- the live image of an architecture that had none
 abbrev pub add_live_text : List ℕ
@@ -145,7 +145,7 @@ abbrev pub find_live_text : List ℕ
 find_live_text = codes "SELECT arch, image FROM lives WHERE arch = ?1"
 
 abbrev pub find_live_query : Query
-find_live_query = from_one 10 (equals 0 0 ∷ []) (place 0 ∷ place 2 ∷ []) []
+find_live_query = from_one 10 (equals 0 0 ∷ []) (cell 0 ∷ cell 2 ∷ []) []
 
 abbrev pub find_live_columns : List (List ℕ)
 find_live_columns = codes "arch" ∷ codes "image" ∷ []
@@ -155,7 +155,7 @@ abbrev pub find_live_with_image_text : List ℕ
 find_live_with_image_text = codes "SELECT arch FROM lives WHERE image = ?1 ORDER BY arch LIMIT 1"
 
 abbrev pub find_live_with_image_query : Query
-find_live_with_image_query = first_from 10 (equals 2 0 ∷ []) (place 0 ∷ []) (rising 0 ∷ [])
+find_live_with_image_query = first_from 10 (equals 2 0 ∷ []) (cell 0 ∷ []) (rising 0 ∷ [])
 
 abbrev pub find_live_with_image_columns : List (List ℕ)
 find_live_with_image_columns = codes "arch" ∷ []
@@ -165,7 +165,7 @@ abbrev pub set_live_text : List ℕ
 set_live_text = codes "UPDATE lives SET image = ?2 WHERE arch = ?1 RETURNING arch"
 
 abbrev pub set_live_command : Command
-set_live_command = Update 5 (only (from_one 10 (equals 0 0 ∷ []) (place 0 ∷ place 0 ∷ lit Null ∷ parameter 1 ∷ []) []))
+set_live_command = Update 5 (only (from_one 10 (equals 0 0 ∷ []) (cell 0 ∷ cell 0 ∷ lit Null ∷ parameter 1 ∷ []) []))
 
 -- RETURNING reads the parameters, NULL, and then the stored row with its rowid
 abbrev pub set_live_shows : Returning
@@ -183,7 +183,7 @@ abbrev pub find_receipt_text : List ℕ
 find_receipt_text = codes "SELECT operator, request, command, status, body FROM receipts WHERE operator = ?1 AND request = ?2 ORDER BY operator, request"
 
 abbrev pub find_receipt_query : Query
-find_receipt_query = from_one 17 (equals 1 0 ∷ equals 2 1 ∷ []) (place 1 ∷ place 2 ∷ place 3 ∷ place 4 ∷ place 5 ∷ []) (rising 1 ∷ rising 2 ∷ [])
+find_receipt_query = from_one 17 (equals 1 0 ∷ equals 2 1 ∷ []) (cell 1 ∷ cell 2 ∷ cell 3 ∷ cell 4 ∷ cell 5 ∷ []) (rising 1 ∷ rising 2 ∷ [])
 
 abbrev pub find_receipt_columns : List (List ℕ)
 find_receipt_columns = codes "operator" ∷ codes "request" ∷ codes "command" ∷ codes "status" ∷ codes "body" ∷ []

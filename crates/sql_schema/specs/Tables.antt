@@ -32,17 +32,17 @@ optional = column_of false
 
 -- REFERENCES parent (name)
 abbrev pub refers_to : List ℕ → ℕ → Reference
-refers_to parent place =
-    record { columns = place ∷ []; parent = parent; parent_columns = codes "name" ∷ []; on_delete = NoAction; on_update = NoAction; is_deferred = false }
+refers_to parent cell =
+    record { columns = cell ∷ []; parent = parent; parent_columns = codes "name" ∷ []; on_delete = NoAction; on_update = NoAction; is_deferred = false }
 
 -- REFERENCES machines (id) ON DELETE CASCADE
 abbrev pub belongs_to_machine : ℕ → Reference
-belongs_to_machine place =
-    record { columns = place ∷ []; parent = codes "machines"; parent_columns = codes "id" ∷ []; on_delete = Cascade; on_update = NoAction; is_deferred = false }
+belongs_to_machine cell =
+    record { columns = cell ∷ []; parent = codes "machines"; parent_columns = codes "id" ∷ []; on_delete = Cascade; on_update = NoAction; is_deferred = false }
 
 -- ---- tables
 
--- a table with these columns in this tree. Places count the columns from 1; place 0 is the rowid, which is the INTEGER
+-- a table with these columns in this tree. Cells count the columns from 1; cell 0 is the rowid, which is the INTEGER
 -- PRIMARY KEY if the table has one. Each UNIQUE has an index of its own.
 abbrev pub table_of : List ℕ → ℕ → List Column → Option ℕ → List ℕ → List (List ℕ) → List Term → List Reference → Table
 table_of name tree columns key primary uniques checks references = record {
@@ -135,7 +135,7 @@ wipes_table = by_number (codes "wipes") 24
 
 -- ---- indexes
 
--- an index on the column `machine`, at place 2 of the table in this tree
+-- an index on the column `machine`, at cell 2 of the table in this tree
 abbrev pub on_machine : List ℕ → ℕ → ℕ → Index
 on_machine name tree table = record { name = name; tree = tree; table = table; columns = 2 ∷ []; order = record { digits = 0 }; is_unique = false }
 

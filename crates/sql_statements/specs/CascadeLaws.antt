@@ -200,12 +200,12 @@ module _ {X : Type 0} (key : X → ℤ) (columns : X → Row) where
       → (tree : ℕ) (db mid : Trees) (xs : List X) → db tree ≡ map (row_of key columns) xs → (id : ℤ) (ids : List ℤ) → IsPermutation (map key (filter (λ x. int_eq (key x) id) xs)) ids
       → (child : Table) (ref : Reference) → ref.columns ≡ c ∷ [] → (ys : List Y) → mid child.tree ≡ map child_row ys → list_any (λ y. int_eq (parent_of y) id) ys ≡ false
       → IsIdle mid (cascade child ref (0 ∷ []) plain (map (row_at (db tree)) ids))
-  no_row_points child_row c parent_of points tree db mid xs here id ids same child ref place ys children none = record {
+  no_row_points child_row c parent_of points tree db mid xs here id ids same child ref cell ys children none = record {
     low = refl;
     none = λ r has.
         let it = has_map child_row ys r (subst (λ l. Has l r) children has) in
         let elsewhere : int_eq (parent_of it.0) id ≡ false = has_none (λ y. int_eq (parent_of y) id) ys it.0 none it.1 in
         no_child child ref (map (row_at (db tree)) ids) r
-        (subst (λ cs. AllByRecursion (λ old. agree plain cs r (0 ∷ []) old ≡ false) (map (row_at (db tree)) ids)) (sym place)
+        (subst (λ cs. AllByRecursion (λ old. agree plain cs r (0 ∷ []) old ≡ false) (map (row_at (db tree)) ids)) (sym cell)
         (none_agrees tree db xs here id c r (parent_of it.0) (ap (λ l. column l c) it.2 ∙ points it.0) elsewhere ids (none_from_any _ ids (gone id xs ids same))));
   }

@@ -17,21 +17,21 @@ use Rattle.sqlite_value.specs.declared.keys.Key.{Key}
 abbrev pub parameter : ℕ → Term
 parameter n = col 0 n
 
--- a place of the stored row: its rowid at 0, and then its columns from 1 on
-abbrev pub place : ℕ → Term
-place n = col 1 n
+-- a cell of the stored row: its rowid at 0, and then its columns from 1 on
+abbrev pub cell : ℕ → Term
+cell n = col 1 n
 
--- `=` between what is at this place and this parameter
+-- `=` between what is at this cell and this parameter
 abbrev pub equals : ℕ → ℕ → Term
-equals at n = op2 (Compare Eq Binary) (place at) (parameter n)
+equals at n = op2 (Compare Eq Binary) (cell at) (parameter n)
 
--- `<=` between what is at this place and this parameter
+-- `<=` between what is at this cell and this parameter
 abbrev pub at_most : ℕ → ℕ → Term
-at_most at n = op2 (Compare Le Binary) (place at) (parameter n)
+at_most at n = op2 (Compare Le Binary) (cell at) (parameter n)
 
--- ORDER BY what is at this place
+-- ORDER BY what is at this cell
 abbrev pub rising : ℕ → Term × Key
-rising at = (place at, ascending Binary)
+rising at = (cell at, ascending Binary)
 
 -- a query over the table in this tree
 abbrev pub over_table : Term → ℕ → List Term → List Term → List (Term × Key) → Query

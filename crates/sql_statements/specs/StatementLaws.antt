@@ -183,7 +183,7 @@ indexes limit mode params schema trees text tally after at t i is defined h =
     let now : after ≡ all.0 = ap (λ (p : Tally × Database). p.1) (same_value all.2) in
     (ap (λ (d : Database). d.schema) now ∙ made.is ∙ ap (indexed schema t) same, subst (λ (d : Database). KeepsRows schema.tables trees d.trees) (sym now) made.rows)
 
--- the text makes this index on the table at this place
+-- the text makes this index on the table at this position
 pub makes_index : (schema next : Schema) (sql : List ℕ) (at : ℕ) (t : Table) (i : Index) → IsKeptText schema sql (CreateIndex at) → slice_get schema.tables at ≡ Some t
     → index_defined_by t sql ≡ Ok i → indexed schema t i ≡ next → (old new : State) (count : ℕ) → old.now.schema ≡ schema → Executes sql [] old new (Ok count)
     → (new.now.schema ≡ next) × KeepsRows schema.tables old.now.trees new.now.trees × IsSound next new.now.trees

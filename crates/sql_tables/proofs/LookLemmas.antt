@@ -16,7 +16,7 @@ use Rattle.sqlite.proofs.Callers.{IsPlain}
 use Rattle.sqlite.proofs.StateLemmas.{survives_then}
 use Rattle.sqlite_resolve.specs.declared.compiled.Compiled.{Compiled}
 use Rattle.sqlite_resolve.specs.declared.error.CompileError.{CompileError}
-use Rattle.sql_statements.specs.Queries.{place}
+use Rattle.sql_statements.specs.Queries.{cell}
 use Rattle.sql_statements.specs.QueryLaws.{items_in_order, shown_answer}
 use Rattle.sql_statements.specs.Statements.{IsBack}
 use Rattle.sql_statements.specs.StatementLaws.{not_run_back, shown_same}
@@ -152,7 +152,7 @@ module _ (old new : State) (n : ℤ) (rows : List Row) (says : SaysSchema old.no
     says.last.0,
     says.last.1,
     says.last.2,
-    items_in_order (λ (x : Row). pos 1) (λ x. x) [] [] (λ x. true) (λ x. refl) _ 0 (place 2 ∷ place 3 ∷ place 4 ∷ place 5 ∷ []) []
+    items_in_order (λ (x : Row). pos 1) (λ x. x) [] [] (λ x. true) (λ x. refl) _ 0 (cell 2 ∷ cell 3 ∷ cell 4 ∷ cell 5 ∷ []) []
         ((Null ∷ Int n ∷ Int says.last.0 ∷ Int says.last.1 ∷ Int says.last.2 ∷ []) ∷ []) old.now.trees says.last.3 refl rows
         (shown_answer old.now.schema find_numbers_text find_numbers_query find_numbers_columns says.reads [] old new rows refl got) (tt, tt),
   )

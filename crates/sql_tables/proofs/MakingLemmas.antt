@@ -30,7 +30,7 @@ use Rattle.sql_schema.specs.NameStatementLaws.{add_operator_is, add_pool_is, fir
 use Rattle.sql_schema.specs.Tables.{hall_schema, hall_table, operators_table, pools_table}
 use Rattle.sql_rows.specs.Columns.{operator_columns, pool_columns, numbers_row, number}
 use Rattle.sql_rows.specs.NamedLaws.{adds_named}
-use Rattle.sql_rows.specs.Spelling.{IsNumbered, IsNamed, Content, Spells, SpellHall, IsContentOf, is_in, wipe_of}
+use Rattle.sql_rows.specs.Spelling.{IsNumbered, IsNamed, HallRows, Spells, SpellHall, AreRowsOf, is_in, wipe_of}
 use Rattle.sql_rows.specs.SpellingLaws.{sets_operators, sets_pools}
 use Rattle.sql_tables.specs.Creating.{HasNoRows, bare_hall, without_machines}
 
@@ -123,16 +123,16 @@ numbers_put old new count ran was =
       };
     }
 
--- a pool in a database that spells a content
-pub pool_put : (c : Content) (p : Pool) → at c.hall.pools p.name ≡ None → (old new : State) (count : ℕ) → Executes add_pool_text (Text p.name ∷ []) old new (Ok count) → Spells old.now c
+-- a pool in a database that spells such rows
+pub pool_put : (c : HallRows) (p : Pool) → at c.hall.pools p.name ≡ None → (old new : State) (count : ℕ) → Executes add_pool_text (Text p.name ∷ []) old new (Ok count) → Spells old.now c
     → Spells new.now (record c { hall = record c.hall { pools = put p.name p c.hall.pools } })
 pool_put c p free old new count ran was =
     let it = adds_named (λ (q : Pool). q.name) pool_columns (old.now.trees 4) c.hall.pools was.tables.pools hall_schema 2 pools_table refl old new was.schema refl add_pool_text (Text p.name ∷ []) count ran
     (lit Null ∷ parameter 0 ∷ []) 2 add_pool_is p free (Null ∷ Text p.name ∷ []) refl (λ id is. rw (value.cast-Null, is) refl) in
     sets_pools old.now new.now c was it.0 _ it.1 it.2
 
--- an operator in a database that spells a content
-pub operator_put : (c : Content) (o : Operator) → at c.hall.operators o.name ≡ None → (old new : State) (count : ℕ) → Executes add_operator_text (operator_columns o) old new (Ok count) → Spells old.now c
+-- an operator in a database that spells such rows
+pub operator_put : (c : HallRows) (o : Operator) → at c.hall.operators o.name ≡ None → (old new : State) (count : ℕ) → Executes add_operator_text (operator_columns o) old new (Ok count) → Spells old.now c
     → Spells new.now (record c { hall = record c.hall { operators = put o.name o c.hall.operators } })
 operator_put c o free old new count ran was =
     let it = adds_named (λ (q : Operator). q.name) operator_columns (old.now.trees 1) c.hall.operators was.tables.operators hall_schema 1 operators_table refl old new was.schema refl add_operator_text (operator_columns o) count ran
@@ -142,7 +142,7 @@ operator_put c o free old new count ran was =
 -- no machine is counted, and none is erased
 pub spells_new : (db : Trees) (h : Hall) → h.machines ≡ no_rows → (database : Database) → database.trees ≡ db → Spells database (without_machines h) → SpellHall db h
 spells_new db h none database is was = record {
-  content = without_machines h;
+  hall_rows = without_machines h;
   tables = subst (λ d. Rattle.sql_rows.specs.Spelling.AreTables d (without_machines h)) is was.tables;
   agrees = record {
     hall = refl;

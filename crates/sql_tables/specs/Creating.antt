@@ -10,7 +10,7 @@ use Rattle.sqlite.specs.Tree.{Trees}
 use Rattle.hall_types.specs.Hall.{Hall, second, default_pool}
 use Rattle.hall_types.specs.Rows.{no_rows, put}
 use Rattle.sql_schema.specs.Tables.{all_tables}
-use Rattle.sql_rows.specs.Spelling.{Content, SpellHall}
+use Rattle.sql_rows.specs.Spelling.{HallRows, SpellHall}
 
 -- a table, an index or a view has the name of one of a hall's tables
 abbrev pub is_a_name_taken : Schema → Bool
@@ -43,7 +43,7 @@ abbrev pub with_default_pool : Hall → Hall
 with_default_pool h = record h { pools = put default_pool (record { name = default_pool }) h.pools }
 
 -- a hall without machines, as its tables have it
-abbrev pub without_machines : Hall → Content
+abbrev pub without_machines : Hall → HallRows
 without_machines h = record { hall = h; counts = λ pool status. 0; wipes = no_rows }
 
 -- while the connection is open, all that it shows is committed

@@ -10,8 +10,8 @@ use Rattle.hall_types.specs.Status.{status_number}
 use Rattle.hall_types.specs.declared.machine.Machine.{Machine}
 use Rattle.sql_rows.specs.Spelling.{Counts, is_in}
 use Rattle.sql_counts.specs.Counts.{counting}
-use Rattle.sql_writes.specs.Places.{place_of}
-use Rattle.sql_writes.specs.declared.places.Place.{Place}
+use Rattle.sql_writes.specs.Groups.{group_of}
+use Rattle.sql_writes.specs.declared.groups.Group.{Group}
 
 first_of : (a b : Bool) → (a && b) ≡ true → a ≡ true
 first_of true b h = refl
@@ -67,9 +67,9 @@ module _ (all : Counts) (machines : Rows numbers Machine) (agree : (pool : List 
           omega arith
 
   -- a machine that was among them
-  pub counted_gone : (place : Place) (id : ℕ) (m : Machine) → at machines id ≡ Some m → place ≡ place_of m → (p : List ℕ) (s : ℕ)
-      → counting all place.pool (status_number place.status) (all place.pool (status_number place.status) - 1) p s ≡ how_many (is_in p s) (gone id machines)
-  counted_gone place id m there is p s = rw is (by (bytes_eq p m.pool && (s == status_number m.status)) refl)
+  pub counted_gone : (group : Group) (id : ℕ) (m : Machine) → at machines id ≡ Some m → group ≡ group_of m → (p : List ℕ) (s : ℕ)
+      → counting all group.pool (status_number group.status) (all group.pool (status_number group.status) - 1) p s ≡ how_many (is_in p s) (gone id machines)
+  counted_gone group id m there is p s = rw is (by (bytes_eq p m.pool && (s == status_number m.status)) refl)
     where
       by : (b : Bool) → (bytes_eq p m.pool && (s == status_number m.status)) ≡ b → (if b then all m.pool (status_number m.status) - 1 else all p s) ≡ how_many (is_in p s) (gone id machines)
       by true t =

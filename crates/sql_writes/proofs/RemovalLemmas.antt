@@ -9,7 +9,7 @@ use Rattle.hall_types.specs.declared.boot.Boot.{Boot}
 use Rattle.hall_types.specs.declared.machine.Interface.{Interface}
 use Rattle.hall_types.specs.declared.order.Order.{Order}
 use Rattle.sql_rows.specs.Columns.{Wipe}
-use Rattle.sql_rows.specs.Spelling.{Content}
+use Rattle.sql_rows.specs.Spelling.{HallRows}
 use Rattle.sql_rows.specs.Holding.{IsWithin}
 use Rattle.sql_rows.specs.ListedLaws.{listed_at}
 use Rattle.sql_interfaces.specs.WipeLaws.{wipes_gone}
@@ -32,7 +32,7 @@ none_gone : (wipes : Rows numbers Wipe) (id : ℕ) → StandUnder (λ (w : Wipe)
 none_gone wipes id under w has =
     sym (same_number w.machine id) ∙ other-key numbers w.machine id (gone_found wipes id w.machine w (listed_at numbers (λ (x : Wipe). x.machine) (gone id wipes) under w has)).0
 
-pub has_no_child : (s : State) (before : Hall) (c : Content) (id : ℕ) → IsWithin s before (childless c id) → HasNoChild (childless c id) id
+pub has_no_child : (s : State) (before : Hall) (c : HallRows) (id : ℕ) → IsWithin s before (childless c id) → HasNoChild (childless c id) id
 has_no_child s before c id held =
     let tables = held.spelt.tables in
     record {
@@ -43,22 +43,22 @@ has_no_child s before c id held =
     }
 
 -- the machine's row went after its children; it is still counted
-pub rows_gone : (old mid new : State) (before h : Hall) → IsWithinHall old before h → (id : ℕ) → ((c : Content) → IsWithin old before c → IsWithin mid before (childless c id))
-    → ((c : Content) → IsWithin mid before c → HasNoChild c id → IsWithin new before (without_row c id)) → IsBetween new before (without_machine id h) h.machines (gone id h.machines)
+pub rows_gone : (old mid new : State) (before h : Hall) → IsWithinHall old before h → (id : ℕ) → ((c : HallRows) → IsWithin old before c → IsWithin mid before (childless c id))
+    → ((c : HallRows) → IsWithin mid before c → HasNoChild c id → IsWithin new before (without_row c id)) → IsBetween new before (without_machine id h) h.machines (gone id h.machines)
 rows_gone old mid new before h held id first last =
-    let went = first held.content held.within in
+    let went = first held.hall_rows held.within in
     record {
-      content = without_row (childless held.content id) id;
-      within = last (childless held.content id) went (has_no_child mid before held.content id went);
+      hall_rows = without_row (childless held.hall_rows id) id;
+      within = last (childless held.hall_rows id) went (has_no_child mid before held.hall_rows id went);
       hall = ap (without_machine id) held.agrees.hall;
       counts = held.agrees.counts;
-      wipes = wipes_gone held.content.wipes h.machines held.agrees.wipes id;
+      wipes = wipes_gone held.hall_rows.wipes h.machines held.agrees.wipes id;
     }
 
 -- no machine was counted
 pub none_counted : (s : State) (before h : Hall) (id : ℕ) → IsBetween s before (without_machine id h) h.machines (gone id h.machines) → at h.machines id ≡ None → IsWithinHall s before (without_machine id h)
 none_counted s before h id held none = record {
-  content = held.content;
+  hall_rows = held.hall_rows;
   within = held.within;
-  agrees = record { hall = held.hall; counts = counted_none held.content.counts h.machines held.counts id none; wipes = held.wipes };
+  agrees = record { hall = held.hall; counts = counted_none held.hall_rows.counts h.machines held.counts id none; wipes = held.wipes };
 }

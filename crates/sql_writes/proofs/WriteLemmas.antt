@@ -5,15 +5,15 @@ use Rattle.sqlite.specs.State.{State}
 use Rattle.hall_types.specs.Rows.{Rows, numbers, at, how_many}
 use Rattle.hall_types.specs.Hall.{Hall}
 use Rattle.hall_types.specs.declared.machine.Machine.{Machine}
-use Rattle.sql_rows.specs.Spelling.{Content, is_in, wipe_of}
+use Rattle.sql_rows.specs.Spelling.{HallRows, is_in, wipe_of}
 use Rattle.sql_rows.specs.Holding.{IsWithin}
 use Rattle.sql_writes.specs.Within.{IsWithinHall}
 
 pub moved : (old new : State) (before h : Hall) → IsWithinHall old before h → (change : Hall → Hall) → ((x : Hall) → (change x).machines ≡ x.machines)
-    → ((content : Content) → IsWithin old before content → content.hall ≡ h → IsWithin new before (record content { hall = change content.hall })) → IsWithinHall new before (change h)
+    → ((hall_rows : HallRows) → IsWithin old before hall_rows → hall_rows.hall ≡ h → IsWithin new before (record hall_rows { hall = change hall_rows.hall })) → IsWithinHall new before (change h)
 moved old new before h held change stays step = record {
-  content = record held.content { hall = change held.content.hall };
-  within = step held.content held.within held.agrees.hall;
+  hall_rows = record held.hall_rows { hall = change held.hall_rows.hall };
+  within = step held.hall_rows held.within held.agrees.hall;
   agrees = record {
     hall = ap change held.agrees.hall;
     counts = λ pool status. held.agrees.counts pool status ∙ sym (ap (λ (rows : Rows numbers Machine). how_many (is_in pool status) rows) (stays h));

@@ -5,7 +5,7 @@ use Rattle.hall_types.specs.Rows.{Rows, numbers, at, put, how_many}
 use Rattle.hall_types.specs.Hall.{Hall}
 use Rattle.hall_types.specs.declared.machine.Machine.{Machine}
 use Rattle.sql_rows.specs.Holding.{IsWithin}
-use Rattle.sql_rows.specs.Spelling.{Content, is_in, wipe_of}
+use Rattle.sql_rows.specs.Spelling.{HallRows, is_in, wipe_of}
 use Rattle.sql_interfaces.specs.Interfaces.{without_interfaces}
 use Rattle.sql_interfaces.specs.Wipes.{with_wipe}
 use Rattle.sql_machines.specs.Boots.{without_boots}
@@ -13,16 +13,16 @@ use Rattle.sql_machines.specs.Orders.{without_orders}
 
 -- the rows are this hall's, while the counts are still those of some machines, and the kinds of erasing those of some
 pub record IsBetween (s : State) (before now : Hall) (counted wiped : Rows numbers Machine) : Type 0 where
-  pub content : Content
-  pub within : IsWithin s before content
-  pub hall : content.hall ≡ now
-  pub counts : (pool : List ℕ) (status : ℕ) → content.counts pool status ≡ how_many (is_in pool status) counted
-  pub wipes : (id : ℕ) → at content.wipes id ≡ option_and_then wipe_of (at wiped id)
+  pub hall_rows : HallRows
+  pub within : IsWithin s before hall_rows
+  pub hall : hall_rows.hall ≡ now
+  pub counts : (pool : List ℕ) (status : ℕ) → hall_rows.counts pool status ≡ how_many (is_in pool status) counted
+  pub wipes : (id : ℕ) → at hall_rows.wipes id ≡ option_and_then wipe_of (at wiped id)
 
 -- the hall with this row of a machine
 abbrev pub with_row : Hall → Machine → Hall
 with_row h m = record h { machines = put m.id m h.machines }
 
--- the content where no row points to the machine with this number
-abbrev pub childless : Content → ℕ → Content
+-- the rows where no row points to the machine with this number
+abbrev pub childless : HallRows → ℕ → HallRows
 childless c id = with_wipe (without_orders (without_boots (without_interfaces c id) id) id) id None

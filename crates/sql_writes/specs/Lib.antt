@@ -1,3 +1,3 @@
 pub mod Between
-pub mod Places
+pub mod Groups
 pub mod Within

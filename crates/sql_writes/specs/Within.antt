@@ -2,10 +2,10 @@
 use Rattle.sqlite.specs.State.{State}
 use Rattle.hall_types.specs.Hall.{Hall}
 use Rattle.sql_rows.specs.Holding.{IsWithin}
-use Rattle.sql_rows.specs.Spelling.{Content, IsContentOf}
+use Rattle.sql_rows.specs.Spelling.{HallRows, AreRowsOf}
 
 -- inside a transaction: the hall as the transaction sees it, with its counts and its kinds of erasing, over the hall that was there before it
 pub record IsWithinHall (s : State) (before h : Hall) : Type 0 where
-  pub content : Content
-  pub within : IsWithin s before content
-  pub agrees : IsContentOf h content
+  pub hall_rows : HallRows
+  pub within : IsWithin s before hall_rows
+  pub agrees : AreRowsOf h hall_rows

@@ -1,8 +1,8 @@
 //! One row write of a hall's change, over its tables, inside a transaction.
 #![tactic(auto)]
 
+mod groups;
 mod machines;
-mod places;
 mod removal;
 mod writes;
 

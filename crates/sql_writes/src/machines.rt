@@ -7,10 +7,10 @@ ghost use Rattle.hall_types.specs.Rows.{Rows, numbers, at, put};
 ghost use Rattle.hall_types.specs.declared.machine.Machine.{Machine};
 ghost use Rattle.hall_store.specs.Versions.{version_of};
 ghost use Rattle.sql_writes.specs.Between.{IsBetween, with_row};
-ghost use Rattle.sql_writes.specs.Places.{place_of};
+ghost use Rattle.sql_writes.specs.Groups.{group_of};
 ghost use Rattle.sql_writes.specs.Within.{IsWithinHall};
 
-use crate::places::{Place, count_in, find_place, move_count};
+use crate::groups::{Group, count_in, find_group, move_count};
 use hall_types::{Machine, Version};
 use sql_interfaces::put_wipe;
 use sql_machines::{add_machine, set_machine};
@@ -110,15 +110,15 @@ fn set_row<S: Alter>(
     }
 }
 
-// The row of a machine that was counted at a place. It is counted where it is now.
+// The row of a machine that was counted at a group. It is counted where it is now.
 fn set_from<S: Alter>(
     tx: &mut Transaction<'_, S>,
     machine: &Machine,
     was: Version,
-    from: &Place,
+    from: &Group,
 ) -> Result<(), Error>
     ensures same_reference { tx.new.conn.ghost_name ≡ tx.old.conn.ghost_name }
-    ensures made { HasCleanDisk (state S.Store tx.new.conn.now) → OnOk result ((before h : Hall) → IsWithinHall (state S.Store tx.old.conn.now) before h → (there : Machine) → at h.machines machine.now.id ≡ Some there → from.now ≡ place_of there → IsBetween (state S.Store tx.new.conn.now) before (with_row h machine.now) (with_row h machine.now).machines h.machines) }
+    ensures made { HasCleanDisk (state S.Store tx.new.conn.now) → OnOk result ((before h : Hall) → IsWithinHall (state S.Store tx.old.conn.now) before h → (there : Machine) → at h.machines machine.now.id ≡ Some there → from.now ≡ group_of there → IsBetween (state S.Store tx.new.conn.now) before (with_row h machine.now) (with_row h machine.now).machines h.machines) }
     ensures version { HasCleanDisk (state S.Store tx.new.conn.now) → OnOk result ((before h : Hall) → IsWithinHall (state S.Store tx.old.conn.now) before h → Some was ≡ version_of h machine.now.id) }
     ensures mode { HasCleanDisk (state S.Store tx.new.conn.now) → OnOk result (IsTrue (state S.Store tx.old.conn.now).in_transaction → (state S.Store tx.new.conn.now).in_transaction ≡ true) }
     ensures kept { HasCleanDisk (state S.Store tx.new.conn.now) → IsTrue (state S.Store tx.old.conn.now).in_transaction → KeepsCommit (state S.Store tx.old.conn.now) (state S.Store tx.new.conn.now) }
@@ -143,8 +143,8 @@ fn set_counted<S: Alter>(
     ensures kept { HasCleanDisk (state S.Store tx.new.conn.now) → IsTrue (state S.Store tx.old.conn.now).in_transaction → KeepsCommit (state S.Store tx.old.conn.now) (state S.Store tx.new.conn.now) }
     ensures survives { Survives (state S.Store tx.old.conn.now) (state S.Store tx.new.conn.now) (λ _. ⊥) }
 {
-    match find_place(tx, machine.id) {
-        Ok(Some(place)) => set_from(tx, machine, was, &place),
+    match find_group(tx, machine.id) {
+        Ok(Some(group)) => set_from(tx, machine, was, &group),
         Ok(None) => Err(Error::QueryReturnedNoRows),
         Err(error) => Err(error),
     }

@@ -5,15 +5,15 @@ ghost use Rattle.sqlite.specs.State.{HasCleanDisk, KeepsCommit, Survives};
 ghost use Rattle.hall_types.specs.Hall.{Hall, without_machine};
 ghost use Rattle.hall_types.specs.Rows.{at, gone};
 ghost use Rattle.sql_rows.specs.Holding.{IsWithin};
-ghost use Rattle.sql_rows.specs.Spelling.{Content};
+ghost use Rattle.sql_rows.specs.Spelling.{HallRows};
 ghost use Rattle.sql_interfaces.specs.Interfaces.{without_interfaces};
 ghost use Rattle.sql_machines.specs.Boots.{without_boots};
 ghost use Rattle.sql_machines.specs.Orders.{without_orders};
 ghost use Rattle.sql_writes.specs.Between.{IsBetween, childless};
-ghost use Rattle.sql_writes.specs.Places.{place_of};
+ghost use Rattle.sql_writes.specs.Groups.{group_of};
 ghost use Rattle.sql_writes.specs.Within.{IsWithinHall};
 
-use crate::places::{Place, count_out, find_place};
+use crate::groups::{Group, count_out, find_group};
 use hall_types::Number;
 use sql_interfaces::{put_wipe, remove_interfaces};
 use sql_machines::{remove_boots, remove_orders, remove_row};
@@ -22,7 +22,7 @@ use sqlite::{Alter, Error, Transaction};
 // A machine's interfaces, boots and orders go.
 fn remove_listed<S: Alter>(tx: &mut Transaction<'_, S>, id: Number) -> Result<(), Error>
     ensures same_reference { tx.new.conn.ghost_name ≡ tx.old.conn.ghost_name }
-    ensures made { HasCleanDisk (state S.Store tx.new.conn.now) → OnOk result ((before : Hall) (c : Content) → IsWithin (state S.Store tx.old.conn.now) before c → IsWithin (state S.Store tx.new.conn.now) before (without_orders (without_boots (without_interfaces c id) id) id)) }
+    ensures made { HasCleanDisk (state S.Store tx.new.conn.now) → OnOk result ((before : Hall) (c : HallRows) → IsWithin (state S.Store tx.old.conn.now) before c → IsWithin (state S.Store tx.new.conn.now) before (without_orders (without_boots (without_interfaces c id) id) id)) }
     ensures mode { HasCleanDisk (state S.Store tx.new.conn.now) → OnOk result (IsTrue (state S.Store tx.old.conn.now).in_transaction → (state S.Store tx.new.conn.now).in_transaction ≡ true) }
     ensures kept { HasCleanDisk (state S.Store tx.new.conn.now) → IsTrue (state S.Store tx.old.conn.now).in_transaction → KeepsCommit (state S.Store tx.old.conn.now) (state S.Store tx.new.conn.now) }
     ensures survives { Survives (state S.Store tx.old.conn.now) (state S.Store tx.new.conn.now) (λ _. ⊥) }
@@ -36,7 +36,7 @@ fn remove_listed<S: Alter>(tx: &mut Transaction<'_, S>, id: Number) -> Result<()
 // All rows that point to a machine go.
 fn remove_children<S: Alter>(tx: &mut Transaction<'_, S>, id: Number) -> Result<(), Error>
     ensures same_reference { tx.new.conn.ghost_name ≡ tx.old.conn.ghost_name }
-    ensures made { HasCleanDisk (state S.Store tx.new.conn.now) → OnOk result ((before : Hall) (c : Content) → IsWithin (state S.Store tx.old.conn.now) before c → IsWithin (state S.Store tx.new.conn.now) before (childless c id)) }
+    ensures made { HasCleanDisk (state S.Store tx.new.conn.now) → OnOk result ((before : Hall) (c : HallRows) → IsWithin (state S.Store tx.old.conn.now) before c → IsWithin (state S.Store tx.new.conn.now) before (childless c id)) }
     ensures mode { HasCleanDisk (state S.Store tx.new.conn.now) → OnOk result (IsTrue (state S.Store tx.old.conn.now).in_transaction → (state S.Store tx.new.conn.now).in_transaction ≡ true) }
     ensures kept { HasCleanDisk (state S.Store tx.new.conn.now) → IsTrue (state S.Store tx.old.conn.now).in_transaction → KeepsCommit (state S.Store tx.old.conn.now) (state S.Store tx.new.conn.now) }
     ensures survives { Survives (state S.Store tx.old.conn.now) (state S.Store tx.new.conn.now) (λ _. ⊥) }
@@ -60,21 +60,21 @@ fn remove_rows<S: Alter>(tx: &mut Transaction<'_, S>, id: Number) -> Result<(), 
     Ok(())
 }
 
-// A machine goes that is counted at a place, if it is there.
+// A machine goes that is counted at a group, if it is there.
 fn remove_from<S: Alter>(
     tx: &mut Transaction<'_, S>,
     id: Number,
-    place: &Option<Place>,
+    group: &Option<Group>,
 ) -> Result<(), Error>
     ensures same_reference { tx.new.conn.ghost_name ≡ tx.old.conn.ghost_name }
-    ensures made { HasCleanDisk (state S.Store tx.new.conn.now) → OnOk result ((before h : Hall) → IsWithinHall (state S.Store tx.old.conn.now) before h → place.now ≡ option_map place_of (at h.machines id) → IsWithinHall (state S.Store tx.new.conn.now) before (without_machine id h)) }
+    ensures made { HasCleanDisk (state S.Store tx.new.conn.now) → OnOk result ((before h : Hall) → IsWithinHall (state S.Store tx.old.conn.now) before h → group.now ≡ option_map group_of (at h.machines id) → IsWithinHall (state S.Store tx.new.conn.now) before (without_machine id h)) }
     ensures mode { HasCleanDisk (state S.Store tx.new.conn.now) → OnOk result (IsTrue (state S.Store tx.old.conn.now).in_transaction → (state S.Store tx.new.conn.now).in_transaction ≡ true) }
     ensures kept { HasCleanDisk (state S.Store tx.new.conn.now) → IsTrue (state S.Store tx.old.conn.now).in_transaction → KeepsCommit (state S.Store tx.old.conn.now) (state S.Store tx.new.conn.now) }
     ensures survives { Survives (state S.Store tx.old.conn.now) (state S.Store tx.new.conn.now) (λ _. ⊥) }
 {
     match remove_rows(tx, id) {
-        Ok(()) => match place {
-            Some(place) => count_out(tx, place),
+        Ok(()) => match group {
+            Some(group) => count_out(tx, group),
             None => Ok(()),
         },
         Err(error) => Err(error),
@@ -89,8 +89,8 @@ pub(crate) fn remove_machine<S: Alter>(tx: &mut Transaction<'_, S>, id: Number) 
     ensures kept { HasCleanDisk (state S.Store tx.new.conn.now) → IsTrue (state S.Store tx.old.conn.now).in_transaction → KeepsCommit (state S.Store tx.old.conn.now) (state S.Store tx.new.conn.now) }
     ensures survives { Survives (state S.Store tx.old.conn.now) (state S.Store tx.new.conn.now) (λ _. ⊥) }
 {
-    match find_place(tx, id) {
-        Ok(place) => remove_from(tx, id, &place),
+    match find_group(tx, id) {
+        Ok(group) => remove_from(tx, id, &group),
         Err(error) => Err(error),
     }
 }

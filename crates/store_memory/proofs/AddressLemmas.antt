@@ -47,13 +47,13 @@ module _ {K X : Type 0} (eq : K → K → Bool) (goes : X → Bool) (old new : H
   pub entries_cleared : ClearsEntries eq old new goes
   entries_cleared key = ap row_in (found key) ∙ by (get eq old key)
     where
-      by : (place : Option (Option X)) → row_in (option_map (unless_gone goes) place) ≡ unless_gone goes (row_in place)
+      by : (slot : Option (Option X)) → row_in (option_map (unless_gone goes) slot) ≡ unless_gone goes (row_in slot)
       by None = refl
       by (Some row) = refl
 
   pub entries_kept : KeepsEntries eq old new
   entries_kept key there = by (get eq old key) (found key) there
     where
-      by : (place : Option (Option X)) → get eq new key ≡ option_map (unless_gone goes) place → IsSome place → IsSome (get eq new key)
+      by : (slot : Option (Option X)) → get eq new key ≡ option_map (unless_gone goes) slot → IsSome slot → IsSome (get eq new key)
       by None e some = cc
       by (Some row) e some = ap is_some e

@@ -157,10 +157,10 @@ filter_few p (x ∷ xs) = by (p x) (filter_few p xs)
     by true le = omega (arith, le)
     by false le = omega (arith, le)
 
-bounded : (so_far rest all rows places : ℕ) → so_far + rest ≡ all → all ≤ rows → rows ≤ places → places < 2 ^ 63 → so_far < 2 ^ 63
-bounded so_far rest all rows places a b c d = omega arith
+bounded : (so_far rest all rows slots : ℕ) → so_far + rest ≡ all → all ≤ rows → rows ≤ slots → slots < 2 ^ 63 → so_far < 2 ^ 63
+bounded so_far rest all rows slots a b c d = omega arith
 
--- fewer machines were counted than a table has places
+-- fewer machines were counted than a table has slots
 pub counted_few : (so_far : ℕ) (pool : List ℕ) (status : Status) (rest : List Machine) (machines : BTreeMap ℕ (Option Machine))
     → so_far + many pool status rest ≡ many pool status (rows_of machines) → btree_map_len machines < 2 ^ 63 → so_far < 2 ^ 63
 counted_few so_far pool status rest machines is small =

@@ -40,8 +40,8 @@ rows_few {X = X} (e ∷ es) = by e.1 (rows_few es)
     by None le = omega (arith, le)
     by (Some x) le = omega (arith, le)
 
-below : (count size rows places : ℕ) → count ≡ size → rows ≡ size → rows ≤ places → places < 2 ^ 63 → count < 2 ^ 63
-below count size rows places a b c d = omega arith
+below : (count size rows slots : ℕ) → count ≡ size → rows ≡ size → rows ≤ slots → slots < 2 ^ 63 → count < 2 ^ 63
+below count size rows slots a b c d = omega arith
 
 same_count : (count old size after one : ℕ) → count + one ≡ old + 1 → old ≡ size → after + one ≡ size + 1 → count ≡ after
 same_count count old size after one a b c = omega arith
@@ -388,7 +388,7 @@ module _ (s : MemoryStore) (h : Hall) (held : IsHeld s h) where
       held_interfaces s h held table addresses (gone mac h.interfaces) keyed (gone_table text_cmp texts itself texts_alike s.interfaces table h.interfaces mac sets held.interfaces)
       (gone_found_one s.addresses addresses h.interfaces held.addresses mac found)
 
-  -- fewer machines than places
+  -- fewer machines than slots
   few : IsOrdered nat_cmp s.machines → btree_map_len s.machines < 2 ^ 63 → s.machine_count < 2 ^ 63
   few ordered small =
       let len : length (rows_of s.machines) ≡ size h.machines = ap length (numbers_listed s.machines h.machines ordered held.machines) ∙ length-listed h.machines in

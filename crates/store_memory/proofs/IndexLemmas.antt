@@ -42,7 +42,7 @@ module _ (index : Hashed (List ℕ) ℕ) (h : Hall) (under : StandUnder (λ m. m
 itself : (its : Option (List ℕ)) (uuid : List ℕ) → its ≡ Some uuid → has_uuid its uuid ≡ true
 itself its uuid is = ap (λ u. has_uuid u uuid) is ∙ (bytes_eq-Decides uuid uuid).1 refl
 
--- ---- after a machine was put, in the place of the one before
+-- ---- after a machine was put, in place of the one before
 
 module _ (index mid new : Hashed (List ℕ) ℕ) (h : Hall) (m : Machine) (was : Option Machine) (its : IsIndex index h.machines)
     (before : was ≡ at h.machines m.id) (cleared : SetsEntry index mid (uuid_of was) None) (set : SetsEntry mid new m.uuid (Some m.id))

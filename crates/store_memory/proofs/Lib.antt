@@ -4,6 +4,6 @@ pub mod ExpiryLemmas
 pub mod HeldLemmas
 pub mod IndexLemmas
 pub mod NewLemmas
-pub mod PlaceLemmas
+pub mod SlotLemmas
 pub mod TableLemmas
 pub mod VersionLemmas

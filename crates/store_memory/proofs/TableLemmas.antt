@@ -15,7 +15,7 @@ use Rattle.std.specs.Ordering.{nat_cmp, eq_by_cmp, is_lt, ordering_reverse, orde
 use Rattle.std.proofs.Math.Dec.{T}
 use Rattle.hall_types.specs.Rows.{Keys, Rows, no_rows, numbers, texts, pairs, at, put, gone, rows_where, listed, passes, same_key}
 use Rattle.hall_types.specs.RowLaws.{at-no_rows, at-put, at-gone, at-rows_where}
-use Rattle.store_memory.specs.Table.{Clears, HasSole, IsTable, KeepsPlaces, KeepsRows, Sets, row_at, row_in, rows_of, unless_gone}
+use Rattle.store_memory.specs.Table.{Clears, HasSole, IsTable, KeepsSlots, KeepsRows, Sets, row_at, row_in, rows_of, unless_gone}
 use Rattle.store_memory.specs.Held.{as_pair, itself, pair_cmp, text_cmp}
 
 -- two keys of a table tie where the hall's do
@@ -200,14 +200,14 @@ module _ {K X : Type 0} (cmp : K → K → Ordering) (goes : X → Bool) (old ne
   pub clears_from_mapped : Clears cmp old new goes
   clears_from_mapped key = ap row_in (found key) ∙ by (get cmp old key)
     where
-      by : (place : Option (Option X)) → row_in (option_map (unless_gone goes) place) ≡ unless_gone goes (row_in place)
+      by : (slot : Option (Option X)) → row_in (option_map (unless_gone goes) slot) ≡ unless_gone goes (row_in slot)
       by None = refl
       by (Some row) = refl
 
-  pub places_from_mapped : KeepsPlaces cmp old new
-  places_from_mapped key there = by (get cmp old key) (found key) there
+  pub slots_from_mapped : KeepsSlots cmp old new
+  slots_from_mapped key there = by (get cmp old key) (found key) there
     where
-      by : (place : Option (Option X)) → get cmp new key ≡ option_map (unless_gone goes) place → IsSome place → IsSome (get cmp new key)
+      by : (slot : Option (Option X)) → get cmp new key ≡ option_map (unless_gone goes) slot → IsSome slot → IsSome (get cmp new key)
       by None e some = cc
       by (Some row) e some = ap is_some e
 

@@ -1,4 +1,4 @@
--- Tables in memory that are found by a hash of their keys, which may have places for rows to come.
+-- Tables in memory that are found by a hash of their keys, which may have slots for rows to come.
 use Rattle.std.specs.Prelude.{◌≡◌, Bool, Option, IsSome, if◌then◌else◌}
 use Rattle.std.specs.HashMap.{HashMap, get}
 use Rattle.std.specs.declared.hash.BuildHasherDefault.{BuildHasherDefault}
@@ -13,11 +13,11 @@ module _ {K X : Type 0} (eq : K → K → Bool) where
   abbrev pub entry_at : Hashed K X → K → Option X
   entry_at table key = row_in (get eq table key)
 
-  -- there is a place for a row with this key
+  -- there is a slot for a row with this key
   abbrev pub HasEntry : Hashed K X → K → Type 0
   HasEntry table key = IsSome (get eq table key)
 
-  -- each place is still there
+  -- each slot is still there
   abbrev pub KeepsEntries : Hashed K X → Hashed K X → Type 0
   KeepsEntries old new = (key : K) → HasEntry old key → HasEntry new key
 

@@ -14,7 +14,7 @@ use Rattle.hall_types.specs.declared.change.RowWrite.TheVariants.{PutOperator, P
 use Rattle.hall_types.specs.declared.machine.Interface.{Interface}
 use Rattle.hall_types.specs.declared.machine.Machine.{Machine}
 use Rattle.store_memory.specs.Hashed.{HasEntry, Hashed, entry_at}
-use Rattle.store_memory.specs.Table.{HasPlace, IsTable}
+use Rattle.store_memory.specs.Table.{HasSlot, IsTable}
 use Rattle.store_memory.specs.declared.memory.MemoryStore.{MemoryStore}
 
 abbrev pub text_cmp : List ℕ → List ℕ → Ordering
@@ -72,28 +72,28 @@ pub record IsHeld (s : MemoryStore) (h : Hall) : Type 0 where
   pub count : s.machine_count ≡ size h.machines
   pub earliest : IsEarliest s.earliest h.machines
 
--- there is a place for what the row write puts
-abbrev pub HasPlaces : RowWrite → MemoryStore → Type 0
-HasPlaces (PutOperator o) s = HasPlace text_cmp s.operators o.name
-HasPlaces (PutPool p) s = HasPlace text_cmp s.pools p.name
-HasPlaces (PutMember m) s = HasPlace pair_cmp s.members (m.pool, m.operator)
-HasPlaces (PutImage i) s = HasPlace text_cmp s.images i.name
-HasPlaces (ImageGone name) s = ⊤
-HasPlaces (PutLive l) s = HasPlace nat_cmp s.lives (arch_number l.arch)
-HasPlaces (PutMachine m was) s = HasPlace nat_cmp s.machines m.id × ((uuid : List ℕ) → m.uuid ≡ Some uuid → HasEntry bytes_eq s.uuids uuid)
-HasPlaces (MachineGone id) s = ⊤
-HasPlaces (PutInterface i) s = HasPlace text_cmp s.interfaces i.mac × HasEntry bytes_eq s.addresses i.mac
-HasPlaces (InterfaceGone mac) s = ⊤
-HasPlaces (PutBoot b) s = HasPlace nat_cmp s.boots b.number
-HasPlaces (PutOrder o) s = HasPlace nat_cmp s.orders o.number
-HasPlaces (PutReceipt r) s = HasPlace pair_cmp s.receipts (r.operator, r.key)
-HasPlaces (PutNumbers n) s = ⊤
+-- there is a slot for what the row write puts
+abbrev pub HasSlots : RowWrite → MemoryStore → Type 0
+HasSlots (PutOperator o) s = HasSlot text_cmp s.operators o.name
+HasSlots (PutPool p) s = HasSlot text_cmp s.pools p.name
+HasSlots (PutMember m) s = HasSlot pair_cmp s.members (m.pool, m.operator)
+HasSlots (PutImage i) s = HasSlot text_cmp s.images i.name
+HasSlots (ImageGone name) s = ⊤
+HasSlots (PutLive l) s = HasSlot nat_cmp s.lives (arch_number l.arch)
+HasSlots (PutMachine m was) s = HasSlot nat_cmp s.machines m.id × ((uuid : List ℕ) → m.uuid ≡ Some uuid → HasEntry bytes_eq s.uuids uuid)
+HasSlots (MachineGone id) s = ⊤
+HasSlots (PutInterface i) s = HasSlot text_cmp s.interfaces i.mac × HasEntry bytes_eq s.addresses i.mac
+HasSlots (InterfaceGone mac) s = ⊤
+HasSlots (PutBoot b) s = HasSlot nat_cmp s.boots b.number
+HasSlots (PutOrder o) s = HasSlot nat_cmp s.orders o.number
+HasSlots (PutReceipt r) s = HasSlot pair_cmp s.receipts (r.operator, r.key)
+HasSlots (PutNumbers n) s = ⊤
 
--- each place is still there
-abbrev pub KeepsAllPlaces : MemoryStore → MemoryStore → Type 0
-KeepsAllPlaces old new = (w : RowWrite) → HasPlaces w old → HasPlaces w new
+-- each slot is still there
+abbrev pub KeepsAllSlots : MemoryStore → MemoryStore → Type 0
+KeepsAllSlots old new = (w : RowWrite) → HasSlots w old → HasSlots w new
 
--- there are places for what all row writes put
-abbrev pub HaveAllPlaces : List RowWrite → MemoryStore → Type 0
-HaveAllPlaces [] s = ⊤
-HaveAllPlaces (w ∷ ws) s = HasPlaces w s × HaveAllPlaces ws s
+-- there are slots for what all row writes put
+abbrev pub HaveAllSlots : List RowWrite → MemoryStore → Type 0
+HaveAllSlots [] s = ⊤
+HaveAllSlots (w ∷ ws) s = HasSlots w s × HaveAllSlots ws s

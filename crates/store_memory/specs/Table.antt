@@ -1,11 +1,11 @@
--- Tables in memory, which may have places for rows to come.
+-- Tables in memory, which may have slots for rows to come.
 use Rattle.std.specs.Prelude.{◌≡◌, Bool, List, Option, Some, None, IsSome, filter_map, if◌then◌else◌}
 use Rattle.std.specs.BTreeMap.{BTreeMap, get, values}
 use Rattle.std.specs.Ordering.{eq_by_cmp}
 use Rattle.std.specs.declared.cmp.Ordering.{Ordering}
 use Rattle.hall_types.specs.Rows.{Keys, Rows, at}
 
--- the row in a place, if there is a place and a row in it
+-- the row in a slot, if there is a slot and a row in it
 abbrev pub row_in : {X : Type 0} → Option (Option X) → Option X
 row_in None = None
 row_in (Some row) = row
@@ -24,13 +24,13 @@ module _ {K X : Type 0} (cmp : K → K → Ordering) where
   abbrev pub row_at : BTreeMap K (Option X) → K → Option X
   row_at table key = row_in (get cmp table key)
 
-  -- there is a place for a row with this key
-  abbrev pub HasPlace : BTreeMap K (Option X) → K → Type 0
-  HasPlace table key = IsSome (get cmp table key)
+  -- there is a slot for a row with this key
+  abbrev pub HasSlot : BTreeMap K (Option X) → K → Type 0
+  HasSlot table key = IsSome (get cmp table key)
 
-  -- each place is still there
-  abbrev pub KeepsPlaces : BTreeMap K (Option X) → BTreeMap K (Option X) → Type 0
-  KeepsPlaces old new = (key : K) → HasPlace old key → HasPlace new key
+  -- each slot is still there
+  abbrev pub KeepsSlots : BTreeMap K (Option X) → BTreeMap K (Option X) → Type 0
+  KeepsSlots old new = (key : K) → HasSlot old key → HasSlot new key
 
   -- each row is still there, and no other
   abbrev pub KeepsRows : BTreeMap K (Option X) → BTreeMap K (Option X) → Type 0

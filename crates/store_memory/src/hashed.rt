@@ -1,4 +1,4 @@
-//! Tables in memory that are found by a hash of their keys. A place without a row is taken for a row to come, as in
+//! Tables in memory that are found by a hash of their keys. A slot without a row is taken for a row to come, as in
 //! the tables in order.
 ghost use Rattle.std.specs.Prelude.{◌≡◌, ◌==◌, true, OnOk};
 ghost use Rattle.store_memory.specs.Hashed.{ClearsEntries, HasEntry, KeepsEntries, KeepsFound, SetsEntryAt, entry_at};
@@ -20,13 +20,13 @@ pub(crate) fn row<K: Eq + Hash, X: Copy>(table: &HashMap<K, Option<X>>, key: &K)
     }
 }
 
-/// Takes a place for a row with a key.
+/// Takes a slot for a row with a key.
 pub(crate) fn reserve<K: Eq + Hash + Drop, X: Drop>(
     table: &mut HashMap<K, Option<X>>,
     key: K,
 ) -> Result<(), AllocError>
-    ensures place { OnOk result (HasEntry K.eq table.new key) }
-    ensures places { KeepsEntries K.eq table.old table.new }
+    ensures slot { OnOk result (HasEntry K.eq table.new key) }
+    ensures slots { KeepsEntries K.eq table.old table.new }
     ensures rows { KeepsFound K.eq table.old table.new }
 {
     if table.contains_key(&key) {
@@ -38,7 +38,7 @@ pub(crate) fn reserve<K: Eq + Hash + Drop, X: Drop>(
     }
 }
 
-/// Puts a row in its place, or takes it out.
+/// Puts a row in its slot, or takes it out.
 pub(crate) fn set<K: Eq + Hash + Drop, X: Drop>(
     table: &mut HashMap<K, Option<X>>,
     key: K,
@@ -46,7 +46,7 @@ pub(crate) fn set<K: Eq + Hash + Drop, X: Drop>(
 )
     requires { HasEntry K.eq table.old key }
     ensures sets { SetsEntryAt K.eq table.old table.new key row }
-    ensures places { KeepsEntries K.eq table.old table.new }
+    ensures slots { KeepsEntries K.eq table.old table.new }
 {
     match table.insert(key, row) {
         Ok(_) => {}
@@ -57,7 +57,7 @@ pub(crate) fn set<K: Eq + Hash + Drop, X: Drop>(
 /// Takes the row with a key out, if there is one.
 pub(crate) fn clear<K: Eq + Hash + Drop, X: Drop>(table: &mut HashMap<K, Option<X>>, key: K)
     ensures sets { SetsEntryAt K.eq table.old table.new key None }
-    ensures places { KeepsEntries K.eq table.old table.new }
+    ensures slots { KeepsEntries K.eq table.old table.new }
 {
     if table.contains_key(&key) {
         set(table, key, None);
@@ -70,7 +70,7 @@ pub(crate) fn clear_machine<K: Eq + Hash + Drop, X: OfMachine + Copy>(
     machine: Number,
 )
     ensures clears { ClearsEntries K.eq table.old table.new (λ x. X.owner x == machine) }
-    ensures places { KeepsEntries K.eq table.old table.new }
+    ensures slots { KeepsEntries K.eq table.old table.new }
 {
     table.retain(
         |_, row| -> bool

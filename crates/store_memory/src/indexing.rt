@@ -22,7 +22,7 @@ pub(crate) fn uuid_of(machine: &Option<Machine>) -> Option<MachineUuid>
 /// Takes the entry of a UUID out.
 pub(crate) fn clear_entry(index: &mut HashMap<[u8; 16], Option<Number>>, uuid: Option<MachineUuid>)
     ensures sets { SetsEntry index.old index.new uuid None }
-    ensures places { KeepsEntries bytes_eq index.old index.new }
+    ensures slots { KeepsEntries bytes_eq index.old index.new }
 {
     if let Some(uuid) = uuid {
         hashed::clear(index, uuid.octets());
@@ -37,14 +37,14 @@ pub(crate) fn set_entry(
 )
     requires { (its : List ℕ) → uuid ≡ Some its → HasEntry bytes_eq index.old its }
     ensures sets { SetsEntry index.old index.new uuid (Some id) }
-    ensures places { KeepsEntries bytes_eq index.old index.new }
+    ensures slots { KeepsEntries bytes_eq index.old index.new }
 {
     if let Some(uuid) = uuid {
         hashed::set(index, uuid.octets(), Some(id));
     }
 }
 
-/// How many machines there are after one was put, in the place of the one that was there before.
+/// How many machines there are after one was put, in place of the one that was there before.
 pub(crate) fn count_after_put(count: u64, was: &Option<Machine>) -> u64
     ensures { count < 2 ^ 63 → result + one_if (is_some was.now) ≡ count + 1 }
 {

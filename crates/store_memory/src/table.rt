@@ -1,8 +1,8 @@
-//! Tables in memory. A place without a row is taken for a row to come, so that rows are written without memory.
+//! Tables in memory. A slot without a row is taken for a row to come, so that rows are written without memory.
 ghost use Rattle.std.specs.Prelude.{◌≡◌, ◌<◌, ◌^◌, ◌==◌, ℕ, true, OnOk, IfOk};
 ghost use Rattle.std.specs.BTreeMap.{IsOrdered, btree_map_len};
 ghost use Rattle.std.specs.Option.{option_copied};
-ghost use Rattle.store_memory.specs.Table.{Clears, HasPlace, KeepsPlaces, KeepsRows, Sets, row_at, rows_of, unless_gone};
+ghost use Rattle.store_memory.specs.Table.{Clears, HasSlot, KeepsSlots, KeepsRows, Sets, row_at, rows_of, unless_gone};
 
 use hall_types::{Boot, Interface, Number, Order};
 use std::alloc::{AllocError, Global};
@@ -28,13 +28,13 @@ pub(crate) fn row_ref<'a, K: Ord, X>(table: &'a BTreeMap<K, Option<X>>, key: &K)
     }
 }
 
-/// Takes a place for a row with a key.
+/// Takes a slot for a row with a key.
 pub(crate) fn reserve<K: Ord + Drop, X: Drop>(
     table: &mut BTreeMap<K, Option<X>>,
     key: K,
 ) -> Result<(), AllocError>
-    ensures place { OnOk result (HasPlace K.cmp table.new key) }
-    ensures places { KeepsPlaces K.cmp table.old table.new }
+    ensures slot { OnOk result (HasSlot K.cmp table.new key) }
+    ensures slots { KeepsSlots K.cmp table.old table.new }
     ensures rows { KeepsRows K.cmp table.old table.new }
 {
     if table.contains_key(&key) {
@@ -46,15 +46,15 @@ pub(crate) fn reserve<K: Ord + Drop, X: Drop>(
     }
 }
 
-/// Puts a row in its place, or takes it out.
+/// Puts a row in its slot, or takes it out.
 pub(crate) fn set<K: Ord + Drop, X: Drop>(
     table: &mut BTreeMap<K, Option<X>>,
     key: K,
     row: Option<X>,
 )
-    requires { HasPlace K.cmp table.old key }
+    requires { HasSlot K.cmp table.old key }
     ensures sets { Sets K.cmp table.old table.new key row }
-    ensures places { KeepsPlaces K.cmp table.old table.new }
+    ensures slots { KeepsSlots K.cmp table.old table.new }
 {
     match table.insert(key, row) {
         Ok(_) => {}
@@ -65,14 +65,14 @@ pub(crate) fn set<K: Ord + Drop, X: Drop>(
 /// Takes the row with a key out, if there is one.
 pub(crate) fn clear<K: Ord + Drop, X: Drop>(table: &mut BTreeMap<K, Option<X>>, key: K)
     ensures sets { Sets K.cmp table.old table.new key None }
-    ensures places { KeepsPlaces K.cmp table.old table.new }
+    ensures slots { KeepsSlots K.cmp table.old table.new }
 {
     if table.contains_key(&key) {
         set(table, key, None);
     }
 }
 
-/// A table has fewer than 2^63 places, in the order of their keys.
+/// A table has fewer than 2^63 slots, in the order of their keys.
 pub(crate) fn table_is_bounded<K: Ord, X>(table: &BTreeMap<K, Option<X>>)
     ensures small { btree_map_len table.now < 2 ^ 63 }
     ensures ordered { IsOrdered K.cmp table.now }
@@ -139,7 +139,7 @@ pub(crate) fn clear_machine<K: Ord + Drop, X: OfMachine + Copy>(
     machine: Number,
 )
     ensures clears { Clears K.cmp table.old table.new (λ x. X.owner x == machine) }
-    ensures places { KeepsPlaces K.cmp table.old table.new }
+    ensures slots { KeepsSlots K.cmp table.old table.new }
 {
     table.retain(
         |_, row| -> bool

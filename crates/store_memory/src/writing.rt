@@ -1,10 +1,10 @@
-//! Rows written where places for them are taken.
+//! Rows written where slots for them are taken.
 ghost use Rattle.std.specs.Prelude.{◌≡◌, ℕ, List, Some, None, OnOk, OnErr};
 ghost use Rattle.hall_types.specs.Hall.{Hall, applied, written};
 ghost use Rattle.hall_types.specs.declared.change.RowWrite.{RowWrite};
 ghost use Rattle.hall_types.specs.declared.change.RowWrite.TheVariants.{InterfaceGone, MachineGone, PutInterface, PutMachine};
 ghost use Rattle.hall_store.specs.Rules.{AllKeep, Keeps, KeepsMachines};
-ghost use Rattle.store_memory.specs.Held.{HasPlaces, HaveAllPlaces, IsHeld, KeepsAllPlaces};
+ghost use Rattle.store_memory.specs.Held.{HasSlots, HaveAllSlots, IsHeld, KeepsAllSlots};
 
 use crate::copying::copies;
 use crate::indexing::{
@@ -19,8 +19,8 @@ use std::alloc::AllocError;
 
 impl MemoryStore {
     fn reserve_machine(&mut self, machine: &Machine) -> Result<(), AllocError>
-        ensures places { OnOk result (HasPlaces (PutMachine machine.now None) self.new) }
-        ensures others { KeepsAllPlaces self.old self.new }
+        ensures slots { OnOk result (HasSlots (PutMachine machine.now None) self.new) }
+        ensures others { KeepsAllSlots self.old self.new }
         ensures same { (h : Hall) → IsHeld self.old h → IsHeld self.new h }
     {
         table::reserve(&mut self.machines, machine.id.get())?;
@@ -31,8 +31,8 @@ impl MemoryStore {
     }
 
     fn reserve_interface(&mut self, interface: &Interface) -> Result<(), AllocError>
-        ensures places { OnOk result (HasPlaces (PutInterface interface.now) self.new) }
-        ensures others { KeepsAllPlaces self.old self.new }
+        ensures slots { OnOk result (HasSlots (PutInterface interface.now) self.new) }
+        ensures others { KeepsAllSlots self.old self.new }
         ensures same { (h : Hall) → IsHeld self.old h → IsHeld self.new h }
     {
         let mac = interface.mac.octets();
@@ -40,10 +40,10 @@ impl MemoryStore {
         hashed::reserve(&mut self.addresses, mac)
     }
 
-    // Takes the places for what a row write puts.
+    // Takes the slots for what a row write puts.
     fn reserve(&mut self, write: &RowWrite) -> Result<(), AllocError>
-        ensures places { OnOk result (HasPlaces write.now self.new) }
-        ensures others { KeepsAllPlaces self.old self.new }
+        ensures slots { OnOk result (HasSlots write.now self.new) }
+        ensures others { KeepsAllSlots self.old self.new }
         ensures same { (h : Hall) → IsHeld self.old h → IsHeld self.new h }
     {
         match write {
@@ -68,9 +68,9 @@ impl MemoryStore {
         }
     }
 
-    // Takes the places for what row writes put.
+    // Takes the slots for what row writes put.
     fn reserve_all(&mut self, writes: &[RowWrite]) -> Result<(), AllocError>
-        ensures places { OnOk result (HaveAllPlaces writes.now self.new) }
+        ensures slots { OnOk result (HaveAllSlots writes.now self.new) }
         ensures same { (h : Hall) → IsHeld self.old h → IsHeld self.new h }
     {
         'writes: for write in writes {
@@ -80,9 +80,9 @@ impl MemoryStore {
     }
 
     fn put_machine(&mut self, machine: &Machine)
-        requires { HasPlaces (PutMachine machine.now None) self.old }
+        requires { HasSlots (PutMachine machine.now None) self.old }
         ensures held { (h : Hall) → IsHeld self.old h → KeepsMachines machine.now h → IsHeld self.new (written (PutMachine machine.now None) h) }
-        ensures places { KeepsAllPlaces self.old self.new }
+        ensures slots { KeepsAllSlots self.old self.new }
     {
         rows_stand_under_their_keys();
         table::table_is_bounded(&self.machines);
@@ -96,7 +96,7 @@ impl MemoryStore {
 
     fn clear_machine(&mut self, id: Number)
         ensures held { (h : Hall) → IsHeld self.old h → IsHeld self.new (written (MachineGone id) h) }
-        ensures places { KeepsAllPlaces self.old self.new }
+        ensures slots { KeepsAllSlots self.old self.new }
     {
         rows_stand_under_their_keys();
         let was = self.machine_row(id);
@@ -110,9 +110,9 @@ impl MemoryStore {
     }
 
     fn put_interface(&mut self, interface: &Interface)
-        requires { HasPlaces (PutInterface interface.now) self.old }
+        requires { HasSlots (PutInterface interface.now) self.old }
         ensures held { (h : Hall) → IsHeld self.old h → IsHeld self.new (written (PutInterface interface.now) h) }
-        ensures places { KeepsAllPlaces self.old self.new }
+        ensures slots { KeepsAllSlots self.old self.new }
     {
         rows_stand_under_their_keys();
         let mac = interface.mac.octets();
@@ -122,7 +122,7 @@ impl MemoryStore {
 
     fn clear_interface(&mut self, mac: MacAddress)
         ensures held { (h : Hall) → IsHeld self.old h → IsHeld self.new (written (InterfaceGone mac) h) }
-        ensures places { KeepsAllPlaces self.old self.new }
+        ensures slots { KeepsAllSlots self.old self.new }
     {
         rows_stand_under_their_keys();
         let mac = mac.octets();
@@ -130,11 +130,11 @@ impl MemoryStore {
         table::clear(&mut self.interfaces, mac);
     }
 
-    // Writes a row in its place.
+    // Writes a row in its slot.
     fn write(&mut self, write: RowWrite)
-        requires { HasPlaces write self.old }
+        requires { HasSlots write self.old }
         ensures held { (h : Hall) → IsHeld self.old h → Keeps write h → IsHeld self.new (written write h) }
-        ensures places { KeepsAllPlaces self.old self.new }
+        ensures slots { KeepsAllSlots self.old self.new }
     {
         rows_stand_under_their_keys();
         match write {
@@ -171,9 +171,9 @@ impl MemoryStore {
         }
     }
 
-    // Writes the rows in their places.
+    // Writes the rows in their slots.
     fn write_all(&mut self, writes: Vec<RowWrite>)
-        requires { HaveAllPlaces writes.items self.old }
+        requires { HaveAllSlots writes.items self.old }
         ensures { (h : Hall) → IsHeld self.old h → AllKeep writes.items h → IsHeld self.new (applied writes.items h) }
     {
         'writes: for write in writes {

@@ -11,4 +11,4 @@ pub returns-in-Ok-clause-made : goal.returns-in-Ok-clause-made
 returns-in-Ok-clause-made g c clean =
     let id = c.args.id in
     let mid : HasCleanDisk (state g.S.Store c.remove_listed.new.tx.conn.now) = omega (arith, c.put_wipe.ensures.survives.clean, clean) in
-    on_ok c.put_wipe.result (c.put_wipe.ensures.made clean) (λ made before content within. made before (without_orders (without_boots (without_interfaces content id) id) id) (c.in-Ok.ensures.made mid before content within))
+    on_ok c.put_wipe.result (c.put_wipe.ensures.made clean) (λ made before hall_rows within. made before (without_orders (without_boots (without_interfaces hall_rows id) id) id) (c.in-Ok.ensures.made mid before hall_rows within))

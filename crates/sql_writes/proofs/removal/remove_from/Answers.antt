@@ -14,7 +14,7 @@ returns-in-Some-clause-made g c clean =
     let id = c.args.id in
     let mid : HasCleanDisk (state g.S.Store c.remove_rows.new.tx.conn.now) = omega (arith, c.count_out.ensures.survives.clean, clean) in
     on_ok c.count_out.result (c.count_out.ensures.made clean) (λ made before h held is.
-    let there = there_is (at h.machines id) c.in-Some.place (sym c.in-Some.is ∙ is) in
+    let there = there_is (at h.machines id) c.in-Some.group (sym c.in-Some.is ∙ is) in
     is_whole (state g.S.Store c.count_out.new.tx.conn.now) before (without_machine id h)
     (made before (without_machine id h) h.machines (gone id h.machines) (c.in-Ok.ensures.made mid before h held) id there.0 there.1 there.2))
 

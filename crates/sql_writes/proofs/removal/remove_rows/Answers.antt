@@ -9,5 +9,5 @@ returns-clause-made g c clean before h held =
     let middle = state g.S.Store c.remove_children.new.tx.conn.now in
     let mid : HasCleanDisk middle = omega (arith, c.remove_row.ensures.survives.clean, clean) in
     rows_gone (state g.S.Store c.args.tx.now.conn.now) middle (state g.S.Store c.remove_row.new.tx.conn.now) before h held c.args.id
-    (λ content within. c.in_ok-remove_children.ensures.made mid before content within)
-    (λ content within alone. c.in_ok-remove_row.ensures.made clean before content within alone)
+    (λ hall_rows within. c.in_ok-remove_children.ensures.made mid before hall_rows within)
+    (λ hall_rows within alone. c.in_ok-remove_row.ensures.made clean before hall_rows within alone)

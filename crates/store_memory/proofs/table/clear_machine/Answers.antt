@@ -1,10 +1,10 @@
 use Rattle.std.proofs.Common.{◌≡◌, ◌==◌, map, refl, ap, sym, ◌∙◌}
 use Rattle.store_memory.specs.Table.{unless_gone}
-use Rattle.store_memory.proofs.TableLemmas.{mapped_from_retain_pairs, clears_from_mapped, places_from_mapped}
+use Rattle.store_memory.proofs.TableLemmas.{mapped_from_retain_pairs, clears_from_mapped, slots_from_mapped}
 use Rattle.store_memory.proofs.table.clear_machine.Given as given
 use Rattle.store_memory.proofs.table.clear_machine.Goals as goal
 
--- the closure keeps its machine from call to call, and each place with the row unless it goes
+-- the closure keeps its machine from call to call, and each slot with the row unless it goes
 mapped : (g : given.Over) (c : goal.After-retain g) → c.retain.new.self.entries ≡ map (λ e. (e.0, unless_gone (λ x. g.X.OfMachine.owner x == c.args.machine) e.1)) c.args.table.now.entries
 mapped g c =
     mapped_from_retain_pairs _ (λ f. f.0.now ≡ c.args.machine) (unless_gone (λ x. g.X.OfMachine.owner x == c.args.machine))
@@ -22,5 +22,5 @@ mapped g c =
 pub returns-clause-clears : goal.returns-clause-clears
 returns-clause-clears g c = clears_from_mapped g.K.Ord.cmp (λ x. g.X.OfMachine.owner x == c.args.machine) c.args.table.now c.retain.new.self (mapped g c)
 
-pub returns-clause-places : goal.returns-clause-places
-returns-clause-places g c = places_from_mapped g.K.Ord.cmp (λ x. g.X.OfMachine.owner x == c.args.machine) c.args.table.now c.retain.new.self (mapped g c)
+pub returns-clause-slots : goal.returns-clause-slots
+returns-clause-slots g c = slots_from_mapped g.K.Ord.cmp (λ x. g.X.OfMachine.owner x == c.args.machine) c.args.table.now c.retain.new.self (mapped g c)

@@ -5,7 +5,7 @@ use Rattle.store_memory.specs.Hashed.{SetsEntryAt}
 use Rattle.store_memory.specs.Held.{text_cmp}
 use Rattle.store_memory.specs.Table.{Sets}
 use Rattle.store_memory.proofs.HeldLemmas.{put_interfaces}
-use Rattle.store_memory.proofs.PlaceLemmas.{places_interfaces}
+use Rattle.store_memory.proofs.SlotLemmas.{slots_interfaces}
 use Rattle.store_memory.proofs.memory.MemoryStore.put_interface.Goals as goal
 
 pub returns-clause-held : goal.returns-clause-held
@@ -16,5 +16,5 @@ returns-clause-held c = λ h held.
     (subst (λ key. Sets text_cmp s.interfaces c.set-2.new.table key (Some i)) c.octets-mac.ensures.octets c.set-2.ensures.sets)
     (subst (λ key. SetsEntryAt bytes_eq s.addresses c.set.new.table key (Some i)) c.octets-mac.ensures.octets c.set.ensures.sets)
 
-pub returns-clause-places : goal.returns-clause-places
-returns-clause-places c = places_interfaces c.args.self.now c.set-2.new.table c.set.new.table c.set-2.ensures.places c.set.ensures.places
+pub returns-clause-slots : goal.returns-clause-slots
+returns-clause-slots c = slots_interfaces c.args.self.now c.set-2.new.table c.set.new.table c.set-2.ensures.slots c.set.ensures.slots

@@ -4,7 +4,7 @@ use Rattle.hall_types.specs.declared.change.RowWrite.TheVariants.{PutMachine}
 use Rattle.store_memory.specs.Held.{SetsEntry}
 use Rattle.store_memory.specs.Table.{Sets}
 use Rattle.store_memory.proofs.HeldLemmas.{put_machines}
-use Rattle.store_memory.proofs.PlaceLemmas.{places_machines}
+use Rattle.store_memory.proofs.SlotLemmas.{slots_machines}
 use Rattle.store_memory.proofs.memory.MemoryStore.put_machine.Goals as goal
 
 pub returns-clause-held : goal.returns-clause-held
@@ -19,8 +19,8 @@ returns-clause-held c = λ h held keeps.
     c.table_is_bounded.ensures.ordered c.table_is_bounded.ensures.small c.count_after_put-self.ensures
     c.earliest_after_put-self.ensures.before c.earliest_after_put-self.ensures.own
 
-pub returns-clause-places : goal.returns-clause-places
-returns-clause-places c = λ w place.
+pub returns-clause-slots : goal.returns-clause-slots
+returns-clause-slots c = λ w slot.
     let s = c.args.self.now in
-    places_machines s c.set.new.table c.set_entry.new.index c.count_after_put-self.result c.earliest_after_put-self.result
-    c.set.ensures.places (λ uuid there. c.set_entry.ensures.places uuid (c.clear_entry.ensures.places uuid there)) w place
+    slots_machines s c.set.new.table c.set_entry.new.index c.count_after_put-self.result c.earliest_after_put-self.result
+    c.set.ensures.slots (λ uuid there. c.set_entry.ensures.slots uuid (c.clear_entry.ensures.slots uuid there)) w slot

@@ -1,8 +1,8 @@
 use Rattle.std.proofs.Common.{OnOk, sym, subst}
-use Rattle.store_memory.specs.Held.{HasPlaces, pair_cmp}
-use Rattle.store_memory.specs.Table.{HasPlace}
+use Rattle.store_memory.specs.Held.{HasSlots, pair_cmp}
+use Rattle.store_memory.specs.Table.{HasSlot}
 use Rattle.store_memory.proofs.HeldLemmas.{same_operators, same_pools, same_members, same_images, same_receipts}
-use Rattle.store_memory.proofs.PlaceLemmas.{places_members, places_receipts}
+use Rattle.store_memory.proofs.SlotLemmas.{slots_members, slots_receipts}
 use Rattle.store_memory.proofs.memory.MemoryStore.reserve.Goals as goal
 
 pub returns-in-PutOperator-clause-same : goal.returns-in-PutOperator-clause-same
@@ -12,7 +12,7 @@ pub returns-in-PutPool-clause-same : goal.returns-in-PutPool-clause-same
 returns-in-PutPool-clause-same c = λ h held. same_pools c.args.self.now h held c.reserve-in-PutPool.new.table c.reserve-in-PutPool.ensures.rows
 
 pub returns-in-PutMember-clause-others : goal.returns-in-PutMember-clause-others
-returns-in-PutMember-clause-others c = places_members c.args.self.now c.reserve-in-PutMember.new.table c.reserve-in-PutMember.ensures.places
+returns-in-PutMember-clause-others c = slots_members c.args.self.now c.reserve-in-PutMember.new.table c.reserve-in-PutMember.ensures.slots
 
 pub returns-in-PutMember-clause-same : goal.returns-in-PutMember-clause-same
 returns-in-PutMember-clause-same c = λ h held. same_members c.args.self.now h held c.reserve-in-PutMember.new.table c.reserve-in-PutMember.ensures.rows
@@ -20,13 +20,13 @@ returns-in-PutMember-clause-same c = λ h held. same_members c.args.self.now h h
 pub returns-in-PutImage-clause-same : goal.returns-in-PutImage-clause-same
 returns-in-PutImage-clause-same c = λ h held. same_images c.args.self.now h held c.reserve-in-PutImage.new.table c.reserve-in-PutImage.ensures.rows
 
-pub returns-in-PutReceipt-clause-places : goal.returns-in-PutReceipt-clause-places
-returns-in-PutReceipt-clause-places c =
-    subst (λ w. OnOk c.reserve-in-PutReceipt.result (HasPlaces w (record c.args.self.now { receipts = c.reserve-in-PutReceipt.new.table }))) (sym c.in-PutReceipt.is)
-    (subst (λ octets. OnOk c.reserve-in-PutReceipt.result (HasPlace pair_cmp c.reserve-in-PutReceipt.new.table (c.in-PutReceipt.receipt.operator, octets))) c.octets.ensures.octets c.reserve-in-PutReceipt.ensures.place)
+pub returns-in-PutReceipt-clause-slots : goal.returns-in-PutReceipt-clause-slots
+returns-in-PutReceipt-clause-slots c =
+    subst (λ w. OnOk c.reserve-in-PutReceipt.result (HasSlots w (record c.args.self.now { receipts = c.reserve-in-PutReceipt.new.table }))) (sym c.in-PutReceipt.is)
+    (subst (λ octets. OnOk c.reserve-in-PutReceipt.result (HasSlot pair_cmp c.reserve-in-PutReceipt.new.table (c.in-PutReceipt.receipt.operator, octets))) c.octets.ensures.octets c.reserve-in-PutReceipt.ensures.slot)
 
 pub returns-in-PutReceipt-clause-others : goal.returns-in-PutReceipt-clause-others
-returns-in-PutReceipt-clause-others c = places_receipts c.args.self.now c.reserve-in-PutReceipt.new.table c.reserve-in-PutReceipt.ensures.places
+returns-in-PutReceipt-clause-others c = slots_receipts c.args.self.now c.reserve-in-PutReceipt.new.table c.reserve-in-PutReceipt.ensures.slots
 
 pub returns-in-PutReceipt-clause-same : goal.returns-in-PutReceipt-clause-same
 returns-in-PutReceipt-clause-same c = λ h held. same_receipts c.args.self.now h held c.reserve-in-PutReceipt.new.table c.reserve-in-PutReceipt.ensures.rows

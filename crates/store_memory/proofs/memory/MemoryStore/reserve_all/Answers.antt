@@ -1,6 +1,6 @@
 use Rattle.std.proofs.Common.{take, sym, subst}
-use Rattle.store_memory.specs.Held.{HaveAllPlaces}
-use Rattle.store_memory.proofs.PlaceLemmas.{places_kept, places_last}
+use Rattle.store_memory.specs.Held.{HaveAllSlots}
+use Rattle.store_memory.proofs.SlotLemmas.{slots_kept, slots_last}
 use Rattle.store_memory.proofs.VersionLemmas.{take_next}
 use Rattle.store_memory.proofs.memory.MemoryStore.reserve_all.Goals as goal
 
@@ -9,7 +9,7 @@ writes-preserved c =
     let i = c.writes.write-index in
     let ws = c.args.writes.now in
     let item = c.write-item.result in (
-      subst (λ xs. HaveAllPlaces xs c.reserve.new.self) (sym (take_next ws i item c.writes-test.true c.write-item.is))
-          (places_last (take i ws) item c.reserve.new.self (places_kept (take i ws) c.writes.self c.reserve.new.self c.reserve.ensures.others c.writes.invariant.0) c.in_ok-reserve.ensures.places),
+      subst (λ xs. HaveAllSlots xs c.reserve.new.self) (sym (take_next ws i item c.writes-test.true c.write-item.is))
+          (slots_last (take i ws) item c.reserve.new.self (slots_kept (take i ws) c.writes.self c.reserve.new.self c.reserve.ensures.others c.writes.invariant.0) c.in_ok-reserve.ensures.slots),
       λ h held. c.reserve.ensures.same h (c.writes.invariant.1 h held),
     )

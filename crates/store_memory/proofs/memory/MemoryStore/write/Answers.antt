@@ -5,7 +5,7 @@ use Rattle.hall_types.specs.declared.change.RowWrite.TheVariants.{PutOperator, P
 use Rattle.store_memory.specs.Held.{IsHeld, pair_cmp, text_cmp}
 use Rattle.store_memory.specs.Table.{Sets}
 use Rattle.store_memory.proofs.HeldLemmas.{put_operators, put_pools, put_members, put_images, gone_images, put_lives, put_boots, put_orders, put_receipts, held_numbers}
-use Rattle.store_memory.proofs.PlaceLemmas.{places_members, places_receipts}
+use Rattle.store_memory.proofs.SlotLemmas.{slots_members, slots_receipts}
 use Rattle.store_memory.proofs.memory.MemoryStore.write.Goals as goal
 
 pub returns-in-PutOperator-clause-held : goal.returns-in-PutOperator-clause-held
@@ -26,8 +26,8 @@ returns-in-PutMember-clause-held c = λ h held keeps.
     (put_members c.args.self.now h held c.set-in-PutMember.new.table c.in-PutMember.member (c.rows_stand_under_their_keys.ensures.written (PutMember c.in-PutMember.member) h held.keyed)
     c.set-in-PutMember.ensures.sets)
 
-pub returns-in-PutMember-clause-places : goal.returns-in-PutMember-clause-places
-returns-in-PutMember-clause-places c = places_members c.args.self.now c.set-in-PutMember.new.table c.set-in-PutMember.ensures.places
+pub returns-in-PutMember-clause-slots : goal.returns-in-PutMember-clause-slots
+returns-in-PutMember-clause-slots c = slots_members c.args.self.now c.set-in-PutMember.new.table c.set-in-PutMember.ensures.slots
 
 pub returns-in-PutImage-clause-held : goal.returns-in-PutImage-clause-held
 returns-in-PutImage-clause-held c = λ h held keeps.
@@ -65,8 +65,8 @@ returns-in-PutReceipt-clause-held c = λ h held keeps.
     (put_receipts c.args.self.now h held c.set-in-PutReceipt.new.table c.in-PutReceipt.receipt (c.rows_stand_under_their_keys.ensures.written (PutReceipt c.in-PutReceipt.receipt) h held.keyed)
     (subst (λ key. Sets pair_cmp c.args.self.now.receipts c.set-in-PutReceipt.new.table (c.in-PutReceipt.receipt.operator, key) (Some c.in-PutReceipt.receipt)) c.octets.ensures.octets c.set-in-PutReceipt.ensures.sets))
 
-pub returns-in-PutReceipt-clause-places : goal.returns-in-PutReceipt-clause-places
-returns-in-PutReceipt-clause-places c = places_receipts c.args.self.now c.set-in-PutReceipt.new.table c.set-in-PutReceipt.ensures.places
+pub returns-in-PutReceipt-clause-slots : goal.returns-in-PutReceipt-clause-slots
+returns-in-PutReceipt-clause-slots c = slots_receipts c.args.self.now c.set-in-PutReceipt.new.table c.set-in-PutReceipt.ensures.slots
 
 pub returns-in-PutNumbers-clause-held : goal.returns-in-PutNumbers-clause-held
 returns-in-PutNumbers-clause-held c = λ h held keeps.

@@ -2,14 +2,14 @@ use Rattle.std.proofs.Common.{◌≡◌, rules, ap, sym, subst, ◌∙◌}
 use Rattle.std.specs.Vec.Iter.{into_iter_items}
 use Rattle.hall_types.specs.Hall.{applied, written}
 use Rattle.hall_store.specs.Rules.{AllKeep}
-use Rattle.store_memory.specs.Held.{HaveAllPlaces}
-use Rattle.store_memory.proofs.PlaceLemmas.{places_kept}
+use Rattle.store_memory.specs.Held.{HaveAllSlots}
+use Rattle.store_memory.proofs.SlotLemmas.{slots_kept}
 use Rattle.store_memory.proofs.memory.MemoryStore.write_all.Goals as goal
 
 pub writes-init : goal.writes-init
 writes-init c =
     let e : into_iter_items c.into_iter-write-iterator.result ≡ c.args.writes.items = search rules in (
-      subst (λ xs. HaveAllPlaces xs c.args.self.now) (sym e) c.requires,
+      subst (λ xs. HaveAllSlots xs c.args.self.now) (sym e) c.requires,
       λ h held keep. (h, held, subst (λ xs. AllKeep xs h) (sym e) keep, ap (λ xs. applied xs h) e),
     )
 
@@ -17,8 +17,8 @@ pub writes-preserved : goal.writes-preserved
 writes-preserved c =
     let e = c.in-Some.ensures.steps.0 in
     let rest = into_iter_items c.next.new.self in
-    let places = subst (λ xs. HaveAllPlaces xs c.writes.self) e c.writes.invariant.0 in (
-      places_kept rest c.writes.self c.write.new.self c.write.ensures.places places.1,
+    let slots = subst (λ xs. HaveAllSlots xs c.writes.self) e c.writes.invariant.0 in (
+      slots_kept rest c.writes.self c.write.new.self c.write.ensures.slots slots.1,
       λ h held keep.
           let it = c.writes.invariant.1 h held keep in
           let kept = subst (λ xs. AllKeep xs it.0) e it.2 in

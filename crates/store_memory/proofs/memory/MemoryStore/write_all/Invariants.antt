@@ -2,12 +2,12 @@ use Rattle.std.proofs.Common.{◌≡◌}
 use Rattle.std.specs.Vec.Iter.{into_iter_items}
 use Rattle.hall_types.specs.Hall.{Hall, applied}
 use Rattle.hall_store.specs.Rules.{AllKeep}
-use Rattle.store_memory.specs.Held.{HaveAllPlaces, IsHeld}
+use Rattle.store_memory.specs.Held.{HaveAllSlots, IsHeld}
 use Rattle.store_memory.proofs.memory.MemoryStore.write_all.Given as goal
 
--- the writes that are left have places, and lead from the hall that the store has to the one after all
+-- the writes that are left have slots, and lead from the hall that the store has to the one after all
 abbrev pub invariant-writes : goal.invariant-writes
 invariant-writes l =
-    HaveAllPlaces (into_iter_items l.write-iterator) l.self
+    HaveAllSlots (into_iter_items l.write-iterator) l.self
     × ((h : Hall) → IsHeld l.initial.self h → AllKeep l.fn.writes.items h
     → (g : Hall) × IsHeld l.self g × AllKeep (into_iter_items l.write-iterator) g × (applied (into_iter_items l.write-iterator) g ≡ applied l.fn.writes.items h))

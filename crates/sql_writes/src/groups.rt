@@ -9,9 +9,9 @@ ghost use Rattle.hall_types.specs.declared.machine.Machine.{Machine};
 ghost use Rattle.sql_schema.specs.MachineStatements.{find_machine_text};
 ghost use Rattle.sql_rows.specs.Columns.{machine_values, number};
 ghost use Rattle.sql_rows.specs.Holding.{IsWithin};
-ghost use Rattle.sql_rows.specs.Spelling.{Content};
+ghost use Rattle.sql_rows.specs.Spelling.{HallRows};
 ghost use Rattle.sql_writes.specs.Between.{IsBetween};
-ghost use Rattle.sql_writes.specs.Places.{place_of};
+ghost use Rattle.sql_writes.specs.Groups.{group_of};
 ghost use Rattle.sql_writes.specs.Within.{IsWithinHall};
 
 use hall_types::{Machine, Name, Number, Status};
@@ -22,7 +22,7 @@ use sqlite::{Alter, Error, Row, Transaction};
 
 /// Where a machine is counted.
 #[derive(Clone, Copy)]
-pub(crate) struct Place {
+pub(crate) struct Group {
     pub(crate) pool: Name,
     pub(crate) status: Status,
 }
@@ -48,36 +48,36 @@ fn rows_of_machine<S: Alter>(tx: &mut Transaction<'_, S>, id: Number) -> Result<
     machine_rows(tx, id)
 }
 
-fn place_in(row: &Row) -> Result<Place, Error>
-    ensures { IfOk result (λ place. (machine : Machine) → row.now ≡ machine_values machine → place ≡ place_of machine) }
+fn group_in(row: &Row) -> Result<Group, Error>
+    ensures { IfOk result (λ group. (machine : Machine) → row.now ≡ machine_values machine → group ≡ group_of machine) }
 {
     let pool = name_in(row, 3)?;
     let status = status_in(row, 4)?;
-    Ok(Place { pool, status })
+    Ok(Group { pool, status })
 }
 
-fn first_place(rows: &Vec<Row>) -> Result<Option<Place>, Error>
-    ensures { IfOk result (λ found. (machine : Option Machine) → rows.now.items ≡ map machine_values (option_to_list machine) → found ≡ option_map place_of machine) }
+fn first_group(rows: &Vec<Row>) -> Result<Option<Group>, Error>
+    ensures { IfOk result (λ found. (machine : Option Machine) → rows.now.items ≡ map machine_values (option_to_list machine) → found ≡ option_map group_of machine) }
 {
     match rows.first() {
         None => Ok(None),
-        Some(row) => Ok(Some(place_in(row)?)),
+        Some(row) => Ok(Some(group_in(row)?)),
     }
 }
 
-/// The place of the machine with this number, if there is one.
-pub(crate) fn find_place<S: Alter>(
+/// The group of the machine with this number, if there is one.
+pub(crate) fn find_group<S: Alter>(
     tx: &mut Transaction<'_, S>,
     id: Number,
-) -> Result<Option<Place>, Error>
+) -> Result<Option<Group>, Error>
     ensures same_reference { tx.new.conn.ghost_name ≡ tx.old.conn.ghost_name }
-    ensures found { HasCleanDisk (state S.Store tx.new.conn.now) → IfOk result (λ place. (before h : Hall) → IsWithinHall (state S.Store tx.old.conn.now) before h → (place ≡ option_map place_of (at h.machines id)) × IsWithinHall (state S.Store tx.new.conn.now) before h) }
+    ensures found { HasCleanDisk (state S.Store tx.new.conn.now) → IfOk result (λ group. (before h : Hall) → IsWithinHall (state S.Store tx.old.conn.now) before h → (group ≡ option_map group_of (at h.machines id)) × IsWithinHall (state S.Store tx.new.conn.now) before h) }
     ensures mode { HasCleanDisk (state S.Store tx.new.conn.now) → OnOk result (IsTrue (state S.Store tx.old.conn.now).in_transaction → (state S.Store tx.new.conn.now).in_transaction ≡ true) }
     ensures kept { HasCleanDisk (state S.Store tx.new.conn.now) → IsTrue (state S.Store tx.old.conn.now).in_transaction → KeepsCommit (state S.Store tx.old.conn.now) (state S.Store tx.new.conn.now) }
     ensures survives { Survives (state S.Store tx.old.conn.now) (state S.Store tx.new.conn.now) (λ _. ⊥) }
 {
     match rows_of_machine(tx, id) {
-        Ok(rows) => first_place(&rows),
+        Ok(rows) => first_group(&rows),
         Err(error) => Err(error),
     }
 }
@@ -99,28 +99,28 @@ pub(crate) fn count_in<S: Alter>(
     }
 }
 
-/// A machine that was counted at its place is counted no more.
-pub(crate) fn count_out<S: Alter>(tx: &mut Transaction<'_, S>, place: &Place) -> Result<(), Error>
+/// A machine that was counted at its group is counted no more.
+pub(crate) fn count_out<S: Alter>(tx: &mut Transaction<'_, S>, group: &Group) -> Result<(), Error>
     ensures same_reference { tx.new.conn.ghost_name ≡ tx.old.conn.ghost_name }
-    ensures made { HasCleanDisk (state S.Store tx.new.conn.now) → OnOk result ((before h : Hall) (counted wiped : Rows numbers Machine) → IsBetween (state S.Store tx.old.conn.now) before h counted wiped → (id : ℕ) (machine : Machine) → at counted id ≡ Some machine → place.now ≡ place_of machine → IsBetween (state S.Store tx.new.conn.now) before h (gone id counted) wiped) }
+    ensures made { HasCleanDisk (state S.Store tx.new.conn.now) → OnOk result ((before h : Hall) (counted wiped : Rows numbers Machine) → IsBetween (state S.Store tx.old.conn.now) before h counted wiped → (id : ℕ) (machine : Machine) → at counted id ≡ Some machine → group.now ≡ group_of machine → IsBetween (state S.Store tx.new.conn.now) before h (gone id counted) wiped) }
     ensures mode { HasCleanDisk (state S.Store tx.new.conn.now) → OnOk result (IsTrue (state S.Store tx.old.conn.now).in_transaction → (state S.Store tx.new.conn.now).in_transaction ≡ true) }
     ensures kept { HasCleanDisk (state S.Store tx.new.conn.now) → IsTrue (state S.Store tx.old.conn.now).in_transaction → KeepsCommit (state S.Store tx.old.conn.now) (state S.Store tx.new.conn.now) }
     ensures survives { Survives (state S.Store tx.old.conn.now) (state S.Store tx.new.conn.now) (λ _. ⊥) }
 {
-    match count_down(tx, &place.pool, place.status) {
+    match count_down(tx, &group.pool, group.status) {
         Ok(_) => Ok(()),
         Err(error) => Err(error),
     }
 }
 
-/// A machine that was counted at a place is counted where it is now.
+/// A machine that was counted at a group is counted where it is now.
 pub(crate) fn move_count<S: Alter>(
     tx: &mut Transaction<'_, S>,
-    from: &Place,
+    from: &Group,
     machine: &Machine,
 ) -> Result<(), Error>
     ensures same_reference { tx.new.conn.ghost_name ≡ tx.old.conn.ghost_name }
-    ensures made { HasCleanDisk (state S.Store tx.new.conn.now) → OnOk result ((before h : Hall) (counted wiped : Rows numbers Machine) → IsBetween (state S.Store tx.old.conn.now) before h counted wiped → (was : Machine) → at counted machine.now.id ≡ Some was → from.now ≡ place_of was → IsBetween (state S.Store tx.new.conn.now) before h (put machine.now.id machine.now counted) wiped) }
+    ensures made { HasCleanDisk (state S.Store tx.new.conn.now) → OnOk result ((before h : Hall) (counted wiped : Rows numbers Machine) → IsBetween (state S.Store tx.old.conn.now) before h counted wiped → (was : Machine) → at counted machine.now.id ≡ Some was → from.now ≡ group_of was → IsBetween (state S.Store tx.new.conn.now) before h (put machine.now.id machine.now counted) wiped) }
     ensures mode { HasCleanDisk (state S.Store tx.new.conn.now) → OnOk result (IsTrue (state S.Store tx.old.conn.now).in_transaction → (state S.Store tx.new.conn.now).in_transaction ≡ true) }
     ensures kept { HasCleanDisk (state S.Store tx.new.conn.now) → IsTrue (state S.Store tx.old.conn.now).in_transaction → KeepsCommit (state S.Store tx.old.conn.now) (state S.Store tx.new.conn.now) }
     ensures survives { Survives (state S.Store tx.old.conn.now) (state S.Store tx.new.conn.now) (λ _. ⊥) }

@@ -3,7 +3,7 @@ use Rattle.sql_statements.specs.StatementLaws.{query_keeps, query_mode, if_ok}
 use Rattle.sql_schema.specs.MachineStatements.{find_machine_text}
 use Rattle.sql_writes.proofs.BetweenLemmas.{finds_machine}
 use Rattle.sql_writes.proofs.ResultLemmas.{on_shown}
-use Rattle.sql_writes.proofs.places.rows_of_machine.Goals as goal
+use Rattle.sql_writes.proofs.groups.rows_of_machine.Goals as goal
 
 pub returns-clause-found : goal.returns-clause-found
 returns-clause-found g c clean =

@@ -8,7 +8,7 @@ use Rattle.hall_types.specs.Status.{status_number}
 use Rattle.sql_rows.specs.ColumnLaws.{same_status}
 use Rattle.sql_writes.proofs.BetweenLemmas.{counts_stay, counts_again}
 use Rattle.sql_writes.proofs.ResultLemmas.{on_ok}
-use Rattle.sql_writes.proofs.places.move_count.Goals as goal
+use Rattle.sql_writes.proofs.groups.move_count.Goals as goal
 
 pub returns-then-number-clause-made : goal.returns-then-number-clause-made
 returns-then-number-clause-made g c clean before h counted wiped held was there from =
