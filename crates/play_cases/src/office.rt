@@ -17,7 +17,7 @@ fn exit_word(exit: Exit) -> &'static str {
     }
 }
 
-/// How a run over a frame ends and what it writes, `PORT TEXT`.
+/// How a run over a frame ends, with the exit status, and what it writes: `PORT TEXT`.
 pub fn run(alloc: Global, rest: &str, out: &mut Answer) -> Result<(), Cause> {
     let (at, input) = halves(rest, " ")?;
     let port = port(at)?;
@@ -25,7 +25,10 @@ pub fn run(alloc: Global, rest: &str, out: &mut Answer) -> Result<(), Cause> {
     let input = text(alloc, input)?;
     let mut reader = input.as_slice();
     let mut written = Vec::new(alloc);
-    out.push(exit_word(frame_run(alloc, &mut reader, &mut written, port, &place)));
+    let exit = frame_run(alloc, &mut reader, &mut written, port, &place);
+    out.show(exit.status());
+    out.push(" ");
+    out.push(exit_word(exit));
     if !written.is_empty() {
         out.push(" ");
         out.escaped(written.as_slice());

@@ -2,14 +2,12 @@
 //! `done` or `refused`; `query STATEMENT` writes the number in the first column of the first row; `create ADMIN DIGEST` makes the
 //! tables of a hall, `created` or the fault's name; `open` looks at the tables, `opened` or the fault's name. Each other line is
 //! played over the store of the file's hall, which is opened for it.
-use crate::asking::Asked;
-use crate::fault::{Fault, PlayFault};
-use crate::log::is_head;
-use crate::playing::{is_comment, play_line, push_comment, write_answer};
-use crate::words::first;
 use hall_sql::SqlStore;
 use hall_types::{Digest, Name};
 use play_log::admin;
+use play_store::{
+    Asked, Fault, PlayFault, first, is_comment, is_head, play_line, push_comment, write_answer,
+};
 use sql_tables::{CreateFault, OpenFault};
 use sqlite::{Alter, Connection, Error, MemStore};
 use std::alloc::Global;

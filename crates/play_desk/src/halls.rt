@@ -1,12 +1,9 @@
 //! The halls of a log, over each store.
-use crate::asking::Asked;
-use crate::fault::{Fault, PlayFault};
 use crate::files::play_file;
-use crate::log::{FILES, read_log};
-use crate::playing::{play, write_text};
 use hall_sql::SqlStore;
 use hall_types::{Digest, Name};
 use play_log::{LogFault, admin};
+use play_store::{Asked, FILES, Fault, PlayFault, play, read_log, write_text};
 use sqlite::{Alter, Connection, MemStore};
 use std::alloc::Global;
 use std::io::{Read, Write};

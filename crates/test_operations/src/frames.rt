@@ -1,44 +1,14 @@
+//! Frames whose reader or writer fails.
+use crate::halls::place;
 use desk_operations::{Exit, Fault, frame_run};
 use hall_types::Port;
-use pxe_vendor::Place;
-use std::alloc::{AllocError, Global};
 use std::io;
-use std::io::Write;
-use std::process::Abort;
+use std::io::{Read, Write};
 use std::test::Fail;
 
-const LISTED: &str = "52:54:00:12:34:56\n52:54:00:00:00:09\n\n";
-
-const HEADER: &str = "010106001122334400008000";
-
-pub const CLASS: &str = "3c20505845436c69656e743a417263683a30303030373a554e44493a303033303136";
-
-/// The program's input: addresses, an empty line, and a message from this address with these options.
-pub fn input(
-    alloc: Global,
-    listed: &str,
-    mac: &str,
-    options: &[&str],
-) -> Result<String, AllocError> {
-    let mut input = String::from_str(alloc, listed)?;
-    input.push_str(HEADER)?;
-    for _ in 0..16 {
-        input.push_str("00")?;
-    }
-    input.push_str(mac)?;
-    for _ in 0..202 {
-        input.push_str("00")?;
-    }
-    input.push_str("63825363")?;
-    for option in options {
-        input.push_str(option)?;
-    }
-    Ok(input)
-}
-
-fn place(alloc: Global) -> Result<Place, Fail> {
-    Ok(Place::new(alloc, [192, 0, 2, 1], [192, 0, 2, 2], "hall.example")?)
-}
+// An address, an empty line, and a DISCOVER of an x86-64 UEFI machine with it (RFC 2131 section 2, PXE 2.1).
+const INPUT: &[u8] =
+    b"52:54:00:12:34:56\n\n0101060011223344000080000000000000000000000000000000000052540012345600000000000000000000000000000000000000000000000000000000000000000000000000000000000000000000000000000000000000000000000000000000000000000000000000000000000000000000000000000000000000000000000000000000000000000000000000000000000000000000000000000000000000000000000000000000000000000000000000000000000000000000000000000000000000000000000000000000000000000000000000000000000000000000000000000000000000000000638253633501013c20505845436c69656e743a417263683a30303030373a554e44493a303033303136";
 
 // Takes this many octets, and then fails.
 #[derive(Drop)]
@@ -61,138 +31,41 @@ impl Write for Full {
     }
 }
 
-// Runs on such an input, and asserts how the run ends and that only `Done` writes.
-fn ends<R: Abort>(
-    rt: &R,
-    alloc: Global,
-    listed: &str,
-    mac: &str,
-    options: &[&str],
-    port: Port,
-    want: Exit,
-) -> Result<(), Fail> {
-    let input = input(alloc, listed, mac, options)?;
-    let mut reader = input.as_bytes();
-    let mut writer = Vec::new(alloc);
-    let exit = frame_run(alloc, &mut reader, &mut writer, port, &place(alloc)?);
-    assert_eq!(rt; exit, want, "{mac}");
-    assert_eq!(rt; writer.is_empty(), exit != Exit::Done);
-    Ok(())
+// Gives its octets one at a time, and then fails.
+#[derive(Drop)]
+struct Cut<'a> {
+    octets: &'a [u8],
 }
 
-pub const FIRST: &str = "525400123456";
-
-const USER: &str = "4d0469505845";
-
-const RUNS: [(&str, &str, &[&str], Port, Exit); 12] = [
-    (
-        LISTED,
-        FIRST,
-        &["350101", CLASS, "ff"],
-        Port::Discover,
-        Exit::Done,
-    ),
-    (
-        LISTED,
-        "525400000009",
-        &["350101", CLASS, USER, "ff\n"],
-        Port::Discover,
-        Exit::Done,
-    ),
-    (
-        LISTED,
-        FIRST,
-        &["350103", CLASS, "ff"],
-        Port::Boot,
-        Exit::Done,
-    ),
-    (
-        LISTED,
-        "525400000008",
-        &["350101", CLASS],
-        Port::Discover,
-        Exit::Silence,
-    ),
-    (
-        "\n",
-        FIRST,
-        &["350101", CLASS],
-        Port::Discover,
-        Exit::Silence,
-    ),
-    (
-        LISTED,
-        FIRST,
-        &["350103", CLASS, USER],
-        Port::Discover,
-        Exit::Silence,
-    ),
-    (LISTED, FIRST, &["350101", CLASS], Port::Boot, Exit::Silence),
-    (LISTED, FIRST, &["350101"], Port::Discover, Exit::Silence),
-    (
-        LISTED,
-        FIRST,
-        &["350101", CLASS, "0cff"],
-        Port::Discover,
-        Exit::Silence,
-    ),
-    (
-        LISTED,
-        FIRST,
-        &["350102", CLASS],
-        Port::Discover,
-        Exit::Silence,
-    ),
-    (
-        LISTED,
-        FIRST,
-        &["350101", CLASS, "f"],
-        Port::Discover,
-        Exit::Fault(Fault::BadInput),
-    ),
-    (
-        "",
-        FIRST,
-        &["350101", CLASS],
-        Port::Discover,
-        Exit::Fault(Fault::BadInput),
-    ),
-];
-
-#[test]
-fn answers_clients_of_the_port_with_listed_addresses(rt: HostRuntime) -> Result<(), Fail> {
-    for (listed, mac, options, port, want) in RUNS {
-        ends(&rt, rt.alloc(), listed, mac, options, port, want)?;
+impl<'a> Read for Cut<'a> {
+    fn read(&mut self, buf: &mut [u8]) -> io::Result<usize> {
+        if buf.is_empty() {
+            return Ok(0);
+        }
+        let Some((first, rest)) = self.octets.split_first() else {
+            return Err(io::Error::from(io::ErrorKind::BrokenPipe));
+        };
+        buf[0] = *first;
+        self.octets = rest;
+        Ok(1)
     }
-    Ok(())
 }
 
 #[test]
-fn answers_identifiers_that_fit(rt: HostRuntime) -> Result<(), Fail> {
+fn a_failed_read_is_io(rt: HostRuntime) -> Result<(), Fail> {
     let alloc = rt.alloc();
-    let mut long = String::from_str(alloc, "61ff")?;
-    for _ in 0..255 {
-        long.push_str("aa")?;
-    }
-    ends(
-        &rt,
+    let mut reader = Cut { octets: INPUT };
+    let mut writer = Vec::new(alloc);
+    let exit = frame_run(
         alloc,
-        LISTED,
-        FIRST,
-        &["350101", CLASS, long.as_str()],
+        &mut reader,
+        &mut writer,
         Port::Discover,
-        Exit::Done,
-    )?;
-    long.push_str("6101bb")?;
-    ends(
-        &rt,
-        alloc,
-        LISTED,
-        FIRST,
-        &["350101", CLASS, long.as_str()],
-        Port::Discover,
-        Exit::Silence,
-    )
+        &place(alloc)?,
+    );
+    assert_eq!(rt; exit, Exit::Fault(Fault::Io));
+    assert!(rt; writer.is_empty());
+    Ok(())
 }
 
 // A room for octets, and how a run that writes 601 octets ends.
@@ -206,9 +79,8 @@ const ROOMS: [(usize, Exit); 3] = [
 fn a_failed_write_is_io(rt: HostRuntime) -> Result<(), Fail> {
     let alloc = rt.alloc();
     let place = place(alloc)?;
-    let input = input(alloc, LISTED, FIRST, &["350101", CLASS])?;
     for (room, want) in ROOMS {
-        let mut reader = input.as_bytes();
+        let mut reader = INPUT;
         let mut writer = Full { room };
         let exit = frame_run(alloc, &mut reader, &mut writer, Port::Discover, &place);
         assert_eq!(rt; exit, want, "room for {room} octets");

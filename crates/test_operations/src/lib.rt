@@ -1,21 +1,13 @@
-//! Tests of what an operator does to a hall, over a hall in memory.
+//! Tests of what an operator does to a hall, where a reader, a writer or the store fails, and of lines that no log of arrivals has.
 #![tactic(auto)]
 
-#[cfg(test)]
-mod frame_inputs;
 #[cfg(test)]
 mod frames;
 #[cfg(test)]
 mod halls;
 #[cfg(test)]
-mod log_lines;
+mod imports;
 #[cfg(test)]
-mod moves;
+mod lines;
 #[cfg(test)]
-mod printed;
-#[cfg(test)]
-mod silences;
-#[cfg(test)]
-mod stopped_imports;
-#[cfg(test)]
-mod tasks;
+mod requests;

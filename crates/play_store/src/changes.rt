@@ -15,6 +15,8 @@ fn status(word: &str) -> Result<Status, Fault> {
         "New" => Ok(Status::New),
         "Commissioning" => Ok(Status::Commissioning),
         "Ready" => Ok(Status::Ready),
+        "Deploying" => Ok(Status::Deploying),
+        "Broken" => Ok(Status::Broken),
         _ => Err(Fault::Word),
     }
 }

@@ -1,11 +1,14 @@
 //! Arrivals at a desk over a store.
 use crate::asking::Asked;
 use crate::fault::Fault;
+use desk_operations::{arrival_text, is_of_note};
 use hall_desk::{Answer, Arrival, Desk};
 use hall_store::{HallStore, Probe};
 use play_log::{answer_line, answer_text, arrival, is_readable};
 use pxe_vendor::Place;
 use std::alloc::Global;
+use std::cell::RefCell;
+use store_watched::{Sight, Watched};
 
 /// Whether a line's first word is that of an arrival.
 pub fn is_arrival(kind: &str) -> bool {
@@ -40,12 +43,17 @@ fn answer<S: HallStore>(
     (answer, probe.into_inner())
 }
 
+/// The place that the desk serves.
+pub fn place(alloc: Global) -> Result<Place, Fault> {
+    match Place::new(alloc, [192, 0, 2, 1], [192, 0, 2, 2], "hall.example") {
+        Ok(place) => Ok(place),
+        Err(_) => Err(Fault::Memory),
+    }
+}
+
 // The arrival of a line, and the place that the desk serves.
 fn prepared(alloc: Global, text: &str) -> Result<(Arrival, Place), Fault> {
-    let Ok(place) = Place::new(alloc, [192, 0, 2, 1], [192, 0, 2, 2], "hall.example") else {
-        return Err(Fault::Memory);
-    };
-    Ok((arrival(alloc, text)?, place))
+    Ok((arrival(alloc, text)?, place(alloc)?))
 }
 
 /// Answers an arrival at a desk over the store, which is given back.
@@ -62,6 +70,54 @@ pub fn arrive<S: HallStore>(
             let (answer, store) = answer(alloc, store, place, &arrival, asked);
             (push_answer(alloc, line, kind, &answer), store)
         }
+        Err(fault) => (Err(fault), store),
+    }
+}
+
+// The text that a log has for an arrival, and whether it has one.
+fn push_log(
+    alloc: Global,
+    line: &mut String,
+    arrival: &Arrival,
+    answer: &Answer,
+    seen: &Sight,
+) -> Result<(), Fault> {
+    if !is_of_note(arrival, answer, seen) {
+        line.push_str("not in the log: ")?;
+    }
+    line.push_str(arrival_text(alloc, arrival, answer, seen)?.as_str())?;
+    line.push('\n')?;
+    Ok(())
+}
+
+// What a log says of an arrival at a desk over the store.
+fn log_of<S: HallStore>(
+    alloc: Global,
+    store: S,
+    place: Place,
+    arrival: &Arrival,
+    line: &mut String,
+) -> (Result<(), Fault>, S) {
+    let sight = RefCell::new(Sight::default());
+    let mut desk = Desk::new(Watched::new(store, &sight), place);
+    let answer = desk.answer(alloc, arrival);
+    let store = desk.into_store().into_inner();
+    let done = match sight.try_take() {
+        Ok(seen) => push_log(alloc, line, arrival, &answer, &seen),
+        Err(_) => Err(Fault::Memory),
+    };
+    (done, store)
+}
+
+/// Answers an arrival at a desk over the store, which is given back, and writes what a log says of it.
+pub fn log<S: HallStore>(
+    alloc: Global,
+    store: S,
+    text: &str,
+    line: &mut String,
+) -> (Result<(), Fault>, S) {
+    match prepared(alloc, text) {
+        Ok((arrival, place)) => log_of(alloc, store, place, &arrival, line),
         Err(fault) => (Err(fault), store),
     }
 }

@@ -1,6 +1,8 @@
-//! An import whose writer fails.
-use crate::halls::{desk, digest};
+//! Imports whose writer or store fails.
+use crate::halls::{desk, digest, place, store};
 use desk_operations::{Fault, What, import, report};
+use hall_desk::Desk;
+use hall_store::Probe;
 use hall_types::Moment;
 use std::alloc::Global;
 use std::io;
@@ -12,6 +14,11 @@ const FILE: &[u8] =
 
 // The first row's line, and some octets of the second's.
 const WRITTEN: &[u8] = b"1 200 {\"id\":1,\"status\":\"New\",\"version\":1}\n2 200";
+
+// The octets of the header and the first row.
+const ONE_ROW: usize = 94;
+
+const FIRST_LINE: &[u8] = b"1 200 {\"id\":1,\"status\":\"New\",\"version\":1}\n";
 
 // Keeps this many octets, and then fails.
 #[derive(Drop)]
@@ -68,5 +75,43 @@ fn rows_before_the_failed_line_are_applied_and_its_own(rt: HostRuntime) -> Resul
     assert_eq!(rt; second, Ok(()));
     let third = report(alloc, &mut store, &mut text, What::Machine(3));
     assert_eq!(rt; third, Err(Fault::NoMachine));
+    Ok(())
+}
+
+// How often a store is asked for the file's first row.
+fn calls_of_one_row(alloc: Global) -> Result<u64, Fail> {
+    let mut desk = Desk::new(Probe::new(store(alloc)?, None), place(alloc)?);
+    let mut writer = Vec::new(alloc);
+    let one = FILE.get(..ONE_ROW).ok_or("the file is longer")?;
+    let bearer = digest()?;
+    let _ = import(
+        alloc,
+        &mut desk,
+        &mut writer,
+        one,
+        bearer,
+        Moment::new(1_000)?,
+    );
+    Ok(desk.into_store().calls())
+}
+
+// The first row is done, and the store can't answer for the second one.
+#[test]
+fn a_store_that_fails_ends_the_import(rt: HostRuntime) -> Result<(), Fail> {
+    let alloc = rt.alloc();
+    let calls = calls_of_one_row(alloc)?;
+    let store = Probe::new(store(alloc)?, Some(calls.saturating_add(1)));
+    let mut desk = Desk::new(store, place(alloc)?);
+    let mut writer = Vec::new(alloc);
+    let end = import(
+        alloc,
+        &mut desk,
+        &mut writer,
+        FILE,
+        digest()?,
+        Moment::new(1_000)?,
+    );
+    assert_eq!(rt; end.err(), Some(Fault::Unavailable));
+    assert_eq!(rt; writer.as_slice(), FIRST_LINE);
     Ok(())
 }

@@ -1,12 +1,13 @@
 //! Lines that are played over a store.
-use crate::arriving::{arrive, is_arrival};
+use crate::arriving::{arrive, is_arrival, log};
 use crate::asking::Asked;
 use crate::changes::apply;
 use crate::fault::{Fault, PlayFault};
+use crate::imports::{import_of, import_over, parse_rows};
 use crate::log::is_head;
 use crate::looking::look;
 use crate::reads::read;
-use crate::reports::{import, report};
+use crate::reports::print;
 use crate::words::first;
 use hall_store::HallStore;
 use play_log::LogFault;
@@ -37,8 +38,8 @@ fn ask<S: HallStore>(
         "read" => read(alloc, store, rest, line),
         "look" => look(alloc, store, rest, line),
         "apply" => apply(alloc, store, rest, line),
-        "rows" => import(alloc, rest, line),
-        _ => report(alloc, store, kind, rest, line),
+        "rows" => parse_rows(alloc, rest, line),
+        _ => print(alloc, store, kind, rest, line),
     }
 }
 
@@ -50,6 +51,18 @@ fn with_unavailable(line: &mut String, done: Result<(), Fault>) -> Result<(), Fa
             Ok(())
         }
         _ => done,
+    }
+}
+
+fn import<S: HallStore>(
+    alloc: Global,
+    store: S,
+    words: &str,
+    line: &mut String,
+) -> (Result<(), Fault>, S) {
+    match import_of(alloc, words) {
+        Ok(asked) => import_over(alloc, store, asked, line),
+        Err(fault) => (Err(fault), store),
     }
 }
 
@@ -67,6 +80,12 @@ pub fn play_line<S: HallStore>(
     let (kind, rest) = first(text);
     if is_arrival(kind) {
         return arrive(alloc, store, kind, text, line, asked);
+    }
+    if kind == "log" {
+        return log(alloc, store, rest, line);
+    }
+    if kind == "import" {
+        return import(alloc, store, rest, line);
     }
     let mut store = store;
     let done = ask(alloc, &mut store, kind, rest, line);

@@ -1,0 +1,32 @@
+//! Lines that are played over a store, and what each is answered:
+//!
+//! - `#` and a comment, or nothing: written as it is;
+//! - an arrival, as play_log parses it: what comes as octets is answered by octets in hexadecimal, what is written readably by
+//!   the status and the body; or by `silence` or `unavailable`;
+//! - `read WHAT ..` reads the store, as `reads.rt` says, and `look ..` reads all that it has under some keys;
+//! - `apply ROW; ROW; ..` makes a change that no desk makes, as `changes.rt` says: `applied` or `refused`;
+//! - `log ARRIVAL` answers an arrival, and writes what a log says of it;
+//! - `hall`, `machine-text ID`, `order-text` and `export` write reports;
+//! - `import MOMENT DIGEST TEXT` imports a file, with `\n` for each line feed, and writes what is printed for its rows; `rows TEXT`
+//!   writes the rows that are parsed.
+#![tactic(auto)]
+
+mod arriving;
+mod asking;
+mod changes;
+mod fault;
+mod finding;
+mod imports;
+mod log;
+mod looking;
+mod playing;
+mod reads;
+mod records;
+mod reports;
+mod words;
+
+pub use asking::Asked;
+pub use fault::{Fault, PlayFault};
+pub use log::{FILES, is_head, read_log};
+pub use playing::{is_comment, play, play_line, push_comment, write_answer, write_text};
+pub use words::first;
