@@ -16,10 +16,10 @@ use hall_types::{Change, Moment, Operator, Receipt, Refusal, RequestKey, RowWrit
 use std::alloc::{AllocError, Global};
 
 // The answer with its text.
-fn reply(alloc: Global, said: &Subject) -> Result<Reply, AllocError>
+fn reply(alloc: Global, subject: &Subject) -> Result<Reply, AllocError>
     ensures { IfOk result (λ reply. reply ≡ reply_of second (content_of subject.now)) }
 {
-    match said {
+    match subject {
         Subject::Machine(machine) => Reply::machine(alloc, machine),
         Subject::Gone(id) => Reply::gone(alloc, *id),
         Subject::Done => Reply::done(alloc),
@@ -72,8 +72,8 @@ pub fn command(
     if let Some(refusal) = cause(view, by, command) {
         return Err(DeskFault::Refused(refusal));
     }
-    let (change, said) = effect(alloc, view, by, command, moment)?;
-    let Ok(reply) = reply(alloc, &said) else {
+    let (change, subject) = effect(alloc, view, by, command, moment)?;
+    let Ok(reply) = reply(alloc, &subject) else {
         return Err(DeskFault::Memory);
     };
     let Ok(receipt) = receipt(alloc, by, key, command, &reply) else {

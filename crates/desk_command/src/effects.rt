@@ -116,18 +116,18 @@ fn one(alloc: Global, row: RowWrite) -> Result<Change, DeskFault>
 fn edited(alloc: Global, machine: &Machine, after: Machine) -> Effect
     ensures { Effects result (edited machine.now after []) }
 {
-    let said = about(&after);
+    let subject = about(&after);
     let rows = one(alloc, machine_row(machine, after))?;
-    Ok((rows, said))
+    Ok((rows, subject))
 }
 
 fn edited_with(alloc: Global, machine: &Machine, row: RowWrite) -> Effect
     ensures { Effects result (edited machine.now (raised machine.now) (row ∷ [])) }
 {
     let after = raised(machine);
-    let said = about(&after);
+    let subject = about(&after);
     let rows = two(alloc, machine_row(machine, after), row)?;
-    Ok((rows, said))
+    Ok((rows, subject))
 }
 
 fn moved_to_pool(alloc: Global, machine: &Machine, pool: Name) -> Effect
@@ -257,9 +257,9 @@ fn added(
         return Err(DeskFault::Refused(Refusal::Exhausted));
     };
     let machine = added_machine(id, arch, pool, uuid);
-    let said = about(&machine);
+    let subject = about(&machine);
     match added_rows(alloc, machine, mac, view.numbers) {
-        Ok(rows) => Ok((Change::from(rows), said)),
+        Ok(rows) => Ok((Change::from(rows), subject)),
         Err(AllocError) => Err(DeskFault::Memory),
     }
 }

@@ -81,7 +81,7 @@ command_free (kind.OnMachine k) json =
     goes_on IsFree (number_at (codes "machine") json) _ (λ number. goes_on IsFree (version_at json) _ (λ version. goes_on IsFree (machine_command k json) _ (λ act. λ image is. cc)))
 
 abbrev pub HasFree : KeyedCommand → Type 0
-HasFree said = IsFree from_json.command
+HasFree said = IsFree said.command
 
 keyed_free : (json : Data) → All HasFree (keyed_command json)
 unfolding keyed_command
