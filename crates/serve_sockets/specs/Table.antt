@@ -14,7 +14,7 @@ module _ {T : Type 0} where
   is_late_in now None = false
   is_late_in now (Some connection) = nat_le 2000 (now - since_of connection)
 
-  -- the number of a seat's connection; no connection counts as the last
+  -- the number of a slot's connection; no connection counts as the last
   abbrev pub number_in : Option (Option (Connection T)) → ℕ
   number_in None = 18446744073709551615
   number_in (Some None) = 18446744073709551615

@@ -4,15 +4,13 @@
 use crate::halls::{create, is_hall_after, open};
 use hall_sql::SqlStore;
 use hall_store::HallStore;
-use sqlite::{Connection, FileStore, Files, Options};
+use sqlite::{Alter, Connection, FileStore, Files, Options};
 use sqlite_disk::{Crash, Disk, Fuse, Memory};
 use std::alloc::{AllocError, Global};
 use std::io;
 use std::process::Abort;
 use std::test::Fail;
 use test_worked_hall::{Fault, STEPS, build, step, steps_in};
-
-type OnDisk = FileStore<Fuse<Memory>>;
 
 type Disks = Files<Fuse<Memory>>;
 
@@ -67,8 +65,12 @@ fn disks(alloc: Global, image: &Image, which: Which, calls: u64) -> io::Result<D
     })
 }
 
-// A connection over the disks, or what is left of them.
-fn connect(alloc: Global, files: Disks) -> Result<Connection<OnDisk>, Disks> {
+// A connection over the disks, or what is left of them. What holds the store is generic over what it stands on: a function over the
+// store's whole type takes a minute to prove.
+fn connect<D: Disk + Drop>(
+    alloc: Global,
+    files: Files<D>,
+) -> Result<Connection<FileStore<D>>, Files<D>> {
     if !files.log.may_be_used() || !files.db.may_be_used() {
         return Err(files);
     }
@@ -78,31 +80,28 @@ fn connect(alloc: Global, files: Disks) -> Result<Connection<OnDisk>, Disks> {
     }
 }
 
-// The end of a run: its files are closed.
-fn close(conn: Connection<OnDisk>, kept: u8, is_ended: bool) -> Run {
+// The files are closed; whether that went well.
+fn close<D: Disk + Drop>(conn: Connection<FileStore<D>>) -> (bool, Files<D>) {
     match conn.close_files() {
-        Ok(files) => Run {
-            kept,
-            is_ended,
-            files,
-        },
-        Err((_, store)) => Run {
-            kept,
-            is_ended: false,
-            files: store.close(),
-        },
+        Ok(files) => (true, files),
+        Err((_, store)) => (false, store.close()),
     }
 }
 
-fn make(alloc: Global, rt: &impl Abort, conn: Connection<OnDisk>) -> Run {
+// How much is kept after a hall was made over a connection, and whether it was made.
+fn make<S: Alter + Drop>(
+    alloc: Global,
+    rt: &impl Abort,
+    conn: Connection<S>,
+) -> (u8, bool, Connection<S>) {
     match create(alloc, rt, conn) {
-        Ok(store) => close(store.into_connection(), 1, true),
-        Err(conn) => close(conn, 0, false),
+        Ok(store) => (1, true, store.into_connection()),
+        Err(conn) => (0, false, conn),
     }
 }
 
 // Makes the changes from a place on; how many are made in all until one was refused.
-fn make_changes(alloc: Global, store: &mut SqlStore<OnDisk>, first: u8) -> Result<u8, Fault> {
+fn make_changes<S: HallStore>(alloc: Global, store: &mut S, first: u8) -> Result<u8, Fault> {
     for at in first..STEPS {
         let change = step(alloc, at)?;
         if store.apply(&change).is_err() {
@@ -112,25 +111,61 @@ fn make_changes(alloc: Global, store: &mut SqlStore<OnDisk>, first: u8) -> Resul
     Ok(STEPS)
 }
 
-fn change(alloc: Global, store: SqlStore<OnDisk>, kept: u8) -> Result<Run, Fault> {
-    let mut store = store;
-    let made = make_changes(alloc, &mut store, kept.saturating_sub(1))?;
-    let kept = made.saturating_add(1);
-    Ok(close(store.into_connection(), kept, made == STEPS))
-}
-
-fn open_and_change(alloc: Global, conn: Connection<OnDisk>, kept: u8) -> Result<Run, Fault> {
+// How much is kept after the changes that the hall of a connection doesn't have were made, and whether all were.
+fn change<S: Alter + Drop>(
+    alloc: Global,
+    conn: Connection<S>,
+    kept: u8,
+) -> Result<(u8, bool, Connection<S>), Fault> {
     match open(alloc, conn) {
-        Ok(store) => change(alloc, store, kept),
-        Err(conn) => Ok(close(conn, kept, false)),
+        Ok(mut store) => {
+            let made = make_changes(alloc, &mut store, kept.saturating_sub(1))?;
+            Ok((
+                made.saturating_add(1),
+                made == STEPS,
+                store.into_connection(),
+            ))
+        }
+        Err(conn) => Ok((kept, false, conn)),
     }
 }
 
-// A new hall over empty files, or the changes of the worked hall that its files don't have.
+// A new hall over a connection, or the changes of the worked hall that its hall doesn't have.
+fn run_on<S: Alter + Drop>(
+    alloc: Global,
+    rt: &impl Abort,
+    conn: Connection<S>,
+    kept: u8,
+) -> Result<(u8, bool, Connection<S>), Fault> {
+    if kept == 0 {
+        return Ok(make(alloc, rt, conn));
+    }
+    change(alloc, conn, kept)
+}
+
+// The same over a connection to files, which are closed.
+fn run_and_close<D: Disk + Drop>(
+    alloc: Global,
+    rt: &impl Abort,
+    conn: Connection<FileStore<D>>,
+    kept: u8,
+) -> Result<(u8, bool, Files<D>), Fault> {
+    let (kept, is_done, conn) = run_on(alloc, rt, conn, kept)?;
+    let (is_closed, files) = close(conn);
+    Ok((kept, is_done && is_closed, files))
+}
+
+// The same over files.
 fn run_over(alloc: Global, rt: &impl Abort, files: Disks, kept: u8) -> Result<Run, Fault> {
     match connect(alloc, files) {
-        Ok(conn) if kept == 0 => Ok(make(alloc, rt, conn)),
-        Ok(conn) => open_and_change(alloc, conn, kept),
+        Ok(conn) => {
+            let (kept, is_ended, files) = run_and_close(alloc, rt, conn, kept)?;
+            Ok(Run {
+                kept,
+                is_ended,
+                files,
+            })
+        }
         Err(files) => Ok(Run {
             kept,
             is_ended: false,
@@ -199,10 +234,10 @@ fn partly_lost(
 // ---- what the files have
 
 // The hall that was kept, or the one after it.
-fn has_hall(
+fn has_hall<S: Alter + Drop>(
     alloc: Global,
     rt: &impl Abort,
-    store: SqlStore<OnDisk>,
+    store: SqlStore<S>,
     kept: u8,
 ) -> Result<(), Fault> {
     let mut store = store;
@@ -213,18 +248,28 @@ fn has_hall(
 }
 
 // No hall was made, and one can be made now.
-fn has_no_hall(alloc: Global, rt: &impl Abort, conn: Connection<OnDisk>, kept: u8) {
+fn has_no_hall<S: Alter + Drop>(alloc: Global, rt: &impl Abort, conn: Connection<S>, kept: u8) {
     assert_eq!(rt; kept, 0);
     assert!(rt; create(alloc, rt, conn).is_ok());
+}
+
+fn has_kept<S: Alter + Drop>(
+    alloc: Global,
+    rt: &impl Abort,
+    conn: Connection<S>,
+    kept: u8,
+) -> Result<(), Fault> {
+    match open(alloc, conn) {
+        Ok(store) => has_hall(alloc, rt, store, kept)?,
+        Err(conn) => has_no_hall(alloc, rt, conn, kept),
+    }
+    Ok(())
 }
 
 fn is_kept(alloc: Global, rt: &impl Abort, image: &Image) -> Result<(), Fail> {
     let files = disks(alloc, image, Which::Log, u64::MAX)?;
     let conn = connect(alloc, files).ok().ok_or("not opened again")?;
-    match open(alloc, conn) {
-        Ok(store) => has_hall(alloc, rt, store, image.kept)?,
-        Err(conn) => has_no_hall(alloc, rt, conn, image.kept),
-    }
+    has_kept(alloc, rt, conn, image.kept)?;
     Ok(())
 }
 
@@ -295,16 +340,26 @@ fn empty(alloc: Global) -> Image {
     }
 }
 
+// A hall is made over a connection, and changed so often.
+fn make_hall<S: Alter + Drop>(
+    alloc: Global,
+    rt: &impl Abort,
+    conn: Connection<S>,
+    steps: u8,
+) -> Result<Connection<S>, Fail> {
+    let mut store = create(alloc, rt, conn).ok().ok_or("not made")?;
+    let made = build(alloc, &mut store, steps)?;
+    assert_eq!(rt; made, steps);
+    Ok(store.into_connection())
+}
+
 // The closed files of a hall after so many changes.
 fn hall_after(alloc: Global, rt: &impl Abort, steps: u8) -> Result<Image, Fail> {
     let files = disks(alloc, &empty(alloc), Which::Log, u64::MAX)?;
     let conn = connect(alloc, files).ok().ok_or("not opened")?;
-    let mut store = create(alloc, rt, conn).ok().ok_or("not made")?;
-    let made = build(alloc, &mut store, steps)?;
-    assert_eq!(rt; made, steps);
-    let run = close(store.into_connection(), steps.saturating_add(1), true);
-    assert!(rt; run.is_ended);
-    Ok(image_of(alloc, &run.files, run.kept)?)
+    let (is_closed, files) = close(make_hall(alloc, rt, conn, steps)?);
+    assert!(rt; is_closed);
+    Ok(image_of(alloc, &files, steps.saturating_add(1))?)
 }
 
 #[test]
