@@ -10,18 +10,17 @@ rounds=${1:-100000}
 work=$(mktemp -d -p "${2:-${TMPDIR:-/tmp}}")
 trap 'rm -rf "$work"' EXIT
 . "$here/least.sh"
-in_memory=$(built bench_desk script 10 1)
-in_file=$(built bench_file "$work/first" desk script 10 1)
+bench=$(built bench_hall - desk script 10 1)
 
 run() {   # run WHERE WHAT MACHINES ROUNDS: over a file, over a new copy of the file with such a hall
     if [ "$1" = memory ]; then
-        keep "$*" "$in_memory" "${@:2}"
+        keep "$*" "$bench" - desk "${@:2}"
         return
     fi
     rm -f "$work"/hall*
     cp "$work/made_$3" "$work/hall"
     sync "$work/hall"
-    keep "$*" "$in_file" "$work/hall" desk "${@:2}"
+    keep "$*" "$bench" "$work/hall" desk "${@:2}"
 }
 rounds_of() {   # rounds_of WHERE WHAT MACHINES
     case "$1 $2" in
@@ -40,7 +39,7 @@ for where in memory file; do
     for what in offer script repeat allocate report list; do
         for machines in 10 10000; do
             rm -f "$work"/made_"$machines"*
-            if [ "$where" = file ]; then "$in_file" "$work/made_$machines" desk "$what" "$machines" 0 > "$work/octets"; fi
+            if [ "$where" = file ]; then "$bench" "$work/made_$machines" desk "$what" "$machines" 0 > "$work/octets"; fi
         done
         for _ in 1 2 3 4 5 6 7; do
             for machines in 10 10000; do

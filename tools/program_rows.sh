@@ -176,7 +176,7 @@ line() { printf '%-32s %-27s %6s\n' "$@"; }
 want 0 "$(line pool status count; line lab New 1; printf '%-60s %6s\n' total 1)" '' report --db hall.db
 want 0 "$(line pool status count; line lab New 1; printf '%-60s %6s\n' total 1)" '' report --db hall.db --what hall
 want 0 '' '' report --db hall.db --what orders
-want 0 $'machine 1\nstatus New\nversion 1\npool lab\narch uefi64\nuuid -\nowner -\nimage -\nlocked no\ndeadline -\ninterfaces 52:54:00:12:34:56' '' \
+want 0 $'machine 1\nstatus New\nversion 1\npool lab\narch uefi64\nuuid -\nowner -\nimage -\nerase -\nlocked no\ndeadline -\ninterfaces 52:54:00:12:34:56' '' \
     report --db hall.db --what 1
 fault NoMachine report --db hall.db --what 2
 fault NoMachine report --db hall.db --what 0
@@ -227,7 +227,7 @@ answered 200 '{"result":"counted"}'
 post 1100 /report/1/$fresh '{"stage":"done"}'
 answered 200 '{"result":"counted"}'
 : > in
-want 0 $'machine 1\nstatus Testing\nversion 4\npool lab\narch uefi64\nuuid -\nowner -\nimage -\nlocked no\ndeadline 4700\ninterfaces 52:54:00:12:34:56' '' \
+want 0 $'machine 1\nstatus Testing\nversion 4\npool lab\narch uefi64\nuuid -\nowner -\nimage -\nerase -\nlocked no\ndeadline 4700\ninterfaces 52:54:00:12:34:56' '' \
     report --db hall.db --what 1
 want 0 '               2                1 cycle' '' report --db hall.db --what orders
 get 1100 /orders test

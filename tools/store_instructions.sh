@@ -10,13 +10,12 @@ work=$(mktemp -d)
 trap 'rm -rf "$work"' EXIT
 . "$here/least.sh"
 cc -O2 -Wall -o "$work/in_c" "$here/store_speed.c" -lsqlite3 || { echo 'store_instructions: libsqlite3-dev is missing' >&2; exit 1; }
-bench=$(built bench_file "$work/first" store machine 10 1)
-in_memory=$(built bench_desk script 10 1)
+bench=$(built bench_hall "$work/first" store machine 10 1)
 
 ours() { echo "$bench $work/hall store $*"; }
 theirs() { echo "$work/in_c $work/hall $*"; }
 desk() { echo "$bench $work/hall desk $*"; }
-memory() { echo "$in_memory $*"; }
+memory() { echo "$bench - desk $*"; }
 # counted MADE COMMAND..: the instructions of a command, over a new copy of a file.
 counted() {
     rm -f "$work"/hall*

@@ -14,7 +14,7 @@ work=$(mktemp -d -p "${2:-${TMPDIR:-/tmp}}")
 trap 'rm -rf "$work"' EXIT
 . "$here/least.sh"
 cc -O2 -Wall -o "$work/in_c" "$here/store_speed.c" -lsqlite3 || { echo 'store_speed: libsqlite3-dev is missing' >&2; exit 1; }
-bench=$(built bench_file "$work/first" store machine 10 1)
+bench=$(built bench_hall "$work/first" store machine 10 1)
 
 ours() { "$bench" "$1" store "${@:2}"; }
 theirs() { "$work/in_c" "$@"; }

@@ -1,12 +1,12 @@
 -- An import goes on by one row.
-use Rattle.std.proofs.Common.{◌≡◌, ◌≢◌, ◌+◌, ◌<◌, ◌==◌, ◌&&◌, ℕ, zero, Bool, true, false, List, [], ◌∷◌, ◌++◌, Option, Result, Ok, Err, IfErr, IsErrAnd, if◌then◌else◌, length, take, get_or, refl, sym, ap, subst, ◌∙◌, suc, append-nil, append_assoc, add-zero, arith, inl, inr}
+use Rattle.std.proofs.Common.{◌≡◌, ◌≢◌, ◌+◌, ◌<◌, ◌==◌, ◌&&◌, ℕ, zero, Bool, true, false, List, [], ◌∷◌, ◌++◌, Option, Result, Ok, Err, IfErr, IsErrAnd, if◌then◌else◌, length, drop, map, take, get_or, refl, sym, ap, subst, ◌∙◌, suc, append-nil, append_assoc, add-zero, arith, inl, inr}
 use Rattle.std.proofs.KnownBytes.{Appends-nil, Appends-trans}
-use Rattle.std.proofs.lemmas.List.{take_more}
+use Rattle.std.proofs.lemmas.List.{length-map, map-append, take-append-drop, take_more}
 use Rattle.std.proofs.lemmas.List.Folds.{list_all-append}
 use Rattle.std.proofs.lemmas.List.Sums.{fold-append}
 use Rattle.std.specs.Prelude.{replicate}
 use Rattle.std.specs.Io.KnownBytes.{Appends}
-use Rattle.std.specs.List.{enumerate_from, flat_map, fold, list_all, scan}
+use Rattle.std.specs.List.{AllByRecursion, enumerate_from, flat_map, fold, list_all, scan}
 use Rattle.pxe_vendor.specs.Place.{Site}
 use Rattle.boot_desk.specs.Sound.{IsSound}
 use Rattle.hall_types.specs.Hall.{Hall, applied, second}
@@ -19,8 +19,14 @@ use Rattle.hall_store.specs.Rules.{AllKeep}
 use Rattle.hall_store.specs.declared.store.Unavailable.{Unavailable}
 use Rattle.laws_model.specs.Decision.{decision_of}
 use Rattle.hall_report.specs.declared.row.ImportRow.{ImportRow}
+use Rattle.hall_desk.specs.Headline.{HasHistory}
+use Rattle.hall_desk.specs.History.{Item, carried_out}
 use Rattle.hall_desk.specs.Plan.{IsCarriedOut}
-use Rattle.desk_operations.specs.Import.{IsImported, IsRowDone, IsRowStopped, IsStopped, after_row, after_rows, end_of, event_of, is_ok, line_of, lines_of, replies_to, reply_to, row_line}
+use Rattle.http_requests.specs.WordLaws.{IsFreeEvent}
+use Rattle.hall_types.specs.Image.{BootImage, has_hall_word}
+use Rattle.hall_events.specs.declared.command.HallCommand.TheVariants.{AddImage}
+use Rattle.hall_events.specs.declared.event.Event.TheVariants.{Command}
+use Rattle.desk_operations.specs.Import.{IsImported, IsRowAnswered, IsRowDone, IsRowItem, IsRowStopped, IsStopped, GoOn, after_row, after_rows, end_of, event_of, is_ok, line_of, lines_of, replies_to, reply_to, row_line, unavailable}
 use Rattle.desk_operations.specs.declared.fault.Fault.{Fault}
 use Rattle.desk_operations.specs.declared.fault.Fault.TheVariants.{Io}
 use Rattle.desk_operations.specs.declared.imports.Imported.{Imported}
@@ -66,51 +72,92 @@ if_err_of (Ok a) fault P is it = tt
 if_err_of (Err given) fault P is it = subst P (sym is) it
 
 module _ {S : Type 0} (holds : S → Hall → Type 0) (leaves : S → List Hall → Type 0) (site : Site) (bearer : List ℕ) (moment : ℕ) where
-  -- the desk carried a row's command out, and the row's line was written
-  pub done_carried : ((site : Site) (h : Hall) (e : Event) (moment : ℕ) (fresh : List ℕ) → IsSound h → h.schema ≡ second → AllKeep (decision_of site h e moment fresh).rows h)
+  -- the desk carried a row's command out
+  pub row_carried : ((site : Site) (h : Hall) (e : Event) (moment : ℕ) (fresh : List ℕ) → IsSound h → h.schema ≡ second → AllKeep (decision_of site h e moment fresh).rows h)
       → ((site : Site) (h : Hall) (e : Event) (moment : ℕ) (fresh : List ℕ) → IsSound h → h.schema ≡ second → IsSound (applied (decision_of site h e moment fresh).rows h))
       → ((store : S) (h : Hall) → holds store h → h.schema ≡ second)
-      → (old new : S) (row : ImportRow) (e : Event) (fresh : List ℕ) → e ≡ event_of bearer row → fresh ≡ replicate 16 0
-      → (reply : Reply) (status : ℕ) (kind : BodyKind) (body : List ℕ) → reply ≡ Http status kind body
+      → (old new : S) (row : ImportRow) (e : Event) (fresh : List ℕ) → e ≡ event_of bearer row → fresh ≡ replicate 16 0 → (reply : Reply)
       → IsCarriedOut holds leaves old new {E = Unavailable} (Ok reply) (λ h. (decision_of site h e moment fresh).rows) (λ h reply. reply ≡ reply_of second (decision_of site h e moment fresh).content)
-      → (number : ℕ) (before after : Option (List ℕ)) (text : List ℕ) → text ≡ row_line number status body → Appends before after text
-      → (h : Hall) → holds old h → IsSound h → IsRowDone holds new site bearer moment h number row (status == 200) before after
-  done_carried keeps stays schema old new row e fresh e_is fresh_is reply status kind body reply_is carried number before after text text_is written h held sound =
+      → (h : Hall) → holds old h → IsSound h → IsRowAnswered holds new site bearer moment h row reply
+  row_carried keeps stays schema old new row e fresh e_is fresh_is reply carried h held sound =
       let made = carried.made h held (keeps site h e moment fresh sound (schema old h held)) in
       let stayed = stays site h e moment fresh sound (schema old h held) in
       let Held : Event → List ℕ → Type 0 = λ e fresh. holds new (applied (decision_of site h e moment fresh).rows h) in
       let Sound : Event → List ℕ → Type 0 = λ e fresh. IsSound (applied (decision_of site h e moment fresh).rows h) in
       let reply_for : Event → List ℕ → Reply = λ e fresh. reply_of second (decision_of site h e moment fresh).content in
-      let same : Http status kind body ≡ reply_to site bearer moment h row =
-      sym reply_is ∙ carried.answer h held ∙ ap (λ (e : Event). reply_for e fresh) e_is ∙ ap (reply_for (event_of bearer row)) fresh_is in
       record {
+        came = true;
         held = subst (Held (event_of bearer row)) fresh_is (subst (λ (e : Event). Held e fresh) e_is made);
         sound = subst (Sound (event_of bearer row)) fresh_is (subst (λ (e : Event). Sound e fresh) e_is stayed);
+        is = carried.answer h held ∙ ap (λ (e : Event). reply_for e fresh) e_is ∙ ap (reply_for (event_of bearer row)) fresh_is;
+      }
+
+  -- the store couldn't answer, and the row counts as not having come
+  pub row_missed : (new : S) (row : ImportRow) (reply : Reply) → reply ≡ unavailable → (h : Hall) → holds new h → IsSound h → IsRowAnswered holds new site bearer moment h row reply
+  row_missed new row reply is h held sound = record { came = false; held = held; sound = sound; is = is }
+
+  -- the row's line was written
+  pub row_done : (new : S) (row : ImportRow) (reply : Reply) (status : ℕ) (kind : BodyKind) (body : List ℕ) → reply ≡ Http status kind body
+      → (number : ℕ) (before after : Option (List ℕ)) (text : List ℕ) → text ≡ row_line number status body → Appends before after text
+      → (h : Hall) → IsRowAnswered holds new site bearer moment h row reply → IsRowDone holds new site bearer moment h number row (status == 200) before after
+  row_done new row reply status kind body reply_is number before after text text_is written h it =
+      let same : Http status kind body ≡ reply_to site bearer moment h (row, it.came) = sym reply_is ∙ it.is in
+      record {
+        came = it.came;
+        held = it.held;
+        sound = it.sound;
         written = subst (λ (reply : Reply). Appends before after (line_of number reply)) same (subst (Appends before after) text_is written);
         ok = ap is_ok same;
       }
 
+  -- or it wasn't
+  pub row_stopped : (new : S) (row : ImportRow) (reply : Reply) (fault : Fault) (before after : Option (List ℕ)) → (fault ≢ Io → Appends before after [])
+      → (h : Hall) → IsRowAnswered holds new site bearer moment h row reply → IsRowStopped holds new site bearer moment h row fault before after
+  row_stopped new row reply fault before after written h it = record { came = it.came; held = it.held; sound = it.sound; written = written }
+
+  -- a row that wasn't answered
+  pub row_refused : (store : S) (h : Hall) (row : ImportRow) (fault : Fault) (contents : Option (List ℕ)) → holds store h → IsSound h
+      → IsRowStopped holds store site bearer moment h row fault contents contents
+  row_refused store h row fault contents held sound = record { came = false; held = held; sound = sound; written = λ other. Appends-nil contents }
+
+  -- ---- one row after the other
+
+  abbrev row_of : ImportRow × Bool → ImportRow
+  row_of asked = asked.0
+
+  after_more : (h : Hall) (asked : List (ImportRow × Bool)) (one : ImportRow × Bool)
+      → after_rows site bearer moment h (asked ++ one ∷ []) ≡ after_row site bearer moment (after_rows site bearer moment h asked) one
+  after_more h asked one = fold-append (after_row site bearer moment) h asked (one ∷ [])
+
+  rows_more : (asked : List (ImportRow × Bool)) (one : ImportRow × Bool) (rows : List ImportRow) → map row_of asked ≡ rows → map row_of (asked ++ one ∷ []) ≡ rows ++ one.0 ∷ []
+  rows_more asked one rows all = map-append row_of asked (one ∷ []) ∙ ap (λ some. some ++ one.0 ∷ []) all
+
   -- no row yet
   pub imported_none : (store : S) (h : Hall) (contents : Option (List ℕ)) → holds store h → IsSound h
       → IsImported holds store site bearer moment h [] All contents contents
-  imported_none store h contents held sound = record { held = held; sound = sound; written = Appends-nil contents; ended = refl }
+  imported_none store h contents held sound = record { asked = []; all = refl; held = held; sound = sound; written = Appends-nil contents; ended = refl }
 
   -- one more row
-  pub imported_more : (old new : S) (h : Hall) (rows : List ImportRow) (row : ImportRow) (number : ℕ) (was_ok : Bool) (end next : Imported) (before mid after : Option (List ℕ))
+  imported_more : (old new : S) (h : Hall) (rows : List ImportRow) (row : ImportRow) (number : ℕ) (was_ok : Bool) (end next : Imported) (before mid after : Option (List ℕ))
       → number ≡ 1 + length rows → next ≡ (if was_ok then end else NotAll)
-      → IsImported holds old site bearer moment h rows end before mid
-      → IsRowDone holds new site bearer moment (after_rows site bearer moment h rows) number row was_ok mid after
+      → (so_far : IsImported holds old site bearer moment h rows end before mid)
+      → IsRowDone holds new site bearer moment (after_rows site bearer moment h so_far.asked) number row was_ok mid after
       → IsImported holds new site bearer moment h (rows ++ row ∷ []) next before after
   imported_more old new h rows row number was_ok end next before mid after counted is so_far done =
-      let here = after_rows site bearer moment h rows in
-      let replies = replies_to site bearer moment h rows in
-      let reply = reply_to site bearer moment here row in
-      let reached : after_rows site bearer moment h (rows ++ row ∷ []) ≡ after_row site bearer moment here row = fold-append (after_row site bearer moment) h rows (row ∷ []) in
-      let replied : replies_to site bearer moment h (rows ++ row ∷ []) ≡ replies ++ reply ∷ [] = scan-more (after_row site bearer moment) (reply_to site bearer moment) h rows row in
-      let place : number ≡ 1 + length replies = counted ∙ ap (λ (n : ℕ). 1 + n) (sym (length-scan (after_row site bearer moment) (reply_to site bearer moment) h rows)) in
+      let asked = so_far.asked in
+      let one : ImportRow × Bool = (row, done.came) in
+      let here = after_rows site bearer moment h asked in
+      let replies = replies_to site bearer moment h asked in
+      let reply = reply_to site bearer moment here one in
+      let reached = after_more h asked one in
+      let replied : replies_to site bearer moment h (asked ++ one ∷ []) ≡ replies ++ reply ∷ [] = scan-more (after_row site bearer moment) (reply_to site bearer moment) h asked one in
+      let many : length rows ≡ length asked = ap length (sym so_far.all) ∙ length-map asked row_of in
+      let place : number ≡ 1 + length replies = counted ∙ ap (λ (n : ℕ). 1 + n) (many ∙ sym (length-scan (after_row site bearer moment) (reply_to site bearer moment) h asked)) in
       let lines : lines_of (replies ++ reply ∷ []) ≡ lines_of replies ++ line_of number reply = numbered-more (λ numbered. line_of numbered.0 numbered.1) 1 number replies reply place in
       let chosen : (if was_ok then end else NotAll) ≡ (if is_ok reply then end else NotAll) = ap (λ (ok : Bool). if ok then end else NotAll) done.ok in
       record {
+        asked = asked ++ one ∷ [];
+        all = rows_more asked one rows so_far.all;
         held = subst (holds new) (sym reached) done.held;
         sound = subst IsSound (sym reached) done.sound;
         written = subst (Appends before after) (sym (ap lines_of replied ∙ lines)) (Appends-trans before mid after (lines_of replies) (line_of number reply) so_far.written done.written);
@@ -125,7 +172,7 @@ module _ {S : Type 0} (holds : S → Hall → Type 0) (leaves : S → List Hall 
       → ((h : Hall) → holds old h → IsSound h → IsRowDone holds new from bearer moment h number row was_ok mid after)
       → IsImported holds new site bearer moment h (rows ++ row ∷ []) next before after
   imported_next from same old new h rows row number was_ok end next before mid after counted is so_far done =
-      let here = after_rows site bearer moment h rows in
+      let here = after_rows site bearer moment h so_far.asked in
       imported_more old new h rows row number was_ok end next before mid after counted is so_far
       (subst (λ (at : Site). IsRowDone holds new at bearer moment here number row was_ok mid after) same (done here so_far.held so_far.sound))
 
@@ -134,46 +181,7 @@ module _ {S : Type 0} (holds : S → Hall → Type 0) (leaves : S → List Hall 
   pub stopped_none : (store : S) (h : Hall) (rows : List ImportRow) (fault : Fault) (contents : Option (List ℕ)) → holds store h → IsSound h
       → IsStopped holds store site bearer moment h rows fault contents contents
   stopped_none store h rows fault contents held sound =
-      record { written_count = 0; applied_count = 0; next = inl refl; held = held; sound = sound; written = λ other. Appends-nil contents }
-
-  pub row_refused : (store : S) (h : Hall) (row : ImportRow) (fault : Fault) (contents : Option (List ℕ)) → holds store h → IsSound h
-      → IsRowStopped holds store site bearer moment h row fault contents contents
-  row_refused store h row fault contents held sound = record { was_applied = false; held = held; sound = sound; written = λ other. Appends-nil contents }
-
-  -- the desk carried a row's command out
-  pub row_carried : ((site : Site) (h : Hall) (e : Event) (moment : ℕ) (fresh : List ℕ) → IsSound h → h.schema ≡ second → AllKeep (decision_of site h e moment fresh).rows h)
-      → ((site : Site) (h : Hall) (e : Event) (moment : ℕ) (fresh : List ℕ) → IsSound h → h.schema ≡ second → IsSound (applied (decision_of site h e moment fresh).rows h))
-      → ((store : S) (h : Hall) → holds store h → h.schema ≡ second)
-      → (old new : S) (row : ImportRow) (e : Event) (fresh : List ℕ) → e ≡ event_of bearer row → fresh ≡ replicate 16 0 → (reply : Reply)
-      → IsCarriedOut holds leaves old new {E = Unavailable} (Ok reply) (λ h. (decision_of site h e moment fresh).rows) (λ h reply. reply ≡ reply_of second (decision_of site h e moment fresh).content)
-      → (fault : Fault) (before after : Option (List ℕ)) → (fault ≢ Io → Appends before after [])
-      → (h : Hall) → holds old h → IsSound h → IsRowStopped holds new site bearer moment h row fault before after
-  row_carried keeps stays schema old new row e fresh e_is fresh_is reply carried fault before after written h held sound =
-      let made = carried.made h held (keeps site h e moment fresh sound (schema old h held)) in
-      let stayed = stays site h e moment fresh sound (schema old h held) in
-      let Held : Event → List ℕ → Type 0 = λ e fresh. holds new (applied (decision_of site h e moment fresh).rows h) in
-      let Sound : Event → List ℕ → Type 0 = λ e fresh. IsSound (applied (decision_of site h e moment fresh).rows h) in
-      record {
-        was_applied = true;
-        held = subst (Held (event_of bearer row)) fresh_is (subst (λ (e : Event). Held e fresh) e_is made);
-        sound = subst (Sound (event_of bearer row)) fresh_is (subst (λ (e : Event). Sound e fresh) e_is stayed);
-        written = written;
-      }
-
-  -- the first rows, and then perhaps one more
-  first_and : (store : S) (h : Hall) (rows : List ImportRow) (place : ℕ) (row : ImportRow) (fault : Fault) (before after : Option (List ℕ)) (here : place < length rows) (at : row ≡ get_or rows place row)
-      → (one_more : Bool)
-      → holds store (if one_more then after_row site bearer moment (after_rows site bearer moment h (take place rows)) row else after_rows site bearer moment h (take place rows))
-      → IsSound (if one_more then after_row site bearer moment (after_rows site bearer moment h (take place rows)) row else after_rows site bearer moment h (take place rows))
-      → (fault ≢ Io → Appends before after (lines_of (replies_to site bearer moment h (take place rows))))
-      → IsStopped holds store site bearer moment h rows fault before after
-  first_and store h rows place row fault before after here at false held sound written =
-      record { written_count = place; applied_count = place; next = inl refl; held = held; sound = sound; written = written }
-  first_and store h rows place row fault before after here at true held sound written =
-      let first : after_rows site bearer moment (after_rows site bearer moment h (take place rows)) (row ∷ []) ≡ after_rows site bearer moment h (take (place + 1) rows) =
-      sym (fold-append (after_row site bearer moment) h (take place rows) (row ∷ []))
-      ∙ ap (λ (some : List ImportRow). after_rows site bearer moment h (some)) (ap (λ (one : ImportRow). take place rows ++ one ∷ []) at ∙ sym (take_more rows place row here)) in
-      record { written_count = place; applied_count = place + 1; next = inr refl; held = subst (holds store) first held; sound = subst IsSound first sound; written = written }
+      record { asked = []; last = []; others = rows; one = grind (arith); all = refl; held = held; sound = sound; written = λ other. Appends-nil contents }
 
   pub stopped_next : (from : Site) → from ≡ site
       → (old new : S) (h : Hall) (rows : List ImportRow) (place : ℕ) (row : ImportRow) (end : Imported) (fault : Fault) (before mid after : Option (List ℕ)) → place < length rows → row ≡ get_or rows place row
@@ -181,8 +189,58 @@ module _ {S : Type 0} (holds : S → Hall → Type 0) (leaves : S → List Hall 
       → ((h : Hall) → holds old h → IsSound h → IsRowStopped holds new from bearer moment h row fault mid after)
       → IsStopped holds new site bearer moment h rows fault before after
   stopped_next from same old new h rows place row end fault before mid after here at so_far tried =
-      let first = after_rows site bearer moment h (take place rows) in
-      let lines = lines_of (replies_to site bearer moment h (take place rows)) in
+      let asked = so_far.asked in
+      let first = after_rows site bearer moment h asked in
+      let lines = lines_of (replies_to site bearer moment h asked) in
       let stop = subst (λ (at : Site). IsRowStopped holds new at bearer moment first row fault mid after) same (tried first so_far.held so_far.sound) in
-      first_and new h rows place row fault before after here at stop.was_applied stop.held stop.sound
-      (λ other. subst (Appends before after) (append-nil lines) (Appends-trans before mid after lines [] so_far.written (stop.written other)))
+      let one : ImportRow × Bool = (row, stop.came) in
+      let reached = after_more h asked one in
+      let front : map row_of (asked ++ one ∷ []) ≡ take (place + 1) rows =
+      rows_more asked one (take place rows) so_far.all ∙ ap (λ (it : ImportRow). take place rows ++ it ∷ []) at ∙ sym (take_more rows place row here) in
+      record {
+        asked = asked;
+        last = one ∷ [];
+        others = drop (place + 1) rows;
+        one = grind (arith);
+        all = ap (λ some. some ++ drop (place + 1) rows) front ∙ take-append-drop (place + 1) rows;
+        held = subst (holds new) (sym reached) stop.held;
+        sound = subst IsSound (sym reached) stop.sound;
+        written = λ other. subst (Appends before after) (append-nil lines) (Appends-trans before mid after lines [] so_far.written (stop.written other));
+      }
+
+-- ---- histories
+
+all_more : {X : Type 0} (P : X → Type 0) (xs ys : List X) → AllByRecursion P xs → AllByRecursion P ys → AllByRecursion P (xs ++ ys)
+all_more P [] ys a b = b
+all_more P (x ∷ xs) ys a b = (a.0, all_more P xs ys a.1 b)
+
+module _ {S : Type 0} (holds : S → Hall → Type 0) (site : Site) (bearer : List ℕ) (moment : ℕ) where
+  -- what keeps a hall goes on
+  pub kept_on : (old new : S) → ((h : Hall) → holds old h → holds new h) → GoOn holds old new site bearer moment
+  kept_on old new same admin digest past was = (
+    [],
+    tt,
+    subst (HasHistory holds new admin digest) (sym (append-nil past)) (record { end = was.end; held = same was.end was.held; headline = was.headline }),
+  )
+
+  pub more_on : (from : Site) → from ≡ site → (a b c : S) → GoOn holds a b site bearer moment → GoOn holds b c from bearer moment → GoOn holds a c site bearer moment
+  more_on from same a b c one two admin digest past was =
+      let first = one admin digest past was in
+      let next = subst (λ at. GoOn holds b c at bearer moment) same two admin digest (past ++ first.0) first.2 in (
+        first.0 ++ next.0,
+        all_more (IsRowItem site bearer moment) first.0 next.0 first.1 next.1,
+        subst (HasHistory holds c admin digest) (append_assoc past first.0 next.0) next.2,
+      )
+
+  -- a row's command is carried out
+  pub carried_on : (old new : S) (row : ImportRow) (e : Event) (fresh : List ℕ) (reply : Reply) → e ≡ event_of bearer row → fresh ≡ replicate 16 0
+      → (IsFreeEvent e → (admin digest : List ℕ) (past : List Item) → HasHistory holds old admin digest past → HasHistory holds new admin digest (past ++ carried_out site e moment fresh reply ∷ []))
+      → GoOn holds old new site bearer moment
+  carried_on old new row e fresh reply e_is fresh_is history admin digest past was = (
+    carried_out site e moment fresh reply ∷ [],
+    ((row, reply, ap (λ e. carried_out site e moment fresh reply) e_is ∙ ap (λ f. carried_out site (event_of bearer row) moment f reply) fresh_is), tt),
+    history (λ its key image is. no_image bearer row its key image (sym e_is ∙ is)) admin digest past was,
+  )
+    where
+      no_image : (bearer : List ℕ) (row : ImportRow) (its : Option (List ℕ)) (key : List ℕ) (image : BootImage) → event_of bearer row ≡ Command its key (AddImage image) → has_hall_word image.args ≡ false
+      no_image bearer row its key image is = cc

@@ -1,18 +1,21 @@
 -- What an import does to a hall, and what it writes.
-use Rattle.std.specs.Prelude.{◌≡◌, ◌≢◌, ◌⊎◌, ◌+◌, ◌==◌, ℕ, Bool, false, List, [], ◌∷◌, ◌++◌, Option, Some, replicate, take, if◌then◌else◌}
+use Rattle.std.specs.Prelude.{◌≡◌, ◌≢◌, ◌≤◌, ◌==◌, ℕ, Bool, true, false, List, [], ◌∷◌, ◌++◌, Option, Some, length, map, replicate, if◌then◌else◌}
 use Rattle.std.specs.Fmt.{decimal}
 use Rattle.std.specs.Io.KnownBytes.{Appends}
-use Rattle.std.specs.List.{enumerate_from, flat_map, fold, list_all, scan}
+use Rattle.std.specs.List.{AllByRecursion, enumerate_from, flat_map, fold, list_all, scan}
 use Rattle.pxe_vendor.specs.Place.{Site}
 use Rattle.boot_desk.specs.Sound.{IsSound}
 use Rattle.hall_types.specs.Hall.{Hall, applied, second}
-use Rattle.hall_events.specs.Reply.{reply_of}
+use Rattle.hall_types.specs.declared.refusal.Refusal.TheVariants as cause
+use Rattle.hall_events.specs.Reply.{refused, reply_of}
 use Rattle.hall_events.specs.declared.command.HallCommand.TheVariants.{AddMachine}
 use Rattle.hall_events.specs.declared.event.Event.{Event}
 use Rattle.hall_events.specs.declared.event.Event.TheVariants.{Command}
 use Rattle.hall_events.specs.declared.reply.Reply.{Reply}
 use Rattle.hall_events.specs.declared.reply.Reply.TheVariants.{Http}
 use Rattle.laws_model.specs.Decision.{Decided, decision_of}
+use Rattle.hall_desk.specs.Headline.{HasHistory}
+use Rattle.hall_desk.specs.History.{Item, carried_out}
 use Rattle.hall_report.specs.declared.row.ImportRow.{ImportRow}
 use Rattle.desk_operations.specs.declared.fault.Fault.{Fault}
 use Rattle.desk_operations.specs.declared.fault.Fault.TheVariants.{Io}
@@ -29,6 +32,10 @@ row_line number status body = decimal number ++ 32 ∷ decimal status ++ 32 ∷ 
 abbrev pub line_of : ℕ → Reply → List ℕ
 line_of number (Http status kind body) = row_line number status body
 line_of number other = []
+
+-- the reply to a row that counts as not having come
+abbrev pub unavailable : Reply
+unavailable = reply_of second (refused cause.Unavailable)
 
 -- the lines of replies, numbered from 1 on
 abbrev pub lines_of : List Reply → List ℕ
@@ -54,51 +61,79 @@ module _ (site : Site) (bearer : List ℕ) (moment : ℕ) where
   abbrev pub decided : Hall → ImportRow → Decided
   decided h row = decision_of site h (event_of bearer row) moment (replicate 16 0)
 
+  -- A row with `true` came; one with `false` counts as not having come, as the store couldn't answer.
+
   -- the hall that a row leads to
-  abbrev pub after_row : Hall → ImportRow → Hall
-  after_row h row = applied (decided h row).rows h
+  abbrev pub after_row : Hall → ImportRow × Bool → Hall
+  after_row h (row, true) = applied (decided h row).rows h
+  after_row h (row, false) = h
 
   -- the reply to a row
-  abbrev pub reply_to : Hall → ImportRow → Reply
-  reply_to h row = reply_of second (decided h row).content
+  abbrev pub reply_to : Hall → ImportRow × Bool → Reply
+  reply_to h (row, true) = reply_of second (decided h row).content
+  reply_to h (row, false) = unavailable
 
   -- the hall that the rows lead to, one after the other
-  abbrev pub after_rows : Hall → List ImportRow → Hall
-  after_rows h rows = fold after_row h rows
+  abbrev pub after_rows : Hall → List (ImportRow × Bool) → Hall
+  after_rows h asked = fold after_row h asked
 
   -- and the replies to them
-  abbrev pub replies_to : Hall → List ImportRow → List Reply
-  replies_to h rows = scan after_row reply_to h rows
+  abbrev pub replies_to : Hall → List (ImportRow × Bool) → List Reply
+  replies_to h asked = scan after_row reply_to h asked
 
 -- `holds` says which hall a store has
 module _ {S : Type 0} (holds : S → Hall → Type 0) (store : S) (site : Site) (bearer : List ℕ) (moment : ℕ) (h : Hall) where
-  -- a row is applied, and its line is written
+  -- a row came or not, and is answered so
+  pub record IsRowAnswered (row : ImportRow) (reply : Reply) : Type 0 where
+    pub came : Bool
+    pub held : holds store (after_row site bearer moment h (row, came))
+    pub sound : IsSound (after_row site bearer moment h (row, came))
+    pub is : reply ≡ reply_to site bearer moment h (row, came)
+
+  -- a row came or not, and its line is written
   pub record IsRowDone (number : ℕ) (row : ImportRow) (was_ok : Bool) (before after : Option (List ℕ)) : Type 0 where
-    pub held : holds store (after_row site bearer moment h row)
-    pub sound : IsSound (after_row site bearer moment h row)
-    pub written : Appends before after (line_of number (reply_to site bearer moment h row))
-    pub ok : was_ok ≡ is_ok (reply_to site bearer moment h row)
+    pub came : Bool
+    pub held : holds store (after_row site bearer moment h (row, came))
+    pub sound : IsSound (after_row site bearer moment h (row, came))
+    pub written : Appends before after (line_of number (reply_to site bearer moment h (row, came)))
+    pub ok : was_ok ≡ is_ok (reply_to site bearer moment h (row, came))
 
-  -- all rows are applied in turn, and their lines are written
+  -- all rows came or not in turn, and their lines are written
   pub record IsImported (rows : List ImportRow) (end : Imported) (before after : Option (List ℕ)) : Type 0 where
-    pub held : holds store (after_rows site bearer moment h rows)
-    pub sound : IsSound (after_rows site bearer moment h rows)
-    pub written : Appends before after (lines_of (replies_to site bearer moment h rows))
-    pub ended : end ≡ end_of (replies_to site bearer moment h rows)
+    pub asked : List (ImportRow × Bool)
+    pub all : map (λ row. row.0) asked ≡ rows
+    pub held : holds store (after_rows site bearer moment h asked)
+    pub sound : IsSound (after_rows site bearer moment h asked)
+    pub written : Appends before after (lines_of (replies_to site bearer moment h asked))
+    pub ended : end ≡ end_of (replies_to site bearer moment h asked)
 
-  -- a row may be applied, and its line isn't written; a write that failed may have written anything
+  -- a row came or not, and its line isn't written; a write that failed may have written anything
   pub record IsRowStopped (row : ImportRow) (fault : Fault) (before after : Option (List ℕ)) : Type 0 where
-    pub was_applied : Bool
-    pub held : holds store (if was_applied then after_row site bearer moment h row else h)
-    pub sound : IsSound (if was_applied then after_row site bearer moment h row else h)
+    pub came : Bool
+    pub held : holds store (after_row site bearer moment h (row, came))
+    pub sound : IsSound (after_row site bearer moment h (row, came))
     pub written : fault ≢ Io → Appends before after []
 
-  -- the lines of the first rows are written, and these rows are applied in turn, perhaps with the next one, and no others; a
-  -- write that failed may have written anything
+  -- the lines of the first rows are written, the next row may have come, and no others; a write that failed may have written
+  -- anything
   pub record IsStopped (rows : List ImportRow) (fault : Fault) (before after : Option (List ℕ)) : Type 0 where
-    pub written_count : ℕ
-    pub applied_count : ℕ
-    pub next : (applied_count ≡ written_count) ⊎ (applied_count ≡ written_count + 1)
-    pub held : holds store (after_rows site bearer moment h (take applied_count rows))
-    pub sound : IsSound (after_rows site bearer moment h (take applied_count rows))
-    pub written : fault ≢ Io → Appends before after (lines_of (replies_to site bearer moment h (take written_count rows)))
+    pub asked : List (ImportRow × Bool)
+    pub last : List (ImportRow × Bool)
+    pub others : List ImportRow
+    pub one : length last ≤ 1
+    pub all : map (λ row. row.0) (asked ++ last) ++ others ≡ rows
+    pub held : holds store (after_rows site bearer moment h (asked ++ last))
+    pub sound : IsSound (after_rows site bearer moment h (asked ++ last))
+    pub written : fault ≢ Io → Appends before after (lines_of (replies_to site bearer moment h asked))
+
+-- ---- histories
+
+-- a row that came, as an event that was carried out
+abbrev pub IsRowItem : Site → List ℕ → ℕ → Item → Type 0
+IsRowItem site bearer moment item = (row : ImportRow) × (reply : Reply) × (item ≡ carried_out site (event_of bearer row) moment (replicate 16 0) reply)
+
+-- the rows that came go on from the hall's history
+abbrev pub GoOn : {S : Type 0} → (S → Hall → Type 0) → S → S → Site → List ℕ → ℕ → Type 0
+GoOn holds old new site bearer moment =
+    (admin digest : List ℕ) (past : List Item) → HasHistory holds old admin digest past
+    → (items : List Item) × AllByRecursion (IsRowItem site bearer moment) items × HasHistory holds new admin digest (past ++ items)

@@ -1,5 +1,5 @@
 //! The import of new machines.
-ghost use Rattle.std.specs.Prelude.{◌≡◌, ◌≢◌, ◌⊎◌, ℕ, List, [], ◌∷◌, Ok, Err, IfErr, IfOk, if◌then◌else◌};
+ghost use Rattle.std.specs.Prelude.{◌≡◌, ◌≢◌, ◌⊎◌, ℕ, List, [], ◌∷◌, Ok, Err, IfErr, IfOk, IsErr, OnErr, if◌then◌else◌};
 ghost use Rattle.hall_types.specs.Hall.{Hall};
 ghost use Rattle.boot_desk.specs.Sound.{IsSound};
 ghost use Rattle.hall_desk.specs.Desk.{site_of, store_of};
@@ -7,7 +7,7 @@ ghost use Rattle.hall_report.specs.Import.{import_in};
 ghost use Rattle.hall_report.specs.declared.fault.ImportFault.TheVariants as cause;
 ghost use Rattle.hall_report.specs.declared.row.ImportRow.{ImportRow};
 ghost use Rattle.desk_operations.specs.Fault.{IsImportFault, IsStoreFault};
-ghost use Rattle.desk_operations.specs.Import.{IsImported, IsRowDone, IsRowStopped, IsStopped, event_of};
+ghost use Rattle.desk_operations.specs.Import.{GoOn, IsImported, IsRowAnswered, IsRowDone, IsRowStopped, IsStopped, event_of};
 
 use crate::fault::Fault;
 use crate::import_line::row_line;
@@ -16,9 +16,9 @@ use hall_desk::Desk;
 use hall_events::{Event, HallCommand, Reply};
 use hall_report::{ImportRow, import_rows};
 use hall_store::{HallStore, Unavailable};
-use hall_types::{Digest, Moment, Token};
+use hall_types::{Digest, Moment, Refusal, Token};
 use laws_steps::{decisions_keep_the_rules, steps_keep_halls_sound};
-use std::alloc::Global;
+use std::alloc::{AllocError, Global};
 use std::io::Write;
 
 /// How an import ended.
@@ -48,6 +48,30 @@ fn event_of(row: &ImportRow, bearer: Digest) -> Event
     }
 }
 
+// Adds the machine of a row, and gives the answer. A store that can't answer is answered Unavailable.
+fn answer_row<S: HallStore>(
+    alloc: Global,
+    desk: &mut Desk<S>,
+    row: &ImportRow,
+    bearer: Digest,
+    moment: Moment,
+) -> Result<Reply, AllocError>
+    ensures clean { S.HallStore.is_clean (store_of desk.new) → S.HallStore.is_clean (store_of desk.old) }
+    ensures site { site_of desk.new ≡ site_of desk.old }
+    ensures answered { S.HallStore.is_clean (store_of desk.new) → IfOk result (λ reply. (h : Hall) → S.HallStore.holds (store_of desk.old) h → IsSound h
+        → IsRowAnswered S.HallStore.holds (store_of desk.new) (site_of desk.old) bearer moment h row.now reply) }
+    ensures history { S.HallStore.is_clean (store_of desk.new) → GoOn S.HallStore.holds (store_of desk.old) (store_of desk.new) (site_of desk.old) bearer moment }
+    ensures missed { S.HallStore.is_clean (store_of desk.new) → OnErr result ((h : Hall) → S.HallStore.holds (store_of desk.old) h → S.HallStore.holds (store_of desk.new) h) }
+{
+    steps_keep_halls_sound();
+    decisions_keep_the_rules();
+    let event = event_of(row, bearer);
+    match desk.step(alloc, &event, moment, Token::from(UNUSED)) {
+        Ok(reply) => Ok(reply),
+        Err(Unavailable) => Reply::refused(alloc, Refusal::Unavailable),
+    }
+}
+
 // Adds the machine of a row, writes the row's line, and says whether the answer has the status 200. The reply to a command
 // is a response, unless a disk's wrong answer was taken for a right one.
 fn add_row<S: HallStore, W: Write>(
@@ -65,15 +89,10 @@ fn add_row<S: HallStore, W: Write>(
         → IsRowDone S.HallStore.holds (store_of desk.new) (site_of desk.old) bearer moment h number row.now was_ok (W.contents writer.old) (W.contents writer.new)) }
     ensures stopped { S.HallStore.is_clean (store_of desk.new) → IfErr result (λ fault. (h : Hall) → S.HallStore.holds (store_of desk.old) h → IsSound h
         → IsRowStopped S.HallStore.holds (store_of desk.new) (site_of desk.old) bearer moment h row.now fault (W.contents writer.old) (W.contents writer.new)) }
+    ensures history { S.HallStore.is_clean (store_of desk.new) → GoOn S.HallStore.holds (store_of desk.old) (store_of desk.new) (site_of desk.old) bearer moment }
     ensures fault { IfErr result IsStoreFault }
 {
-    steps_keep_halls_sound();
-    decisions_keep_the_rules();
-    let event = event_of(row, bearer);
-    let reply = match desk.step(alloc, &event, moment, Token::from(UNUSED)) {
-        Ok(reply) => reply,
-        Err(Unavailable) => return Err(Fault::Unavailable),
-    };
+    let reply = answer_row(alloc, desk, row, bearer, moment)?;
     let Reply::Http { status, body, .. } = reply else {
         return Err(Fault::Unavailable);
     };
@@ -103,6 +122,7 @@ fn add_rows<S: HallStore, W: Write>(
         → IsImported S.HallStore.holds (store_of desk.new) (site_of desk.old) bearer moment h rows.now end (W.contents writer.old) (W.contents writer.new)) }
     ensures stopped { S.HallStore.is_clean (store_of desk.new) → IfErr result (λ fault. (h : Hall) → S.HallStore.holds (store_of desk.old) h → IsSound h
         → IsStopped S.HallStore.holds (store_of desk.new) (site_of desk.old) bearer moment h rows.now fault (W.contents writer.old) (W.contents writer.new)) }
+    ensures history { S.HallStore.is_clean (store_of desk.new) → GoOn S.HallStore.holds (store_of desk.old) (store_of desk.new) (site_of desk.old) bearer moment }
     ensures fault { IfErr result IsStoreFault }
 {
     let mut end = Imported::All;
@@ -116,12 +136,13 @@ fn add_rows<S: HallStore, W: Write>(
 
 /// Adds the machines of a file of comma-separated values, each by a command of the operator whose token has the digest, with
 /// the row's key and at the moment. A line is written for each row: its number from 1 on, the status of the answer and its
-/// body. All rows are read before one is applied.
+/// body. Whatever comes of it, the rows that came go on from the hall's history. A row to which the store can't answer counts as not having come, and its line has the refusal Unavailable. All rows are
+/// read before one is applied.
 ///
 /// # Errors
 ///
-/// `BadHeader` and `BadRow` where the file is malformed: then nothing was applied or written. `Unavailable`, `Io` and
-/// `Memory` may come after some rows: those whose lines are there are applied, and perhaps the next one, whose line isn't.
+/// `BadHeader` and `BadRow` where the file is malformed: then nothing was applied or written, nor if memory ran out before that was
+/// found. `Io` and `Memory` may come after some rows: those whose lines are there are applied, and perhaps the next one, whose line isn't.
 /// After `Io` the writer may have anything of that line. An import that is repeated answers applied rows by their keys as
 /// before.
 pub fn import<S: HallStore, W: Write>(
@@ -138,10 +159,11 @@ pub fn import<S: HallStore, W: Write>(
         → IsImported S.HallStore.holds (store_of desk.new) (site_of desk.old) bearer moment h rows end (W.contents writer.old) (W.contents writer.new))) }
     ensures stopped { S.HallStore.is_clean (store_of desk.new) → IfErr result (λ fault. (rows : List ImportRow) → import_in octets.now ≡ Ok rows → (h : Hall) → S.HallStore.holds (store_of desk.old) h → IsSound h
         → IsStopped S.HallStore.holds (store_of desk.new) (site_of desk.old) bearer moment h rows fault (W.contents writer.old) (W.contents writer.new)) }
+    ensures history { S.HallStore.is_clean (store_of desk.new) → GoOn S.HallStore.holds (store_of desk.old) (store_of desk.new) (site_of desk.old) bearer moment }
     ensures fault { IfErr result IsImportFault }
     ensures bad_header { result ≡ Err Fault.BadHeader → import_in octets.now ≡ Err cause.BadHeader }
     ensures bad_row { result ≡ Err Fault.BadRow → (n : ℕ) × (import_in octets.now ≡ Err (cause.BadRow n)) }
-    ensures nothing { (result ≡ Err Fault.BadHeader) ⊎ (result ≡ Err Fault.BadRow) → (desk.new ≡ desk.old) × (writer.new ≡ writer.old) }
+    ensures malformed { IsErr (import_in octets.now) → (desk.new ≡ desk.old) × (writer.new ≡ writer.old) }
 {
     let rows = import_rows(alloc, octets)?;
     add_rows(alloc, desk, writer, &rows, bearer, moment)

@@ -1,5 +1,5 @@
 -- Attempts: what is carried out, what is answered without the hall, and what is missed.
-use Rattle.std.proofs.Common.{◌≡◌, ℕ, List, ◌∷◌, Result, Ok, Err, refl, sym, subst, inl, inr}
+use Rattle.std.proofs.Common.{◌≡◌, ◌∙◌, ℕ, List, ◌∷◌, Result, Ok, Err, refl, sym, subst, inl, inr}
 use Rattle.std.specs.Prelude.{◌≢◌, ◌⊎◌, IfOk}
 use Rattle.dhcp_frame.specs.Message.{Message, IsFrame}
 use Rattle.dhcp_frame.specs.declared.fault.FrameFault.{FrameFault}
@@ -9,7 +9,7 @@ use Rattle.pxe_vendor.specs.declared.clients.Client.{Client}
 use Rattle.pxe_vendor.specs.declared.serve.NotServed.{NotServed}
 use Rattle.pxe_vendor.specs.declared.serve.NotServed.TheVariants.{Memory}
 use Rattle.hall_types.specs.Hall.{Hall, applied, second}
-use Rattle.hall_events.specs.Reply.{Content, refused}
+use Rattle.hall_events.specs.Reply.{Content, script, refused, counted, repeated, machine_is, machine_gone, done, waiting_orders, machine_list, one_machine, stored, boot_file, nothing}
 use Rattle.hall_events.specs.declared.event.Event.{Event}
 use Rattle.boot_desk.specs.Sound.{IsSound}
 use Rattle.laws_model.specs.Decision.{decision_of}
@@ -18,23 +18,46 @@ use Rattle.http_requests.specs.declared.fault.HttpFault.{HttpFault}
 use Rattle.http_requests.specs.declared.fault.HttpFault.TheVariants.{Memory as NoMemory}
 use Rattle.hall_store.specs.Rules.{AllKeep}
 use Rattle.hall_desk.specs.Attempt.{IsAnswered, IsAttempt}
-use Rattle.hall_desk.specs.Octets.{asks, answered, IsFrom, Means, missed_answer, refusal_of, response_answer}
+use Rattle.hall_desk.specs.Octets.{asks, answered, frame_answer, IsFrom, Means, missed_answer, refusal_of, response_answer}
 use Rattle.hall_desk.specs.Plan.{IsCarriedOut}
 use Rattle.hall_desk.specs.declared.arrival.Answer.{Answer}
+use Rattle.hall_desk.specs.declared.arrival.Answer.TheVariants.{Unavailable}
 use Rattle.hall_desk.specs.declared.arrival.Input.{Input}
-use Rattle.hall_desk.specs.declared.arrival.Input.TheVariants.{Request}
-use Rattle.hall_store.specs.declared.store.Unavailable.{Unavailable}
+use Rattle.hall_desk.specs.declared.arrival.Input.TheVariants.{Datagram, Quiet, Request}
+use Rattle.hall_store.specs.declared.store.Unavailable.{Unavailable as Refusing}
 
 -- the rows of every decision keep the tables' rules and a sound hall
 pub record AreRules : Type 0 where
   pub keep : (site : Site) (h : Hall) (e : Event) (moment : ℕ) (fresh : List ℕ) → IsSound h → h.schema ≡ second → AllKeep (decision_of site h e moment fresh).rows h
   pub sound : (site : Site) (h : Hall) (e : Event) (moment : ℕ) (fresh : List ℕ) → IsSound h → h.schema ≡ second → IsSound (applied (decision_of site h e moment fresh).rows h)
 
+module _ (site : Site) where
+  frame_available : (message : Message) (client : Client) (c : Content) → frame_answer site message client c ≡ Unavailable → ⊥
+  frame_available message client (script commands) is = cc
+  frame_available message client (refused why) is = cc
+  frame_available message client counted is = cc
+  frame_available message client repeated is = cc
+  frame_available message client (machine_is id status version) is = cc
+  frame_available message client (machine_gone id) is = cc
+  frame_available message client done is = cc
+  frame_available message client (waiting_orders orders) is = cc
+  frame_available message client (machine_list machines) is = cc
+  frame_available message client (one_machine machine) is = cc
+  frame_available message client (stored status text) is = cc
+  frame_available message client (boot_file file) is = cc
+  frame_available message client nothing is = cc
+
+  -- what the hall makes of what came is never answered by Unavailable
+  said_available : (input : Input) (e : Event) (say : Content → Answer) → Means site input (asks e say) → (c : Content) → say c ≡ Unavailable → ⊥
+  said_available (Datagram port octets) e say means c is = frame_available means.message means.client c (subst (λ (f : Content → Answer). f c ≡ Unavailable) means.sends is)
+  said_available (Request octets) e say means c is = let gone = subst (λ (f : Content → Answer). f c ≡ Unavailable) means.1 is in cc
+  said_available Quiet e say means c is = let gone = subst (λ (f : Content → Answer). f c ≡ Unavailable) means.1 is in cc
+
 module _ {S : Type 0} (holds : S → Hall → Type 0) (leaves : S → List Hall → Type 0) where
   -- an arrival that asks the hall
   pub attempt_asked : AreRules → ((s : S) (h : Hall) → holds s h → h.schema ≡ second)
       → (old new : S) (site : Site) (input : Input) (moment : ℕ) (fresh : List ℕ) (e : Event) (say : Content → Answer) → Means site input (asks e say)
-      → (r : Result Answer Unavailable)
+      → (r : Result Answer Refusing)
       → IsCarriedOut holds leaves old new r (λ h. (decision_of site h e moment fresh).rows) (λ h a. a ≡ say (decision_of site h e moment fresh).content)
       → IsAttempt holds leaves old new site input moment fresh r
   attempt_asked rules schema old new site input moment fresh e say means (Ok a) c = record {
@@ -46,6 +69,10 @@ module _ {S : Type 0} (holds : S → Hall → Type 0) (leaves : S → List Hall 
       settled = λ left. c.settled h held (rules.keep site h e moment fresh sound (schema old h held)) left;
     };
     missed = tt;
+    unavailable = λ is h held. absurd (said_available site input e say means _ (sym (c.answer h held) ∙ is));
+    idle = λ h held none.
+        let no_rows = none (asks e say) means in
+        subst (λ rows. holds new (applied rows h)) no_rows (c.made h held (subst (λ rows. AllKeep rows h) (sym no_rows) tt));
     crash = λ h held sound hs left. record {
       next = applied (decision_of site h e moment fresh).rows h;
       answer = say (decision_of site h e moment fresh).content;
@@ -56,6 +83,8 @@ module _ {S : Type 0} (holds : S → Hall → Type 0) (leaves : S → List Hall 
   attempt_asked rules schema old new site input moment fresh e say means (Err error) c = record {
     came = tt;
     missed = c.same;
+    unavailable = tt;
+    idle = λ h held none. c.same h held;
     crash = λ h held sound hs left. record {
       next = applied (decision_of site h e moment fresh).rows h;
       answer = say (decision_of site h e moment fresh).content;
@@ -67,7 +96,7 @@ module _ {S : Type 0} (holds : S → Hall → Type 0) (leaves : S → List Hall 
   module _ (wider : (s : S) (h : Hall) (hs : List Hall) → leaves s hs → leaves s (h ∷ hs)) (s : S) (site : Site) (input : Input) (moment : ℕ) (fresh : List ℕ) where
     -- one that is answered without the hall
     pub attempt_answered : (a : Answer) → Means site input (answered a)
-        → IsAttempt holds leaves s s site input moment fresh {E = Unavailable} (Ok a)
+        → IsAttempt holds leaves s s site input moment fresh {E = Refusing} (Ok a)
     attempt_answered a means = record {
       came = λ h held sound. record {
         next = h;
@@ -77,6 +106,8 @@ module _ {S : Type 0} (holds : S → Hall → Type 0) (leaves : S → List Hall 
         settled = λ left. left;
       };
       missed = tt;
+      unavailable = λ is h held. held;
+      idle = λ h held none. held;
       crash = λ h held sound hs left. record {
         next = h;
         answer = a;
@@ -86,10 +117,12 @@ module _ {S : Type 0} (holds : S → Hall → Type 0) (leaves : S → List Hall 
     }
 
     -- one that counts as not having come
-    pub attempt_missed : (e : Unavailable) → IsAttempt holds leaves s s site input moment fresh (Err e)
+    pub attempt_missed : (e : Refusing) → IsAttempt holds leaves s s site input moment fresh (Err e)
     attempt_missed e = record {
       came = tt;
       missed = λ h held. held;
+      unavailable = tt;
+      idle = λ h held none. held;
       crash = λ h held sound hs left. record {
         next = h;
         answer = missed_answer input;
@@ -101,7 +134,7 @@ module _ {S : Type 0} (holds : S → Hall → Type 0) (leaves : S → List Hall 
   -- a request that makes no event
   pub attempt_refused : (wider : (s : S) (h : Hall) (hs : List Hall) → leaves s hs → leaves s (h ∷ hs))
       → (s : S) (site : Site) (octets : List ℕ) (moment : ℕ) (fresh : List ℕ) (fault : HttpFault) → IsEvent octets (Err fault) → fault ≢ NoMemory
-      → (r : Result Answer Unavailable) → IfOk r (λ a. a ≡ response_answer (refused (refusal_of fault)))
+      → (r : Result Answer Refusing) → IfOk r (λ a. a ≡ response_answer (refused (refusal_of fault)))
       → IsAttempt holds leaves s s site (Request octets) moment fresh r
   attempt_refused wider s site octets moment fresh fault first known (Ok a) is =
       attempt_answered wider s site (Request octets) moment fresh a (record { why = fault; first = first; known = known; answer = is })
@@ -134,9 +167,14 @@ no_client octets read cause only clients other message client is =
 -- ---- answers
 
 module _ {S : Type 0} (holds : S → Hall → Type 0) (leaves : S → List Hall → Type 0) (old new : S) (site : Site) (input : Input) (moment : ℕ) (fresh : List ℕ) where
-  pub answered_ok : (a : Answer) → IsAttempt holds leaves old new site input moment fresh {E = Unavailable} (Ok a) → IsAnswered holds leaves old new site input moment fresh a
-  answered_ok a it = record { step = λ h held sound. inl (it.came h held sound); crash = it.crash }
+  pub answered_ok : (a : Answer) → IsAttempt holds leaves old new site input moment fresh {E = Refusing} (Ok a) → IsAnswered holds leaves old new site input moment fresh a
+  answered_ok a it = record { step = λ h held sound. inl (it.came h held sound); idle = it.idle; unavailable = it.unavailable; crash = it.crash }
 
-  pub answered_err : (e : Unavailable) (a : Answer) → a ≡ missed_answer input → IsAttempt holds leaves old new site input moment fresh (Err e)
+  pub answered_err : (e : Refusing) (a : Answer) → a ≡ missed_answer input → IsAttempt holds leaves old new site input moment fresh (Err e)
       → IsAnswered holds leaves old new site input moment fresh a
-  answered_err e a is it = record { step = λ h held sound. inr (record { answer = is; same = refl }, it.missed h held); crash = it.crash }
+  answered_err e a is it = record {
+    step = λ h held sound. inr (record { answer = is; same = refl }, it.missed h held);
+    idle = it.idle;
+    unavailable = λ its. it.missed;
+    crash = it.crash;
+  }

@@ -1,10 +1,10 @@
 -- A run goes on by one arrival.
-use Rattle.std.proofs.Common.{◌≡◌, List, [], ◌∷◌, ◌++◌, refl, subst, inl, inr}
+use Rattle.std.proofs.Common.{◌≡◌, ◌<◌, ◌+◌, ◌∙◌, ℕ, List, [], ◌∷◌, ◌++◌, length, drop, drop-cons, get_or, suc, add-one, ap, refl, sym, subst, inl, inr}
 use Rattle.std.specs.Prelude.{◌⊎◌}
 use Rattle.pxe_vendor.specs.Place.{Site}
 use Rattle.hall_types.specs.Hall.{Hall}
 use Rattle.boot_desk.specs.Sound.{IsSound}
-use Rattle.hall_desk.specs.Attempt.{IsAnswered, IsKept, IsRan}
+use Rattle.hall_desk.specs.Attempt.{ChangeNothing, IsAnswered, IsKept, IsRan}
 use Rattle.hall_desk.specs.Octets.{HasMissed, IsArrivalRun, IsArrivalStep}
 use Rattle.hall_desk.specs.declared.arrival.Answer.{Answer}
 use Rattle.hall_desk.specs.declared.arrival.Arrival.{Arrival}
@@ -18,6 +18,9 @@ run_push site [] (b ∷ answers) h mid next arrival a run step = absurd run
 run_push site (x ∷ arrivals) [] h mid next arrival a run step = absurd run
 run_push site (x ∷ arrivals) (b ∷ answers) h mid next arrival a run step =
     (run.0, run.1, run_push site arrivals answers run.0 mid next arrival a run.2 step)
+
+next_arrival : (arrivals : List Arrival) (i : ℕ) (arrival : Arrival) → i < length arrivals → arrival ≡ get_or arrivals i arrival → drop i arrivals ≡ arrival ∷ drop (i + 1) arrivals
+next_arrival arrivals i arrival low is = drop-cons arrivals i arrival low ∙ ap (λ y. y ∷ drop (suc i) arrivals) (sym is) ∙ ap (λ j. arrival ∷ drop j arrivals) (sym (add-one i))
 
 module _ {S : Type 0} (holds : S → Hall → Type 0) (leaves : S → List Hall → Type 0) (site : Site) where
   pub ran_none : (store : S) (h : Hall) → holds store h → IsSound h → IsRan holds store site h [] []
@@ -46,3 +49,13 @@ module _ {S : Type 0} (holds : S → Hall → Type 0) (leaves : S → List Hall 
   ran_more from same old new h arrivals answers arrival a ran it =
       let here = subst (λ (at : Site). IsAnswered holds leaves old new at arrival.input arrival.moment arrival.fresh a) same it in
       more old new h arrivals answers arrival a ran (here.step ran.end ran.held ran.sound)
+
+  -- one more arrival that changes nothing leaves the hall
+  pub idle_more : (from : Site) → from ≡ site → (old new : S) (h : Hall) (arrivals : List Arrival) (index : ℕ) (arrival : Arrival) (a : Answer)
+      → index < length arrivals → arrival ≡ get_or arrivals index arrival
+      → IsAnswered holds leaves old new from arrival.input arrival.moment arrival.fresh a
+      → holds old h × ChangeNothing site h (drop index arrivals) → holds new h × ChangeNothing site h (drop (index + 1) arrivals)
+  idle_more from same old new h arrivals index arrival a low is it was =
+      let here = subst (λ (at : Site). IsAnswered holds leaves old new at arrival.input arrival.moment arrival.fresh a) same it in
+      let rest = subst (ChangeNothing site h) (next_arrival arrivals index arrival low is) was.1 in
+      (here.idle h was.0 rest.0, rest.1)

@@ -58,6 +58,8 @@ module _ {S : Type 0} (holds : S → Hall → Type 0) (leaves : S → List Hall 
     answered_on : (a : Answer) → IsAnswered holds leaves old new site (Request octets) moment fresh a → IsAnswered holds leaves old new site (Request (octets ++ more)) moment fresh a
     answered_on a it = record {
       step = λ h held sound. elim (it.step h held sound) [ inl kept ↦ inl (kept_on h a kept) | inr missed ↦ inr (missed_on h h a missed.0, missed.1) ];
+      idle = λ h held none. it.idle h held (λ m means. none m (means_on m means));
+      unavailable = it.unavailable;
       crash = λ h held sound hs left. torn_on h hs (it.crash h held sound hs left);
     }
 
@@ -89,6 +91,8 @@ pub unread : {S : Type 0} (holds : S → Hall → Type 0) (leaves : S → List H
 unread holds leaves wider s site moment fresh None = tt
 unread holds leaves wider s site moment fresh (Some all) = record {
   step = λ h held sound. inr (record { answer = refl; same = refl }, held);
+  idle = λ h held none. held;
+  unavailable = λ is h held. held;
   crash = λ h held sound hs left. record {
     next = h;
     answer = Unavailable;

@@ -1,10 +1,12 @@
 -- What carrying an arrival out promises, over any store.
-use Rattle.std.specs.Prelude.{◌⊎◌, ℕ, List, [], ◌∷◌, Result, IfOk, OnErr}
+use Rattle.std.specs.Prelude.{◌≡◌, ◌⊎◌, ℕ, List, [], ◌∷◌, Result, IfOk, OnErr}
+use Rattle.std.specs.List.{AllByRecursion}
 use Rattle.pxe_vendor.specs.Place.{Site}
 use Rattle.hall_types.specs.Hall.{Hall}
 use Rattle.boot_desk.specs.Sound.{IsSound}
-use Rattle.hall_desk.specs.Octets.{HasCome, HasMissed, IsArrivalStep, IsArrivalRun}
+use Rattle.hall_desk.specs.Octets.{ChangesNothing, HasCome, HasMissed, IsArrivalStep, IsArrivalRun, Meaning, Means}
 use Rattle.hall_desk.specs.declared.arrival.Answer.{Answer}
+use Rattle.hall_desk.specs.declared.arrival.Answer.TheVariants.{Unavailable}
 use Rattle.hall_desk.specs.declared.arrival.Arrival.{Arrival}
 use Rattle.hall_desk.specs.declared.arrival.Input.{Input}
 
@@ -29,12 +31,22 @@ module _ {S : Type 0} (holds : S → Hall → Type 0) (leaves : S → List Hall 
   pub record IsAttempt {E : Type 0} (r : Result Answer E) : Type 0 where
     pub came : IfOk r (λ a. (h : Hall) → holds old h → IsSound h → IsKept h a)
     pub missed : OnErr r ((h : Hall) → holds old h → holds new h)
+    pub unavailable : IfOk r (λ a. a ≡ Unavailable → (h : Hall) → holds old h → holds new h)
+    pub idle : (h : Hall) → holds old h → ((m : Meaning) → Means site input m → ChangesNothing site h moment fresh m) → holds new h
     pub crash : (h : Hall) → holds old h → IsSound h → (hs : List Hall) → leaves old hs → IsTorn h hs
 
   -- An arrival is answered.
   pub record IsAnswered (a : Answer) : Type 0 where
     pub step : (h : Hall) → holds old h → IsSound h → IsKept h a ⊎ (HasMissed h input a h × holds new h)
+    -- a hall stays, sound or not, that what came doesn't change
+    pub idle : (h : Hall) → holds old h → ((m : Meaning) → Means site input m → ChangesNothing site h moment fresh m) → holds new h
+    -- and each hall stays where the answer is Unavailable
+    pub unavailable : a ≡ Unavailable → (h : Hall) → holds old h → holds new h
     pub crash : (h : Hall) → holds old h → IsSound h → (hs : List Hall) → leaves old hs → IsTorn h hs
+
+-- none of the arrivals changes this hall
+abbrev pub ChangeNothing : Site → Hall → List Arrival → Type 0
+ChangeNothing site h arrivals = AllByRecursion (λ arrival. (m : Meaning) → Means site arrival.input m → ChangesNothing site h arrival.moment arrival.fresh m) arrivals
 
 -- A run leads from this hall, each arrival with its answer, to a sound one that the store has.
 pub record IsRan {S : Type 0} (holds : S → Hall → Type 0) (store : S) (site : Site) (h : Hall) (arrivals : List Arrival) (answers : List Answer) : Type 0 where

@@ -1,5 +1,7 @@
 pub mod Attempt
 pub mod Desk
+pub mod Headline
+pub mod History
 pub mod Octets
 pub mod Plan
 pub mod Served

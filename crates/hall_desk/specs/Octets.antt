@@ -1,5 +1,5 @@
 -- Arrivals and answers in octets, and what they mean to the model.
-use Rattle.std.specs.Prelude.{◌≡◌, ◌≢◌, ◌⊎◌, ℕ, List, [], ◌∷◌, Ok, Err}
+use Rattle.std.specs.Prelude.{◌≡◌, ◌≢◌, ◌⊎◌, ℕ, List, [], ◌∷◌, Ok, Err, ⊤}
 use Rattle.dhcp_frame.specs.Message.{Message, IsFrame}
 use Rattle.dhcp_frame.specs.Reply.{reply_octets}
 use Rattle.pxe_vendor.specs.Answer.{answer_to}
@@ -97,6 +97,11 @@ abbrev pub Leads : Site → Hall → ℕ → List ℕ → Meaning → Answer →
 Leads site h moment fresh (asks e say) a after =
     (a ≡ say (decision_of site h e moment fresh).content) × (after ≡ applied (decision_of site h e moment fresh).rows h)
 Leads site h moment fresh (answered its) a after = (a ≡ its) × (after ≡ h)
+
+-- what came leads to no change of this hall
+abbrev pub ChangesNothing : Site → Hall → ℕ → List ℕ → Meaning → Type 0
+ChangesNothing site h moment fresh (asks e say) = (decision_of site h e moment fresh).rows ≡ []
+ChangesNothing site h moment fresh (answered a) = ⊤
 
 -- what came is answered so, and leads to the next hall
 pub record HasCome (site : Site) (h : Hall) (what : Input) (moment : ℕ) (fresh : List ℕ) (a : Answer) (next : Hall) : Type 0 where

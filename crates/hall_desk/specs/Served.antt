@@ -1,9 +1,9 @@
 -- What serving one request over a reader and a writer did.
-use Rattle.std.specs.Prelude.{◌≡◌, ◌<◌, ◌⊎◌, ℕ, List, ◌++◌, take, length, Option, Some, Bool, true}
+use Rattle.std.specs.Prelude.{◌≡◌, ◌<◌, ◌≤◌, ◌⊎◌, ℕ, List, [], ◌++◌, take, length, Option, Some, Bool, true}
 use Rattle.std.specs.Io.KnownBytes.{Consumes, IsAtEnd}
 use Rattle.pxe_vendor.specs.Place.{Site}
 use Rattle.hall_types.specs.Hall.{Hall}
-use Rattle.http_requests.specs.Decided.{IsDecided}
+use Rattle.http_requests.specs.Decided.{Ends, IsDecided}
 use Rattle.hall_desk.specs.Attempt.{IsAnswered}
 use Rattle.hall_desk.specs.Octets.{octets_of}
 use Rattle.hall_desk.specs.declared.arrival.Answer.{Answer}
@@ -40,6 +40,14 @@ abbrev pub Reads : Reading → Option (List ℕ) → Option (List ℕ) → Type 
 Reads (reading.Whole octets) old new = Consumes old new octets × (IsAtEnd new ⊎ IsDecided octets)
 Reads reading.NoMemory old new = Unit {0}
 Reads reading.Failed old new = Unit {0}
+
+-- what was read: but for the octets of one last read, 512 at most, it doesn't end a request
+pub record IsReadInTime (old new : Option (List ℕ)) : Type 0 where
+  pub front : List ℕ
+  pub last : List ℕ
+  pub consumed : Consumes old new (front ++ last)
+  pub undecided : (front ≡ []) ⊎ ¬ (Ends front)
+  pub short : length last ≤ 512
 
 abbrev pub IfFailed : Reading → Bool → ℕ → Type 0
 IfFailed (reading.Whole octets) failed takes = Unit {0}

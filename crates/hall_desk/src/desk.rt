@@ -1,21 +1,26 @@
 //! The desk: a store, and the place that it serves.
-ghost use Rattle.std.specs.Prelude.{◌≡◌, IfOk, OnErr};
+ghost use Rattle.std.specs.Prelude.{◌≡◌, ℕ, List, [], ◌∷◌, ◌++◌, length, IfOk, OnErr};
 ghost use Rattle.hall_events.specs.Reply.{reply_of};
+ghost use Rattle.http_requests.specs.WordLaws.{IsFreeEvent};
 ghost use Rattle.laws_model.specs.Decision.{decision_of};
-ghost use Rattle.hall_types.specs.Hall.{Hall, second};
+ghost use Rattle.hall_types.specs.Hall.{Hall, new_hall, second};
 ghost use Rattle.desk_views.specs.Look.{IsLook};
 ghost use Rattle.boot_desk.specs.Sound.{IsSound};
-ghost use Rattle.hall_desk.specs.Attempt.{IsAnswered, IsRan};
+ghost use Rattle.hall_desk.specs.Attempt.{ChangeNothing, IsAnswered, IsRan};
 ghost use Rattle.hall_desk.specs.Desk.{site_of, store_of};
+ghost use Rattle.hall_desk.specs.Headline.{HasHistory};
+ghost use Rattle.hall_desk.specs.History.{Item, carried_out, exchanged, exchanges};
 ghost use Rattle.hall_desk.specs.Plan.{IsCarriedOut, Plans};
 
 use crate::arrival::{Answer, Arrival};
 use crate::attempts::{attempt, missed};
+use crate::laws::histories_keep_the_laws;
 use crate::planning::planned;
 use crate::writing::write;
 use hall_events::{Event, Reply};
 use hall_store::{HallStore, Unavailable};
 use hall_types::{Change, Moment, Token};
+use laws_steps::decisions_keep_the_rules;
 use pxe_vendor::Place;
 use std::alloc::{AllocError, Global};
 
@@ -27,11 +32,13 @@ pub struct Desk<S> {
 }
 
 impl<S: HallStore> Desk<S> {
-    /// The desk of a store's hall.
+    /// The desk of a store's hall. To a new hall nothing came yet.
     pub fn new(store: S, place: Place) -> Desk<S>
         ensures store { store_of result ≡ store }
         ensures site { site_of result ≡ place }
+        ensures history { (admin digest : List ℕ) → S.HallStore.holds store (new_hall second admin digest) → HasHistory S.HallStore.holds (store_of result) admin digest [] }
     {
+        histories_keep_the_laws();
         Desk { store, place }
     }
 
@@ -59,8 +66,31 @@ impl<S: HallStore> Desk<S> {
     }
 
     /// Carries an event out: its rows are written, and its answer is given. After `Unavailable` the hall is as it was
-    /// before. All memory is taken before a row is written.
+    /// before. All memory is taken before a row is written. With all that came to the hall since it was new, it is a history that
+    /// keeps all laws.
     pub fn step(
+        &mut self,
+        alloc: Global,
+        event: &Event,
+        moment: Moment,
+        fresh: Token,
+    ) -> Result<Reply, Unavailable>
+        ensures clean { S.HallStore.is_clean (store_of self.new) → S.HallStore.is_clean (store_of self.old) }
+        ensures site { site_of self.new ≡ site_of self.old }
+        ensures step { S.HallStore.is_clean (store_of self.new) → IsCarriedOut S.HallStore.holds S.HallStore.leaves (store_of self.old) (store_of self.new) result
+            (λ h. (decision_of (site_of self.old) h event.now moment fresh).rows)
+            (λ h reply. reply ≡ reply_of second (decision_of (site_of self.old) h event.now moment fresh).content) }
+        ensures history { S.HallStore.is_clean (store_of self.new) → IfOk result (λ reply. IsFreeEvent event.now → (admin digest : List ℕ) (past : List Item)
+            → HasHistory S.HallStore.holds (store_of self.old) admin digest past
+            → HasHistory S.HallStore.holds (store_of self.new) admin digest (past ++ carried_out (site_of self.old) event.now moment fresh reply ∷ [])) }
+    {
+        histories_keep_the_laws();
+        decisions_keep_the_rules();
+        self.carry_out(alloc, event, moment, fresh)
+    }
+
+    // Carries an event out.
+    fn carry_out(
         &mut self,
         alloc: Global,
         event: &Event,
@@ -77,9 +107,25 @@ impl<S: HallStore> Desk<S> {
         write(&mut self.store, &change)?;
         Ok(reply)
     }
-    /// Answers what came. After `Unavailable`, and after a datagram's silence, the hall may be as it was before.
-    #[tactic(auto, using(crate::proofs::AttemptLemmas::answered_ok, crate::proofs::AttemptLemmas::answered_err))]
+
+    /// Answers what came. After `Unavailable`, and after a datagram's silence, the hall may be as it was before. With all that came to
+    /// the hall since it was new, at this place or others, it is a history that keeps all laws.
     pub fn answer(&mut self, alloc: Global, arrival: &Arrival) -> Answer
+        ensures clean { S.HallStore.is_clean (store_of self.new) → S.HallStore.is_clean (store_of self.old) }
+        ensures site { site_of self.new ≡ site_of self.old }
+        ensures answer { S.HallStore.is_clean (store_of self.new) → IsAnswered S.HallStore.holds S.HallStore.leaves (store_of self.old) (store_of self.new)
+            (site_of self.old) arrival.now.input arrival.now.moment arrival.now.fresh result }
+        ensures history { S.HallStore.is_clean (store_of self.new) → (admin digest : List ℕ) (past : List Item)
+            → HasHistory S.HallStore.holds (store_of self.old) admin digest past
+            → HasHistory S.HallStore.holds (store_of self.new) admin digest (past ++ exchanged (site_of self.old) arrival.now result ∷ []) }
+    {
+        histories_keep_the_laws();
+        self.take(alloc, arrival)
+    }
+
+    // Answers what came.
+    #[tactic(auto, using(crate::proofs::AttemptLemmas::answered_ok, crate::proofs::AttemptLemmas::answered_err))]
+    fn take(&mut self, alloc: Global, arrival: &Arrival) -> Answer
         ensures clean { S.HallStore.is_clean (store_of self.new) → S.HallStore.is_clean (store_of self.old) }
         ensures site { site_of self.new ≡ site_of self.old }
         ensures answer { S.HallStore.is_clean (store_of self.new) → IsAnswered S.HallStore.holds S.HallStore.leaves (store_of self.old) (store_of self.new)
@@ -91,15 +137,23 @@ impl<S: HallStore> Desk<S> {
         }
     }
 
-    /// Answers what comes in turn, one answer each. The error is want of memory for the answers, before the first arrival,
+    /// Answers what comes in turn, one answer each. A hall stays, sound or not, that none of it changes. With all that came to the hall
+    /// since it was new, at this place or others, it is a history that keeps all laws: `specs/Headline.antt` has them in one place. The error is want of memory for the answers, before the first arrival,
     /// and the hall is then as it was.
     pub fn run(&mut self, alloc: Global, arrivals: &[Arrival]) -> Result<Vec<Answer>, AllocError>
         ensures clean { S.HallStore.is_clean (store_of self.new) → S.HallStore.is_clean (store_of self.old) }
         ensures site { site_of self.new ≡ site_of self.old }
         ensures run { S.HallStore.is_clean (store_of self.new) → IfOk result (λ answers. (h : Hall) → S.HallStore.holds (store_of self.old) h → IsSound h
             → IsRan S.HallStore.holds (store_of self.new) (site_of self.old) h arrivals.now answers.items) }
+        ensures one_each { IfOk result (λ answers. length answers.items ≡ length arrivals.now) }
+        ensures history { S.HallStore.is_clean (store_of self.new) → IfOk result (λ answers. (admin digest : List ℕ) (past : List Item)
+            → HasHistory S.HallStore.holds (store_of self.old) admin digest past
+            → HasHistory S.HallStore.holds (store_of self.new) admin digest (past ++ exchanges (site_of self.old) arrivals.now answers.items)) }
+        ensures idle { S.HallStore.is_clean (store_of self.new) → (h : Hall) → S.HallStore.holds (store_of self.old) h
+            → ChangeNothing (site_of self.old) h arrivals.now → S.HallStore.holds (store_of self.new) h }
         ensures err { OnErr result (self.new ≡ self.old) }
     {
+        histories_keep_the_laws();
         let mut answers = Vec::with_capacity(alloc, arrivals.len())?;
         for arrival in arrivals {
             let answer = self.answer(alloc, arrival);

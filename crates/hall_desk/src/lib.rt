@@ -5,6 +5,7 @@ mod arrival;
 mod attempts;
 mod carrying;
 mod desk;
+mod laws;
 mod listing;
 mod octets;
 mod planning;
@@ -16,4 +17,5 @@ mod writing;
 
 pub use arrival::{Answer, Arrival, Input};
 pub use desk::Desk;
+pub use laws::{histories_go_on, histories_keep_the_laws, items_are_steps};
 pub use serving::Served;

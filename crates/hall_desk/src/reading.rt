@@ -1,8 +1,8 @@
 //! Reading one request.
-ghost use Rattle.std.specs.Prelude.{◌≡◌, ◌++◌, false, IfOk, IsTrue};
+ghost use Rattle.std.specs.Prelude.{◌≡◌, ◌≤◌, ◌++◌, false, IfOk, IsTrue};
 ghost use Rattle.hall_http.specs.Noted.{failed_of, inner_of, takes_of};
-ghost use Rattle.http_requests.specs.Decided.{IsDecided};
-ghost use Rattle.hall_desk.specs.Served.{IfFailed, Reads};
+ghost use Rattle.http_requests.specs.Decided.{Ends, IsDecided};
+ghost use Rattle.hall_desk.specs.Served.{IfFailed, IsReadInTime, Reads};
 ghost use Rattle.hall_desk.specs.declared.reading.Reading.TheVariants as reading;
 
 use hall_http::{Noted, is_decided};
@@ -32,7 +32,8 @@ fn extend(octets: &mut Vec<u8>, more: &[u8]) -> bool
 
 // Whether the octets so far decide the request.
 fn decides(alloc: Global, octets: &Vec<u8>) -> Result<bool, AllocError>
-    ensures { IfOk result (λ decided. IsTrue decided → IsDecided octets.now.items) }
+    ensures decided { IfOk result (λ decided. IsTrue decided → IsDecided octets.now.items) }
+    ensures ends { IfOk result (λ decided. Ends octets.now.items → IsTrue decided) }
 {
     is_decided(alloc, octets.as_slice())
 }
@@ -49,6 +50,8 @@ pub(crate) fn read_request<R: Read>(alloc: Global, reader: &mut Noted<R>) -> Rea
     requires failed { failed_of reader.old ≡ false }
     ensures reads { Reads result (R.remaining (inner_of reader.old)) (R.remaining (inner_of reader.new)) }
     ensures fails { IfFailed result (failed_of reader.new) (takes_of reader.new) }
+    ensures in_time { IsReadInTime (R.remaining (inner_of reader.old)) (R.remaining (inner_of reader.new)) }
+    ensures takes { takes_of reader.new ≤ 4096 }
 {
     let mut octets = Vec::new(alloc);
     let mut piece = [0; 512];

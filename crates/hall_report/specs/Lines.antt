@@ -6,7 +6,7 @@ use Rattle.uuid.specs.Text.{hyphenated_text, lower}
 use Rattle.wire_mac.specs.MacText.{mac_text}
 use Rattle.pxe_vendor.specs.Arch.{arch_text}
 use Rattle.hall_types.specs.Hall.{Hall}
-use Rattle.hall_types.specs.Kinds.{order_kind_text}
+use Rattle.hall_types.specs.Kinds.{erase_text, order_kind_text}
 use Rattle.hall_types.specs.Lookup.{interfaces_of, waiting}
 use Rattle.hall_types.specs.Rows.{at}
 use Rattle.hall_types.specs.Status.{status_text}
@@ -74,6 +74,7 @@ abbrev pub holder_lines : Machine → List ℕ
 holder_lines m =
     field_line (codes "owner") (or_dash m.owner)
     ++ field_line (codes "image") (or_dash m.image)
+    ++ field_line (codes "erase") (or_dash (option_map erase_text m.erase))
     ++ field_line (codes "locked") (yes_no m.locked)
     ++ field_line (codes "deadline") (or_dash (option_map decimal m.deadline))
 

@@ -63,15 +63,22 @@ fn push_total(alloc: Global, text: &mut String, total: u128) -> Result<(), Alloc
     text.push('\n')
 }
 
+// Writes the header, a line for each count, and the sum.
+fn push_all(alloc: Global, text: &mut String, counts: &[Count]) -> Result<(), AllocError>
+    ensures { OnOk result (string_bytes text.new ≡ string_bytes text.old ++ counts_text counts.now) }
+{
+    push_row(text, "pool", "status", "count")?;
+    for count in counts {
+        push_count(alloc, text, count)?;
+    }
+    push_total(alloc, text, total_of(counts))
+}
+
 fn counts_text(alloc: Global, counts: &[Count]) -> Result<String, AllocError>
     ensures { IfOk result (λ text. string_bytes text ≡ counts_text counts.now) }
 {
     let mut text = String::new(alloc);
-    push_row(&mut text, "pool", "status", "count")?;
-    for count in counts {
-        push_count(alloc, &mut text, count)?;
-    }
-    push_total(alloc, &mut text, total_of(counts))?;
+    push_all(alloc, &mut text, counts)?;
     Ok(text)
 }
 

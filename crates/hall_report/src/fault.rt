@@ -8,13 +8,13 @@ use thiserror::Error;
 pub enum ReportFault {
     /// No machine has the number that was asked for.
     #[error("NoMachine")]
-    NoMachine,
+    NoMachine = 1,
     /// The store can't answer now.
     #[error("Unavailable")]
-    Unavailable,
+    Unavailable = 2,
     /// Memory ran out.
     #[error("Memory")]
-    Memory,
+    Memory = 3,
 }
 
 impl From<Unavailable> for ReportFault {

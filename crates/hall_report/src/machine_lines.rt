@@ -2,6 +2,7 @@
 ghost use Rattle.std.specs.Prelude.{◌≡◌, ◌++◌, Some, None, IfErr, IfOk, OnOk, codes, option_map, string_bytes};
 ghost use Rattle.std.specs.Fmt.{decimal};
 ghost use Rattle.hall_types.specs.Hall.{Hall};
+ghost use Rattle.hall_types.specs.Kinds.{erase_text};
 ghost use Rattle.hall_store.specs.Store.{IsRead};
 ghost use Rattle.hall_report.specs.Lines.{field_line, hardware_lines, holder_lines, machine_lines, machine_text, macs_if, or_dash, state_lines, uuid_text};
 
@@ -9,7 +10,7 @@ use crate::columns::digits;
 use crate::fault::ReportFault;
 use crate::member::{macs_text, uuid_text, yes_no};
 use hall_store::HallStore;
-use hall_types::{Interface, Machine, MachineUuid, Name, Number};
+use hall_types::{Erase, Interface, Machine, MachineUuid, Name, Number};
 use std::alloc::{AllocError, Global};
 
 // What stands for a field that is absent.
@@ -68,6 +69,15 @@ fn push_name(text: &mut String, name: &str, given: Option<Name>) -> Result<(), A
     }
 }
 
+fn push_erase(text: &mut String, erase: Option<Erase>) -> Result<(), AllocError>
+    ensures { OnOk result (string_bytes text.new ≡ string_bytes text.old ++ field_line (codes "erase") (or_dash (option_map erase_text erase))) }
+{
+    match erase {
+        Some(erase) => push_field(text, "erase", erase.text()),
+        None => push_field(text, "erase", ABSENT),
+    }
+}
+
 fn push_deadline(alloc: Global, text: &mut String, deadline: Option<u64>) -> Result<(), AllocError>
     ensures { OnOk result (string_bytes text.new ≡ string_bytes text.old ++ field_line (codes "deadline") (or_dash (option_map decimal deadline))) }
 {
@@ -82,6 +92,7 @@ fn push_holder(alloc: Global, text: &mut String, machine: &Machine) -> Result<()
 {
     push_name(text, "owner", machine.owner)?;
     push_name(text, "image", machine.image)?;
+    push_erase(text, machine.erase)?;
     push_field(text, "locked", yes_no(machine.locked))?;
     push_deadline(alloc, text, machine.deadline)
 }
@@ -116,7 +127,7 @@ fn machine_lines(
 }
 
 /// The machine with a number, one field a line: `machine`, `status`, `version`, `pool`, `arch`, `uuid`, `owner`, `image`,
-/// `locked` as `yes` or `no`, `deadline` in seconds since 1970-01-01 00:00:00 UTC, and `interfaces` with the addresses, one
+/// `erase` as `quick` or `full`, `locked` as `yes` or `no`, `deadline` in seconds since 1970-01-01 00:00:00 UTC, and `interfaces` with the addresses, one
 /// space apart. `-` stands for what is absent. The store isn't changed.
 pub fn machine_text<S: HallStore>(
     alloc: Global,

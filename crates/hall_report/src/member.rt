@@ -1,8 +1,10 @@
 //! The texts of a machine's members.
-ghost use Rattle.std.specs.Prelude.{◌≡◌, ◌++◌, IfOk, OnOk, string_bytes};
+ghost use Rattle.std.specs.Prelude.{◌≡◌, ◌∷◌, ◌++◌, [], IfOk, OnOk, string_bytes};
+ghost use Rattle.std.specs.List.{flat_map};
+ghost use Rattle.wire_mac.specs.MacText.{mac_text};
 ghost use Rattle.hall_report.specs.Lines.{macs_text, uuid_text, yes_no};
 
-use hall_types::{Interface, MachineUuid};
+use hall_types::{Interface, MacAddress, MachineUuid};
 use std::alloc::{AllocError, Global};
 use uuid::Uuid;
 
@@ -24,6 +26,25 @@ pub(crate) fn uuid_text(alloc: Global, uuid: MachineUuid) -> Result<String, Allo
     String::from_str(alloc, text)
 }
 
+// Writes an address after a space.
+fn push_mac(alloc: Global, text: &mut String, mac: MacAddress) -> Result<(), AllocError>
+    ensures { OnOk result (string_bytes text.new ≡ string_bytes text.old ++ (32 ∷ []) ++ mac_text mac) }
+{
+    let printed = wire_mac::print(alloc, &mac.octets())?;
+    text.push(' ')?;
+    text.push_str(printed.as_str())
+}
+
+// Writes the addresses of interfaces, each after a space.
+fn push_macs(alloc: Global, text: &mut String, interfaces: &[Interface]) -> Result<(), AllocError>
+    ensures { OnOk result (string_bytes text.new ≡ string_bytes text.old ++ flat_map (λ i. (32 ∷ []) ++ mac_text i.mac) interfaces.now) }
+{
+    for interface in interfaces {
+        push_mac(alloc, text, interface.mac)?;
+    }
+    Ok(())
+}
+
 /// The addresses of interfaces, one space apart.
 pub(crate) fn macs_text(alloc: Global, interfaces: &[Interface]) -> Result<String, AllocError>
     ensures { IfOk result (λ text. string_bytes text ≡ macs_text interfaces.now) }
@@ -32,9 +53,6 @@ pub(crate) fn macs_text(alloc: Global, interfaces: &[Interface]) -> Result<Strin
         return Ok(String::new(alloc));
     };
     let mut text = wire_mac::print(alloc, &first.mac.octets())?;
-    for interface in others {
-        text.push(' ')?;
-        text.push_str(wire_mac::print(alloc, &interface.mac.octets())?.as_str())?;
-    }
+    push_macs(alloc, &mut text, others)?;
     Ok(text)
 }

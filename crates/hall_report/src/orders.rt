@@ -1,7 +1,9 @@
 //! The queue of power orders.
 ghost use Rattle.std.specs.Prelude.{◌≡◌, ◌≢◌, ◌++◌, IfErr, IfOk, OnOk, string_bytes};
+ghost use Rattle.std.specs.Fmt.{decimal};
 ghost use Rattle.std.specs.List.{flat_map};
 ghost use Rattle.hall_store.specs.Store.{IsRead};
+ghost use Rattle.hall_report.specs.Columns.{in_right};
 ghost use Rattle.hall_report.specs.Lines.{order_line, order_text};
 
 use crate::columns::{digits, push_right};
@@ -13,26 +15,39 @@ use std::alloc::{AllocError, Global};
 // The width of a number's column: the highest number has 16 digits.
 const NUMBER_WIDTH: usize = 16;
 
+// Writes a number in its column.
+fn push_number(alloc: Global, text: &mut String, number: u64) -> Result<(), AllocError>
+    ensures { OnOk result (string_bytes text.new ≡ string_bytes text.old ++ in_right 16 (decimal number)) }
+{
+    let number = digits(alloc, number)?;
+    push_right(text, NUMBER_WIDTH, number.as_str())
+}
+
 fn push_order(alloc: Global, text: &mut String, order: &Order) -> Result<(), AllocError>
     ensures { OnOk result (string_bytes text.new ≡ string_bytes text.old ++ order_line order.now) }
 {
-    let number = digits(alloc, order.number.get())?;
-    let machine = digits(alloc, order.machine.get())?;
-    push_right(text, NUMBER_WIDTH, number.as_str())?;
+    push_number(alloc, text, order.number.get())?;
     text.push(' ')?;
-    push_right(text, NUMBER_WIDTH, machine.as_str())?;
+    push_number(alloc, text, order.machine.get())?;
     text.push(' ')?;
     text.push_str(order.kind.text())?;
     text.push('\n')
+}
+
+fn push_orders(alloc: Global, text: &mut String, orders: &[Order]) -> Result<(), AllocError>
+    ensures { OnOk result (string_bytes text.new ≡ string_bytes text.old ++ flat_map order_line orders.now) }
+{
+    for order in orders {
+        push_order(alloc, text, order)?;
+    }
+    Ok(())
 }
 
 fn orders_text(alloc: Global, orders: &[Order]) -> Result<String, AllocError>
     ensures { IfOk result (λ text. string_bytes text ≡ flat_map order_line orders.now) }
 {
     let mut text = String::new(alloc);
-    for order in orders {
-        push_order(alloc, &mut text, order)?;
-    }
+    push_orders(alloc, &mut text, orders)?;
     Ok(text)
 }
 

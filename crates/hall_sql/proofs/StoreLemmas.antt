@@ -9,7 +9,7 @@ use Rattle.hall_types.specs.Hall.{Hall, applied}
 use Rattle.hall_types.specs.Lookup.{next_expired}
 use Rattle.hall_types.specs.declared.change.RowWrite.{RowWrite}
 use Rattle.sql_rows.specs.Holding.{IsHeld, Leaves, IsAsked}
-use Rattle.sql_rows.specs.HoldingLaws.{same_held, leaves_on}
+use Rattle.sql_rows.specs.HoldingLaws.{back_held, leaves_on}
 use Rattle.sql_rows.specs.Spelling.{SpellHall}
 use Rattle.std.specs.List.{AllByRecursion}
 use Rattle.hall_store.specs.Store.{IsRead, IsWrite}
@@ -36,10 +36,10 @@ module _ {S : Type 0} (g : trees.Ghosts S) where
     answered : (y : Y) → IsAsked (state g old.conn) (state g mid) {E = Error} (Ok y) Right → LeavesCommitted (state g mid)
         → IsRead (HasHall g) (StopLeaves g) old (record old { conn = mid }) {E = Unavailable} (Ok y) Right
     answered y a settled = record {
-      answer = λ h has. a.answer h (has.held up);
-      same = λ h has. record { schema = has.schema; held = λ _. a.same h (has.held up); earliest = has.earliest };
-      crash = λ h has hs left. a.crash h (has.held up) hs left;
-      settled = λ h has. settles mid h settled (a.same h (has.held up));
+      answer = λ h has. a.answer h (has.held (has.running up));
+      same = λ h has. let held = a.same h (has.held (has.running up)) in record { schema = has.schema; running = λ _. held.running; held = λ _. held; earliest = has.earliest };
+      crash = λ h has hs left. a.crash h (has.held (has.running up)) hs left;
+      settled = λ h has. settles mid h settled (a.same h (has.held (has.running up)));
     }
 
     refused : (e : Error) (u : Unavailable) (new : SqlStore S) → IsAsked (state g old.conn) (state g mid) {Y = Y} (Err e) Right → Passes g {Y = Y} (record old { conn = mid }) new (Err e) (Err u)
@@ -48,10 +48,11 @@ module _ {S : Type 0} (g : trees.Ghosts S) where
       answer = tt;
       same = λ h has. record {
         schema = has.schema;
-        held = λ going. let same = passed.1 going in same_held (state g mid) (state g new.conn) h same (a.back h (has.held up)) same.0.is_open;
-        earliest = subst (λ n. IsEarliest n h.machines) (sym passed.3) has.earliest;
+        running = passed.1;
+        held = back_held (state g mid) (state g new.conn) h passed.2 (a.back h (has.held (has.running up)));
+        earliest = subst (λ n. IsEarliest n h.machines) (sym passed.4) has.earliest;
       };
-      crash = λ h has hs left. leaves_on (state g mid) (state g new.conn) hs passed.2 clean (a.crash h (has.held up) hs left);
+      crash = λ h has hs left. leaves_on (state g mid) (state g new.conn) hs passed.3 clean (a.crash h (has.held (has.running up)) hs left);
       settled = tt;
     }
 
@@ -71,10 +72,10 @@ module _ {S : Type 0} (g : trees.Ghosts S) where
   pub none_known : (s : SqlStore S) (seconds moment : ℕ) → seconds ≡ moment → s.stopped ≡ false → LeavesCommitted (state g s.conn) → seconds < s.earliest
       → IsRead (HasHall g) (StopLeaves g) s s {E = Unavailable} (Ok None) (λ h answer. answer ≡ next_expired h moment)
   none_known s seconds moment is up settled early = record {
-    answer = λ h has. none_due (state g s.conn) h s.earliest moment (has.held up) has.earliest (subst (λ n. n < s.earliest) is early);
+    answer = λ h has. none_due (state g s.conn) h s.earliest moment (has.held (has.running up)) has.earliest (subst (λ n. n < s.earliest) is early);
     same = λ h has. has;
     crash = λ h has hs left. left;
-    settled = λ h has. settles s.conn h settled (has.held up);
+    settled = λ h has. settles s.conn h settled (has.held (has.running up));
   }
 
   -- where none has expired, the store keeps the next moment
@@ -85,6 +86,7 @@ module _ {S : Type 0} (g : trees.Ghosts S) where
     answer = r.answer;
     same = λ h has. record {
       schema = has.schema;
+      running = (r.same h has).running;
       held = (r.same h has).held;
       earliest = subst (λ n. IsEarliest (n + 1) h.machines) (sym is) (later_earliest h moment (r.answer h has));
     };
@@ -108,15 +110,16 @@ module _ {S : Type 0} (g : trees.Ghosts S) where
     made : (y : Y) → IsTold (state g old.conn) (state g mid) {E = Error} (Ok y) writes → LeavesCommitted (state g mid)
         → IsWrite (HasHall g) (StopLeaves g) old (record old { conn = mid; earliest = earliest }) {E = Unavailable} (Ok y) (λ _. writes)
     made y a settled = record {
-      made = λ h has keep. record {
+      made = λ h has keep. let held = a.made h (has.held (has.running up)) keep in record {
         schema = applied_schema writes h ∙ has.schema;
-        held = λ _. a.made h (has.held up) keep;
+        running = λ _. held.running;
+        held = λ _. held;
         earliest = applied_earliest earliest writes h (lower_earliest earliest old.earliest h.machines lower has.earliest) put;
       };
-      versions = λ h has keep. a.versions h (has.held up) keep;
+      versions = λ h has keep. a.versions h (has.held (has.running up)) keep;
       same = tt;
-      crash = λ h has keep hs left. a.crash h (has.held up) keep hs left;
-      settled = λ h has keep. settles mid (applied writes h) settled (a.made h (has.held up) keep);
+      crash = λ h has keep hs left. a.crash h (has.held (has.running up)) keep hs left;
+      settled = λ h has keep. settles mid (applied writes h) settled (a.made h (has.held (has.running up)) keep);
     }
 
     refused_write : (e : Error) (u : Unavailable) (new : SqlStore S) → IsTold (state g old.conn) (state g mid) {Y = Y} (Err e) writes → Passes g {Y = Y} (record old { conn = mid; earliest = earliest }) new (Err e) (Err u)
@@ -126,10 +129,11 @@ module _ {S : Type 0} (g : trees.Ghosts S) where
       versions = tt;
       same = λ h has. record {
         schema = has.schema;
-        held = λ going. let same = passed.1 going in same_held (state g mid) (state g new.conn) h same (a.back h (has.held up)) same.0.is_open;
-        earliest = subst (λ n. IsEarliest n h.machines) (sym passed.3) (lower_earliest earliest old.earliest h.machines lower has.earliest);
+        running = passed.1;
+        held = back_held (state g mid) (state g new.conn) h passed.2 (a.back h (has.held (has.running up)));
+        earliest = subst (λ n. IsEarliest n h.machines) (sym passed.4) (lower_earliest earliest old.earliest h.machines lower has.earliest);
       };
-      crash = λ h has keep hs left. leaves_on (state g mid) (state g new.conn) (applied writes h ∷ hs) passed.2 clean (a.crash h (has.held up) keep hs left);
+      crash = λ h has keep hs left. leaves_on (state g mid) (state g new.conn) (applied writes h ∷ hs) passed.3 clean (a.crash h (has.held (has.running up)) keep hs left);
       settled = tt;
     }
 

@@ -2,11 +2,12 @@
 use Rattle.std.specs.Prelude.{◌≡◌, false, IsTrue, List, Result, Ok, Err, IsErr}
 use Rattle.sqlite.specs.declared.error.Error.{Error}
 use Rattle.sqlite.specs.Held.{Held, state}
-use Rattle.sqlite.specs.State.{State, IsUnchanged, Survives}
+use Rattle.sqlite.specs.State.{State, Survives}
 use Rattle.sqlite.specs.Tree.{Trees}
 use Rattle.sqlite_trees.specs.declared.store.Store as trees
 use Rattle.hall_types.specs.Hall.{Hall, second}
-use Rattle.sql_rows.specs.Holding.{IsHeld, Leaves}
+use Rattle.sql_rows.specs.Holding.{Holds, Leaves}
+use Rattle.sql_statements.specs.Statements.{IsBack}
 use Rattle.hall_store.specs.declared.store.Unavailable.{Unavailable}
 use Rattle.hall_sql.specs.Expiring.{IsEarliest}
 use Rattle.hall_sql.specs.declared.store.SqlStore.{SqlStore}
@@ -20,23 +21,25 @@ abbrev pub connection : {S : Type 0} → SqlStore S → Held S
 connection s = s.conn
 
 module _ {S : Type 0} (g : trees.Ghosts S) where
-  -- The store has this hall, until a fault stops it for good: its connection holds the hall, and no machine of the hall
-  -- expires before the moment that the store keeps.
+  -- The store has this hall as long as its connection is open: the connection holds the hall, and no machine of the hall expires
+  -- before the moment that the store keeps. Until the store has stopped, its connection is open.
   pub record HasHall (s : SqlStore S) (h : Hall) : Type 0 where
     pub schema : h.schema ≡ second
-    pub held : s.stopped ≡ false → IsHeld (state g s.conn) h
+    pub running : s.stopped ≡ false → IsTrue (state g s.conn).is_open
+    pub held : Holds (state g s.conn) h
     pub earliest : IsEarliest s.earliest h.machines
 
   -- a stop leaves one of these halls
   abbrev pub StopLeaves : SqlStore S → List Hall → Type 0
   StopLeaves s hs = Leaves (state g s.conn) hs
 
-  -- What was answered is passed on, and the store is as it was. A refusal is passed on too, and unless it stops the store
-  -- for good the connection is as it was.
+  -- What was answered is passed on, and the store is as it was. A refusal is passed on too, and the connection is as it was, or as it
+  -- was at its last commit; unless it stops the store for good, it is open.
   abbrev pub Passes : {Y : Type 0} → SqlStore S → SqlStore S → Result Y Error → Result Y Unavailable → Type 0
   Passes old new (Ok y) out = (out ≡ Ok y) × (new ≡ old)
   Passes old new (Err e) out =
       IsErr out
-      × (new.stopped ≡ false → IsUnchanged (state g old.conn) (state g new.conn))
+      × (new.stopped ≡ false → IsTrue (state g new.conn).is_open)
+      × IsBack (state g old.conn) (state g new.conn)
       × Survives (state g old.conn) (state g new.conn) (λ _. ⊥)
       × (new.earliest ≡ old.earliest)

@@ -3,7 +3,7 @@ ghost use Rattle.std.specs.Prelude.{◌≡◌, ◌↔◌, IsTrue, IfOk, IfErr, E
 ghost use Rattle.sqlite.specs.Held.{state};
 ghost use Rattle.sqlite.specs.State.{HasCleanDisk, Survives};
 ghost use Rattle.hall_types.specs.Hall.{Hall, new_hall, second};
-ghost use Rattle.sql_rows.specs.Holding.{IsHeld};
+ghost use Rattle.sql_rows.specs.Holding.{Holds, IsHeld};
 ghost use Rattle.sql_rows.specs.Spelling.{SpellHall};
 ghost use Rattle.sql_tables.specs.Creating.{KeepsTables, MayLeaveBesides, is_a_name_taken};
 ghost use Rattle.sql_tables.specs.Opening.{IsAnswered};
@@ -68,6 +68,7 @@ impl<S: Alter> SqlStore<S> {
     ) -> Result<SqlStore<S>, Refused<S, OpenFault>>
         ensures clean { HasCleanDisk (state S.Store (connection_of result)) → HasCleanDisk (state S.Store conn) }
         ensures held { IfOk result (λ store. ⟦<SqlStore<S> as HallStore>⟧.is_clean store → (h : Hall) → SpellHall (state S.Store conn).now.trees h → ⟦<SqlStore<S> as HallStore>⟧.holds store h) }
+        ensures again { IfOk result (λ store. ⟦<SqlStore<S> as HallStore>⟧.is_clean store → (h : Hall) → Holds (state S.Store conn) h → ⟦<SqlStore<S> as HallStore>⟧.holds store h) }
         ensures settled { IfOk result (λ store. ⟦<SqlStore<S> as HallStore>⟧.is_clean store → (h : Hall) → SpellHall (state S.Store conn).now.trees h → ⟦<SqlStore<S> as HallStore>⟧.leaves store (h ∷ [])) }
         ensures opened { IfOk result (λ store. HasCleanDisk (state S.Store (connection store)) → (h : Hall) → SpellHall (state S.Store conn).now.trees h → IsHeld (state S.Store (connection store)) h) }
         ensures refused { IfErr result (λ refused. HasCleanDisk (state S.Store refused.connection) → IsTrue (state S.Store conn).is_open → (h : Hall) → SpellHall (state S.Store conn).now.trees h → refused.fault ≡ OpenFault.Unavailable) }

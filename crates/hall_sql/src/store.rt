@@ -2,7 +2,7 @@
 ghost use Rattle.std.specs.Prelude.{◌≡◌, [], ◌∷◌};
 ghost use Rattle.sqlite.specs.Held.{state};
 ghost use Rattle.hall_types.specs.Hall.{Hall};
-ghost use Rattle.sql_rows.specs.Holding.{IsHeld};
+ghost use Rattle.sql_rows.specs.Holding.{Holds, IsHeld};
 ghost use Rattle.hall_sql.specs.Store.{connection};
 
 use crate::applying::write_rows;
@@ -54,9 +54,10 @@ impl<S: Alter> SqlStore<S> {
         }
     }
 
-    /// The connection, as the last call left it.
+    /// The connection, as the last call left it: as long as it is open, it holds the hall that the store has.
     pub fn into_connection(self) -> Connection<S>
-        ensures { result ≡ connection self }
+        ensures conn { result ≡ connection self }
+        ensures held { (h : Hall) → ⟦<SqlStore<S> as HallStore>⟧.holds self h → Holds (state S.Store result) h }
     {
         self.conn
     }

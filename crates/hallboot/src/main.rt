@@ -5,14 +5,29 @@
 mod tasks;
 
 use desk_operations::{Exit, Fault};
+use hallboot_tasks::fault_of;
 use hallboot_words::{Refusal, read};
-use std::env;
+use std::io::ErrorKind;
 use std::process::ExitCode;
+use std::{env, io};
+
+// Why the words of the command line can't be read: one isn't UTF-8, or there is no memory.
+fn fault_of_words(error: &io::Error) -> Fault {
+    if error.kind() == ErrorKind::InvalidData {
+        Fault::BadInput
+    } else {
+        fault_of(error)
+    }
+}
 
 // The words of the command line.
 fn given(rt: &HostRuntime) -> Result<Vec<String>, Fault> {
+    let given = match env::args(rt) {
+        Ok(given) => given,
+        Err(error) => return Err(fault_of_words(&error)),
+    };
     let mut words = Vec::new(rt.alloc());
-    for word in env::args(rt).map_err(|_| Fault::Io)? {
+    for word in given {
         words.push(word).map_err(|_| Fault::Memory)?;
     }
     Ok(words)

@@ -4,10 +4,12 @@
 mod carrying;
 mod lines;
 mod random_block;
+mod reading;
 mod serving;
 mod stamps;
 mod tasks;
 mod values;
 
 pub use carrying::carried_out;
+pub use reading::fault_of;
 pub use tasks::{Asked, Task, asked_by};

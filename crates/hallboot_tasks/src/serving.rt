@@ -1,5 +1,6 @@
 //! The service over an open store.
 use crate::lines::Lines;
+use crate::reading::{fault_of, log_file};
 use crate::stamps::Stamps;
 use desk_operations::Fault;
 use hall_desk::Desk;
@@ -7,7 +8,6 @@ use hall_store::HallStore;
 use pxe_vendor::Place;
 use serve_sockets::{Addresses, BindFault, Service, Sockets};
 use std::cell::RefCell;
-use std::fs::OpenOptions;
 use std::io;
 use std::io::Write;
 use store_cached::Cached;
@@ -28,7 +28,10 @@ fn serve_turns<S: HallStore, W: Write + Drop>(
     log: Option<W>,
     turns: u64,
 ) -> Result<(), Fault> {
-    let mut stamps = Stamps::new(rt).map_err(|_| Fault::Io)?;
+    let mut stamps = match Stamps::new(rt) {
+        Ok(stamps) => stamps,
+        Err(error) => return Err(fault_of(&error)),
+    };
     let mut lines = Lines::new(rt.alloc(), log, sight);
     desk_operations::write_text(&mut rt.stdout(), "hall desk ready\n")?;
     service.serve_turns(&mut stamps, &mut lines, turns);
@@ -47,12 +50,7 @@ fn serve_with_log<S: HallStore>(
 ) -> Result<(), Fault> {
     match log {
         Some("-") => serve_turns(rt, service, sight, Some(rt.stderr()), turns),
-        Some(path) => {
-            let Ok(file) = OpenOptions::new().append(true).create(true).open(rt, path) else {
-                return Err(Fault::Io);
-            };
-            serve_turns(rt, service, sight, Some(file), turns)
-        }
+        Some(path) => serve_turns(rt, service, sight, Some(log_file(rt, path)?), turns),
         None => serve_turns(rt, service, sight, None::<io::Stderr>, turns),
     }
 }

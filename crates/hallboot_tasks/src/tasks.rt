@@ -1,5 +1,6 @@
 //! What the words of a command line ask for. Options are checked in the order in which they stand here, the place last, before
 //! anything is opened.
+use crate::reading::octets_of;
 use crate::values;
 use desk_operations::{Fault, What};
 use hall_types::{Digest, Moment, Name, Port, Token};
@@ -7,8 +8,6 @@ use hallboot_words::{Subcommand, Words};
 use pxe_vendor::Place;
 use serve_sockets::Addresses;
 use sha2::{Digest as _, Sha256};
-use std::fs::File;
-use std::io;
 
 /// A task over an open store, with what it needs besides.
 #[derive(Drop)]
@@ -109,18 +108,6 @@ fn report<'a>(words: &Words<'a>) -> Result<Asked<'a>, Fault> {
     Ok(Asked::Over { path, task })
 }
 
-// The octets of the file of machines.
-fn machines(rt: &HostRuntime, path: &str) -> Result<Vec<u8>, Fault> {
-    let Ok(mut file) = File::open(rt, path) else {
-        return Err(Fault::Io);
-    };
-    let mut octets = Vec::new(rt.alloc());
-    match io::Read::read_to_end(&mut file, &mut octets) {
-        Ok(_) => Ok(octets),
-        Err(_) => Err(Fault::Io),
-    }
-}
-
 fn bearer(words: &Words<'_>) -> Result<Digest, Fault> {
     let token = values::token(words)?;
     Ok(Digest::from(Sha256::digest(token.as_bytes())))
@@ -132,7 +119,7 @@ fn import<'a>(rt: &HostRuntime, words: &Words<'a>) -> Result<Asked<'a>, Fault> {
     let moment = values::moment(words)?;
     let file = values::file(words)?;
     let place = values::place(rt.alloc(), words)?;
-    let octets = machines(rt, file)?;
+    let octets = octets_of(rt, file)?;
     let task = Task::Import {
         place,
         octets,

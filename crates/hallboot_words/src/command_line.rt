@@ -4,21 +4,22 @@ use crate::subcommands::{ENTRIES, Entry};
 use clap::{Arg, ArgAction, Command};
 use std::alloc::{AllocError, Global};
 
+// A value may begin with a hyphen.
 fn option<'a>(alloc: Global, word: &Word) -> Arg<'a> {
     Arg::new(alloc, word.name)
         .value_name(word.value)
         .help(word.help)
         .action(ArgAction::Set)
+        .allow_hyphen_values(true)
 }
 
 fn arg<'a>(alloc: Global, word: &Word) -> Arg<'a> {
     let arg = option(alloc, word);
     match word.given {
         Given::Always => arg.long(word.name).required(true),
-        Given::AlwaysAsIs => arg.long(word.name).required(true).allow_hyphen_values(true),
         Given::Maybe => arg.long(word.name),
         Given::OrElse(value) => arg.long(word.name).default_value(value),
-        Given::Last => arg.required(true),
+        Given::Last => arg.required(true).allow_hyphen_values(false),
     }
 }
 

@@ -14,8 +14,6 @@ pub(crate) const HOST: &str = "hall.example";
 pub(crate) enum Given {
     /// It has to be given.
     Always,
-    /// The value may begin with a hyphen.
-    AlwaysAsIs,
     Maybe,
     OrElse(&'static str),
     /// By its place, after the options.
@@ -119,7 +117,7 @@ pub(crate) const TOKEN: Word = Word {
     name: "token",
     value: "TOKEN",
     help: "The bearer token of an administrator",
-    given: Given::AlwaysAsIs,
+    given: Given::Always,
 };
 
 pub(crate) const FILE: Word = Word {

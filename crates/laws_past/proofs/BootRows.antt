@@ -49,7 +49,7 @@ module _ (h : Hall) (e : Event) (moment : ℕ) (fresh : List ℕ) (content : Con
   boot_was (notes rows x has) n b is = put_reported x.machine x.boot x.progress x.cause n b (ap (λ x. at x n) (sym has.boots) ∙ is)
   boot_was (idles rows x has) n b is = same_boot (ap (λ x. at x n) (sym has.boots) ∙ is)
   boot_was (edits command rows x has) n b is = same_boot (ap (λ x. at x n) (sym has.boots) ∙ is)
-  boot_was (goes command id has) n b is = same_boot (where_found (λ (x : Boot). not (x.machine == id)) h.boots n b (ap (λ x. at x n) (sym has.boots) ∙ is)).0
+  boot_was (goes command id deletes has) n b is = same_boot (where_found (λ (x : Boot). not (x.machine == id)) h.boots n b (ap (λ x. at x n) (sym has.boots) ∙ is)).0
 
 -- ---- a report that counted
 
@@ -96,7 +96,7 @@ module _ (h : Hall) (e : Event) (moment : ℕ) (fresh : List ℕ) (content : Con
   }
   counted_effect (idles rows x has) = let apart = sym x.cause.event_is ∙ is in cc
   counted_effect (edits command rows x has) = absurd (no_report e number token progress is command)
-  counted_effect (goes command id has) = absurd (no_report e number token progress is command)
+  counted_effect (goes command id deletes has) = absurd (no_report e number token progress is command)
 
 -- what counted is what was reported
 pub record CountedAt (s : Step) (content : Content) (number : ℕ) (token : List ℕ) (its : Progress) : Type 0 where

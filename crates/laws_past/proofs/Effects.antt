@@ -24,7 +24,7 @@ use Rattle.desk_command.specs.Effect.{added_machine}
 use Rattle.laws_model.specs.Decision.{Decided, decision_of}
 use Rattle.laws_model.specs.Step.{IsStep, Step}
 use Rattle.laws_steps.specs.HallLaws.{applied_entry, boots_first, entered_hall, last_queued, orders_first, queued}
-use Rattle.laws_steps.specs.Writes.{EditsInterfaces, IsAside, IsEditing, IsEntering, IsIdled, IsIssuing, IsNoted, Makes, Writes, WritesAll, edits_machine, ends_waiting, enters_status, is_command, issues_boot, machine_goes, makes_machine, notes_report, with_receipt, withdrawn_at, without_receipt, writes_aside, writes_nothing}
+use Rattle.laws_steps.specs.Writes.{EditsInterfaces, IsAside, IsDeleting, IsEditing, IsEntering, IsIdled, IsIssuing, IsNoted, Makes, Writes, WritesAll, edits_machine, ends_waiting, enters_status, is_command, issues_boot, machine_goes, makes_machine, notes_report, with_receipt, withdrawn_at, without_receipt, writes_aside, writes_nothing}
 use Rattle.laws_steps.specs.WritesLaws.{decision_writes}
 
 -- the hall's machines, boots, orders and last numbers are these
@@ -50,7 +50,7 @@ pub data Effect (h : Hall) (e : Event) (moment : ℕ) (fresh : List ℕ) (conten
       → Has g (put x.machine.id (idle x.machine) h.machines) h.boots (put x.order.number (record x.order { stage = stage_for x.outcome }) h.orders) h.last → Effect h e moment fresh content g
   edits : is_command e ≡ true → (rows : List RowWrite) (x : IsEditing h rows)
       → Has g (put x.after.id x.after h.machines) h.boots h.orders h.last → Effect h e moment fresh content g
-  goes : is_command e ≡ true → (id : ℕ)
+  goes : is_command e ≡ true → (id : ℕ) → IsDeleting h e id
       → Has g (gone id h.machines) (rows_where (λ b. not (b.machine == id)) h.boots) (rows_where (λ o. not (o.machine == id)) h.orders) h.last → Effect h e moment fresh content g
 
 has_by : (g g' : Hall) (machines : Rows numbers Machine) (boots : Rows numbers Boot) (orders : Rows numbers Order) (last : Numbers) → g ≡ g' → Has g' machines boots orders last → Has g machines boots orders last
@@ -80,8 +80,8 @@ module _ (h : Hall) (e : Event) (moment : ℕ) (fresh : List ℕ) (content : Con
       after (write.PutInterface i ∷ []) fit = record { machines = refl; boots = refl; orders = refl; last = refl }
       after (write.InterfaceGone mac ∷ []) fit = record { machines = refl; boots = refl; orders = refl; last = refl }
       after other fit = absurd fit
-  rows_effect rows (machine_goes by id is) =
-      goes by id (has_by (applied rows h) _ _ _ _ _ (ap (λ ws. applied ws h) is) (record { machines = refl; boots = refl; orders = refl; last = refl }))
+  rows_effect rows (machine_goes id by is) =
+      goes (ap is_command by.event_is) id by (has_by (applied rows h) _ _ _ _ _ (ap (λ ws. applied ws h) is) (record { machines = refl; boots = refl; orders = refl; last = refl }))
   rows_effect rows (writes_aside by x) =
       leaves (λ its. by) (has_by (applied rows h) _ _ _ _ _ (ap (λ ws. applied ws h) x.rows_are) (after x.row x.aside))
     where
@@ -109,7 +109,7 @@ module _ (h : Hall) (e : Event) (moment : ℕ) (fresh : List ℕ) (content : Con
       by (notes rows x has) = notes rows x (on _ _ _ _ has)
       by (idles rows x has) = idles rows x (on _ _ _ _ has)
       by (edits command rows x has) = edits command rows x (on _ _ _ _ has)
-      by (goes command id has) = goes command id (on _ _ _ _ has)
+      by (goes command id deletes has) = goes command id deletes (on _ _ _ _ has)
 
 -- the effect of a decision
 pub decision_effect : (h : Hall) (e : Event) (moment : ℕ) (fresh : List ℕ) (d : Decided) → WritesAll h e moment fresh d → Effect h e moment fresh d.content (applied d.rows h)

@@ -37,14 +37,42 @@ row_taken stay s step sound rows content x id m same its is answer = (
     counts says = answer ∙ ap (λ (c : Content). Some c) says
 
     by : (first : First) → CauseOf s.before s.arrival.event s.arrival.moment content x.machine x.entering x.signal first → IsSignalled id x.machine s x.signal
-    by nothing_first (inl c) =
-        by_command c.operator.name c.key c.version c.command c.action content (accepts stay s step sound s.arrival.moment rows content x id m same its is answer c) c.acts c.signal_is
-    by nothing_first (inr (own, inl c)) = by_deadline c.event_is c.due c.signal_is
-    by nothing_first (inr (own, inr c)) = by_fourth_boot c.mac (record { event = c.event_is; answer = answer ∙ ap (λ (y : Content). Some y) c.answer }) c.fourth c.signal_is
-    by (boot_first b progress) c =
-        by_report b progress (c.2.token, record { event = c.2.event_is; answer = counts c.2.answer }) c.2.recorded (c.2.its ∙ sym same) c.1
-    by (order_first o outcome) c =
-        by_answer o outcome (c.2.bearer, record { event = c.2.event_is; answer = counts c.2.answer }) c.2.recorded (c.2.its ∙ sym same) c.1
+    by nothing_first (inl c) = by_command (record {
+      operator = c.operator.name;
+      key = c.key;
+      version = c.version;
+      command = c.command;
+      action = c.action;
+      content = content;
+      accepted = accepts stay s step sound s.arrival.moment rows content x id m same its is answer c;
+      acts = c.acts;
+      signal_is = c.signal_is;
+    })
+    by nothing_first (inr (own, inl c)) = by_deadline (record { quiet = c.event_is; due = c.due; signal_is = c.signal_is })
+    by nothing_first (inr (own, inr c)) = by_fourth_boot (record {
+      mac = c.mac;
+      asks = record { interface = c.interface; recorded = c.recorded; found = ap (at s.before.machines) c.its ∙ x.found };
+      not_offered = c.not_offered;
+      held = record { event = c.event_is; answer = answer ∙ ap (λ (y : Content). Some y) c.answer };
+      fourth = c.fourth;
+      signal_is = c.signal_is;
+    })
+    by (boot_first b progress) c = by_report (record {
+      boot = b;
+      progress = progress;
+      counts = (c.2.token, record { event = c.2.event_is; answer = counts c.2.answer });
+      recorded = c.2.recorded;
+      its = c.2.its ∙ sym same;
+      signal_is = c.1;
+    })
+    by (order_first o outcome) c = by_answer (record {
+      order = o;
+      outcome = outcome;
+      counts = (c.2.bearer, record { event = c.2.event_is; answer = counts c.2.answer });
+      recorded = c.2.recorded;
+      its = c.2.its ∙ sym same;
+      signal_is = c.1;
+    })
 
 pub enters_by_table : RefusalsStay → (past : List Step) (s : Step) → IsStep s → IsSound s.before → EntersByTable past s
 enters_by_table stay past s step sound id entry = by (step_does s step sound)

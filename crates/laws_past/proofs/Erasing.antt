@@ -51,6 +51,8 @@ pub record KnowsReleases (past : List Step) (h : Hall) : Type 0 where
 pub record ErasingTexts : Type 0 where
   pub status : (host : List ℕ) (v : BootView) (moment : ℕ) (fresh : List ℕ) (rows : List RowWrite) (script : List Command)
       → HasNoHallWords v → IsScript script → fetched host v moment fresh ≡ Ok (rows, script) → IsErasing (spelling script) → v.machine.status ≡ DiskErasing
+  pub kind : (host : List ℕ) (v : BootView) (moment : ℕ) (fresh : List ℕ) (rows : List RowWrite) (script : List Command) (kind : Erase)
+      → HasNoHallWords v → IsScript script → fetched host v moment fresh ≡ Ok (rows, script) → ErasesBy kind script → v.machine.erase ≡ Some kind
   pub kept : (host : List ℕ) (v : BootView) (moment : ℕ) (fresh : List ℕ) (rows : List RowWrite) (script : List Command) (kind : Erase)
       → HasNoHallWords v → IsScript script → fetched host v moment fresh ≡ Ok (rows, script) → IsErasing (spelling script) → v.machine.erase ≡ Some kind
       → ErasesBy kind script
@@ -127,6 +129,9 @@ releases_step stay past s brings step sound later old =
     let does = step_does s step sound in
     record { words = words_step s brings does old.words; released = released_after stay past s step sound does old }
 
+some_kind : (a b : Erase) → Some a ≡ Some b → a ≡ b
+some_kind a b is = cc
+
 pub erases_rightly : ErasingTexts → (past : List Step) (s : Step) → IsStep s → IsSound s.before → KnowsReleases past s.before → ErasesRightly past s
 erases_rightly texts past s step sound old mac commands was whole erases =
     let g = was_given s mac commands step was in
@@ -142,4 +147,5 @@ erases_rightly texts past s step sound old mac commands was whole erases =
       kind = r.1;
       release = r.3;
       named = texts.kept s.arrival.site.host v s.arrival.moment s.arrival.fresh g.rows commands r.1 words whole g.is erases r.2;
+      only = λ other names. some_kind other r.1 (sym (texts.kind s.arrival.site.host v s.arrival.moment s.arrival.fresh g.rows commands other words whole g.is names) ∙ r.2);
     }

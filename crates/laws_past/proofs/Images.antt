@@ -70,7 +70,7 @@ module _ (h : Hall) (e : Event) (moment : ℕ) (fresh : List ℕ) where
           after (write.PutInterface i ∷ []) fit = same_images refl
           after (write.InterfaceGone mac ∷ []) fit = same_images refl
           after other fit = absurd fit
-      by (machine_goes command id is) = as_rows _ is (same_images refl)
+      by (machine_goes id deletes is) = as_rows _ is (same_images refl)
       by (writes_aside command x) = as_rows _ x.rows_are (by_aside x.row x.aside x.keeps)
 
   pub images_move : (d : Decided) → WritesAll h e moment fresh d → ImagesMove h e (applied d.rows h)

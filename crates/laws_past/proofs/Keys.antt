@@ -175,13 +175,14 @@ unfolding decision_of
 command_of site h bearer key command moment fresh = refl
 
 pub repeats_first : (past : List Step) (s : Step) → IsStep s → IsSound s.before → KeepsReceipts past s.before → RepeatsFirst past s
-repeats_first past s step sound old name key first content some bearer o command again known named was =
-    let came = came_so s (event.Command bearer key command) again step was in
-    let kept = old.first name key first content some in
-    let there : at s.before.receipts (pair o.name key) ≡ Some (receipt_of kept.0 key first content) = ap (λ n. at s.before.receipts (pair n key)) named ∙ kept.2 in
-    let its = decision_again s.before bearer o key first command content s.arrival.moment kept.0 kept.1 known there in
-    let is = command_of s.arrival.site s.before bearer key command s.arrival.moment s.arrival.fresh in (
-      subst (IsAnsweredAgain o first content command) (ap (λ (d : Decided). d.content) (sym is) ∙ came.content_is) its.0,
+repeats_first past s step sound old name key first later =
+    let o = later.by in
+    let came = came_so s (event.Command later.bearer key later.command) later.content step later.answered in
+    let kept = old.first name key first.command first.content first.accepted in
+    let there : at s.before.receipts (pair o.name key) ≡ Some (receipt_of kept.0 key first.command first.content) = ap (λ n. at s.before.receipts (pair n key)) later.named ∙ kept.2 in
+    let its = decision_again s.before later.bearer o key first.command later.command first.content s.arrival.moment kept.0 kept.1 later.known there in
+    let is = command_of s.arrival.site s.before later.bearer key later.command s.arrival.moment s.arrival.fresh in (
+      subst (IsAnsweredAgain o first.command first.content later.command) (ap (λ (d : Decided). d.content) (sym is) ∙ came.content_is) its.0,
       came.after ∙ ap (λ ws. applied ws s.before) (ap (λ (d : Decided). d.rows) is ∙ its.1),
     )
 

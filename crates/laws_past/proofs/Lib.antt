@@ -1,7 +1,10 @@
+pub mod AcceptedLemmas
 pub mod Answered
+pub mod Asked
 pub mod BootRows
 pub mod Commanded
 pub mod Counts
+pub mod Deleted
 pub mod Deploying
 pub mod Effects
 pub mod Enterings
@@ -17,5 +20,6 @@ pub mod OrderRows
 pub mod OrderLemmas
 pub mod OwnBoots
 pub mod PastRows
+pub mod Refused
 pub mod Scripts
 mod WrongSteps

@@ -77,7 +77,7 @@ module _ (h : Hall) (s : IsSound h) (e : Event) (moment : ℕ) (fresh : List ℕ
       put_settled x.after.id x.machine x.after (ap (at h.machines) (ap (λ (k : Machine). k.id) x.same) ∙ x.found)
       (record { status = ap (λ (k : Machine). k.status) x.same; erase = ap (λ (k : Machine). k.erase) x.same; image = ap (λ (k : Machine). k.image) x.same; back = ap (λ (k : Machine). k.back) x.same })
       (ap (λ x. at x id) (sym has.machines) ∙ is)
-  machine_was g (goes command gone_id has) is =
+  machine_was g (goes command gone_id deletes has) is =
       was_settled m (gone_found h.machines gone_id id m (ap (λ x. at x id) (sym has.machines) ∙ is)).1 (settled_same m m refl)
 
 -- a step that leaves the status is no entry

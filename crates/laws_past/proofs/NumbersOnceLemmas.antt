@@ -55,7 +55,7 @@ effect_grows h e moment fresh content g (enters rows x has) =
 effect_grows h e moment fresh content g (notes rows x has) = grow_by h g _ has.last (le_same _) (le_same _) (le_same _)
 effect_grows h e moment fresh content g (idles rows x has) = grow_by h g _ has.last (le_same _) (le_same _) (le_same _)
 effect_grows h e moment fresh content g (edits command rows x has) = grow_by h g _ has.last (le_same _) (le_same _) (le_same _)
-effect_grows h e moment fresh content g (goes command id has) = grow_by h g _ has.last (le_same _) (le_same _) (le_same _)
+effect_grows h e moment fresh content g (goes command id deletes has) = grow_by h g _ has.last (le_same _) (le_same _) (le_same _)
 
 -- ---- a new row has a number above the last one
 
@@ -81,7 +81,7 @@ machine_above h e moment fresh content g (notes rows x has) id m none is le = no
 machine_above h e moment fresh content g (idles rows x has) id m none is le = put_known h.machines x.machine.id x.machine _ id m x.found none (ap (λ x. at x id) (sym has.machines) ∙ is)
 machine_above h e moment fresh content g (edits command rows x has) id m none is le =
     put_known h.machines x.after.id x.machine _ id m (ap (at h.machines) (ap (λ (k : Machine). k.id) x.same) ∙ x.found) none (ap (λ x. at x id) (sym has.machines) ∙ is)
-machine_above h e moment fresh content g (goes command gone_id has) id m none is le =
+machine_above h e moment fresh content g (goes command gone_id deletes has) id m none is le =
     none-some m (sym none ∙ (gone_found h.machines gone_id id m (ap (λ x. at x id) (sym has.machines) ∙ is)).1)
 
 boot_above : (h : Hall) (e : Event) (moment : ℕ) (fresh : List ℕ) (content : Content) (g : Hall) → Effect h e moment fresh content g
@@ -102,7 +102,7 @@ boot_above h e moment fresh content g (enters rows x has) n b none is le = by x.
 boot_above h e moment fresh content g (notes rows x has) n b none is le = put_known h.boots x.boot.number x.boot _ n b x.cause.recorded none (ap (λ x. at x n) (sym has.boots) ∙ is)
 boot_above h e moment fresh content g (idles rows x has) n b none is le = none-some b (sym none ∙ (ap (λ x. at x n) (sym has.boots) ∙ is))
 boot_above h e moment fresh content g (edits command rows x has) n b none is le = none-some b (sym none ∙ (ap (λ x. at x n) (sym has.boots) ∙ is))
-boot_above h e moment fresh content g (goes command id has) n b none is le =
+boot_above h e moment fresh content g (goes command id deletes has) n b none is le =
     none-some b (sym none ∙ (where_found (λ (x : Boot). not (x.machine == id)) h.boots n b (ap (λ x. at x n) (sym has.boots) ∙ is)).0)
 
 order_above : (h : Hall) → IsSound h → (e : Event) (moment : ℕ) (fresh : List ℕ) (content : Content) (g : Hall) → Effect h e moment fresh content g
@@ -120,7 +120,7 @@ order_above h s e moment fresh content g (enters rows x has) n o none is le = by
 order_above h s e moment fresh content g (notes rows x has) n o none is le = none-some o (sym none ∙ (ap (λ x. at x n) (sym has.orders) ∙ is))
 order_above h s e moment fresh content g (idles rows x has) n o none is le = put_known h.orders x.order.number x.order _ n o x.cause.recorded none (ap (λ x. at x n) (sym has.orders) ∙ is)
 order_above h s e moment fresh content g (edits command rows x has) n o none is le = none-some o (sym none ∙ (ap (λ x. at x n) (sym has.orders) ∙ is))
-order_above h s e moment fresh content g (goes command id has) n o none is le =
+order_above h s e moment fresh content g (goes command id deletes has) n o none is le =
     none-some o (sym none ∙ (where_found (λ (x : Order). not (x.machine == id)) h.orders n o (ap (λ x. at x n) (sym has.orders) ∙ is)).0)
 
 -- ---- steps

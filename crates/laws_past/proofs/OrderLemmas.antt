@@ -87,7 +87,7 @@ queues_at_entries stay past s step sound n o none some = by_step (step_does s st
     by content answer (notes rows x has) = unmoved (ap (λ x. at x n) (sym has.orders) ∙ some)
     by content answer (idles rows x has) = absurd (put_known s.before.orders x.order.number x.order _ n o x.cause.recorded none (ap (λ x. at x n) (sym has.orders) ∙ some))
     by content answer (edits command rows x has) = unmoved (ap (λ x. at x n) (sym has.orders) ∙ some)
-    by content answer (goes command id has) = unmoved (where_found (λ (x : Order). not (x.machine == id)) s.before.orders n o (ap (λ x. at x n) (sym has.orders) ∙ some)).0
+    by content answer (goes command id deletes has) = unmoved (where_found (λ (x : Order). not (x.machine == id)) s.before.orders n o (ap (λ x. at x n) (sym has.orders) ∙ some)).0
 
     by_step : StepDoes s → IsQueuedAtEntry o s
     by_step (missed answer after) = unmoved (ap (λ (h : Hall). at h.orders n) (sym after) ∙ some)
@@ -122,7 +122,7 @@ order_now h s e moment fresh content g (idles rows x has) n o is = elim (put_cas
   | inr w ↦ same_order w.1
 ]
 order_now h s e moment fresh content g (edits command rows x has) n o is = same_order (ap (λ x. at x n) (sym has.orders) ∙ is)
-order_now h s e moment fresh content g (goes command id has) n o is = same_order (where_found (λ (x : Order). not (x.machine == id)) h.orders n o (ap (λ x. at x n) (sym has.orders) ∙ is)).0
+order_now h s e moment fresh content g (goes command id deletes has) n o is = same_order (where_found (λ (x : Order). not (x.machine == id)) h.orders n o (ap (λ x. at x n) (sym has.orders) ∙ is)).0
 
 -- ---- an order that doesn't wait
 
@@ -194,7 +194,7 @@ module _ (h : Hall) (s : IsSound h) (e : Event) (moment : ℕ) (fresh : List ℕ
   answered_effect (idles rows x has) =
       by_put x.machine x.order x.outcome x.cause (ap (λ y. at y x.order.number) has.orders ∙ at-put-same h.orders x.order.number (record x.order { stage = stage_for x.outcome }))
   answered_effect (edits command rows x has) = absurd (no_answer e bearer n its is command)
-  answered_effect (goes command id has) = absurd (no_answer e bearer n its is command)
+  answered_effect (goes command id deletes has) = absurd (no_answer e bearer n its is command)
 
 answered_at : (s : Step) → StepDoes s → IsSound s.before → (n : ℕ) (its : Outcome) → CountsAnswer n its s → Answered s.before s.after n
 answered_at s (missed answer after) sound n its c = absurd (none-some counted (sym answer ∙ c.1.answer))

@@ -153,7 +153,7 @@ module _ (past : List Step) (s : Step) (sound : IsSound s.before) (old : OwnsBoo
       by (idles rows x has) = put_same x.machine.id x.machine (idle x.machine) x.found refl refl (ap (λ x. at x id) (sym has.machines) ∙ is)
       by (edits command rows x has) =
           put_same x.after.id x.machine x.after (ap (at s.before.machines) (ap (λ (y : Machine). y.id) x.same) ∙ x.found) (ap (λ (y : Machine). y.status) x.same) (ap (λ (y : Machine). y.boot) x.same) (ap (λ x. at x id) (sym has.machines) ∙ is)
-      by (goes command other has) = same (gone_found s.before.machines other id m (ap (λ x. at x id) (sym has.machines) ∙ is)).1
+      by (goes command other deletes has) = same (gone_found s.before.machines other id m (ap (λ x. at x id) (sym has.machines) ∙ is)).1
 
   own_later : StepDoes s → (id n : ℕ) (m : Machine) → at s.after.machines id ≡ Some m → m.boot ≡ Some n → Own (past ++ (s ∷ [])) s.after id n
   own_later (did answer after writes effect) id n m is current = own_after (decided s).content effect id n m is current

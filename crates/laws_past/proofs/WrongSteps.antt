@@ -26,7 +26,7 @@ use Rattle.life_cycle.specs.declared.signal.Signal.{Signal}
 use Rattle.boot_desk.specs.Texts.{hold_script, local_script}
 use Rattle.desk_command.specs.Command.{sender}
 use Rattle.laws_model.specs.Step.{Step}
-use Rattle.laws_past.specs.Laws.{AcceptsOnce, BootsLocally, CountsAnswerOnce, CountsOwnBoot, CountsStartedFirst, CountsVerdictOnce, DeploysRightly, EntersByTable, ErasesRightly, IsAnsweredAgain, IsMachineAt, IsMade, IsSignalled, by_command, by_report, by_answer, by_deadline, by_fourth_boot, NumbersOnce, QueuesAtEntries, RepeatsFirst, TakesRow, WaitsForOne, WaitsNoMore}
+use Rattle.laws_past.specs.Laws.{AcceptsOnce, BootsLocally, CountsAnswerOnce, CountsOwnBoot, CountsStartedFirst, CountsVerdictOnce, DeploysRightly, EntersByTable, ErasesRightly, IsAnsweredAgain, IsMachineAt, IsMade, IsSignalled, by_command, by_report, by_answer, by_deadline, by_fourth_boot, NumbersOnce, QueuesAtEntries, RepeatsFirst, TakesRow, WaitsForOne, WaitsNoMore, IsDeleted, KeepsMachines, RefusesWithoutChange, ScriptIsAsked}
 use Rattle.laws_past.specs.Past.{IsAccepted, IsEntry, Last}
 
 -- nothing is the last step of an empty past
@@ -112,11 +112,11 @@ module _ (site : Site) where
     differ n there same = let e = sym was ∙ there in cc
 
     not_signalled : (n : Machine) (its : Signal) → IsSignalled id n jumps its → ⊥
-    not_signalled n its (by_command operator key version command action content accepted acts same) = let e = accepted.answered.event in cc
-    not_signalled n its (by_report b progress c there own same) = let e = c.1.answer in cc
-    not_signalled n its (by_answer o outcome c there own same) = let e = c.1.event in cc
-    not_signalled n its (by_deadline quiet due same) = cc
-    not_signalled n its (by_fourth_boot mac w fourth same) = let e = w.event in cc
+    not_signalled n its (by_command c) = let e = c.accepted.answered.event in cc
+    not_signalled n its (by_report c) = let e = c.counts.1.answer in cc
+    not_signalled n its (by_answer c) = let e = c.counts.1.event in cc
+    not_signalled n its (by_deadline c) = let e = c.quiet in cc
+    not_signalled n its (by_fourth_boot c) = let e = c.held.event in cc
 
     deployed_by_refused_report : EntersByTable [] jumps → ⊥
     deployed_by_refused_report law =
@@ -147,7 +147,8 @@ module _ (site : Site) where
     -- the same command with the same key changes the hall again
     repeated_key_acts_again : RepeatsFirst (accepts ∷ []) accepts → ⊥
     repeated_key_acts_again law =
-        changes (law o.name key command content (inl is_accepted) bearer o command content known refl (record { event = refl; answer = refl })).1
+        changes (law o.name key (record { command = command; content = content; accepted = inl is_accepted })
+        (record { bearer = bearer; by = o; command = command; content = content; known = known; named = refl; answered = record { event = refl; answer = refl } })).1
 
   -- ---- orders
 
@@ -171,3 +172,20 @@ module _ (site : Site) where
   -- an answer to an order counts twice
   answer_twice : (h : Hall) (n : ℕ) → CountsAnswerOnce (step h (event.OrderAnswer None n Turned) counted h ∷ []) (step h (event.OrderAnswer None n Turned) counted h) → ⊥
   answer_twice h n law = (law n (Turned, (None, record { event = refl; answer = refl }))).0.0 (Turned, (None, record { event = refl; answer = refl }))
+
+  -- ---- machines, scripts and refusals
+
+  -- a machine is gone after a quiet moment
+  machine_vanishes : (before after : Hall) (id : ℕ) (m : Machine) → at before.machines id ≡ Some m → at after.machines id ≡ None → KeepsMachines [] (step before event.Quiet nothing after) → ⊥
+  machine_vanishes before after id m was gone law = elim (law id m was) [ inl there ↦ is_none there.0 after id gone there.1 | inr deleted ↦ not_quiet deleted ]
+    where
+      not_quiet : IsDeleted id (step before event.Quiet nothing after) → ⊥
+      not_quiet deleted = let e = deleted.accepted.answered.event in cc
+
+  -- a script is given though nobody asked
+  script_unasked : (before after : Hall) (commands : List Command) → ScriptIsAsked [] (step before event.Quiet (script commands) after) → ⊥
+  script_unasked before after commands law = let e = (law commands refl).1.event in cc
+
+  -- a refused request changes the hall
+  refusal_changes : (before after : Hall) → after ≢ before → RefusesWithoutChange [] (step before (event.Orders None) (refused KeyReused) after) → ⊥
+  refusal_changes before after changes law = changes (law (refused KeyReused) refl (inl (KeyReused, refl)))

@@ -1,6 +1,8 @@
 -- The laws of the past, each for a step with the steps before it.
 use Rattle.std.specs.Prelude.{◌≡◌, ◌≢◌, ◌⊎◌, ℕ, false, true, List, Option, Some, None}
 use Rattle.std.specs.List.{AllByRecursion}
+use Rattle.pxe_vendor.specs.declared.clients.Client.{Client}
+use Rattle.hall_types.specs.declared.port.Port.{Port}
 use Rattle.ipxe_script.specs.Purpose.{IsDeploying, IsErasing}
 use Rattle.ipxe_script.specs.Script.{IsScript, spelling}
 use Rattle.ipxe_script.specs.declared.command.Command.{Command}
@@ -21,23 +23,28 @@ use Rattle.hall_types.specs.declared.order.Order.{Order}
 use Rattle.hall_types.specs.declared.refusal.Refusal.TheVariants.{KeyReused, UnknownToken}
 use Rattle.hall_types.specs.declared.status.Status.TheVariants.{Deployed, Deploying, DiskErasing}
 use Rattle.hall_events.specs.Command.{command_text}
-use Rattle.hall_events.specs.Reply.{Content, counted, refused, reply_of, script}
+use Rattle.hall_events.specs.Reply.{Content, counted, nothing, refused, reply_of, script}
 use Rattle.hall_events.specs.declared.command.HallCommand.{HallCommand}
 use Rattle.hall_events.specs.declared.command.HallCommand.TheVariants.{AddImage, OnMachine}
 use Rattle.hall_events.specs.declared.command.MachineCommand.{MachineCommand}
 use Rattle.hall_events.specs.declared.command.MachineCommand.TheVariants as on
+use Rattle.hall_events.specs.declared.event.Event.{Event}
 use Rattle.hall_events.specs.declared.event.Event.TheVariants as event
+use Rattle.hall_events.specs.declared.reply.Reply.{Reply}
+use Rattle.hall_events.specs.declared.reply.Reply.TheVariants.{Http}
 use Rattle.life_cycle.specs.Table.{step_of}
 use Rattle.life_cycle.specs.declared.action.Action.{Action}
 use Rattle.life_cycle.specs.declared.signal.Signal.{Signal}
 use Rattle.life_cycle.specs.declared.signal.Signal.TheVariants.{Answer, By, Expired, FourthBoot, Report}
 use Rattle.life_cycle.specs.declared.step.Step.{Step as TableStep}
 use Rattle.boot_desk.specs.Expiry.{is_due}
-use Rattle.boot_desk.specs.Fetch.{is_fourth}
+use Rattle.boot_desk.specs.Fetch.{is_fourth, offered_boot}
 use Rattle.boot_desk.specs.Purposes.{ErasesBy}
+use Rattle.boot_desk.specs.Views.{row_at}
 use Rattle.boot_desk.specs.Texts.{hold_script, local_script, work_script}
 use Rattle.desk_command.specs.Causes.{action_of}
 use Rattle.desk_command.specs.Command.{sender}
+use Rattle.laws_model.specs.Refusing.{IsRefusal}
 use Rattle.laws_model.specs.Step.{Step}
 use Rattle.laws_steps.specs.Writes.{Makes}
 use Rattle.laws_past.specs.Past.{CountsAnswer, CountsReport, IsAccepted, IsEntry, IsOwnBoot, Last, NoneOf, SomeOf, WasAnswered}
@@ -50,10 +57,21 @@ pub record IsMachineAt (h : Hall) (mac : List ℕ) (m : Machine) : Type 0 where
   pub recorded : at h.interfaces mac ≡ Some interface
   pub found : at h.machines interface.machine ≡ Some m
 
+-- the step gives these commands to the machine with an address, which asked for its script
+abbrev pub GivesText : List ℕ → List Command → Step → Type 0
+GivesText mac commands s = WasAnswered s (event.Script mac) (script commands)
+
+abbrev pub IsDeployed : Machine → Type 0
+IsDeployed m = m.status ≡ Deployed
+
+-- a script is given to no one but who asked for one
+abbrev pub ScriptIsAsked : List Step → Step → Type 0
+ScriptIsAsked past s = (commands : List Command) → s.answer ≡ Some (script commands) → (mac : List ℕ) × GivesText mac commands s
+
 -- a Deployed machine that asks for its script is told to boot its own disk, and nothing changes
 abbrev pub BootsLocally : List Step → Step → Type 0
 BootsLocally past s =
-    (mac : List ℕ) (m : Machine) (content : Content) → WasAnswered s (event.Script mac) content → IsMachineAt s.before mac m → m.status ≡ Deployed
+    (mac : List ℕ) (m : Machine) (content : Content) → WasAnswered s (event.Script mac) content → IsMachineAt s.before mac m → IsDeployed m
     → (content ≡ script (local_script m.arch)) × (s.after ≡ s.before)
 
 -- an image that an arrival brings has no argument that begins `hall.`: none can be made with one
@@ -75,7 +93,8 @@ pub record IsReleaseErasing (id : ℕ) (kind : Erase) (s : Step) : Type 0 where
   pub found : at s.before.machines id ≡ Some machine
   pub owner : machine.owner ≡ Some operator
 
--- the machine is in Disk erasing, its last entry was such a release, and the script names the kind that this release named
+-- the machine is in Disk erasing, its last entry was such a release, and the script names the kind that this release named, and
+-- no other
 pub record IsRightlyErased (mac : List ℕ) (commands : List Command) (past : List Step) (h : Hall) : Type 0 where
   pub machine : Machine
   pub asks : IsMachineAt h mac machine
@@ -84,11 +103,12 @@ pub record IsRightlyErased (mac : List ℕ) (commands : List Command) (past : Li
   pub kind : Erase
   pub release : IsReleaseErasing machine.id kind entry.step
   pub named : ErasesBy kind commands
+  pub only : (other : Erase) → ErasesBy other commands → other ≡ kind
 
 -- each script whose text has a kernel erase disks answers a request for a machine that is rightly erased
 abbrev pub ErasesRightly : List Step → Step → Type 0
 ErasesRightly past s =
-    (mac : List ℕ) (commands : List Command) → WasAnswered s (event.Script mac) (script commands) → IsScript commands → IsErasing (spelling commands)
+    (mac : List ℕ) (commands : List Command) → GivesText mac commands s → IsScript commands → IsErasing (spelling commands)
     → IsRightlyErased mac commands past s.before
 
 -- an accepted deploy of the machine with this image, as it was recorded then, by the operator who was its owner just before
@@ -118,7 +138,7 @@ pub record IsRightlyDeployed (host mac : List ℕ) (commands : List Command) (pa
 -- each script whose text has a kernel write an image to a disk answers a request for a machine that is rightly deployed
 abbrev pub DeploysRightly : List Step → Step → Type 0
 DeploysRightly past s =
-    (mac : List ℕ) (commands : List Command) → WasAnswered s (event.Script mac) (script commands) → IsScript commands → IsDeploying (spelling commands)
+    (mac : List ℕ) (commands : List Command) → GivesText mac commands s → IsScript commands → IsDeploying (spelling commands)
     → IsRightlyDeployed s.arrival.site.host mac commands past s.before
 
 -- ---- counting
@@ -169,15 +189,59 @@ pub record NumbersOnce (past : List Step) (s : Step) : Type 0 where
 abbrev pub IsMade : ℕ → Step → Type 0
 IsMade id s = (at s.before.machines id ≡ None) × Makes s.arrival.event
 
--- by what the machine, which was k, was given the signal: an accepted command, a counted report of a boot of its, a counted
--- answer to an order of its, its deadline at a quiet moment, or a fourth boot, for which it is held
-pub data IsSignalled (id : ℕ) (k : Machine) (s : Step) (signal : Signal) : Type 0 where
-  by_command : (operator key : List ℕ) (version : Option ℕ) (command : MachineCommand) (action : Action) (content : Content)
-      → IsAccepted operator key (OnMachine id version command) content s → action_of command ≡ Some action → signal ≡ By action → IsSignalled id k s signal
-  by_report : (b : Boot) (progress : Progress) → CountsReport b.number progress s → at s.before.boots b.number ≡ Some b → b.machine ≡ id → signal ≡ Report progress → IsSignalled id k s signal
-  by_answer : (o : Order) (outcome : Outcome) → CountsAnswer o.number outcome s → at s.before.orders o.number ≡ Some o → o.machine ≡ id → signal ≡ Answer outcome → IsSignalled id k s signal
-  by_deadline : s.arrival.event ≡ event.Quiet → is_due k.deadline s.arrival.moment ≡ true → signal ≡ Expired → IsSignalled id k s signal
-  by_fourth_boot : (mac : List ℕ) → WasAnswered s (event.Script mac) (script hold_script) → is_fourth k ≡ true → signal ≡ FourthBoot → IsSignalled id k s signal
+-- Why a machine, which was this one before the step, was given a signal:
+
+-- an accepted command on it
+pub record IsCommanded (id : ℕ) (s : Step) (signal : Signal) : Type 0 where
+  pub operator : List ℕ
+  pub key : List ℕ
+  pub version : Option ℕ
+  pub command : MachineCommand
+  pub action : Action
+  pub content : Content
+  pub accepted : IsAccepted operator key (OnMachine id version command) content s
+  pub acts : action_of command ≡ Some action
+  pub signal_is : signal ≡ By action
+
+-- a counted report of a boot of it
+pub record IsReported (id : ℕ) (s : Step) (signal : Signal) : Type 0 where
+  pub boot : Boot
+  pub progress : Progress
+  pub counts : CountsReport boot.number progress s
+  pub recorded : at s.before.boots boot.number ≡ Some boot
+  pub its : boot.machine ≡ id
+  pub signal_is : signal ≡ Report progress
+
+-- a counted answer to an order of it
+pub record IsOrdered (id : ℕ) (s : Step) (signal : Signal) : Type 0 where
+  pub order : Order
+  pub outcome : Outcome
+  pub counts : CountsAnswer order.number outcome s
+  pub recorded : at s.before.orders order.number ≡ Some order
+  pub its : order.machine ≡ id
+  pub signal_is : signal ≡ Answer outcome
+
+-- its deadline, at a quiet moment
+pub record HasExpired (machine : Machine) (s : Step) (signal : Signal) : Type 0 where
+  pub quiet : s.arrival.event ≡ event.Quiet
+  pub due : is_due machine.deadline s.arrival.moment ≡ true
+  pub signal_is : signal ≡ Expired
+
+-- a fourth boot, for which it asked while none was offered, and for which it is held
+pub record AsksFourth (machine : Machine) (s : Step) (signal : Signal) : Type 0 where
+  pub mac : List ℕ
+  pub asks : IsMachineAt s.before mac machine
+  pub not_offered : offered_boot (row_at s.before.boots machine.boot) ≡ None
+  pub held : GivesText mac hold_script s
+  pub fourth : is_fourth machine ≡ true
+  pub signal_is : signal ≡ FourthBoot
+
+pub data IsSignalled (id : ℕ) (machine : Machine) (s : Step) (signal : Signal) : Type 0 where
+  by_command : IsCommanded id s signal → IsSignalled id machine s signal
+  by_report : IsReported id s signal → IsSignalled id machine s signal
+  by_answer : IsOrdered id s signal → IsSignalled id machine s signal
+  by_deadline : HasExpired machine s signal → IsSignalled id machine s signal
+  by_fourth_boot : AsksFourth machine s signal → IsSignalled id machine s signal
 
 -- the machine goes where a row of the table leads
 pub record TakesRow (id : ℕ) (s : Step) : Type 0 where
@@ -205,6 +269,15 @@ AcceptsKey operator key s = (command : HallCommand) × (content : Content) × Is
 abbrev pub AcceptsOnce : List Step → Step → Type 0
 AcceptsOnce past s = (operator key : List ℕ) → AcceptsKey operator key s → NoneOf (AcceptsKey operator key) past
 
+-- the reply is a response with this status
+abbrev pub HasStatus : ℕ → Reply → Type 0
+HasStatus wanted (Http status kind body) = status ≡ wanted
+HasStatus wanted other = ⊥
+
+-- an accepted command is answered by the status 200
+abbrev pub AcceptsWithOk : List Step → Step → Type 0
+AcceptsWithOk past s = (operator key : List ℕ) (command : HallCommand) (content : Content) → IsAccepted operator key command content s → HasStatus 200 (reply_of second content)
+
 -- what a later request of the operator with the key is answered, where the first command was answered so: the first
 -- answer, octet for octet, to the same command, KeyReused to another, UnknownToken once the operator is disabled
 pub data IsAnsweredAgain (o : Operator) (first : HallCommand) (content : Content) (command : HallCommand) (again : Content) : Type 0 where
@@ -212,24 +285,45 @@ pub data IsAnsweredAgain (o : Operator) (first : HallCommand) (content : Content
   first_again : o.enabled ≡ true → command_text command ≡ command_text first → reply_of second again ≡ reply_of second content → IsAnsweredAgain o first content command again
   reused : o.enabled ≡ true → command_text command ≢ command_text first → again ≡ refused KeyReused → IsAnsweredAgain o first content command again
 
+-- the first request of an operator with a key: its command was accepted
+pub record FirstRequest (operator key : List ℕ) (past : List Step) : Type 0 where
+  pub command : HallCommand
+  pub content : Content
+  pub accepted : SomeOf (IsAccepted operator key command content) past
+
+-- a later request of that operator with that key
+pub record LaterRequest (operator key : List ℕ) (s : Step) : Type 0 where
+  pub bearer : Option (List ℕ)
+  pub by : Operator
+  pub command : HallCommand
+  pub content : Content
+  pub known : sender s.before bearer ≡ Some by
+  pub named : by.name ≡ operator
+  pub answered : WasAnswered s (event.Command bearer key command) content
+
 -- a later request is answered so, and changes nothing
 abbrev pub RepeatsFirst : List Step → Step → Type 0
 RepeatsFirst past s =
-    (operator key : List ℕ) (first : HallCommand) (content : Content) → SomeOf (IsAccepted operator key first content) past
-    → (bearer : Option (List ℕ)) (o : Operator) (command : HallCommand) (again : Content)
-    → sender s.before bearer ≡ Some o → o.name ≡ operator → WasAnswered s (event.Command bearer key command) again
-    → IsAnsweredAgain o first content command again × (s.after ≡ s.before)
+    (operator key : List ℕ) (first : FirstRequest operator key past) (later : LaterRequest operator key s)
+    → IsAnsweredAgain later.by first.command first.content later.command later.content × (s.after ≡ s.before)
 
 -- ---- orders
 
+abbrev pub IsWaiting : Order → Type 0
+IsWaiting o = o.stage ≡ Waiting
+
 -- of the orders of a machine one waits at most, and none while it is Deployed
 pub record WaitsForOne (h : Hall) : Type 0 where
-  pub one : (a b : ℕ) (o p : Order) → at h.orders a ≡ Some o → at h.orders b ≡ Some p → o.stage ≡ Waiting → p.stage ≡ Waiting → o.machine ≡ p.machine → a ≡ b
-  pub deployed : (id : ℕ) (m : Machine) → at h.machines id ≡ Some m → m.status ≡ Deployed → (n : ℕ) (o : Order) → at h.orders n ≡ Some o → o.machine ≡ id → o.stage ≢ Waiting
+  pub one : (a b : ℕ) (o p : Order) → at h.orders a ≡ Some o → at h.orders b ≡ Some p → IsWaiting o → IsWaiting p → o.machine ≡ p.machine → a ≡ b
+  pub deployed : (id : ℕ) (m : Machine) → at h.machines id ≡ Some m → IsDeployed m → (n : ℕ) (o : Order) → at h.orders n ≡ Some o → o.machine ≡ id → ¬ (IsWaiting o)
+
+-- so it is in the hall before each step
+abbrev pub AlwaysWaitsForOne : List Step → Step → Type 0
+AlwaysWaitsForOne past s = WaitsForOne s.before
 
 -- a new order waits, and its machine goes where a row of the table leads, which has an order of this kind
 pub record IsQueuedAtEntry (o : Order) (s : Step) : Type 0 where
-  pub waits : o.stage ≡ Waiting
+  pub waits : IsWaiting o
   pub entry : IsEntry o.machine s
   pub takes : TakesRow o.machine s
   pub kind : takes.to.order ≡ Some o.kind
@@ -240,7 +334,7 @@ QueuesAtEntries past s = (n : ℕ) (o : Order) → at s.before.orders n ≡ None
 
 -- an order that doesn't wait never waits again
 abbrev pub WaitsNoMore : List Step → Step → Type 0
-WaitsNoMore past s = (n : ℕ) (k o : Order) → at s.before.orders n ≡ Some k → k.stage ≢ Waiting → at s.after.orders n ≡ Some o → o.stage ≢ Waiting
+WaitsNoMore past s = (n : ℕ) (k o : Order) → at s.before.orders n ≡ Some k → ¬ (IsWaiting k) → at s.after.orders n ≡ Some o → ¬ (IsWaiting o)
 
 -- some answer to the order counts
 abbrev pub CountsSome : ℕ → Step → Type 0
@@ -248,8 +342,33 @@ CountsSome n s = (outcome : Outcome) × CountsAnswer n outcome s
 
 -- the order, which waited, is withdrawn
 abbrev pub Withdraws : ℕ → Step → Type 0
-Withdraws n s = (o k : Order) × (at s.before.orders n ≡ Some o) × (o.stage ≡ Waiting) × (at s.after.orders n ≡ Some k) × (k.stage ≡ Withdrawn)
+Withdraws n s = (o k : Order) × (at s.before.orders n ≡ Some o) × IsWaiting o × (at s.after.orders n ≡ Some k) × (k.stage ≡ Withdrawn)
 
 -- an answer counts at most once for each order, and never after the order was withdrawn
 abbrev pub CountsAnswerOnce : List Step → Step → Type 0
 CountsAnswerOnce past s = (n : ℕ) → CountsSome n s → NoneOf (CountsSome n) past × NoneOf (Withdraws n) past
+
+-- ---- machines
+
+-- the machine is deleted by an accepted command
+pub record IsDeleted (id : ℕ) (s : Step) : Type 0 where
+  pub operator : List ℕ
+  pub key : List ℕ
+  pub version : Option ℕ
+  pub content : Content
+  pub accepted : IsAccepted operator key (OnMachine id version on.Delete) content s
+
+-- a machine stays, unless it is deleted
+abbrev pub KeepsMachines : List Step → Step → Type 0
+KeepsMachines past s = (id : ℕ) (m : Machine) → at s.before.machines id ≡ Some m → ((k : Machine) × (at s.after.machines id ≡ Some k)) ⊎ IsDeleted id s
+
+-- ---- refusals
+
+-- the event is a client's frame
+abbrev pub IsFrame : Event → Type 0
+IsFrame e = (port : Port) × (client : Client) × (e ≡ event.Frame port client)
+
+-- what is refused changes nothing, nor does a client's frame that isn't answered
+abbrev pub RefusesWithoutChange : List Step → Step → Type 0
+RefusesWithoutChange past s =
+    (content : Content) → s.answer ≡ Some content → IsRefusal content ⊎ (IsFrame s.arrival.event × (content ≡ nothing)) → s.after ≡ s.before

@@ -2,7 +2,7 @@
 ghost use Rattle.std.specs.Prelude.{◌≡◌, ℕ, List};
 ghost use Rattle.hall_types.specs.Hall.{Hall, new_hall, second};
 ghost use Rattle.laws_model.specs.Step.{IsRun, Step};
-ghost use Rattle.laws_past.specs.Laws.{AcceptsOnce, BootsLocally, BringNoHallWords, CountsAnswerOnce, CountsOwnBoot, CountsStartedFirst, CountsVerdictOnce, DeploysRightly, EntersByTable, ErasesRightly, NumbersOnce, QueuesAtEntries, RepeatsFirst, WaitsForOne, WaitsNoMore};
+ghost use Rattle.laws_past.specs.Laws.{AcceptsOnce, AcceptsWithOk, AlwaysWaitsForOne, BootsLocally, BringNoHallWords, CountsAnswerOnce, CountsOwnBoot, CountsStartedFirst, CountsVerdictOnce, DeploysRightly, EntersByTable, ErasesRightly, KeepsMachines, NumbersOnce, QueuesAtEntries, RefusesWithoutChange, RepeatsFirst, ScriptIsAsked, WaitsForOne, WaitsNoMore};
 ghost use Rattle.laws_past.specs.Past.{AtEachStep};
 
 use boot_desk::{deploying_texts, erasing_texts, new_halls_are_sound};
@@ -23,6 +23,15 @@ pub fn local_boots()
 pub fn numbers_once()
     ensures { (admin digest : List ℕ) (end : Hall) (steps : List Step)
         → IsRun (new_hall second admin digest) steps end → AtEachStep NumbersOnce steps }
+{
+    new_halls_are_sound();
+    steps_keep_halls_sound();
+}
+
+/// A script is given to no one but who asked for one.
+pub fn scripts_are_asked()
+    ensures { (admin digest : List ℕ) (end : Hall) (steps : List Step)
+        → IsRun (new_hall second admin digest) steps end → AtEachStep ScriptIsAsked steps }
 {
     new_halls_are_sound();
     steps_keep_halls_sound();
@@ -86,12 +95,14 @@ pub fn entries_by_table()
     refusals_change_nothing();
 }
 
-/// Of an operator's requests with one key at most one command is accepted. Every later request with that key is answered
+/// Of an operator's requests with one key at most one command is accepted, with the status 200. Every later request with that key is answered
 /// as the first one was if it is the same command, and `KeyReused` if it is another (`UnknownToken` once the operator is
 /// disabled), and changes nothing.
 pub fn request_keys()
     ensures once { (admin digest : List ℕ) (end : Hall) (steps : List Step)
         → IsRun (new_hall second admin digest) steps end → AtEachStep AcceptsOnce steps }
+    ensures ok { (admin digest : List ℕ) (end : Hall) (steps : List Step)
+        → IsRun (new_hall second admin digest) steps end → AtEachStep AcceptsWithOk steps }
     ensures again { (admin digest : List ℕ) (end : Hall) (steps : List Step)
         → IsRun (new_hall second admin digest) steps end → AtEachStep RepeatsFirst steps }
 {
@@ -105,6 +116,8 @@ pub fn request_keys()
 pub fn orders_and_answers()
     ensures waits { (admin digest : List ℕ) (end : Hall) (steps : List Step)
         → IsRun (new_hall second admin digest) steps end → WaitsForOne end }
+    ensures always { (admin digest : List ℕ) (end : Hall) (steps : List Step)
+        → IsRun (new_hall second admin digest) steps end → AtEachStep AlwaysWaitsForOne steps }
     ensures queued { (admin digest : List ℕ) (end : Hall) (steps : List Step)
         → IsRun (new_hall second admin digest) steps end → AtEachStep QueuesAtEntries steps }
     ensures again { (admin digest : List ℕ) (end : Hall) (steps : List Step)
@@ -114,5 +127,22 @@ pub fn orders_and_answers()
 {
     new_halls_are_sound();
     steps_keep_halls_sound();
+    refusals_change_nothing();
+}
+
+/// A machine stays, unless it is deleted by an accepted command.
+pub fn machines_stay()
+    ensures { (admin digest : List ℕ) (end : Hall) (steps : List Step)
+        → IsRun (new_hall second admin digest) steps end → AtEachStep KeepsMachines steps }
+{
+    new_halls_are_sound();
+    steps_keep_halls_sound();
+    refusals_change_nothing();
+}
+
+/// What is refused changes nothing, nor does a client's frame that isn't answered.
+pub fn refusals_leave_the_hall()
+    ensures { (h end : Hall) (steps : List Step) → IsRun h steps end → AtEachStep RefusesWithoutChange steps }
+{
     refusals_change_nothing();
 }

@@ -220,7 +220,7 @@ module _ (h : Hall) (s : IsSound h) where
   writes_keep e moment fresh rows content (notes_report x) r = noted_keep e rows content x
   writes_keep e moment fresh rows content (ends_waiting x) r = idled_keep e rows content x r
   writes_keep e moment fresh rows content (edits_machine by x) r = editing_keep rows x r
-  writes_keep e moment fresh rows content (machine_goes by id is) r = subst (λ ws. AllKeep ws h) (sym is) (tt, tt)
+  writes_keep e moment fresh rows content (machine_goes id by is) r = subst (λ ws. AllKeep ws h) (sym is) (tt, tt)
   writes_keep e moment fresh rows content (writes_aside by x) r = subst (λ ws. AllKeep ws h) (sym x.rows_are) (x.keeps, tt)
 
   -- ---- receipts

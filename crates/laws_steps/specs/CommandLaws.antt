@@ -213,7 +213,8 @@ module _ (h : Hall) (s : IsSound h) (bearer : Option (List ℕ)) (key : List ℕ
     machine_writes on.Test a may = acted_writes (machine_view h o m on.Test) on.Test act.Test refl refl refl may
     machine_writes on.Override a may = acted_writes (machine_view h o m on.Override) on.Override act.Override refl refl refl may
     machine_writes on.Fix a may = acted_writes (machine_view h o m on.Fix) on.Fix act.Fix refl refl refl may
-    machine_writes on.Delete a may = machine_goes refl m.id refl
+    machine_writes on.Delete a may =
+        machine_goes m.id (record { operator = o; bearer = bearer; key = key; version = version; event_is = ap (λ n. event.Command bearer key (OnMachine n version on.Delete)) (sym its); sender_is = sent }) refl
     machine_writes on.Allocate a may = acted_writes (machine_view h o m on.Allocate) on.Allocate act.Allocate refl refl refl may
     machine_writes (on.Deploy image) a may = acted_writes (machine_view h o m (on.Deploy image)) (on.Deploy image) act.Deploy refl refl refl may
     machine_writes (on.Release None) a may = acted_writes (machine_view h o m (on.Release None)) (on.Release None) act.Release refl refl refl may

@@ -110,13 +110,13 @@ module _ (site : Site) (h : Hall) (moment : ℕ) (fresh : List ℕ) where
 
 module _ (h : Hall) (s : IsSound h) (moment : ℕ) (fresh : List ℕ) where
   -- scripts of a machine
-  module _ (host mac : List ℕ) (m : Machine) (was : at h.machines m.id ≡ Some m) where
+  module _ (host mac : List ℕ) (i : Interface) (recorded : at h.interfaces mac ≡ Some i) (m : Machine) (its : i.machine ≡ m.id) (was : at h.machines m.id ≡ Some m) where
     abbrev Gives : Fetched → Type 0
     Gives answer = Decides h (event.Script mac) moment fresh (given answer)
 
-    fourth_writes : is_fourth m ≡ true → Gives (answering hold_script (followed [] (view_of h m) moment (step_of m FourthBoot)))
+    fourth_writes : offered_boot (row_at h.boots m.boot) ≡ None → is_fourth m ≡ true → Gives (answering hold_script (followed [] (view_of h m) moment (step_of m FourthBoot)))
     unfolding followed
-    fourth_writes fourth = by_step (step_of m FourthBoot) refl
+    fourth_writes not_offered fourth = by_step (step_of m FourthBoot) refl
       where
         by_entry : (step : Step) → step_of m FourthBoot ≡ Some step → (e : Option Entered) → entered m step moment h.last ≡ e → Gives (answering hold_script (with_entry [] m (row_at h.orders m.waiting) e))
         by_entry step leads None is = writes_nothing (λ e. cc) refl
@@ -128,7 +128,7 @@ module _ (h : Hall) (s : IsSound h) (moment : ℕ) (fresh : List ℕ) where
           step = step;
           new = new;
           found = was;
-          cause = inr (refl, inr (record { mac = mac; event_is = refl; answer = refl; fourth = fourth; signal_is = refl }));
+          cause = inr (refl, inr (record { mac = mac; interface = i; recorded = recorded; its = its; not_offered = not_offered; event_is = refl; answer = refl; fourth = fourth; signal_is = refl }));
           leads = leads;
           enters = is;
           rows_are = refl;
@@ -156,18 +156,18 @@ module _ (h : Hall) (s : IsSound h) (moment : ℕ) (fresh : List ℕ) where
           rows_are = refl;
         })
 
-        by_fourth : (p : Purpose) (image : BootImage) → class_of m ≡ Work p → (b : Bool) → is_fourth m ≡ b
+        by_fourth : (p : Purpose) (image : BootImage) → class_of m ≡ Work p → offered_boot (row_at h.boots m.boot) ≡ None → (b : Bool) → is_fourth m ≡ b
             → Gives (if b then answering hold_script (followed [] (view_of h m) moment (step_of m FourthBoot)) else issued host (view_of h m) p image fresh (next_number h.last.boot))
-        by_fourth p image works true few = fourth_writes few
-        by_fourth p image works false few = by_number p image works (next_number h.last.boot) refl
+        by_fourth p image works not_offered true few = fourth_writes not_offered few
+        by_fourth p image works not_offered false few = by_number p image works (next_number h.last.boot) refl
 
-        by_offer : (p : Purpose) (image : BootImage) → class_of m ≡ Work p → (b : Option Boot) → Gives (worked host (view_of h m) moment fresh p image b)
-        by_offer p image works (Some b) = writes_nothing (λ e. cc) refl
-        by_offer p image works None = by_fourth p image works (is_fourth m) refl
+        by_offer : (p : Purpose) (image : BootImage) → class_of m ≡ Work p → (b : Option Boot) → offered_boot (row_at h.boots m.boot) ≡ b → Gives (worked host (view_of h m) moment fresh p image b)
+        by_offer p image works (Some b) is = writes_nothing (λ e. cc) refl
+        by_offer p image works None is = by_fourth p image works is (is_fourth m) refl
 
         by_image : (p : Purpose) → class_of m ≡ Work p → (image : Option BootImage) → Gives (worked_if host (view_of h m) moment fresh p image)
         by_image p works None = writes_nothing (λ e. cc) refl
-        by_image p works (Some image) = by_offer p image works (offered_boot (row_at h.boots m.boot))
+        by_image p works (Some image) = by_offer p image works (offered_boot (row_at h.boots m.boot)) refl
 
         by_class : (c : ScriptClass) → class_of m ≡ c → Gives (fetched_by c host (view_of h m) moment fresh)
         by_class Local is = writes_nothing (λ e. cc) refl
@@ -175,15 +175,16 @@ module _ (h : Hall) (s : IsSound h) (moment : ℕ) (fresh : List ℕ) where
         by_class (Work p) is = by_image p is (image_for p (view_of h m))
 
   pub script_writes : (host mac : List ℕ) → Decides h (event.Script mac) moment fresh (given_if host (view_at h mac) moment fresh)
-  script_writes host mac = by_interface (at h.interfaces mac)
+  script_writes host mac = by_interface (at h.interfaces mac) refl
     where
-      by_machine : (i : Interface) (x : Option Machine) → at h.machines i.machine ≡ x → Decides h (event.Script mac) moment fresh (given_if host (machine_view h x) moment fresh)
-      by_machine i None there = writes_nothing (λ e. cc) refl
-      by_machine i (Some m) there = fetch_writes host mac m (ap (at h.machines) (s.keyed.machines i.machine m there) ∙ there)
+      by_machine : (i : Interface) → at h.interfaces mac ≡ Some i → (x : Option Machine) → at h.machines i.machine ≡ x → Decides h (event.Script mac) moment fresh (given_if host (machine_view h x) moment fresh)
+      by_machine i recorded None there = writes_nothing (λ e. cc) refl
+      by_machine i recorded (Some m) there =
+          let own = s.keyed.machines i.machine m there in fetch_writes host mac i recorded m (sym own) (ap (at h.machines) own ∙ there)
 
-      by_interface : (x : Option Interface) → Decides h (event.Script mac) moment fresh (given_if host (interface_view h x) moment fresh)
-      by_interface None = writes_nothing (λ e. cc) refl
-      by_interface (Some i) = by_machine i (at h.machines i.machine) refl
+      by_interface : (x : Option Interface) → at h.interfaces mac ≡ x → Decides h (event.Script mac) moment fresh (given_if host (interface_view h x) moment fresh)
+      by_interface None is = writes_nothing (λ e. cc) refl
+      by_interface (Some i) is = by_machine i is (at h.machines i.machine) refl
 
   pub quiet_writes : Writes h event.Quiet moment fresh (swept (machine_view h (next_expired h moment)) moment) nothing
   unfolding swept followed

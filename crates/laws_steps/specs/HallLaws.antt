@@ -97,5 +97,5 @@ same_receipts h e moment fresh rows content w = after w
     after (notes_report x) = subst At (sym x.rows_are) refl
     after (ends_waiting x) = subst At (sym x.rows_are) refl
     after (edits_machine by x) = subst At (sym x.rows_are) (by_edit x.machine x.after x.interfaces x.edits)
-    after (machine_goes by id is) = subst At (sym is) refl
+    after (machine_goes id by is) = subst At (sym is) refl
     after (writes_aside by x) = subst At (sym x.rows_are) (by_aside x.row x.aside)

@@ -23,6 +23,7 @@ use Rattle.hall_events.specs.Reply.{Content, counted, done, machine_gone, machin
 use Rattle.hall_events.specs.declared.command.HallCommand.{HallCommand}
 use Rattle.hall_events.specs.declared.command.HallCommand.TheVariants.{AddImage, AddMachine, OnMachine}
 use Rattle.hall_events.specs.declared.command.MachineCommand.{MachineCommand}
+use Rattle.hall_events.specs.declared.command.MachineCommand.TheVariants as on
 use Rattle.hall_events.specs.declared.event.Event.{Event}
 use Rattle.hall_events.specs.declared.event.Event.TheVariants as event
 use Rattle.life_cycle.specs.Entering.{entered}
@@ -36,7 +37,7 @@ use Rattle.life_cycle.specs.declared.step.Step.{Step}
 use Rattle.boot_desk.specs.declared.class.ScriptClass.TheVariants.{Work}
 use Rattle.boot_desk.specs.Class.{class_of}
 use Rattle.boot_desk.specs.Expiry.{is_due}
-use Rattle.boot_desk.specs.Fetch.{booted, is_fourth, new_boot}
+use Rattle.boot_desk.specs.Fetch.{booted, is_fourth, new_boot, offered_boot}
 use Rattle.boot_desk.specs.Following.{entry_rows, machine_row}
 use Rattle.boot_desk.specs.OrderAnswer.{idle, stage_for}
 use Rattle.boot_desk.specs.Promises.{Takes}
@@ -91,9 +92,13 @@ pub record IsExpired (e : Event) (moment : ℕ) (m : Machine) (signal : Signal) 
   pub due : is_due m.deadline moment ≡ true
   pub signal_is : signal ≡ Expired
 
--- it asks for a fourth boot of its status, and is held
-pub record IsFourth (e : Event) (content : Content) (m : Machine) (signal : Signal) : Type 0 where
+-- it asks for a fourth boot of its status, none being offered, and is held
+pub record IsFourth (h : Hall) (e : Event) (content : Content) (m : Machine) (signal : Signal) : Type 0 where
   pub mac : List ℕ
+  pub interface : Interface
+  pub recorded : at h.interfaces mac ≡ Some interface
+  pub its : interface.machine ≡ m.id
+  pub not_offered : offered_boot (row_at h.boots m.boot) ≡ None
   pub event_is : e ≡ event.Script mac
   pub answer : content ≡ script hold_script
   pub fourth : is_fourth m ≡ true
@@ -119,7 +124,7 @@ withdrawn_at h m (order_first o outcome) = None
 -- the machine enters its status as it is
 abbrev pub CauseOf : Hall → Event → ℕ → Content → Machine → Machine → Signal → First → Type 0
 CauseOf h e moment content m entering signal nothing_first =
-    IsCommanded h e m entering signal ⊎ ((entering ≡ m) × (IsExpired e moment m signal ⊎ IsFourth e content m signal))
+    IsCommanded h e m entering signal ⊎ ((entering ≡ m) × (IsExpired e moment m signal ⊎ IsFourth h e content m signal))
 CauseOf h e moment content m entering signal (boot_first b progress) =
     (entering ≡ m) × (signal ≡ Report progress) × IsReported h e content m b progress
 CauseOf h e moment content m entering signal (order_first o outcome) =
@@ -156,6 +161,15 @@ abbrev pub Makes : Event → Type 0
 Makes e =
     ((port : Port) × (client : Client) × (e ≡ event.Frame port client))
     ⊎ ((bearer : Option (List ℕ)) × (key mac : List ℕ) × (arch : Arch) × (pool : List ℕ) × (uuid : Option (List ℕ)) × (e ≡ event.Command bearer key (AddMachine mac arch pool uuid)))
+
+-- an operator deletes the machine
+pub record IsDeleting (h : Hall) (e : Event) (id : ℕ) : Type 0 where
+  pub operator : Operator
+  pub bearer : Option (List ℕ)
+  pub key : List ℕ
+  pub version : Option ℕ
+  pub event_is : e ≡ event.Command bearer key (OnMachine id version on.Delete)
+  pub sender_is : sender h bearer ≡ Some operator
 
 -- a boot is issued for a machine that asks for its script
 pub record IsIssuing (h : Hall) (e : Event) (fresh : List ℕ) (rows : List RowWrite) : Type 0 where
@@ -241,7 +255,7 @@ pub data Writes (h : Hall) (e : Event) (moment : ℕ) (fresh : List ℕ) (rows :
   notes_report : IsNoted h e rows content → Writes h e moment fresh rows content
   ends_waiting : IsIdled h e rows content → Writes h e moment fresh rows content
   edits_machine : is_command e ≡ true → IsEditing h rows → Writes h e moment fresh rows content
-  machine_goes : is_command e ≡ true → (id : ℕ) → rows ≡ write.MachineGone id ∷ [] → Writes h e moment fresh rows content
+  machine_goes : (id : ℕ) → IsDeleting h e id → rows ≡ write.MachineGone id ∷ [] → Writes h e moment fresh rows content
   writes_aside : is_command e ≡ true → IsAsideWrite h e rows → Writes h e moment fresh rows content
 
 -- what an operator's command that is carried out is answered

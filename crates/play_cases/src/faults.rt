@@ -3,6 +3,7 @@ use crate::cause::Cause;
 use crate::printing::Answer;
 use dhcp_frame::{FrameFault, WriteFault};
 use hall_http::HttpFault;
+use hall_report::ReportFault;
 use hall_types::ImageFault;
 use ipxe_script::{ScriptFault, WordFault};
 use pxe_vendor::{NotServed, PlaceFault};
@@ -55,6 +56,12 @@ const HTTP: [HttpFault; 6] = [
     HttpFault::Memory,
 ];
 
+const REPORT: [ReportFault; 3] = [
+    ReportFault::NoMachine,
+    ReportFault::Unavailable,
+    ReportFault::Memory,
+];
+
 macro_rules! print_each {
     ($out:ident, $faults:ident) => {
         for fault in &$faults {
@@ -75,6 +82,7 @@ pub fn faults(rest: &str, out: &mut Answer) -> Result<(), Cause> {
         "place" => print_each!(out, PLACE),
         "image" => print_each!(out, IMAGE),
         "request" => print_each!(out, HTTP),
+        "report" => print_each!(out, REPORT),
         _ => return Err(Cause::Form),
     }
     Ok(())

@@ -3,42 +3,22 @@ use crate::log::Log;
 use crate::playing::{Played, is_missed, play, same_answer, same_tables};
 use crate::trials::ProbeFault;
 use hall_desk::Answer;
+use play_log::{hold_all_but, hold_within};
 use std::alloc::{AllocError, Global};
 
-const MAX_BLOCKS: usize = 1_000_000;
-
 const BUDGETS: u64 = 1_000;
+
+// What a trial needs at most, in blocks.
+const BLOCKS: u32 = 40;
 
 // What a budget has more than the one before it.
 const STEP: usize = 200;
 
-// Takes all that the heap gives, in blocks of halving sizes, so many at most.
-fn take_all(alloc: Global, most: usize) -> Result<Vec<Vec<u8>>, AllocError> {
-    let mut held = Vec::with_capacity(alloc, most)?;
-    for shift in 0..37u32 {
-        let size = (1usize << 40) >> shift;
-        for _ in 0..200_000u32 {
-            if held.len() >= most {
-                return Ok(held);
-            }
-            match Vec::with_capacity(alloc, size) {
-                Ok(block) => held.push(block)?,
-                Err(_) => break,
-            }
-        }
-    }
-    Ok(held)
-}
-
 // The log where memory ends after so many octets; nothing where it ended before the first arrival or after the last.
 fn play_within(alloc: Global, log: &Log, octets: usize) -> Option<Played> {
-    let Ok(budget) = Vec::<u8>::with_capacity(alloc, octets) else {
+    let Ok(held) = hold_within(alloc, octets) else {
         return None;
     };
-    let Ok(held) = take_all(alloc, 8_000) else {
-        return None;
-    };
-    drop(budget);
     let played = play(
         alloc,
         log.admin,
@@ -115,22 +95,10 @@ fn first_wrong(alloc: Global, log: &Log) -> Result<Option<u64>, AllocError> {
     Ok(None)
 }
 
-// Some octets, which are given back once all else is taken.
-fn reserve(alloc: Global) -> Result<Vec<Vec<u8>>, AllocError> {
-    let mut reserve = Vec::with_capacity(alloc, 40)?;
-    for _ in 0..40u32 {
-        let block: Vec<u8> = Vec::with_capacity(alloc, 100_000)?;
-        reserve.push(block)?;
-    }
-    Ok(reserve)
-}
-
 /// Plays a log with memory that ends ever later: those arrivals for which it is wanting count as not having come, and all
 /// others are answered as without them. How many times it ended.
 pub fn lower_memory(alloc: Global, log: &Log) -> Result<u64, ProbeFault> {
-    let reserve = reserve(alloc).map_err(|_| ProbeFault::Unavailable)?;
-    let held = take_all(alloc, MAX_BLOCKS).map_err(|_| ProbeFault::Unavailable)?;
-    drop(reserve);
+    let held = hold_all_but(alloc, BLOCKS).map_err(|_| ProbeFault::Unavailable)?;
     let wrong = first_wrong(alloc, log);
     drop(held);
     match wrong {

@@ -1,11 +1,11 @@
 //! Requests and answers that are cut.
 use crate::ends::{Short, Slow};
 use crate::log::Log;
+use crate::playing::desk_over;
 use crate::trials::ProbeFault;
 use hall_desk::{Answer, Arrival, Desk, Input, Served};
 use hall_http::Noted;
-use play_log::LogFault;
-use pxe_vendor::Place;
+use hall_store::{HallStore, Unavailable};
 use std::alloc::Global;
 use store_memory::MemoryStore;
 
@@ -17,9 +17,9 @@ pub struct Cuts {
 }
 
 // What is written for a request from a reader of so many octets a call, which may fail at one, by a writer with so much room.
-fn serve(
+fn serve<S: HallStore>(
     alloc: Global,
-    desk: &mut Desk<MemoryStore>,
+    desk: &mut Desk<S>,
     arrival: &Arrival,
     octets: &[u8],
     step: usize,
@@ -39,9 +39,9 @@ fn serve(
 }
 
 // The request is read by a reader that fails at each of its calls in turn.
-fn cut_reads(
+fn cut_reads<S: HallStore>(
     alloc: Global,
-    desk: &mut Desk<MemoryStore>,
+    desk: &mut Desk<S>,
     arrival: &Arrival,
     octets: &[u8],
     line: u64,
@@ -56,9 +56,9 @@ fn cut_reads(
 }
 
 // The answer is written by a writer that fails after each number of octets.
-fn cut_writes(
+fn cut_writes<S: HallStore>(
     alloc: Global,
-    desk: &mut Desk<MemoryStore>,
+    desk: &mut Desk<S>,
     arrival: &Arrival,
     octets: &[u8],
     answer: &[u8],
@@ -82,10 +82,10 @@ fn is_answered_alike(octets: &[u8]) -> bool {
 }
 
 // Cuts a request and its answer; the other desk answers it whole.
-fn cut(
+fn cut<S: HallStore>(
     alloc: Global,
-    desk: &mut Desk<MemoryStore>,
-    other: &mut Desk<MemoryStore>,
+    desk: &mut Desk<S>,
+    other: &mut Desk<S>,
     arrival: &Arrival,
     line: u64,
     cuts: &mut Cuts,
@@ -113,18 +113,14 @@ fn cut(
     Ok(())
 }
 
-fn desk(alloc: Global, log: &Log) -> Result<Desk<MemoryStore>, LogFault> {
-    let store = MemoryStore::create(alloc, log.admin, log.digest);
-    let store = store.map_err(|_| LogFault::Memory)?;
-    let place = Place::new(alloc, [192, 0, 2, 1], [192, 0, 2, 2], "hall.example");
-    Ok(Desk::new(store, place.map_err(|_| LogFault::Memory)?))
-}
-
-/// Cuts each request of a log, and the answers of those that may be sent again: from a reader that fails at each of its
-/// calls in turn, one octet a call, and to a writer that fails after each number of octets.
-pub fn cut_each_request(alloc: Global, log: &Log) -> Result<Cuts, ProbeFault> {
-    let mut cut_desk = desk(alloc, log)?;
-    let mut whole_desk = desk(alloc, log)?;
+fn cut_over<S: HallStore + Drop>(
+    alloc: Global,
+    store: S,
+    other: S,
+    log: &Log,
+) -> Result<Cuts, ProbeFault> {
+    let mut cut_desk = desk_over(alloc, store)?;
+    let mut whole_desk = desk_over(alloc, other)?;
     let mut cuts = Cuts {
         requests: 0,
         answers: 0,
@@ -141,4 +137,16 @@ pub fn cut_each_request(alloc: Global, log: &Log) -> Result<Cuts, ProbeFault> {
         )?;
     }
     Ok(cuts)
+}
+
+/// Cuts each request of a log, and the answers of those that may be sent again: from a reader that fails at each of its
+/// calls in turn, one octet a call, and to a writer that fails after each number of octets.
+pub fn cut_each_request(alloc: Global, log: &Log) -> Result<Cuts, ProbeFault> {
+    match (
+        MemoryStore::create(alloc, log.admin, log.digest),
+        MemoryStore::create(alloc, log.admin, log.digest),
+    ) {
+        (Ok(store), Ok(other)) => cut_over(alloc, store, other, log),
+        _ => Err(ProbeFault::from(Unavailable)),
+    }
 }

@@ -86,21 +86,20 @@ pub fn same_answer(one: &Answer, other: &Answer) -> bool {
     one.octets() == other.octets()
 }
 
-/// Plays arrivals on a new hall, leaving out some of them; the store fails at a call if it is said which.
-pub fn play(
+/// A desk over a store.
+pub fn desk_over<S: HallStore + Drop>(alloc: Global, store: S) -> Result<Desk<S>, Unavailable> {
+    match Place::new(alloc, [192, 0, 2, 1], [192, 0, 2, 2], "hall.example") {
+        Ok(place) => Ok(Desk::new(store, place)),
+        Err(_) => Err(Unavailable),
+    }
+}
+
+fn answers_of<S: HallStore>(
     alloc: Global,
-    admin: Name,
-    digest: Digest,
+    desk: &mut Desk<S>,
     arrivals: &[Arrival],
     without: &[usize],
-    fails_at: Option<u64>,
-) -> Result<Played, Unavailable> {
-    let store = MemoryStore::create(alloc, admin, digest).map_err(|_| Unavailable)?;
-    let place = Place::new(alloc, [192, 0, 2, 1], [192, 0, 2, 2], "hall.example");
-    let Ok(place) = place else {
-        return Err(Unavailable);
-    };
-    let mut desk = Desk::new(Probe::new(store, fails_at), place);
+) -> Result<Vec<Answer>, Unavailable> {
     let mut answers = Vec::new(alloc);
     for (at, arrival) in arrivals.iter().enumerate() {
         if !without.contains(&at) {
@@ -108,6 +107,14 @@ pub fn play(
             answers.push(answer).map_err(|_| Unavailable)?;
         }
     }
+    Ok(answers)
+}
+
+fn tables_of<S: HallStore + Drop>(
+    alloc: Global,
+    desk: Desk<Probe<S>>,
+    answers: Vec<Answer>,
+) -> Result<Played, Unavailable> {
     let probe = desk.into_store();
     let calls = probe.calls();
     let mut store = probe.into_inner();
@@ -117,6 +124,33 @@ pub fn play(
         tables,
         calls,
     })
+}
+
+fn play_over<S: HallStore + Drop>(
+    alloc: Global,
+    store: S,
+    arrivals: &[Arrival],
+    without: &[usize],
+    fails_at: Option<u64>,
+) -> Result<Played, Unavailable> {
+    let mut desk = desk_over(alloc, Probe::new(store, fails_at))?;
+    let answers = answers_of(alloc, &mut desk, arrivals, without)?;
+    tables_of(alloc, desk, answers)
+}
+
+/// Plays arrivals on a new hall, leaving out some of them; the store fails at a call if it is said which.
+pub fn play(
+    alloc: Global,
+    admin: Name,
+    digest: Digest,
+    arrivals: &[Arrival],
+    without: &[usize],
+    fails_at: Option<u64>,
+) -> Result<Played, Unavailable> {
+    match MemoryStore::create(alloc, admin, digest) {
+        Ok(store) => play_over(alloc, store, arrivals, without, fails_at),
+        Err(_) => Err(Unavailable),
+    }
 }
 
 /// Whether an arrival is answered as one that counts as not having come.

@@ -7,6 +7,7 @@
 
 mod answer;
 mod line;
+mod memory;
 mod reading;
 mod request;
 #[cfg(test)]
@@ -14,5 +15,6 @@ mod tests;
 
 pub use answer::{answer_line, answer_text, push_escaped};
 pub use line::{LineFault, admin, arrival};
+pub use memory::{hold_all_but, hold_within};
 pub use reading::{LogFault, next_line};
 pub use request::is_readable;

@@ -27,6 +27,6 @@ mod words;
 
 pub use asking::Asked;
 pub use fault::{Fault, PlayFault};
-pub use log::{FILES, is_head, read_log};
+pub use log::{FILES, STOPS, is_head, read_log};
 pub use playing::{is_comment, play, play_line, push_comment, write_answer, write_text};
 pub use words::first;

@@ -6,9 +6,12 @@ use std::io::{BufReader, Read};
 /// The line after which a log goes on with files.
 pub const FILES: &str = "== files";
 
+/// The line after which a log goes on with what is played while something stops.
+pub const STOPS: &str = "== stops";
+
 /// Whether a part of the log begins with this line.
 pub fn is_head(line: &str) -> bool {
-    line == "new" || line == FILES || line.starts_with("new ")
+    line == "new" || line == FILES || line == STOPS || line.starts_with("new ")
 }
 
 /// Reads a log to its end: its lines.

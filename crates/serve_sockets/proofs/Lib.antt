@@ -1,2 +1,4 @@
 pub mod ServingLemmas
+pub mod TableLemmas
+pub mod TurnLemmas
 pub mod WentOnLemmas

@@ -4,14 +4,14 @@ ghost use Rattle.std.specs.Prelude.{◌<◌};
 use crate::handing::{hand, hand_datagram};
 use crate::handover::handover;
 use crate::ring::Origin;
-use crate::serving::{Step, advance};
+use crate::serving::advance;
 use crate::sockets::Sockets;
-use crate::turn::{Close, Handover, Kind, Source, Stamp, Turn, TurnLog};
+use crate::turn::{Handover, Kind, Source, Stamp, Turn, TurnLog};
 use hall_desk::{Answer, Desk, Input};
 use hall_store::HallStore;
 use hall_types::Port;
 use std::alloc::Global;
-use std::net::{Shutdown, SocketAddr};
+use std::net::SocketAddr;
 
 /// A desk, and the sockets at which it is reached. Contracts see the desk, and how many turns there were since the last
 /// eighth one.
@@ -153,7 +153,6 @@ impl<S: HallStore> Service<S> {
             self.sockets.rest(Origin::Connection(slot));
             return Turn::Nothing;
         };
-        let from = connection.from();
         let buffer = self.sockets.buffer.as_mut_slice();
         let step = advance(
             &mut connection,
@@ -163,36 +162,7 @@ impl<S: HallStore> Service<S> {
             stamp,
             buffer,
         );
-        match step {
-            Step::Handed(handover) => {
-                self.sockets.keep(slot, connection);
-                Turn::Handed(handover)
-            }
-            Step::Moved => {
-                self.sockets.keep(slot, connection);
-                Turn::Moved(from)
-            }
-            Step::Waits => {
-                self.sockets.keep(slot, connection);
-                self.sockets.rest(Origin::Connection(slot));
-                Turn::Nothing
-            }
-            Step::Done => {
-                let _ = connection.stream().shutdown(Shutdown::Write);
-                self.sockets.rest(Origin::Connection(slot));
-                Turn::Closed {
-                    from,
-                    cause: Close::Answered,
-                }
-            }
-            Step::Failed => {
-                self.sockets.rest(Origin::Connection(slot));
-                Turn::Closed {
-                    from,
-                    cause: Close::Failed,
-                }
-            }
-        }
+        self.sockets.settle(slot, connection, step)
     }
 
     // Serves one turn with a stamp of the source, if it has one.

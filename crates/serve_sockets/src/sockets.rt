@@ -1,20 +1,22 @@
 //! The sockets of a service, and its open connections.
-ghost use Rattle.std.specs.Prelude.{◌<◌, ◌≤◌, IfErr, IfOk, IfSome, length, vec_len};
+ghost use Rattle.std.specs.Prelude.{◌≡◌, ◌<◌, ◌≤◌, IfErr, IfOk, IfSome, length, vec_len};
 ghost use Rattle.serve_sockets.specs.Ring.{IsOpenable};
+ghost use Rattle.serve_sockets.specs.Serving.{IfRequest, IsOnlyMoved};
 ghost use Rattle.serve_sockets.specs.Turn.{HandsNothing};
 
 use crate::connection::Connection;
 use crate::ring::{Origin, Ring};
+use crate::serving::Step;
 use crate::table::Table;
 use crate::turn::{Close, Turn};
 use hall_types::Port;
 use mio::event::Events;
 use mio::net::{TcpListener, TcpStream, UdpSocket};
-use mio::{Interest, Poll, Token};
+use mio::{Interest, Poll, Registry, Token};
 use std::alloc::{AllocError, Global};
 use std::io;
 use std::io::ErrorKind;
-use std::net::{Net, SocketAddr};
+use std::net::{Net, Shutdown, SocketAddr};
 use std::time::Duration;
 use thiserror::Error;
 
@@ -68,14 +70,37 @@ impl From<io::Error> for BindFault {
     }
 }
 
-// The two sockets for datagrams.
+// The three sockets that are bound.
 #[derive(Drop)]
 struct Ports {
     discover: UdpSocket,
     boot: UdpSocket,
+    listener: TcpListener,
 }
 
 impl Ports {
+    fn bind(net: &impl Net, addresses: &Addresses) -> Result<Ports, BindFault> {
+        let discover = UdpSocket::bind(net, addresses.discover)?;
+        let boot = UdpSocket::bind(net, addresses.boot)?;
+        let listener = TcpListener::bind(net, addresses.http)?;
+        Ok(Ports {
+            discover,
+            boot,
+            listener,
+        })
+    }
+
+    // Has the seats of the sockets marked where something comes.
+    fn register(&mut self, registry: &Registry) -> Result<(), BindFault> {
+        let discover = Token(Origin::Port(Port::Discover).seat());
+        let boot = Token(Origin::Port(Port::Boot).seat());
+        let listener = Token(Origin::Listener.seat());
+        registry.register(&mut self.discover, discover, Interest::READABLE)?;
+        registry.register(&mut self.boot, boot, Interest::READABLE)?;
+        registry.register(&mut self.listener, listener, Interest::READABLE)?;
+        Ok(())
+    }
+
     fn receive(&self, port: Port, buffer: &mut [u8]) -> io::Result<(usize, SocketAddr)>
         ensures { IfOk result (λ received. received.0 ≤ length buffer.new) }
     {
@@ -93,13 +118,30 @@ impl Ports {
     }
 }
 
+// What sockets need of memory.
+#[derive(Drop)]
+struct Room {
+    events: Events,
+    table: Table<TcpStream>,
+    buffer: Vec<u8>,
+}
+
+impl Room {
+    fn new(alloc: Global) -> Result<Room, AllocError> {
+        Ok(Room {
+            events: Events::with_capacity(alloc, MAX_EVENTS)?,
+            table: Table::new(alloc)?,
+            buffer: Vec::from_elem(alloc, 0u8, MAX_DATAGRAM)?,
+        })
+    }
+}
+
 /// Two sockets for datagrams, a listener, and up to 64 connections, none of which is waited for.
 #[derive(Drop)]
 pub struct Sockets {
     poll: Poll,
     events: Events,
     ports: Ports,
-    listener: TcpListener,
     table: Table<TcpStream>,
     accepted: u64,
     ring: Ring,
@@ -117,29 +159,23 @@ impl Sockets {
         addresses: &Addresses,
     ) -> Result<Sockets, BindFault> {
         let poll = Poll::new(net)?;
-        let mut discover = UdpSocket::bind(net, addresses.discover)?;
-        let mut boot = UdpSocket::bind(net, addresses.boot)?;
-        let mut listener = TcpListener::bind(net, addresses.http)?;
-        let registry = poll.registry();
-        let seats = [
-            Origin::Port(Port::Discover).seat(),
-            Origin::Port(Port::Boot).seat(),
-            Origin::Listener.seat(),
-        ];
-        registry.register(&mut discover, Token(seats[0]), Interest::READABLE)?;
-        registry.register(&mut boot, Token(seats[1]), Interest::READABLE)?;
-        registry.register(&mut listener, Token(seats[2]), Interest::READABLE)?;
-        Ok(Sockets {
+        let mut ports = Ports::bind(net, addresses)?;
+        ports.register(poll.registry())?;
+        let room = Room::new(alloc)?;
+        Ok(Sockets::over(poll, ports, room))
+    }
+
+    fn over(poll: Poll, ports: Ports, room: Room) -> Sockets {
+        Sockets {
             poll,
-            events: Events::with_capacity(alloc, MAX_EVENTS)?,
-            ports: Ports { discover, boot },
-            listener,
-            table: Table::new(alloc)?,
+            events: room.events,
+            ports,
+            table: room.table,
             accepted: 0,
             ring: Ring::new(),
             is_lame: false,
-            buffer: Vec::from_elem(alloc, 0u8, MAX_DATAGRAM)?,
-        })
+            buffer: room.buffer,
+        }
     }
 
     /// Where the discover socket is.
@@ -154,7 +190,7 @@ impl Sockets {
 
     /// Where the listener is.
     pub fn http_address(&self) -> io::Result<SocketAddr> {
-        self.listener.local_addr()
+        self.ports.listener.local_addr()
     }
 
     /// How many connections are open.
@@ -234,7 +270,7 @@ impl Sockets {
     pub(crate) fn accept(&mut self, alloc: Global, now: u64) -> Turn
         ensures { HandsNothing result }
     {
-        match self.listener.accept() {
+        match self.ports.listener.accept() {
             Ok((stream, from)) => self.admit(alloc, stream, from, now),
             Err(error) => self.missed(Origin::Listener, &error),
         }
@@ -274,6 +310,50 @@ impl Sockets {
         requires { slot < 64 }
     {
         self.table.take(slot)
+    }
+
+    /// The turn of a step of a connection, which is kept if the step neither was the last one nor failed.
+    pub(crate) fn settle(
+        &mut self,
+        slot: usize,
+        connection: Connection<TcpStream>,
+        step: Step,
+    ) -> Turn
+        requires { slot < 64 }
+        ensures handed { IfRequest step (λ handover. result ≡ Turn.Handed handover) }
+        ensures moved { IsOnlyMoved step → HandsNothing result }
+    {
+        let from = connection.from();
+        match step {
+            Step::Handed(handover) => {
+                self.keep(slot, connection);
+                Turn::Handed(handover)
+            }
+            Step::Moved => {
+                self.keep(slot, connection);
+                Turn::Moved(from)
+            }
+            Step::Waits => {
+                self.keep(slot, connection);
+                self.rest(Origin::Connection(slot));
+                Turn::Nothing
+            }
+            Step::Done => {
+                let _ = connection.stream().shutdown(Shutdown::Write);
+                self.rest(Origin::Connection(slot));
+                Turn::Closed {
+                    from,
+                    cause: Close::Answered,
+                }
+            }
+            Step::Failed => {
+                self.rest(Origin::Connection(slot));
+                Turn::Closed {
+                    from,
+                    cause: Close::Failed,
+                }
+            }
+        }
     }
 
     /// Puts a connection back into its slot.

@@ -3,7 +3,7 @@ use crate::fault::FileFault;
 use hall_sql::SqlStore;
 use hall_types::{Digest, Name};
 use sql_tables::{CreateFault, OpenFault};
-use sqlite::{Connection, Error, FileFrom, FileStore, Unknown};
+use sqlite::{Alter, Connection, Error, FileFrom, FileStore, Unknown};
 use sqlite_disk::Disk;
 use std::alloc::Global;
 use std::fs;
@@ -38,22 +38,70 @@ pub fn close<D: Disk + Drop>(store: SqlStore<FileStore<D>>) -> Result<(), FileFa
     closed(store.into_connection().close())
 }
 
-// Makes the tables of a new hall over a connection, and closes it. What holds the file's octets stays open here, so that no
-// proof looks into it.
-fn create_over<D: Disk + Drop>(
-    alloc: Global,
-    connection: Connection<FileStore<D>>,
-    admin: Name,
+// The one operator of a new hall, an enabled admin, and the digest of its token.
+#[derive(Clone, Copy)]
+struct FirstAdmin {
+    name: Name,
     digest: Digest,
-) -> Result<(), FileFault> {
-    match SqlStore::create(alloc, connection, admin, digest) {
-        Ok(store) => close(store),
+}
+
+// The store of a new hall. Where its tables can't be made, the connection comes back with the fault.
+fn create_over<S: Alter + Drop>(
+    alloc: Global,
+    connection: Connection<S>,
+    admin: FirstAdmin,
+) -> Result<SqlStore<S>, (Connection<S>, FileFault)> {
+    match SqlStore::create(alloc, connection, admin.name, admin.digest) {
+        Ok(store) => Ok(store),
         Err(refused) => {
-            let _ = refused.connection.close();
-            match refused.fault {
-                CreateFault::NotEmpty => Err(FileFault::NotEmpty),
-                CreateFault::Unavailable => Err(FileFault::Unavailable),
-            }
+            let fault = match refused.fault {
+                CreateFault::NotEmpty => FileFault::NotEmpty,
+                CreateFault::Unavailable => FileFault::Unavailable,
+            };
+            Err((refused.connection, fault))
+        }
+    }
+}
+
+// The store of the hall that a connection's tables spell. Where there is none, the connection comes back with the fault.
+fn open_over<S: Alter + Drop>(
+    alloc: Global,
+    connection: Connection<S>,
+) -> Result<SqlStore<S>, (Connection<S>, FileFault)> {
+    match SqlStore::open(alloc, connection) {
+        Ok(store) => Ok(store),
+        Err(refused) => {
+            let fault = match refused.fault {
+                OpenFault::NotAHall => FileFault::NotAHall,
+                OpenFault::OtherVersion => FileFault::OtherVersion,
+                OpenFault::Unavailable => FileFault::Unavailable,
+            };
+            Err((refused.connection, fault))
+        }
+    }
+}
+
+// The store of a new hall with this admin, or of the hall that is there.
+fn store_over<S: Alter + Drop>(
+    alloc: Global,
+    connection: Connection<S>,
+    admin: Option<FirstAdmin>,
+) -> Result<SqlStore<S>, (Connection<S>, FileFault)> {
+    match admin {
+        Some(admin) => create_over(alloc, connection, admin),
+        None => open_over(alloc, connection),
+    }
+}
+
+// The same over a file, which is closed where there is no store. No other function goes from any store to a file's but `close`:
+// a proof looks into the file's for seconds.
+fn store_in(rt: &HostRuntime, path: &str, admin: Option<FirstAdmin>) -> Result<Store, FileFault> {
+    let connection = connect(rt, path)?;
+    match store_over(rt.alloc(), connection, admin) {
+        Ok(store) => Ok(store),
+        Err((connection, fault)) => {
+            let _ = connection.close();
+            Err(fault)
         }
     }
 }
@@ -67,8 +115,12 @@ fn create_over<D: Disk + Drop>(
 /// has other tables, where another program has it open, and where memory or the disk failed. A refusal leaves the file's tables
 /// as they were.
 pub fn create(rt: &HostRuntime, path: &str, admin: Name, digest: Digest) -> Result<(), FileFault> {
-    let connection = connect(rt, path)?;
-    create_over(rt.alloc(), connection, admin, digest)
+    let admin = FirstAdmin {
+        name: admin,
+        digest,
+    };
+    let store = store_in(rt, path, Some(admin))?;
+    close(store)
 }
 
 // A file that isn't there is no hall's: it isn't made.
@@ -77,24 +129,6 @@ fn look(rt: &HostRuntime, path: &str) -> Result<(), FileFault> {
         Ok(true) => Ok(()),
         Ok(false) => Err(FileFault::NotAHall),
         Err(_) => Err(FileFault::Unavailable),
-    }
-}
-
-// The store of the hall that a connection's tables spell. Where there is none, the connection is closed.
-fn open_over<D: Disk + Drop>(
-    alloc: Global,
-    connection: Connection<FileStore<D>>,
-) -> Result<SqlStore<FileStore<D>>, FileFault> {
-    match SqlStore::open(alloc, connection) {
-        Ok(store) => Ok(store),
-        Err(refused) => {
-            let _ = refused.connection.close();
-            match refused.fault {
-                OpenFault::NotAHall => Err(FileFault::NotAHall),
-                OpenFault::OtherVersion => Err(FileFault::OtherVersion),
-                OpenFault::Unavailable => Err(FileFault::Unavailable),
-            }
-        }
     }
 }
 
@@ -107,6 +141,5 @@ fn open_over<D: Disk + Drop>(
 /// the file open, and where memory or the disk failed.
 pub fn open(rt: &HostRuntime, path: &str) -> Result<Store, FileFault> {
     look(rt, path)?;
-    let connection = connect(rt, path)?;
-    open_over(rt.alloc(), connection)
+    store_in(rt, path, None)
 }

@@ -6,10 +6,10 @@ use thiserror::Error;
 pub enum CreateFault {
     /// The file has a table, an index or a view with the name of one of a hall's tables.
     #[error("the file already has one of a hall's tables")]
-    NotEmpty,
+    NotEmpty = 1,
     /// Memory or the disk failed, or the file has other tables.
     #[error("the file can't be written now")]
-    Unavailable,
+    Unavailable = 3,
 }
 
 /// Why the hall of a file can't be opened.
@@ -17,11 +17,11 @@ pub enum CreateFault {
 pub enum OpenFault {
     /// A hall's table is missing, or a column of it, or the one row that names its schema.
     #[error("the file isn't a hall's")]
-    NotAHall,
+    NotAHall = 1,
     /// The tables are those of another schema.
     #[error("the hall's tables are of another version")]
-    OtherVersion,
+    OtherVersion = 2,
     /// Memory or the disk failed.
     #[error("the file can't be read now")]
-    Unavailable,
+    Unavailable = 3,
 }

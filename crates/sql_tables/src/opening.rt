@@ -43,6 +43,7 @@ fn look_in<S: Alter>(conn: &mut Connection<S>) -> Result<(), OpenFault>
 pub fn look_at_tables<S: Alter>(conn: &mut Connection<S>) -> Result<(), OpenFault>
     ensures clean { HasCleanDisk (state S.Store conn.new) → HasCleanDisk (state S.Store conn.old) }
     ensures held { HasCleanDisk (state S.Store conn.new) → OnOk result ((h : Hall) → SpellHall (state S.Store conn.old).now.trees h → IsHeld (state S.Store conn.new) h) }
+    ensures running { HasCleanDisk (state S.Store conn.new) → OnOk result (IsTrue (state S.Store conn.new).is_open) }
     ensures settled { HasCleanDisk (state S.Store conn.new) → OnOk result ((h : Hall) → SpellHall (state S.Store conn.old).now.trees h → Leaves (state S.Store conn.new) (h ∷ [])) }
     ensures refused { HasCleanDisk (state S.Store conn.new) → IsTrue (state S.Store conn.old).is_open → (h : Hall) → SpellHall (state S.Store conn.old).now.trees h → IfErr result (λ e. e ≡ OpenFault.Unavailable) }
     ensures answered { HasCleanDisk (state S.Store conn.new) → IsAnswered (state S.Store conn.old).now result }

@@ -1,6 +1,6 @@
 //! Imports whose writer or store fails.
 use crate::halls::{desk, digest, place, store};
-use desk_operations::{Fault, What, import, report};
+use desk_operations::{Fault, Imported, What, import, report};
 use hall_desk::Desk;
 use hall_store::Probe;
 use hall_types::Moment;
@@ -18,7 +18,8 @@ const WRITTEN: &[u8] = b"1 200 {\"id\":1,\"status\":\"New\",\"version\":1}\n2 20
 // The octets of the header and the first row.
 const ONE_ROW: usize = 94;
 
-const FIRST_LINE: &[u8] = b"1 200 {\"id\":1,\"status\":\"New\",\"version\":1}\n";
+const LINES: &[u8] =
+    b"1 200 {\"id\":1,\"status\":\"New\",\"version\":1}\n2 503 {\"refusal\":\"Unavailable\"}\n3 200 {\"id\":2,\"status\":\"New\",\"version\":1}\n";
 
 // Keeps this many octets, and then fails.
 #[derive(Drop)]
@@ -95,9 +96,9 @@ fn calls_of_one_row(alloc: Global) -> Result<u64, Fail> {
     Ok(desk.into_store().calls())
 }
 
-// The first row is done, and the store can't answer for the second one.
+// The store can't answer for the second row.
 #[test]
-fn a_store_that_fails_ends_the_import(rt: HostRuntime) -> Result<(), Fail> {
+fn a_row_without_an_answer_is_passed_over(rt: HostRuntime) -> Result<(), Fail> {
     let alloc = rt.alloc();
     let calls = calls_of_one_row(alloc)?;
     let store = Probe::new(store(alloc)?, Some(calls.saturating_add(1)));
@@ -111,7 +112,7 @@ fn a_store_that_fails_ends_the_import(rt: HostRuntime) -> Result<(), Fail> {
         digest()?,
         Moment::new(1_000)?,
     );
-    assert_eq!(rt; end.err(), Some(Fault::Unavailable));
-    assert_eq!(rt; writer.as_slice(), FIRST_LINE);
+    assert_eq!(rt; end, Ok(Imported::NotAll));
+    assert_eq!(rt; writer.as_slice(), LINES);
     Ok(())
 }

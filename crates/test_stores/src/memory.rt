@@ -168,7 +168,7 @@ fn worked_rows(alloc: Global, rt: &impl Abort) -> Result<Change, Fault> {
     Ok(Change::from(rows))
 }
 
-fn test_worked_hall(alloc: Global, rt: &impl Abort) -> Result<MemoryStore, Fault> {
+fn worked_hall(alloc: Global, rt: &impl Abort) -> Result<MemoryStore, Fault> {
     let mut store = MemoryStore::create(alloc, name(rt, "ada"), Digest::from([1; 32]))?;
     let change = worked_rows(alloc, rt)?;
     store.apply(&change)?;

@@ -93,7 +93,7 @@ fn outcome(store: &mut MemoryStore, applied: bool) -> End {
 
 // A change where memory ends after some octets.
 fn outcome_within(alloc: Global, rt: &impl Abort, octets: usize) -> End {
-    let Ok(mut store) = test_worked_hall(alloc, rt) else {
+    let Ok(mut store) = worked_hall(alloc, rt) else {
         return End::NoHall;
     };
     let Ok(change) = work_rows(alloc, rt) else {

@@ -4,7 +4,7 @@ use super::*;
 #[test]
 fn a_probe_fails_at_the_call_that_it_is_told(rt: HostRuntime) -> Result<(), Fail> {
     let alloc = rt.alloc();
-    let store = test_worked_hall(alloc, &rt)?;
+    let store = worked_hall(alloc, &rt)?;
     let mut probe = Probe::new(store, Some(2));
     assert_eq!(rt; probe.machine_count(), Ok(1));
     assert_eq!(rt; probe.machine_count(), Err(Unavailable));

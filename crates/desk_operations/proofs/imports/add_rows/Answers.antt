@@ -4,13 +4,14 @@ use Rattle.std.proofs.lemmas.List.{take_more}
 use Rattle.hall_desk.specs.Desk.{site_of, store_of}
 use Rattle.hall_report.specs.declared.row.ImportRow.{ImportRow}
 use Rattle.desk_operations.specs.Import.{IsImported}
-use Rattle.desk_operations.proofs.ImportLemmas.{if_err_of, imported_next, imported_none, stopped_next}
+use Rattle.desk_operations.proofs.ImportLemmas.{if_err_of, imported_next, imported_none, kept_on, more_on, stopped_next}
 use Rattle.desk_operations.proofs.imports.add_rows.Goals as goal
 
 pub loop-place-init : goal.loop-place-init
 loop-place-init g c = record {
   clean = λ clean. clean;
   site = refl;
+  history = λ clean. kept_on g.S.HallStore.holds (site_of c.args.desk.now) c.args.bearer c.args.moment (store_of c.args.desk.now) (store_of c.args.desk.now) (λ h held. held);
   imported = λ clean h held sound.
       imported_none g.S.HallStore.holds g.S.HallStore.leaves (site_of c.args.desk.now) c.args.bearer c.args.moment (store_of c.args.desk.now) h (g.W.Write.contents c.args.writer.now) held sound;
 }
@@ -26,6 +27,9 @@ loop-place-preserved g c =
     record {
       clean = λ clean. before.clean (did clean);
       site = c.add_row.ensures.site ∙ before.site;
+      history = λ clean.
+          more_on g.S.HallStore.holds (site_of c.args.desk.now) c.args.bearer c.args.moment (site_of c.loop-place.desk) before.site
+          (store_of c.args.desk.now) (store_of c.loop-place.desk) (store_of c.add_row.new.desk) (before.history (did clean)) (c.add_row.ensures.history clean);
       imported = λ clean h held sound.
           rw (take_more rows place c.index-rows-place.result here, sym c.index-rows-place.is)
           (imported_next g.S.HallStore.holds g.S.HallStore.leaves (site_of c.args.desk.now) c.args.bearer c.args.moment (site_of c.loop-place.desk) before.site
@@ -47,3 +51,8 @@ returns-in_err-was_ok-clause-stopped g c = λ clean.
     (store_of c.loop-place.desk) (store_of c.add_row.new.desk) h c.args.rows.now c.loop-place.place c.index-rows-place.result c.loop-place.end _
     (g.W.Write.contents c.args.writer.now) (g.W.Write.contents c.loop-place.writer) (g.W.Write.contents c.add_row.new.writer) c.loop-place-test.true c.index-rows-place.is
     (c.loop-place.invariant.imported (c.add_row.ensures.clean clean) h held sound) (c.in_err-was_ok.ensures.stopped clean))
+
+pub returns-in_err-was_ok-clause-history : goal.returns-in_err-was_ok-clause-history
+returns-in_err-was_ok-clause-history g c = λ clean.
+    more_on g.S.HallStore.holds (site_of c.args.desk.now) c.args.bearer c.args.moment (site_of c.loop-place.desk) c.loop-place.invariant.site
+    (store_of c.args.desk.now) (store_of c.loop-place.desk) (store_of c.add_row.new.desk) (c.loop-place.invariant.history (c.add_row.ensures.clean clean)) (c.add_row.ensures.history clean)

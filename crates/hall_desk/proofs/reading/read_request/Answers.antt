@@ -1,5 +1,6 @@
-use Rattle.std.proofs.Common.{arith, inr}
+use Rattle.std.proofs.Common.{arith, inl, inr, sym, ◌∙◌, true≢false, refl}
 use Rattle.std.proofs.lemmas.Grind.{common_steps}
+use Rattle.hall_desk.proofs.ReadingLemmas.{in_time_failed, in_time_open, in_time_read}
 use Rattle.hall_desk.proofs.ServedLemmas.{consumes_then, reads_whole}
 use Rattle.hall_desk.proofs.reading.read_request.Goals as goal
 
@@ -7,11 +8,21 @@ pub returns-then-decided-clause-reads : goal.returns-then-decided-clause-reads
 returns-then-decided-clause-reads g c =
     reads_whole _ _ _ _ c.whole-then-decided.ensures
     (rw (c.extend-is_added.ensures c.if-is_added.true) (consumes_then _ _ _ _ _ c.loop-turn.invariant.0 c.in-Some.ensures.octets.0))
-    (inr (c.in-Ok.ensures c.if-decided.true))
+    (inr (c.in-Ok.ensures.decided c.if-decided.true))
 
 pub loop-turn-preserved : goal.loop-turn-preserved
 loop-turn-preserved g c = (
   rw (c.extend-is_added.ensures c.if-is_added.true) (consumes_then _ _ _ _ _ c.loop-turn.invariant.0 c.in-Some.ensures.octets.0),
   grind (arith, common_steps),
   grind (arith, common_steps),
+  inr (λ ends. true≢false (sym (c.in-Ok.ensures.ends ends) ∙ c.if-decided.false)),
 )
+
+pub returns-else-is_added-clause-in_time : goal.returns-else-is_added-clause-in_time
+returns-else-is_added-clause-in_time g c = in_time_read _ _ _ _ _ c.loop-turn.invariant.0 c.in-Some.ensures.octets.0 (grind (arith, common_steps)) c.loop-turn.invariant.3
+
+pub returns-then-decided-clause-in_time : goal.returns-then-decided-clause-in_time
+returns-then-decided-clause-in_time g c = in_time_read _ _ _ _ _ c.loop-turn.invariant.0 c.in-Some.ensures.octets.0 (grind (arith, common_steps)) c.loop-turn.invariant.3
+
+pub returns-in-Err-clause-in_time : goal.returns-in-Err-clause-in_time
+returns-in-Err-clause-in_time g c = in_time_read _ _ _ _ _ c.loop-turn.invariant.0 c.in-Some.ensures.octets.0 (grind (arith, common_steps)) c.loop-turn.invariant.3

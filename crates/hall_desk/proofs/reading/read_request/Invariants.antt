@@ -1,9 +1,11 @@
-use Rattle.std.proofs.Common.{◌≡◌, false}
+use Rattle.std.proofs.Common.{◌≡◌, ◌⊎◌, [], false}
 use Rattle.std.specs.Io.KnownBytes.{Consumes}
 use Rattle.hall_http.specs.Noted.{failed_of, inner_of, takes_of}
+use Rattle.http_requests.specs.Decided.{Ends}
 use Rattle.hall_desk.proofs.reading.read_request.Given as goal
 
 abbrev pub invariant-loop-turn : goal.invariant-loop-turn
 invariant-loop-turn g l =
     Consumes (g.R.Read.remaining (inner_of l.fn.reader)) (g.R.Read.remaining (inner_of l.reader)) l.octets.items
     × (takes_of l.reader ≡ l.turn) × (failed_of l.reader ≡ false)
+    × ((l.octets.items ≡ []) ⊎ ¬ (Ends l.octets.items))

@@ -11,7 +11,7 @@ use Rattle.laws_past.proofs.laws.erasing_is_released.Goals as goal
 pub returns : goal.returns
 returns c = λ admin digest end steps words run.
     at_each c.steps_keep_halls_sound.ensures.step BringsNoHallWord KnowsReleases (releases_step c.refusals_change_nothing.ensures.hall)
-    ErasesRightly (erases_rightly (record { status = c.erasing_texts.ensures.status; kept = c.erasing_texts.ensures.kept }))
+    ErasesRightly (erases_rightly (record { status = c.erasing_texts.ensures.status; kind = c.erasing_texts.ensures.kind; kept = c.erasing_texts.ensures.kept }))
     steps (new_hall second admin digest) end words (c.new_halls_are_sound.ensures second admin digest) refl
     (record {
       words = record { images = λ name i is. absurd (none-some i (sym (at-no_rows texts name _ refl) ∙ is)) };

@@ -1,6 +1,7 @@
 use Rattle.std.proofs.Common.{refl}
 use Rattle.hall_types.specs.Hall.{new_hall, second}
-use Rattle.laws_past.specs.Laws.{AcceptsOnce, RepeatsFirst}
+use Rattle.laws_past.specs.Laws.{AcceptsOnce, AcceptsWithOk, RepeatsFirst}
+use Rattle.laws_past.proofs.AcceptedLemmas.{accepts_with_ok}
 use Rattle.laws_past.proofs.Frame.{anything, at_each}
 use Rattle.laws_past.proofs.Keys.{KeepsReceipts, accepts_once, keys_step, new_keys, repeats_first}
 use Rattle.laws_past.proofs.laws.request_keys.Goals as goal
@@ -14,3 +15,9 @@ pub returns-clause-again : goal.returns-clause-again
 returns-clause-again c = λ admin digest end steps run.
     at_each c.steps_keep_halls_sound.ensures.step (λ s. Unit {0}) KeepsReceipts (keys_step) RepeatsFirst (repeats_first)
     steps (new_hall second admin digest) end (anything steps) (c.new_halls_are_sound.ensures second admin digest) refl (new_keys (new_hall second admin digest)) run
+
+pub returns-clause-ok : goal.returns-clause-ok
+returns-clause-ok c = λ admin digest end steps run.
+    at_each c.steps_keep_halls_sound.ensures.step (λ s. Unit {0}) (λ past h. Unit {0}) (λ past s given is sound later old. tt)
+    AcceptsWithOk (λ past s is sound old. accepts_with_ok past s is sound)
+    steps (new_hall second admin digest) end (anything steps) (c.new_halls_are_sound.ensures second admin digest) refl tt run

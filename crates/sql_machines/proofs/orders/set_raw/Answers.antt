@@ -1,4 +1,13 @@
 use Rattle.sql_machines.proofs.orders.set_raw.Goals as goal
 
+pub returns-clause-same_reference : goal.returns-clause-same_reference
+returns-clause-same_reference g c = c.query_all.ensures.same_reference
+
+pub returns-clause-ok : goal.returns-clause-ok
+returns-clause-ok g c clean = rw (c.number_value.ensures, c.number_value-2.ensures, c.small_value.ensures, c.small_value-2.ensures, c.get.ensures.number, c.get-2.ensures.number, c.number.ensures, c.number-2.ensures) at (c.query_all.ensures.ok clean)
+
 pub returns-clause-err : goal.returns-clause-err
 returns-clause-err g c clean = rw (c.number_value.ensures, c.number_value-2.ensures, c.small_value.ensures, c.small_value-2.ensures, c.get.ensures.number, c.get-2.ensures.number, c.number.ensures, c.number-2.ensures) at (c.query_all.ensures.err clean)
+
+pub returns-clause-survives : goal.returns-clause-survives
+returns-clause-survives g c = c.query_all.ensures.survives

@@ -21,3 +21,6 @@ returns-then-is_running-clause-settled g c clean h spelt =
     settles g.S.Store c.is_running.new.conn h (λ db live may. g.met.S.Store.settled c.is_running.new.conn.store db live may)
     (held_opened (state g.S.Store c.args.conn.now) (state g.S.Store c.look_in.new.conn) (state g.S.Store c.is_running.new.conn) h c.schema_is_live.ensures
     (c.in_default.ensures.kept before) (c.in_default.ensures.flat before) c.in_default.ensures.autocommit (c.is_running.ensures.same clean c.if-is_running.true) spelt)
+
+pub returns-then-is_running-clause-running : goal.returns-then-is_running-clause-running
+returns-then-is_running-clause-running g c clean = (c.is_running.ensures.same clean c.if-is_running.true).0.is_open

@@ -5,7 +5,8 @@ use Rattle.hall_desk.specs.Attempt.{IsRan}
 use Rattle.hall_desk.specs.Desk.{site_of, store_of}
 use Rattle.hall_desk.specs.declared.arrival.Answer.{Answer}
 use Rattle.hall_desk.specs.declared.arrival.Arrival.{Arrival}
-use Rattle.hall_desk.proofs.RunLemmas.{ran_more, ran_none}
+use Rattle.hall_desk.proofs.HistoryLemmas.{after_run}
+use Rattle.hall_desk.proofs.RunLemmas.{idle_more, ran_more, ran_none}
 use Rattle.hall_desk.proofs.desk.Desk.run.Goals as goal
 
 pub loop-arrival-init : goal.loop-arrival-init
@@ -15,6 +16,7 @@ loop-arrival-init g c = record {
   ran = λ clean h held sound.
       subst (λ (answers : List Answer). IsRan g.S.HallStore.holds (store_of c.args.self.now) (site_of c.args.self.now) h [] answers) (sym c.in_ok-answers.ensures.items)
       (ran_none g.S.HallStore.holds g.S.HallStore.leaves (site_of c.args.self.now) (store_of c.args.self.now) h held sound);
+  idle = λ clean h held none. (held, none);
   count = search rules;
   room = search rules;
 }
@@ -32,6 +34,11 @@ loop-arrival-preserved g c =
           (store_of c.loop-arrival.self) (store_of c.answer-answer.new.self) h
           (take c.loop-arrival.arrival-index c.args.arrivals.now) c.loop-arrival.answers.items c.arrival-item.result c.answer-answer.result
           (before.ran (c.answer-answer.ensures.clean clean) h held sound) (c.answer-answer.ensures.answer clean));
+      idle = λ clean h held none.
+          let was = before.idle (c.answer-answer.ensures.clean clean) h held none in
+          idle_more g.S.HallStore.holds g.S.HallStore.leaves (site_of c.args.self.now) (site_of c.loop-arrival.self) before.site
+          (store_of c.loop-arrival.self) (store_of c.answer-answer.new.self) h c.args.arrivals.now c.loop-arrival.arrival-index c.arrival-item.result c.answer-answer.result
+          here c.arrival-item.is (c.answer-answer.ensures.answer clean) was;
       count = grind (arith, common_steps);
       room = omega (arith, before.room, c.push.ensures.capacity);
     }
@@ -41,3 +48,8 @@ returns-clause-run g c = λ clean h held sound.
     let whole : take c.loop-arrival.arrival-index c.args.arrivals.now ≡ c.args.arrivals.now = grind (arith, common_steps) in
     subst (λ (arrivals : List Arrival). IsRan g.S.HallStore.holds (store_of c.loop-arrival.self) (site_of c.args.self.now) h arrivals c.loop-arrival.answers.items) whole
     (c.loop-arrival.invariant.ran clean h held sound)
+
+pub returns-clause-history : goal.returns-clause-history
+returns-clause-history g c = λ clean admin digest past was.
+    after_run (record { laws = c.histories_keep_the_laws.ensures }) g.S.HallStore.holds g.S.HallStore.leaves (store_of c.args.self.now) (store_of c.loop-arrival.self)
+    (site_of c.args.self.now) admin digest past was c.args.arrivals.now c.loop-arrival.answers.items (returns-clause-run g c clean)

@@ -20,3 +20,9 @@ returns-clause-opened g c clean h spelt =
 pub returns-clause-answered : goal.returns-clause-answered
 returns-clause-answered g c clean =
     c.in_default.ensures.answered (subst (λ k. HasCleanDisk (state g.S.Store k)) c.over.ensures.conn clean)
+
+pub returns-clause-again : goal.returns-clause-again
+returns-clause-again g c clean h holds =
+    let after = subst (λ k. HasCleanDisk (state g.S.Store k)) c.over.ensures.conn clean in
+    let was = (c.in_default.ensures.kept after (c.in_default.ensures.running after)).0 in
+    c.over.ensures.held h (c.in_default.ensures.held after h (holds was).spelt)

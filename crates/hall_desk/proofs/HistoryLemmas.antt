@@ -1,0 +1,191 @@
+-- What came as steps of the model, and how a history goes on.
+use Rattle.std.proofs.Common.{◌≡◌, ◌⊎◌, ℕ, List, [], ◌∷◌, ◌++◌, Result, Ok, Err, Option, Some, None, refl, sym, ap, subst, ◌∙◌, inl, inr}
+use Rattle.std.specs.Prelude.{IfOk, IfSome}
+use Rattle.pxe_vendor.specs.Place.{Site}
+use Rattle.hall_types.specs.Hall.{Hall, applied, new_hall, second}
+use Rattle.boot_desk.specs.Sound.{IsSound}
+use Rattle.laws_model.specs.Decision.{decision_of}
+use Rattle.hall_events.specs.Reply.{Content, reply_of}
+use Rattle.hall_events.specs.declared.reply.Reply.{Reply}
+use Rattle.hall_store.specs.Rules.{AllKeep}
+use Rattle.hall_store.specs.declared.store.Unavailable.{Unavailable as Refusing}
+use Rattle.hall_desk.specs.Plan.{IsCarriedOut}
+use Rattle.hall_events.specs.declared.command.HallCommand.TheVariants.{AddImage}
+use Rattle.laws_model.specs.Step.{Arrival as MachineArrival, IsRun, Step}
+use Rattle.hall_desk.specs.Attempt.{IsAnswered, IsKept, IsRan}
+use Rattle.hall_desk.specs.Octets.{HasCome, HasMissed, IsArrivalRun, IsArrivalStep, Leads, Meaning, Means, answered, asks}
+use Rattle.hall_desk.specs.declared.arrival.Answer.{Answer}
+use Rattle.hall_desk.specs.declared.arrival.Arrival.{Arrival}
+use Rattle.hall_desk.specs.declared.arrival.Input.{Input}
+use Rattle.hall_desk.specs.declared.arrival.Input.TheVariants as input
+use Rattle.hall_desk.specs.Served.{IsServed}
+use Rattle.hall_desk.specs.declared.serving.Served.{Served}
+use Rattle.hall_desk.specs.declared.serving.Served.TheVariants as serving
+use Rattle.hall_events.specs.declared.event.Event.{Event}
+use Rattle.hall_events.specs.declared.event.Event.TheVariants as event
+use Rattle.laws_past.specs.Laws.{BringsNoHallWord, BringNoHallWords}
+use Rattle.http_requests.specs.WordLaws.{IsFreeEvent, event_free}
+use Rattle.hall_desk.specs.Headline.{HasHistory, HasServed, Headline}
+use Rattle.hall_desk.specs.History.{AllLead, AreStepsOf, Carried, Exchange, IsAside, IsAsked, IsCarried, IsCarriedBy, IsStepOf, Item, ItemLeads, carried, carried_out, exchange, exchanged, exchanges}
+
+put_aside : (item : Item) (items : List Item) (steps : List Step) → IsAside item → AreStepsOf items steps → AreStepsOf (item ∷ items) steps
+put_aside item items [] aside are = (aside, are)
+put_aside item items (s ∷ steps) aside are = inr (aside, are)
+
+abbrev Found : Hall → List Item → Hall → Type 0
+Found h items end = (steps : List Step) × IsRun h steps end × AreStepsOf items steps
+
+aside : (h next end : Hall) (item : Item) (items : List Item) → IsAside item → next ≡ h → Found next items end → Found h (item ∷ items) end
+aside h next end item items is same rest =
+    (rest.0, subst (λ from. IsRun from rest.0 end) same rest.1, put_aside item items rest.0 is rest.2)
+
+by_meaning : (h next end : Hall) (x : Exchange) (items : List Item) (m : Meaning) → Means x.site x.arrival.input m
+    → Leads x.site h x.arrival.moment x.arrival.fresh m x.answer next → Found next items end → Found h (exchange x ∷ items) end
+by_meaning h next end x items (answered a) means leads rest =
+    aside h next end (exchange x) items (inl (subst (λ b. Means x.site x.arrival.input (answered b)) (sym leads.0) means)) leads.1 rest
+by_meaning h next end x items (asks e say) means leads rest =
+    let d = decision_of x.site h e x.arrival.moment x.arrival.fresh in
+    let s : Step = record {
+      before = h;
+      arrival = record { site = x.site; event = e; moment = x.arrival.moment; fresh = x.arrival.fresh };
+      answer = Some d.content;
+      after = next;
+    } in (
+      s ∷ rest.0,
+      (inl refl, inl (record { answer = refl; after = leads.1 }), rest.1),
+      inl (record { event = e; say = say; means = means; arrived = refl; content = d.content; gave = refl; sent = leads.0 }, rest.2),
+    )
+
+by_event : (h next end : Hall) (c : Carried) (items : List Item) → IsCarried h c next → Found next items end → Found h (carried c ∷ items) end
+by_event h next end c items it rest =
+    let d = decision_of c.site h c.event c.moment c.fresh in
+    let s : Step = record {
+      before = h;
+      arrival = record { site = c.site; event = c.event; moment = c.moment; fresh = c.fresh };
+      answer = Some d.content;
+      after = next;
+    } in (
+      s ∷ rest.0,
+      (inl refl, inl (record { answer = refl; after = it.after }), rest.1),
+      inl (record { arrived = refl; content = d.content; gave = refl; replied = it.reply; free = it.free }, rest.2),
+    )
+
+pub steps_of : (h : Hall) (items : List Item) (end : Hall) → AllLead h items end → Found h items end
+steps_of h [] end led = ([], inl led, refl)
+steps_of h (exchange x ∷ items) end led = by led.1 (steps_of led.0 items end led.2)
+  where
+    by : ItemLeads h (exchange x) led.0 → Found led.0 items end → Found h (exchange x ∷ items) end
+    by (inl come) rest = by_meaning h led.0 end x items come.meaning come.means come.leads rest
+    by (inr missed) rest = aside h led.0 end (exchange x) items (inr missed.answer) missed.same rest
+steps_of h (carried c ∷ items) end led = by_event h led.0 end c items led.1 (steps_of led.0 items end led.2)
+
+of_run : (site : Site) (h : Hall) (arrivals : List Arrival) (answers : List Answer) (end : Hall) → IsArrivalRun site h arrivals answers end → AllLead h (exchanges site arrivals answers) end
+of_run site h [] [] end run = run
+of_run site h [] (a ∷ answers) end run = absurd run
+of_run site h (x ∷ arrivals) [] end run = absurd run
+of_run site h (x ∷ arrivals) (a ∷ answers) end run = (run.0, run.1, of_run site run.0 arrivals answers end run.2)
+
+all_on : (h : Hall) (past : List Item) (now : Hall) → AllLead h past now → (items : List Item) (end : Hall) → AllLead now items end → AllLead h (past ++ items) end
+all_on h [] now led items end more = subst (λ from. AllLead from items end) led more
+all_on h (x ∷ past) now led items end more = (led.0, led.1, all_on led.0 past now led.2 items end more)
+
+pub goes_on : (h : Hall) (past : List Item) (now : Hall) → AllLead h past now
+    → (site : Site) (arrivals : List Arrival) (answers : List Answer) (end : Hall) → IsArrivalRun site now arrivals answers end
+    → AllLead h (past ++ exchanges site arrivals answers) end
+goes_on h past now led site arrivals answers end run = all_on h past now led (exchanges site arrivals answers) end (of_run site now arrivals answers end run)
+
+pub item_on : (h : Hall) (past : List Item) (now : Hall) → AllLead h past now → (item : Item) (end : Hall) → ItemLeads now item end → AllLead h (past ++ item ∷ []) end
+item_on h past now led item end leads = all_on h past now led (item ∷ []) end (end, leads, refl)
+
+-- ---- what the steps bring
+
+meant_free : (site : Site) (what : Input) (e : Event) (say : Content → Answer) → Means site what (asks e say) → IsFreeEvent e
+meant_free site (input.Datagram port octets) e say means bearer key image is = absurd (not_command (sym means.event ∙ is))
+  where
+    not_command : event.Frame port means.client ≡ event.Command bearer key (AddImage image) → ⊥
+    not_command e = cc
+meant_free site (input.Request octets) e say means bearer key image is = event_free octets e means.0 bearer key image is
+meant_free site input.Quiet e say means bearer key image is = absurd (not_command (sym means.0 ∙ is))
+  where
+    not_command : event.Quiet ≡ event.Command bearer key (AddImage image) → ⊥
+    not_command e = cc
+
+step_brings : (item : Item) (s : Step) → IsStepOf item s → BringsNoHallWord s
+step_brings (exchange x) s asked bearer key image is =
+    meant_free x.site x.arrival.input asked.event asked.say asked.means bearer key image (sym (ap (λ (a : MachineArrival). a.event) asked.arrived) ∙ is)
+step_brings (carried c) s it bearer key image is = it.free bearer key image (sym (ap (λ (a : MachineArrival). a.event) it.arrived) ∙ is)
+
+pub bring_none : (items : List Item) (steps : List Step) → AreStepsOf items steps → BringNoHallWords steps
+bring_none [] steps are = subst BringNoHallWords (sym are) tt
+bring_none (x ∷ items) [] are = tt
+bring_none (x ∷ items) (s ∷ steps) (inl it) = (step_brings x s it.0, bring_none items steps it.1)
+bring_none (x ∷ items) (s ∷ steps) (inr it) = bring_none items (s ∷ steps) it.1
+
+-- ---- calls
+
+-- the laws that the calls rely on
+pub record AreHistoryLaws : Type 0 where
+  pub laws : (admin digest : List ℕ) (items : List Item) (end : Hall) → AllLead (new_hall second admin digest) items end → Headline (new_hall second admin digest) items end
+
+module _ (its : AreHistoryLaws) {S : Type 0} (holds : S → Hall → Type 0) (leaves : S → List Hall → Type 0) (old new : S) (site : Site) (admin digest : List ℕ) (past : List Item) (was : HasHistory holds old admin digest past) where
+  pub after_run : (arrivals : List Arrival) (answers : List Answer) → ((h : Hall) → holds old h → IsSound h → IsRan holds new site h arrivals answers)
+      → HasHistory holds new admin digest (past ++ exchanges site arrivals answers)
+  after_run arrivals answers ran =
+      let r = ran was.end was.held was.headline.sound in
+      record {
+        end = r.end;
+        held = r.held;
+        headline = its.laws admin digest (past ++ exchanges site arrivals answers) r.end (goes_on (new_hall second admin digest) past was.end was.headline.led site arrivals answers r.end r.run);
+      }
+
+  after_item : (item : Item) (next : Hall) → holds new next → ItemLeads was.end item next → HasHistory holds new admin digest (past ++ item ∷ [])
+  after_item item next held leads = record {
+    end = next;
+    held = held;
+    headline = its.laws admin digest (past ++ item ∷ []) next (item_on (new_hall second admin digest) past was.end was.headline.led item next leads);
+  }
+
+  pub after_answer : (arrival : Arrival) (a : Answer) → IsAnswered holds leaves old new site arrival.input arrival.moment arrival.fresh a
+      → HasHistory holds new admin digest (past ++ exchanged site arrival a ∷ [])
+  after_answer arrival a it = by (it.step was.end was.held was.headline.sound)
+    where
+      by : IsKept holds leaves old new site arrival.input arrival.moment arrival.fresh was.end a ⊎ (HasMissed was.end arrival.input a was.end × holds new was.end)
+          → HasHistory holds new admin digest (past ++ exchanged site arrival a ∷ [])
+      by (inl kept) = after_item (exchanged site arrival a) kept.next kept.held (inl kept.come)
+      by (inr missed) = after_item (exchanged site arrival a) was.end missed.1 (inr missed.0)
+
+  pub after_serving : (octets before : List ℕ) (moment : ℕ) (fresh : List ℕ) (served : Served) (after : Option (List ℕ)) → IsServed holds leaves old new site moment fresh octets before served after
+      → HasServed holds new admin digest past site octets moment fresh before served after
+  after_serving octets before moment fresh serving.Answered after it =
+      (it.0, it.2, after_answer (record { moment = moment; fresh = fresh; input = input.Request octets }) it.0 it.1)
+  after_serving octets before moment fresh serving.ReadFailed after it =
+      (it.1, subst (λ store. HasHistory holds store admin digest past) (sym it.0) was)
+  after_serving octets before moment fresh (serving.WriteFailed count) after it =
+      (it.0, it.2, it.3, after_answer (record { moment = moment; fresh = fresh; input = input.Request octets }) it.0 it.1)
+
+  -- an event that was carried out
+  pub after_event : (e : Event) (moment : ℕ) (fresh : List ℕ) (reply : Reply) → IsFreeEvent e
+      → ((h : Hall) → IsSound h → h.schema ≡ second → AllKeep (decision_of site h e moment fresh).rows h) → ((store : S) (h : Hall) → holds store h → h.schema ≡ second)
+      → IsCarriedOut holds leaves old new {E = Refusing} (Ok reply) (λ h. (decision_of site h e moment fresh).rows) (λ h reply. reply ≡ reply_of second (decision_of site h e moment fresh).content)
+      → HasHistory holds new admin digest (past ++ carried_out site e moment fresh reply ∷ [])
+  after_event e moment fresh reply free keep schema it =
+      after_item (carried_out site e moment fresh reply) (applied (decision_of site was.end e moment fresh).rows was.end)
+      (it.made was.end was.held (keep was.end was.headline.sound (schema old was.end was.held)))
+      (record { reply = it.answer was.end was.held; after = refl; free = free })
+
+pub after_served : AreHistoryLaws → {S : Type 0} (holds : S → Hall → Type 0) (leaves : S → List Hall → Type 0) (old new : S) (site : Site) (moment : ℕ) (fresh : List ℕ) (served : Served) (octets before after : Option (List ℕ))
+    → IfSome octets (λ octets. IfSome before (λ before. IsServed holds leaves old new site moment fresh octets before served after))
+    → IfSome octets (λ octets. IfSome before (λ before. (admin digest : List ℕ) (past : List Item) → HasHistory holds old admin digest past
+    → HasServed holds new admin digest past site octets moment fresh before served after))
+after_served its holds leaves old new site moment fresh served None before after it = tt
+after_served its holds leaves old new site moment fresh served (Some octets) None after it = tt
+after_served its holds leaves old new site moment fresh served (Some octets) (Some before) after it =
+    λ admin digest past was. after_serving its holds leaves old new site admin digest past was octets before moment fresh served after it
+
+pub after_events : AreHistoryLaws → {S : Type 0} (holds : S → Hall → Type 0) (leaves : S → List Hall → Type 0) (old new : S) (site : Site) (e : Event) (moment : ℕ) (fresh : List ℕ) (r : Result Reply Refusing)
+    → ((h : Hall) → IsSound h → h.schema ≡ second → AllKeep (decision_of site h e moment fresh).rows h) → ((store : S) (h : Hall) → holds store h → h.schema ≡ second)
+    → IsCarriedOut holds leaves old new r (λ h. (decision_of site h e moment fresh).rows) (λ h reply. reply ≡ reply_of second (decision_of site h e moment fresh).content)
+    → IfOk r (λ reply. IsFreeEvent e → (admin digest : List ℕ) (past : List Item) → HasHistory holds old admin digest past → HasHistory holds new admin digest (past ++ carried_out site e moment fresh reply ∷ []))
+after_events its holds leaves old new site e moment fresh (Ok reply) keep schema it =
+    λ free admin digest past was. after_event its holds leaves old new site admin digest past was e moment fresh reply free keep schema it
+after_events its holds leaves old new site e moment fresh (Err error) keep schema it = tt

@@ -1,9 +1,0 @@
-use Rattle.std.proofs.Common.{◌≡◌, ◌++◌, ◌∷◌, [], string_bytes, take}
-use Rattle.std.specs.List.{flat_map}
-use Rattle.wire_mac.specs.MacText.{mac_text}
-use Rattle.hall_report.proofs.member.macs_text.Given as goal
-
--- the first address stands in the text, and the others so far
-abbrev pub invariant-loop-interface : goal.invariant-loop-interface
-invariant-loop-interface l =
-    string_bytes l.text ≡ string_bytes l.initial.text ++ flat_map (λ i. (32 ∷ []) ++ mac_text i.mac) (take l.interface-index l.others)

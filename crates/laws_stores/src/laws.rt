@@ -1,0 +1,56 @@
+//! New halls, and all that came to them in one run.
+ghost use Rattle.std.specs.Prelude.{List, [], ◌++◌, IfOk};
+ghost use Rattle.sqlite.specs.Held.{state};
+ghost use Rattle.sqlite.specs.State.{HasCleanDisk};
+ghost use Rattle.hall_types.specs.Hall.{Hall, new_hall, second};
+ghost use Rattle.hall_desk.specs.Headline.{Headline};
+ghost use Rattle.hall_desk.specs.History.{exchanges};
+
+use hall_desk::{Answer, Arrival, Desk};
+use hall_sql::SqlStore;
+use hall_store::Unavailable;
+use hall_types::{Digest, Name};
+use pxe_vendor::Place;
+use sqlite::{Alter, Connection};
+use std::alloc::Global;
+use store_memory::MemoryStore;
+
+/// Answers all that comes to a new hall in memory.
+pub fn memory_keeps_the_headline(
+    alloc: Global,
+    admin: Name,
+    digest: Digest,
+    place: Place,
+    arrivals: &[Arrival],
+) -> Result<Vec<Answer>, Unavailable>
+    ensures { IfOk result (λ answers. (end : Hall) × Headline (new_hall second admin digest) (exchanges place arrivals.now answers.items) end) }
+{
+    let store = MemoryStore::create(alloc, admin, digest)?;
+    let mut desk = Desk::new(store, place);
+    match desk.run(alloc, arrivals) {
+        Ok(answers) => Ok(answers),
+        Err(_) => Err(Unavailable),
+    }
+}
+
+/// Answers all that comes to a new hall over a connection, which is handed back: the headline holds if its disk gave back all along what
+/// was written to it.
+pub fn sqlite_keeps_the_headline<S: Alter + Drop>(
+    alloc: Global,
+    conn: Connection<S>,
+    admin: Name,
+    digest: Digest,
+    place: Place,
+    arrivals: &[Arrival],
+) -> Result<(Vec<Answer>, Connection<S>), Unavailable>
+    ensures { IfOk result (λ done. HasCleanDisk (state S.Store done.1) → (end : Hall) × Headline (new_hall second admin digest) (exchanges place arrivals.now done.0.items) end) }
+{
+    let Ok(store) = SqlStore::create(alloc, conn, admin, digest) else {
+        return Err(Unavailable);
+    };
+    let mut desk = Desk::new(store, place);
+    match desk.run(alloc, arrivals) {
+        Ok(answers) => Ok((answers, desk.into_store().into_connection())),
+        Err(_) => Err(Unavailable),
+    }
+}
