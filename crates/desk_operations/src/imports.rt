@@ -136,8 +136,8 @@ fn add_rows<S: HallStore, W: Write>(
 
 /// Adds the machines of a file of comma-separated values, each by a command of the operator whose token has the digest, with
 /// the row's key and at the moment. A line is written for each row: its number from 1 on, the status of the answer and its
-/// body. Whatever comes of it, the rows that came go on from the hall's history. A row to which the store can't answer counts as not having come, and its line has the refusal Unavailable. All rows are
-/// read before one is applied.
+/// body. Whatever comes of it, the rows that came go on from the hall's history. A row to which the store can't answer counts as
+/// not having come, and its line has the refusal Unavailable. All rows are read before one is applied.
 ///
 /// # Errors
 ///

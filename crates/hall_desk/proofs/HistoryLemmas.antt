@@ -13,7 +13,7 @@ use Rattle.hall_desk.specs.Plan.{IsCarriedOut}
 use Rattle.hall_events.specs.declared.command.HallCommand.TheVariants.{AddImage}
 use Rattle.laws_model.specs.Step.{Arrival as MachineArrival, IsRun, Step}
 use Rattle.hall_desk.specs.Attempt.{IsAnswered, IsKept, IsRan}
-use Rattle.hall_desk.specs.Octets.{HasCome, HasMissed, IsArrivalRun, IsArrivalStep, Leads, Meaning, Means, answered, asks}
+use Rattle.hall_desk.specs.Octets.{HasMissed, IsArrivalRun, Leads, Meaning, Means, answered, asks}
 use Rattle.hall_desk.specs.declared.arrival.Answer.{Answer}
 use Rattle.hall_desk.specs.declared.arrival.Arrival.{Arrival}
 use Rattle.hall_desk.specs.declared.arrival.Input.{Input}
@@ -26,7 +26,7 @@ use Rattle.hall_events.specs.declared.event.Event.TheVariants as event
 use Rattle.laws_past.specs.Laws.{BringsNoHallWord, BringNoHallWords}
 use Rattle.http_requests.specs.WordLaws.{IsFreeEvent, event_free}
 use Rattle.hall_desk.specs.Headline.{HasHistory, HasServed, Headline}
-use Rattle.hall_desk.specs.History.{AllLead, AreStepsOf, Carried, Exchange, IsAside, IsAsked, IsCarried, IsCarriedBy, IsStepOf, Item, ItemLeads, carried, carried_out, exchange, exchanged, exchanges}
+use Rattle.hall_desk.specs.History.{AllLead, AreStepsOf, Carried, Exchange, IsAside, IsCarried, IsStepOf, Item, ItemLeads, carried, carried_out, exchange, exchanged, exchanges}
 
 put_aside : (item : Item) (items : List Item) (steps : List Step) → IsAside item → AreStepsOf items steps → AreStepsOf (item ∷ items) steps
 put_aside item items [] aside are = (aside, are)

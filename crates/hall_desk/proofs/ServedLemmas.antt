@@ -1,12 +1,13 @@
 -- Known octets over several calls, and what follows once a request is decided.
-use Rattle.std.proofs.Common.{◌≡◌, ◌⊎◌, ◌<◌, ℕ, List, ◌∷◌, ◌++◌, length, take, Option, Some, None, Ok, Err, inl, inr, refl, sym, ◌∙◌, ap, subst, append_assoc, append-nil}
+use Rattle.std.proofs.Common.{◌≡◌, ◌⊎◌, ℕ, List, ◌∷◌, ◌++◌, Option, Some, None, inl, inr, sym, ◌∙◌, ap, subst, append_assoc, append-nil}
 use Rattle.std.specs.Prelude.{IfSome}
 use Rattle.std.specs.Io.KnownBytes.{Appends, Consumes, IsAtEnd}
 use Rattle.pxe_vendor.specs.Place.{Site}
 use Rattle.hall_types.specs.Hall.{Hall}
 use Rattle.http_requests.specs.Decided.{IsDecided}
-use Rattle.hall_desk.specs.Attempt.{IsAnswered, IsKept, IsTorn}
-use Rattle.hall_desk.specs.Octets.{HasCome, HasMissed, IsArrivalStep, Meaning, Means, answered, asks, octets_of}
+use Rattle.hall_desk.specs.Attempt.{IsAnswered}
+use Rattle.hall_desk.specs.AttemptLaws.{answered_on, missed_same}
+use Rattle.hall_desk.specs.Octets.{octets_of}
 use Rattle.hall_desk.specs.Served.{IsSent, IsServed, IsWritten, Reads}
 use Rattle.hall_desk.specs.declared.reading.Reading.{Reading}
 use Rattle.hall_desk.specs.declared.reading.Reading.TheVariants.{Whole}
@@ -15,7 +16,6 @@ use Rattle.hall_desk.specs.declared.arrival.Answer.TheVariants.{Unavailable}
 use Rattle.hall_desk.specs.declared.arrival.Input.TheVariants.{Request}
 use Rattle.hall_desk.specs.declared.serving.Served.{Served}
 use Rattle.hall_desk.specs.declared.serving.Served.TheVariants.{Answered, ReadFailed, WriteFailed}
-use Rattle.hall_store.specs.declared.store.Unavailable.{Unavailable as Refused}
 
 pub consumes_then : (a b c : Option (List ℕ)) (xs ys : List ℕ) → Consumes a b xs → Consumes b c ys → Consumes a c (xs ++ ys)
 consumes_then None b c xs ys f g = tt
@@ -33,36 +33,6 @@ pub reads_whole : (r : Reading) (octets : List ℕ) (old new : Option (List ℕ)
 reads_whole r octets old new is consumed ends = subst (λ (x : Reading). Reads x old new) (sym is) (consumed, ends)
 
 module _ {S : Type 0} (holds : S → Hall → Type 0) (leaves : S → List Hall → Type 0) (old new : S) (site : Site) (moment : ℕ) (fresh : List ℕ) where
-  module _ (octets more : List ℕ) (decided : IsDecided octets) where
-    means_on : (m : Meaning) → Means site (Request octets) m → Means site (Request (octets ++ more)) m
-    means_on (asks e say) it = (decided more (Ok e) it.0, it.1)
-    means_on (answered a) it = record { why = it.why; first = decided more (Err it.why) it.first; known = it.known; answer = it.answer }
-
-    come_on : (h next : Hall) (a : Answer) → HasCome site h (Request octets) moment fresh a next → HasCome site h (Request (octets ++ more)) moment fresh a next
-    come_on h next a it = record { meaning = it.meaning; means = means_on it.meaning it.means; leads = it.leads }
-
-    missed_on : (h next : Hall) (a : Answer) → HasMissed h (Request octets) a next → HasMissed h (Request (octets ++ more)) a next
-    missed_on h next a it = record { answer = it.answer; same = it.same }
-
-    step_on : (h next : Hall) (a : Answer) → IsArrivalStep site h (Request octets) moment fresh a next → IsArrivalStep site h (Request (octets ++ more)) moment fresh a next
-    step_on h next a (inl come) = inl (come_on h next a come)
-    step_on h next a (inr missed) = inr (missed_on h next a missed)
-
-    kept_on : (h : Hall) (a : Answer) → IsKept holds leaves old new site (Request octets) moment fresh h a → IsKept holds leaves old new site (Request (octets ++ more)) moment fresh h a
-    kept_on h a it = record { next = it.next; come = come_on h it.next a it.come; held = it.held; sound = it.sound; settled = it.settled }
-
-    torn_on : (h : Hall) (hs : List Hall) → IsTorn holds leaves old new site (Request octets) moment fresh h hs → IsTorn holds leaves old new site (Request (octets ++ more)) moment fresh h hs
-    torn_on h hs it = record { next = it.next; answer = it.answer; step = step_on h it.next it.answer it.step; left = it.left }
-
-    -- an answer to octets that decide a request is one to them with any octets after them
-    answered_on : (a : Answer) → IsAnswered holds leaves old new site (Request octets) moment fresh a → IsAnswered holds leaves old new site (Request (octets ++ more)) moment fresh a
-    answered_on a it = record {
-      step = λ h held sound. elim (it.step h held sound) [ inl kept ↦ inl (kept_on h a kept) | inr missed ↦ inr (missed_on h h a missed.0, missed.1) ];
-      idle = λ h held none. it.idle h held (λ m means. none m (means_on m means));
-      unavailable = it.unavailable;
-      crash = λ h held sound hs left. torn_on h hs (it.crash h held sound hs left);
-    }
-
   -- an answer to what was read is one to the input
   pub answered_input : (octets : List ℕ) (a : Answer) (before after : Option (List ℕ)) → Consumes before after octets → (IsAtEnd after ⊎ IsDecided octets)
       → IsAnswered holds leaves old new site (Request octets) moment fresh a
@@ -73,7 +43,7 @@ module _ {S : Type 0} (holds : S → Hall → Type 0) (leaves : S → List Hall 
       let whole : all ≡ octets = f ∙ ap (λ t. octets ++ t) e ∙ append-nil octets in
       subst (λ (o : List ℕ). IsAnswered holds leaves old new site (Request o) moment fresh a) (sym whole) it
   answered_input octets a (Some all) (Some more) f (inr d) it =
-      subst (λ (o : List ℕ). IsAnswered holds leaves old new site (Request o) moment fresh a) (sym f) (answered_on octets more d a it)
+      subst (λ (o : List ℕ). IsAnswered holds leaves old new site (Request o) moment fresh a) (sym f) (answered_on holds leaves old new site moment fresh octets more d a it)
 
   -- what was written of an answer serves the input
   pub served_from : (input held after : Option (List ℕ)) (a : Answer) (result : Served) → IsWritten result
@@ -89,14 +59,4 @@ module _ {S : Type 0} (holds : S → Hall → Type 0) (leaves : S → List Hall 
 pub unread : {S : Type 0} (holds : S → Hall → Type 0) (leaves : S → List Hall → Type 0) → ((s : S) (h : Hall) (hs : List Hall) → leaves s hs → leaves s (h ∷ hs))
     → (s : S) (site : Site) (moment : ℕ) (fresh : List ℕ) (input : Option (List ℕ)) → IfSome input (λ all. IsAnswered holds leaves s s site (Request all) moment fresh Unavailable)
 unread holds leaves wider s site moment fresh None = tt
-unread holds leaves wider s site moment fresh (Some all) = record {
-  step = λ h held sound. inr (record { answer = refl; same = refl }, held);
-  idle = λ h held none. held;
-  unavailable = λ is h held. held;
-  crash = λ h held sound hs left. record {
-    next = h;
-    answer = Unavailable;
-    step = inr (record { answer = refl; same = refl });
-    left = wider s h hs left;
-  };
-}
+unread holds leaves wider s site moment fresh (Some all) = missed_same holds leaves wider s site moment fresh (Request all)

@@ -1,5 +1,5 @@
 -- What came to a hall since it was new, and the steps of the model that it was.
-use Rattle.std.specs.Prelude.{◌≡◌, ◌⊎◌, ℕ, List, [], ◌∷◌, Option, Some}
+use Rattle.std.specs.Prelude.{◌≡◌, ◌⊎◌, ℕ, List, [], ◌∷◌, Some}
 use Rattle.pxe_vendor.specs.Place.{Site}
 use Rattle.hall_types.specs.Hall.{Hall, applied, second}
 use Rattle.hall_events.specs.Reply.{Content, reply_of}

@@ -1,4 +1,5 @@
 pub mod Attempt
+pub mod AttemptLaws
 pub mod Desk
 pub mod Headline
 pub mod History

@@ -138,8 +138,8 @@ impl<S: HallStore> Desk<S> {
     }
 
     /// Answers what comes in turn, one answer each. A hall stays, sound or not, that none of it changes. With all that came to the hall
-    /// since it was new, at this place or others, it is a history that keeps all laws: `specs/Headline.antt` has them in one place. The error is want of memory for the answers, before the first arrival,
-    /// and the hall is then as it was.
+    /// since it was new, at this place or others, it is a history that keeps all laws: `specs/Headline.antt` has them in one place.
+    /// The error is want of memory for the answers, before the first arrival, and the hall is then as it was.
     pub fn run(&mut self, alloc: Global, arrivals: &[Arrival]) -> Result<Vec<Answer>, AllocError>
         ensures clean { S.HallStore.is_clean (store_of self.new) → S.HallStore.is_clean (store_of self.old) }
         ensures site { site_of self.new ≡ site_of self.old }

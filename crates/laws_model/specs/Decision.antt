@@ -108,7 +108,8 @@ commanded (Err refusal) = refuses refusal
 
 -- ---- all events
 
--- what a hall makes of an event at this place, at this moment, with these fresh octets
+-- What a hall makes of an event at this place, at this moment, with these fresh octets. It is meant for halls of the second schema:
+-- a release or an erasing writes a kind of erasing, which no hall of the first schema stores, until it is carried over.
 unfoldable pub decision_of : Site → Hall → Event → ℕ → List ℕ → Decided
 decision_of site h (event.Frame port client) moment fresh = framed (frame_decision (frame_view h client) port client) site h client
 decision_of site h (event.Script mac) moment fresh = given_if site.host (view_at h mac) moment fresh

@@ -1,14 +1,12 @@
 -- An accepted command is answered by the status 200.
-use Rattle.std.proofs.Common.{◌≡◌, ◌∙◌, ℕ, List, [], true, Some, refl, sym, ap, subst}
-use Rattle.hall_types.specs.Hall.{Hall, applied, second}
+use Rattle.std.proofs.Common.{◌≡◌, ◌∙◌, List, true, Some, refl, sym, ap, subst}
+use Rattle.hall_types.specs.Hall.{applied, second}
 use Rattle.hall_events.specs.Reply.{Content, boot_file, counted, done, machine_gone, machine_is, machine_list, nothing, one_machine, refused, repeated, reply_of, script, stored, waiting_orders}
-use Rattle.hall_events.specs.declared.event.Event.TheVariants as event
 use Rattle.boot_desk.specs.Sound.{IsSound}
 use Rattle.laws_model.specs.Step.{IsStep, Step}
 use Rattle.laws_steps.specs.Writes.{WritesAll, is_command, is_done, with_receipt, without_receipt}
 use Rattle.laws_past.specs.Laws.{AcceptsWithOk, HasStatus}
-use Rattle.laws_past.specs.Past.{IsAccepted}
-use Rattle.laws_past.proofs.Effects.{StepDoes, decided, did, missed, step_does}
+use Rattle.laws_past.proofs.Effects.{StepDoes, decided, did, missed, some_same, step_does}
 
 done_ok : (c : Content) → is_done c ≡ true → HasStatus 200 (reply_of second c)
 unfolding reply_of
@@ -25,9 +23,6 @@ done_ok (one_machine machine) is = cc
 done_ok (stored status text) is = cc
 done_ok (boot_file file) is = cc
 done_ok nothing is = cc
-
-some_same : (a b : Content) → Some a ≡ Some b → a ≡ b
-some_same a b is = cc
 
 pub accepts_with_ok : (past : List Step) (s : Step) → IsStep s → IsSound s.before → AcceptsWithOk past s
 accepts_with_ok past s is sound operator key command content accepted = by (step_does s is sound)

@@ -1,5 +1,5 @@
 -- A script is given to no one but who asked for one.
-use Rattle.std.proofs.Common.{◌≡◌, ◌∙◌, ℕ, Bool, true, false, List, [], ◌∷◌, ◌++◌, Option, Some, None, Result, Ok, Err, refl, sym, ap, subst, inl, inr}
+use Rattle.std.proofs.Common.{◌≡◌, ◌∙◌, ℕ, Bool, true, false, List, [], ◌∷◌, ◌++◌, Option, Some, None, Ok, Err, refl, sym}
 use Rattle.std.specs.Prelude.{map, if◌then◌else◌}
 use Rattle.std.specs.Str.{bytes_eq}
 use Rattle.pxe_vendor.specs.Place.{Site}
@@ -37,10 +37,10 @@ use Rattle.desk_command.specs.View.{command_view}
 use Rattle.desk_command.specs.declared.view.CommandView.{CommandView}
 use Rattle.laws_model.specs.Decision.{Decided, commanded, decision_of, framed, if_role, judged, listed_if, listed_of, may_answer, may_see_machines, may_see_orders, refuses, says}
 use Rattle.laws_model.specs.Step.{IsStep, Step}
-use Rattle.laws_steps.specs.Writes.{WritesAll, is_command, is_done, with_receipt, without_receipt}
+use Rattle.laws_steps.specs.Writes.{WritesAll, is_done, with_receipt, without_receipt}
 use Rattle.laws_past.specs.Laws.{ScriptIsAsked}
 use Rattle.laws_past.specs.Past.{WasAnswered}
-use Rattle.laws_past.proofs.Effects.{StepDoes, decided, did, missed, step_does}
+use Rattle.laws_past.proofs.Effects.{StepDoes, decided, did, missed, some_same, step_does}
 
 -- the content is no script
 abbrev NoScript : Content → Type 0
@@ -160,9 +160,6 @@ module _ (site : Site) (h : Hall) (moment : ℕ) (fresh : List ℕ) where
       absurd (role_none may_see_machines (sender h bearer) (listed_if h (at h.machines machine)) (listed_none h (at h.machines machine)) commands is)
   asked (event.Command bearer key command) commands w is = absurd (command_none bearer key command w commands is)
   asked event.Quiet commands w is = cc
-
-some_same : (a b : Content) → Some a ≡ Some b → a ≡ b
-some_same a b is = cc
 
 pub script_is_asked : (past : List Step) (s : Step) → IsStep s → IsSound s.before → ScriptIsAsked past s
 script_is_asked past s step sound commands given = by (step_does s step sound)

@@ -1,5 +1,5 @@
 -- Machines stay, unless they are deleted.
-use Rattle.std.proofs.Common.{◌≡◌, ◌⊎◌, ◌∙◌, ◌==◌, ℕ, Bool, true, false, List, Option, Some, None, inl, inr, refl, sym, ap, subst, arith}
+use Rattle.std.proofs.Common.{◌≡◌, ◌⊎◌, ◌∙◌, ◌==◌, ℕ, Bool, true, false, List, Some, None, inl, inr, refl, sym, ap, subst, arith}
 use Rattle.hall_types.specs.Hall.{Hall}
 use Rattle.hall_types.specs.RowLaws.{at-gone-other, at-gone-same, at-put-other, at-put-same}
 use Rattle.hall_types.specs.Rows.{Rows, at, gone, numbers, put}
@@ -11,7 +11,7 @@ use Rattle.boot_desk.specs.Sound.{IsSound}
 use Rattle.laws_model.specs.Step.{IsStep, Step}
 use Rattle.laws_past.specs.Laws.{IsDeleted, KeepsMachines}
 use Rattle.laws_past.proofs.Commanded.{RefusalsStay}
-use Rattle.laws_past.proofs.Effects.{Effect, Has, decided, did, edits, enters, goes, idles, issues, leaves, makes, missed, notes, step_does, StepDoes}
+use Rattle.laws_past.proofs.Effects.{Effect, decided, did, edits, enters, goes, idles, issues, leaves, makes, missed, notes, step_does, StepDoes}
 use Rattle.std.proofs.lemmas.Bool.Decides.{nat_tests}
 
 abbrev Stays : Rows numbers Machine → ℕ → Type 0

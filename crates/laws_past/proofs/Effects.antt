@@ -27,6 +27,9 @@ use Rattle.laws_steps.specs.HallLaws.{applied_entry, boots_first, entered_hall, 
 use Rattle.laws_steps.specs.Writes.{EditsInterfaces, IsAside, IsDeleting, IsEditing, IsEntering, IsIdled, IsIssuing, IsNoted, Makes, Writes, WritesAll, edits_machine, ends_waiting, enters_status, is_command, issues_boot, machine_goes, makes_machine, notes_report, with_receipt, withdrawn_at, without_receipt, writes_aside, writes_nothing}
 use Rattle.laws_steps.specs.WritesLaws.{decision_writes}
 
+pub some_same : (a b : Content) → Some a ≡ Some b → a ≡ b
+some_same a b is = cc
+
 -- the hall's machines, boots, orders and last numbers are these
 pub record Has (g : Hall) (of_machines : Rows numbers Machine) (of_boots : Rows numbers Boot) (of_orders : Rows numbers Order) (of_last : Numbers) : Type 0 where
   pub machines : g.machines ≡ of_machines

@@ -45,7 +45,7 @@ last_kept P past s not_so l = record {
 abbrev pub KeepSound : Type 0
 KeepSound = (s : Step) → IsStep s → IsSound s.before → s.before.schema ≡ second → IsSound s.after × (s.after.schema ≡ second)
 
-run_split : (past later : List Step) (s : Step) (h end : Hall) → IsRun h (past ++ (s ∷ later)) end → IsRun h past s.before × IsStep s
+pub run_split : (past later : List Step) (s : Step) (h end : Hall) → IsRun h (past ++ (s ∷ later)) end → IsRun h past s.before × IsStep s
 run_split [] later s h end run = (run.0, run.1)
 run_split (x ∷ past) later s h end run = let rest = run_split past later s x.after end run.2 in ((run.0, run.1, rest.0), rest.1)
 

@@ -3,7 +3,10 @@ pub mod Answered
 pub mod Asked
 pub mod BootRows
 pub mod Commanded
+mod Computing
 pub mod Counts
+mod Day
+mod DayLaws
 pub mod Deleted
 pub mod Deploying
 pub mod Effects
@@ -19,7 +22,6 @@ pub mod NumbersOnceLemmas
 pub mod OrderRows
 pub mod OrderLemmas
 pub mod OwnBoots
-pub mod PastRows
 pub mod Refused
 pub mod Scripts
-mod WrongSteps
+mod WrongDays

@@ -1,5 +1,5 @@
 -- What is refused, and what isn't answered, leaves the hall.
-use Rattle.std.proofs.Common.{◌≡◌, ◌⊎◌, ◌∙◌, ℕ, List, [], ◌∷◌, ◌++◌, Option, Some, inl, inr, refl, sym, ap, subst}
+use Rattle.std.proofs.Common.{◌≡◌, ◌∙◌, ℕ, List, [], Some, inl, inr, sym, ap, subst}
 use Rattle.pxe_vendor.specs.Place.{Site}
 use Rattle.pxe_vendor.specs.declared.clients.Client.{Client}
 use Rattle.hall_types.specs.Hall.{Hall, applied}
@@ -9,19 +9,11 @@ use Rattle.hall_events.specs.declared.event.Event.{Event}
 use Rattle.hall_events.specs.declared.event.Event.TheVariants.{Frame}
 use Rattle.laws_model.specs.Decision.{decision_of}
 use Rattle.laws_model.specs.Refusing.{IsRefusal}
-use Rattle.laws_model.specs.Step.{Came, IsRun, IsStep, Missed, Step}
+use Rattle.laws_model.specs.Step.{IsRun, IsStep, Step}
 use Rattle.laws_past.specs.Laws.{IsFrame, RefusesWithoutChange}
 use Rattle.laws_past.specs.Past.{AtEachStep}
-
-step_at : (h end : Hall) (past : List Step) (s : Step) (later steps : List Step) → steps ≡ past ++ (s ∷ later) → IsRun h steps end → IsStep s
-step_at h end past s later steps are run = by h past (subst (λ ss. IsRun h ss end) are run)
-  where
-    by : (h : Hall) (past : List Step) → IsRun h (past ++ (s ∷ later)) end → IsStep s
-    by h [] run = run.1
-    by h (x ∷ past) run = by x.after past run.2
-
-some_same : (a b : Content) → Some a ≡ Some b → a ≡ b
-some_same a b is = cc
+use Rattle.laws_past.proofs.Effects.{some_same}
+use Rattle.laws_past.proofs.Frame.{run_split}
 
 silent_leaves : ((site : Site) (h : Hall) (port : Port) (client : Client) (moment : ℕ) (fresh : List ℕ) → (decision_of site h (Frame port client) moment fresh).content ≡ nothing → (decision_of site h (Frame port client) moment fresh).rows ≡ [])
     → (s : Step) (content : Content) → s.answer ≡ Some content → (frame : IsFrame s.arrival.event) → content ≡ nothing → IsStep s → s.after ≡ s.before
@@ -40,5 +32,5 @@ silent_leaves silences s content given frame is (inl came) =
 pub all_leave : ((site : Site) (h : Hall) (port : Port) (client : Client) (moment : ℕ) (fresh : List ℕ) → (decision_of site h (Frame port client) moment fresh).content ≡ nothing → (decision_of site h (Frame port client) moment fresh).rows ≡ [])
     → ((s : Step) (content : Content) → IsStep s → s.answer ≡ Some content → IsRefusal content → s.after ≡ s.before)
     → (h end : Hall) (steps : List Step) → IsRun h steps end → AtEachStep RefusesWithoutChange steps
-all_leave silences refusals h end steps run past s later are content given (inl refused) = refusals s content (step_at h end past s later steps are run) given refused
-all_leave silences refusals h end steps run past s later are content given (inr silent) = silent_leaves silences s content given silent.0 silent.1 (step_at h end past s later steps are run)
+all_leave silences refusals h end steps run past s later are content given (inl refused) = refusals s content (run_split past later s h end (subst (λ ss. IsRun h ss end) are run)).1 given refused
+all_leave silences refusals h end steps run past s later are content given (inr silent) = silent_leaves silences s content given silent.0 silent.1 (run_split past later s h end (subst (λ ss. IsRun h ss end) are run)).1

@@ -1,5 +1,5 @@
 //! The laws of the past.
-ghost use Rattle.std.specs.Prelude.{◌≡◌, ℕ, List};
+ghost use Rattle.std.specs.Prelude.{ℕ, List};
 ghost use Rattle.hall_types.specs.Hall.{Hall, new_hall, second};
 ghost use Rattle.laws_model.specs.Step.{IsRun, Step};
 ghost use Rattle.laws_past.specs.Laws.{AcceptsOnce, AcceptsWithOk, AlwaysWaitsForOne, BootsLocally, BringNoHallWords, CountsAnswerOnce, CountsOwnBoot, CountsStartedFirst, CountsVerdictOnce, DeploysRightly, EntersByTable, ErasesRightly, KeepsMachines, NumbersOnce, QueuesAtEntries, RefusesWithoutChange, RepeatsFirst, ScriptIsAsked, WaitsForOne, WaitsNoMore};
@@ -95,9 +95,9 @@ pub fn entries_by_table()
     refusals_change_nothing();
 }
 
-/// Of an operator's requests with one key at most one command is accepted, with the status 200. Every later request with that key is answered
-/// as the first one was if it is the same command, and `KeyReused` if it is another (`UnknownToken` once the operator is
-/// disabled), and changes nothing.
+/// Of an operator's requests with one key at most one command is accepted, with the status 200. Every later request with that key
+/// is answered as the first one was if it is the same command, and `KeyReused` if it is another (`UnknownToken` once the
+/// operator is disabled), and changes nothing.
 pub fn request_keys()
     ensures once { (admin digest : List ℕ) (end : Hall) (steps : List Step)
         → IsRun (new_hall second admin digest) steps end → AtEachStep AcceptsOnce steps }

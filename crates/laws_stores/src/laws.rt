@@ -1,5 +1,5 @@
 //! New halls, and all that came to them in one run.
-ghost use Rattle.std.specs.Prelude.{List, [], ◌++◌, IfOk};
+ghost use Rattle.std.specs.Prelude.{◌≡◌, length, IfOk};
 ghost use Rattle.sqlite.specs.Held.{state};
 ghost use Rattle.sqlite.specs.State.{HasCleanDisk};
 ghost use Rattle.hall_types.specs.Hall.{Hall, new_hall, second};
@@ -15,7 +15,7 @@ use sqlite::{Alter, Connection};
 use std::alloc::Global;
 use store_memory::MemoryStore;
 
-/// Answers all that comes to a new hall in memory.
+/// Answers all that comes to a new hall in memory, one answer each: the headline holds.
 pub fn memory_keeps_the_headline(
     alloc: Global,
     admin: Name,
@@ -23,7 +23,8 @@ pub fn memory_keeps_the_headline(
     place: Place,
     arrivals: &[Arrival],
 ) -> Result<Vec<Answer>, Unavailable>
-    ensures { IfOk result (λ answers. (end : Hall) × Headline (new_hall second admin digest) (exchanges place arrivals.now answers.items) end) }
+    ensures one_each { IfOk result (λ answers. length answers.items ≡ length arrivals.now) }
+    ensures headline { IfOk result (λ answers. (end : Hall) × Headline (new_hall second admin digest) (exchanges place arrivals.now answers.items) end) }
 {
     let store = MemoryStore::create(alloc, admin, digest)?;
     let mut desk = Desk::new(store, place);
@@ -33,8 +34,8 @@ pub fn memory_keeps_the_headline(
     }
 }
 
-/// Answers all that comes to a new hall over a connection, which is handed back: the headline holds if its disk gave back all along what
-/// was written to it.
+/// Answers all that comes to a new hall over a connection, which is handed back, one answer each: the headline holds if its disk gave
+/// back all along what was written to it.
 pub fn sqlite_keeps_the_headline<S: Alter + Drop>(
     alloc: Global,
     conn: Connection<S>,
@@ -43,7 +44,8 @@ pub fn sqlite_keeps_the_headline<S: Alter + Drop>(
     place: Place,
     arrivals: &[Arrival],
 ) -> Result<(Vec<Answer>, Connection<S>), Unavailable>
-    ensures { IfOk result (λ done. HasCleanDisk (state S.Store done.1) → (end : Hall) × Headline (new_hall second admin digest) (exchanges place arrivals.now done.0.items) end) }
+    ensures one_each { IfOk result (λ done. length done.0.items ≡ length arrivals.now) }
+    ensures headline { IfOk result (λ done. HasCleanDisk (state S.Store done.1) → (end : Hall) × Headline (new_hall second admin digest) (exchanges place arrivals.now done.0.items) end) }
 {
     let Ok(store) = SqlStore::create(alloc, conn, admin, digest) else {
         return Err(Unavailable);

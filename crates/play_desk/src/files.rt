@@ -1,7 +1,9 @@
 //! Files of tables in memory: each part of the log begins with `new`, an empty file. `sql STATEMENT` carries a statement out,
 //! `done` or `refused`; `query STATEMENT` writes the number in the first column of the first row; `create ADMIN DIGEST` makes the
-//! tables of a hall, `created` or the fault's name; `open` looks at the tables, `opened` or the fault's name. Each other line is
+//! tables of a hall, `created` or the fault's name; `open` looks at the tables, `opened` or the fault's name; `faults create` and
+//! `faults open` write the numbers and the names of these faults. Each other line is
 //! played over the store of the file's hall, which is opened for it.
+use crate::disks::{connect, empty_files};
 use hall_sql::SqlStore;
 use hall_types::{Digest, Name};
 use play_log::admin;
@@ -9,7 +11,8 @@ use play_store::{
     Asked, Fault, PlayFault, first, is_comment, is_head, play_line, push_comment, write_answer,
 };
 use sql_tables::{CreateFault, OpenFault};
-use sqlite::{Alter, Connection, Error, MemStore};
+use sqlite::{Alter, Connection, Error, Files};
+use sqlite_disk::Disk;
 use std::alloc::Global;
 use std::io::Write;
 
@@ -50,6 +53,39 @@ fn open_word(fault: OpenFault) -> &'static str {
         OpenFault::NotAHall => "NotAHall\n",
         OpenFault::OtherVersion => "OtherVersion\n",
         OpenFault::Unavailable => "Unavailable\n",
+    }
+}
+
+const CREATE: [CreateFault; 2] = [CreateFault::NotEmpty, CreateFault::Unavailable];
+
+const OPEN: [OpenFault; 3] = [
+    OpenFault::NotAHall,
+    OpenFault::OtherVersion,
+    OpenFault::Unavailable,
+];
+
+fn push_fault(alloc: Global, line: &mut String, number: u8, word: &str) -> Result<(), Fault> {
+    line.push_str(u64::from(number).to_string(alloc)?.as_str())?;
+    line.push(' ')?;
+    line.push_str(word)?;
+    Ok(())
+}
+
+fn push_faults(alloc: Global, what: &str, line: &mut String) -> Result<(), Fault> {
+    match what {
+        "create" => {
+            for fault in &CREATE {
+                push_fault(alloc, line, *fault as u8, create_word(*fault))?;
+            }
+            Ok(())
+        }
+        "open" => {
+            for fault in &OPEN {
+                push_fault(alloc, line, *fault as u8, open_word(*fault))?;
+            }
+            Ok(())
+        }
+        _ => Err(Fault::Word),
     }
 }
 
@@ -109,7 +145,8 @@ fn make<S: Alter>(
     }
 }
 
-fn play_file_line<S: Alter>(
+/// Plays a line over the tables of a connection, which is given back, and writes its answer.
+pub fn play_file_line<S: Alter>(
     alloc: Global,
     conn: Connection<S>,
     text: &str,
@@ -128,6 +165,10 @@ fn play_file_line<S: Alter>(
         }
         "query" => {
             let done = push_query(alloc, &mut conn, rest, line);
+            (done, conn)
+        }
+        "faults" => {
+            let done = push_faults(alloc, rest, line);
             (done, conn)
         }
         "create" => make(alloc, conn, rest, line),
@@ -160,21 +201,31 @@ fn play_over_connection<S: Alter + Drop, W: Write>(
     Ok(())
 }
 
-/// Plays the lines from a place on over an empty file in memory, up to where another part of the log begins.
+fn play_over_files<D: Disk + Drop, W: Write>(
+    alloc: Global,
+    files: Files<D>,
+    lines: &[String],
+    from: usize,
+    writer: &mut W,
+) -> Result<(), PlayFault> {
+    match connect(alloc, files) {
+        Ok(conn) => play_over_connection(alloc, conn, lines, from, writer),
+        Err(_) => Err(PlayFault::Line {
+            line: from,
+            cause: Fault::Memory,
+        }),
+    }
+}
+
+/// Plays the lines from a place on over an empty file, up to where another part of the log begins.
 pub fn play_file<W: Write>(
     alloc: Global,
     lines: &[String],
     from: usize,
     writer: &mut W,
 ) -> Result<(), PlayFault> {
-    let conn: Connection<MemStore> = match Connection::open_in_memory(alloc) {
-        Ok(conn) => conn,
-        Err(_) => {
-            return Err(PlayFault::Line {
-                line: from,
-                cause: Fault::Memory,
-            });
-        }
-    };
-    play_over_connection(alloc, conn, lines, from, writer)
+    match empty_files(alloc) {
+        Ok(files) => play_over_files(alloc, files, lines, from, writer),
+        Err(cause) => Err(PlayFault::Line { line: from, cause }),
+    }
 }

@@ -1,10 +1,13 @@
 //! The halls of a log, over each store.
+use crate::disks::{connect, empty_files};
 use crate::files::play_file;
+use crate::trials::play_stops;
 use hall_sql::SqlStore;
 use hall_types::{Digest, Name};
 use play_log::{LogFault, admin};
-use play_store::{Asked, FILES, Fault, PlayFault, play, read_log, write_text};
-use sqlite::{Alter, Connection, MemStore};
+use play_store::{Asked, FILES, Fault, PlayFault, STOPS, play, read_log, write_text};
+use sqlite::{Alter, Connection, Files};
+use sqlite_disk::Disk;
 use std::alloc::Global;
 use std::io::{Read, Write};
 use store_memory::MemoryStore;
@@ -47,6 +50,22 @@ fn over_connection<S: Alter + Drop, W: Write>(
     }
 }
 
+// A hall over empty files.
+fn over_files<D: Disk + Drop, W: Write>(
+    alloc: Global,
+    files: Files<D>,
+    admin: (Name, Digest),
+    lines: &[String],
+    from: usize,
+    writer: &mut W,
+    asked: &mut Asked,
+) -> Result<(), PlayFault> {
+    match connect(alloc, files) {
+        Ok(conn) => over_connection(alloc, conn, admin, lines, from, writer, asked),
+        Err(_) => Err(PlayFault::Log(LogFault::Memory)),
+    }
+}
+
 // A hall in SQLite.
 fn in_sqlite<W: Write>(
     alloc: Global,
@@ -56,11 +75,10 @@ fn in_sqlite<W: Write>(
     writer: &mut W,
     asked: &mut Asked,
 ) -> Result<(), PlayFault> {
-    let conn: Connection<MemStore> = match Connection::open_in_memory(alloc) {
-        Ok(conn) => conn,
-        Err(_) => return Err(PlayFault::Log(LogFault::Memory)),
-    };
-    over_connection(alloc, conn, admin, lines, from, writer, asked)
+    match empty_files(alloc) {
+        Ok(files) => over_files(alloc, files, admin, lines, from, writer, asked),
+        Err(_) => Err(PlayFault::Log(LogFault::Memory)),
+    }
 }
 
 // A hall of which the first line names the administrator.
@@ -117,17 +135,22 @@ fn play_halls<W: Write>(
     Ok(())
 }
 
-// The files after the line `== files`, if there is one.
+// The files after the line `== files`, and what is played while something stops after the line `== stops`, if they are there.
 fn play_files<W: Write>(alloc: Global, lines: &[String], writer: &mut W) -> Result<(), PlayFault> {
     let mut is_file = false;
     for (at, text) in lines.iter().enumerate() {
         let text = text.as_str();
+        let from = at.saturating_add(1);
+        if text == STOPS {
+            write_text(writer, "== stops\n")?;
+            return play_stops(alloc, lines, from, writer);
+        }
         if text == FILES {
             is_file = true;
             write_text(writer, "== files\n")?;
         }
         if is_file && text == "new" {
-            play_file(alloc, lines, at.saturating_add(1), writer)?;
+            play_file(alloc, lines, from, writer)?;
         }
     }
     Ok(())

@@ -2,13 +2,23 @@
 //! input has a line `ADMIN DIGEST`, and then a line for each thing that is done with that new hall, as play_store says. Beside them:
 //!
 //! - `new ADMIN DIGEST` goes on with another new hall;
-//! - `== files` ends the halls: the lines after it are played over files, as `files.rt` says, and only in the second half.
+//! - `== files` ends the halls: the lines after it are played over files, as `files.rt` says, and only in the second half;
+//! - `== stops` ends the files: after it come a line `look ..`, by which halls are compared, and lines `CALLS OCTETS LINE && LINE ..`,
+//!   each LINE one of the lines over a file. They are played over an empty file and then over what the lines before them left: the
+//!   answer of each LINE is written, and that of its repeat. Then the log stops after 0 calls, CALLS calls, twice as many, and so on,
+//!   until it doesn't stop any more, and after it the file. What that may leave is in `stops.rt`. After the last of them each LINE is
+//!   played once more over a hall in memory, where memory ends after 0 octets, OCTETS octets, and so on, as `budgets.rt` says, and
+//!   then the line `look ..`.
 //!
 //! At the end of each half is written how much the desk read of its stores.
 #![tactic(auto)]
 
+mod budgets;
+mod disks;
 mod files;
 mod halls;
+mod stops;
+mod trials;
 
 use halls::play_twice;
 use play_store::PlayFault;

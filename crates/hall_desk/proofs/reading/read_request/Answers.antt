@@ -1,6 +1,6 @@
-use Rattle.std.proofs.Common.{arith, inl, inr, sym, ◌∙◌, true≢false, refl}
+use Rattle.std.proofs.Common.{arith, inr, sym, ◌∙◌, true≢false}
 use Rattle.std.proofs.lemmas.Grind.{common_steps}
-use Rattle.hall_desk.proofs.ReadingLemmas.{in_time_failed, in_time_open, in_time_read}
+use Rattle.hall_desk.proofs.ReadingLemmas.{in_time_read}
 use Rattle.hall_desk.proofs.ServedLemmas.{consumes_then, reads_whole}
 use Rattle.hall_desk.proofs.reading.read_request.Goals as goal
 

@@ -7,8 +7,8 @@ use Rattle.hall_desk.specs.History.{exchanges}
 use Rattle.hall_sql.specs.Store.{connection}
 use Rattle.laws_stores.proofs.laws.sqlite_keeps_the_headline.Goals as goal
 
-pub returns-in-Ok-run : goal.returns-in-Ok-run
-returns-in-Ok-run g c = λ clean.
+pub returns-in-Ok-run-clause-headline : goal.returns-in-Ok-run-clause-headline
+returns-in-Ok-run-clause-headline g c = λ clean.
     let after_clean = subst (λ k. HasCleanDisk (state g.S.Store k)) (c.into_connection.ensures.conn ∙ ap connection c.into_store.ensures) clean in
     let store_clean = subst (λ s. HasCleanDisk (state g.S.Store (connection s))) c.new-desk.ensures.store (c.in-Ok-run.ensures.clean after_clean) in
     let start = c.new-desk.ensures.history c.args.admin c.args.digest (c.in-Ok.ensures.held store_clean) in

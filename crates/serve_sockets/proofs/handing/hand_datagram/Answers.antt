@@ -1,5 +1,5 @@
 use Rattle.hall_desk.specs.declared.arrival.Input.TheVariants.{Datagram}
-use Rattle.serve_sockets.proofs.ServingLemmas.{missed_same}
+use Rattle.hall_desk.specs.AttemptLaws.{missed_same}
 use Rattle.serve_sockets.proofs.handing.hand_datagram.Goals as goal
 
 pub returns-in-Err-clause-answered : goal.returns-in-Err-clause-answered

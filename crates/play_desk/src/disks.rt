@@ -1,0 +1,150 @@
+//! The two files of a hall on disks in memory, which may stop; what they hold, and what a crash leaves of it. Each function that has a
+//! connection takes one layer of its type: one over all of them takes a minute to prove.
+use play_store::Fault;
+use sqlite::{Connection, FileStore, Files, Options};
+use sqlite_disk::{Crash, Disk, Fuse, Memory};
+use std::alloc::{AllocError, Global};
+use std::io;
+
+/// Files on disks that may stop.
+pub type Disks = Files<Fuse<Memory>>;
+
+const SECTOR: usize = 512;
+
+/// Which file's disk stops.
+#[derive(Clone, Copy, PartialEq, Eq)]
+pub enum Which {
+    Log,
+    File,
+}
+
+/// What two files hold.
+#[derive(Drop)]
+pub struct Image {
+    log: Vec<u8>,
+    db: Vec<u8>,
+}
+
+fn disk_with(alloc: Global, octets: &[u8], calls: u64) -> io::Result<Fuse<Memory>> {
+    let mut disk = Memory::new(alloc);
+    disk.write_at(0, octets)?;
+    disk.sync()?;
+    Ok(Fuse::new(disk, calls))
+}
+
+fn copy(alloc: Global, octets: &[u8]) -> Result<Vec<u8>, AllocError> {
+    let mut copy = Vec::new(alloc);
+    copy.extend_from_slice(octets)?;
+    Ok(copy)
+}
+
+impl Image {
+    /// Two empty files.
+    pub fn empty(alloc: Global) -> Image {
+        Image {
+            log: Vec::new(alloc),
+            db: Vec::new(alloc),
+        }
+    }
+
+    /// What two files hold now.
+    pub fn of(alloc: Global, files: &Disks) -> Result<Image, AllocError> {
+        Ok(Image {
+            log: copy(alloc, files.log.inner().bytes())?,
+            db: copy(alloc, files.db.inner().bytes())?,
+        })
+    }
+
+    /// Files with these octets, of which one may stop after so many calls.
+    pub fn disks(&self, alloc: Global, which: Which, calls: u64) -> Result<Disks, Fault> {
+        let (log_calls, db_calls) = match which {
+            Which::Log => (calls, u64::MAX),
+            Which::File => (u64::MAX, calls),
+        };
+        match (
+            disk_with(alloc, self.log.as_slice(), log_calls),
+            disk_with(alloc, self.db.as_slice(), db_calls),
+        ) {
+            (Ok(log), Ok(db)) => Ok(Files { log, db }),
+            _ => Err(Fault::Memory),
+        }
+    }
+}
+
+/// Two empty files on disks that don't stop.
+pub fn empty_files(alloc: Global) -> Result<Disks, Fault> {
+    Image::empty(alloc).disks(alloc, Which::Log, u64::MAX)
+}
+
+/// A connection over files, or what is left of them.
+pub fn connect<D: Disk + Drop>(
+    alloc: Global,
+    files: Files<D>,
+) -> Result<Connection<FileStore<D>>, Files<D>> {
+    if !files.log.may_be_used() || !files.db.may_be_used() {
+        return Err(files);
+    }
+    match Connection::open_files(alloc, files, Options::new(1)) {
+        Ok(conn) => Ok(conn),
+        Err((_, left)) => Err(left.into_files()),
+    }
+}
+
+/// The files are closed; whether that went well.
+pub fn close<D: Disk + Drop>(conn: Connection<FileStore<D>>) -> (bool, Files<D>) {
+    match conn.close_files() {
+        Ok(files) => (true, files),
+        Err((_, store)) => (false, store.close()),
+    }
+}
+
+// Whether a sector was written before the crash: all were, or every second one was.
+fn is_written(sector: usize, turn: u64) -> bool {
+    match turn % 3 {
+        0 => true,
+        1 => sector % 2 == 0,
+        _ => sector % 2 == 1,
+    }
+}
+
+// The sectors that were written over what was synced, and zeros where the synced file has ended.
+fn written_over(
+    alloc: Global,
+    synced: &[u8],
+    written: &[u8],
+    turn: u64,
+) -> Result<Vec<u8>, AllocError> {
+    let mut left = Vec::new(alloc);
+    for (at, octet) in written.iter().enumerate() {
+        let lost = synced.get(at).copied().unwrap_or(0);
+        left.push(if is_written(at / SECTOR, turn) {
+            *octet
+        } else {
+            lost
+        })?;
+    }
+    Ok(left)
+}
+
+fn partly_lost(
+    alloc: Global,
+    synced: &Image,
+    written: &Image,
+    turn: u64,
+) -> Result<Image, AllocError> {
+    Ok(Image {
+        log: written_over(alloc, synced.log.as_slice(), written.log.as_slice(), turn)?,
+        db: written_over(alloc, synced.db.as_slice(), written.db.as_slice(), turn)?,
+    })
+}
+
+/// What a crash leaves of two files: what was synced; and, by turns, all that was written, or every other sector of it.
+pub fn crash(alloc: Global, files: Disks, turn: u64) -> Result<(Image, Image), AllocError> {
+    let mut files = files;
+    let written = Image::of(alloc, &files)?;
+    files.log.crash();
+    files.db.crash();
+    let synced = Image::of(alloc, &files)?;
+    let partly = partly_lost(alloc, &synced, &written, turn)?;
+    Ok((synced, partly))
+}
