@@ -1,7 +1,8 @@
-# Sourced by desk_speed.sh and store_speed.sh, which set `work`, a folder: the least times of runs of a program.
+# Sourced by desk_speed.sh and store_speed.sh, which set `work`, a folder: the least times of runs of a program. bench_hall plays logs
+# that bench_log.py writes.
 declare -A processor_of clock_of
-# built CRATE WORD..: the program of a crate, which is proved, built and run once with these words. Where a variable with the crate's
-# name in capitals names a program that is built already, it's that one.
+# built CRATE WORD..: the program of a crate, which is proved, built and run once with these words, its input at hand. Where a variable
+# with the crate's name in capitals names a program that is built already, it's that one.
 built() {
     local given=${1^^}
     if [ -n "${!given:-}" ]; then echo "${!given}"; return; fi
@@ -17,8 +18,21 @@ keep() {
     if ((processor < ${processor_of[$key]:-processor + 1})); then processor_of[$key]=$processor; fi
     if ((clock < ${clock_of[$key]:-clock + 1})); then clock_of[$key]=$clock; fi
 }
-# a_round TIME OF_ONE ROUNDS: microseconds of a round, by the time of all rounds and that of one.
-a_round() { awk -v all="$1" -v one="$2" -v n="$3" 'BEGIN { t = (all - one) / (n - 1); printf "%.3f\n", (t > 0 ? t : 0.001) }'; }
+# logged OVER WHAT MACHINES ROUNDS: writes the log of so many rounds, at least, to the file log_WHAT_MACHINES, and sets `times`, how often
+# it's to be played, and `rounds_in`, how many rounds those are.
+logged() {
+    local log=$work/log_$2_$3 lines
+    python3 "$here/bench_log.py" "$@" > "$log"
+    case $2 in
+    allocate | report | change | delete | second) times=1 rounds_in=$4 ;;
+    *)
+        lines=$(sed '1,/^== rounds$/d' "$log" | wc -l)
+        times=$((($4 + lines - 1) / lines)) rounds_in=$((times * lines))
+        ;;
+    esac
+}
+# a_round TIME OF_NONE ROUNDS: microseconds of a round, by the time of all rounds and that of none.
+a_round() { awk -v all="$1" -v none="$2" -v n="$3" 'BEGIN { t = (all - none) / n; printf "%.3f\n", (t > 0 ? t : 0.001) }'; }
 ratio() { awk -v a="$1" -v b="$2" 'BEGIN { printf "%.2f\n", a / b }'; }
 status=0
 want() {   # want VALUE BOUND TEXT

@@ -10,25 +10,28 @@ work=$(mktemp -d)
 trap 'rm -rf "$work"' EXIT
 . "$here/least.sh"
 cc -O2 -Wall -o "$work/in_c" "$here/store_speed.c" -lsqlite3 || { echo 'store_instructions: libsqlite3-dev is missing' >&2; exit 1; }
-bench=$(built bench_hall "$work/first" store machine 10 1)
+logged store machine 10 1
+bench=$(built bench_hall "$work/first" 1 < "$work/log_machine_10")
 
-ours() { echo "$bench $work/hall store $*"; }
-theirs() { echo "$work/in_c $work/hall $*"; }
-desk() { echo "$bench $work/hall desk $*"; }
-memory() { echo "$bench - desk $*"; }
+# The command for so many rounds: ours TIMES ROUNDS, and so on.
+ours() { echo "$bench $work/hall $1"; }
+memory() { echo "$bench - $1"; }
+theirs() { echo "$work/in_c $work/hall $what $machines $2"; }
 # counted MADE COMMAND..: the instructions of a command, over a new copy of a file.
 counted() {
     rm -f "$work"/hall*
     cp "$work/$1" "$work/hall"
-    valgrind --tool=callgrind --callgrind-out-file="$work/calls" "${@:2}" > "$work/said" 2> "$work/err" || { cat "$work/err" >&2; return 1; }
+    valgrind --tool=callgrind --callgrind-out-file="$work/calls" "${@:2}" < "$work/log_${what}_$machines" > "$work/said" 2> "$work/err" ||
+        { cat "$work/err" >&2; return 1; }
     sed -n 's/.*Collected : //p' "$work/err"
 }
-# a_count MADE WHOSE WHAT MACHINES: those of a round, by the count of many rounds and that of one.
+# a_count MADE WHOSE OVER: those of a round of `what` with so many `machines`, by the count of many rounds and that of none.
 a_count() {
-    local one all more=5000
-    case $3 in change | delete | allocate | report) more=500 ;; esac
-    one=$(counted "$1" $("${@:2}" 1)) && all=$(counted "$1" $("${@:2}" $((more + 1)))) || return 1
-    echo $(((all - one) / more))
+    local none all more=5000
+    case $what in change | delete | allocate | report) more=500 ;; esac
+    logged "$3" "$what" "$machines" "$more"
+    none=$(counted "$1" $("$2" 0 0)) && all=$(counted "$1" $("$2" "$times" "$rounds_in")) || return 1
+    echo $(((all - none) / rounds_in))
 }
 growth() { ratio "${count[$1.10000]}" "${count[$1.10]}"; }
 
@@ -37,19 +40,23 @@ row() { printf '%-16s %8s %8s %8s\n' "$@"; }
 row 'what' machines instructions 'in C'
 store='machine address unknown uuid interfaces token change delete'
 rounds='offer script repeat allocate report'
-for machines in 10 10000; do "$bench" "$work/machines_$machines" store machine "$machines" 0 > "$work/log"; done
-for call in $store; do
+for machines in 10 10000; do
+    logged store machine "$machines" 1
+    "$bench" "$work/machines_$machines" 0 < "$work/log_machine_$machines" > "$work/log"
+done
+for what in $store; do
     for machines in 10 10000; do
-        count[$call.$machines]=$(a_count "machines_$machines" ours "$call" "$machines")
-        count[c.$call.$machines]=$(a_count "machines_$machines" theirs "$call" "$machines")
-        row "$call" "$machines" "${count[$call.$machines]}" "${count[c.$call.$machines]}"
+        count[$what.$machines]=$(a_count "machines_$machines" ours store)
+        count[c.$what.$machines]=$(a_count "machines_$machines" theirs store)
+        row "$what" "$machines" "${count[$what.$machines]}" "${count[c.$what.$machines]}"
     done
 done
 for what in $rounds; do
     for machines in 10 10000; do
-        "$bench" "$work/made" desk "$what" "$machines" 0 > "$work/log"
-        count[$what.$machines]=$(a_count made desk "$what" "$machines")
-        count[memory.$what.$machines]=$(a_count made memory "$what" "$machines")
+        logged desk "$what" "$machines" 1
+        "$bench" "$work/made" 0 < "$work/log_${what}_$machines" > "$work/log"
+        count[$what.$machines]=$(a_count made ours desk)
+        count[memory.$what.$machines]=$(a_count made memory desk)
         row "file, $what" "$machines" "${count[$what.$machines]}" -
         row "memory, $what" "$machines" "${count[memory.$what.$machines]}" -
         rm -f "$work"/made*

@@ -2,7 +2,7 @@
 // prepared once, with a write-ahead log and a sync at each commit. All machines are listed by one SELECT of both tables. A second
 // look in the same second is no statement, and has no round here. Built and run by store_speed.sh.
 //   store_speed FILE machine|address|unknown|uuid|interfaces|token|change|delete|list|second MACHINES ROUNDS
-// prints the sum that bench_hall prints.
+// prints the sum that bench_hall prints for the log of bench_log.py with these words.
 #include <sqlite3.h>
 #include <stdint.h>
 #include <stdio.h>
@@ -226,7 +226,7 @@ static uint64_t delete(uint32_t id) {
     step_of(remove_machine, id);
     count(-1);
     step(commit);
-    return id;
+    return 2;
 }
 
 static int is(const char *word, const char *other) { return strcmp(word, other) == 0; }

@@ -4,7 +4,7 @@
 # `change` (a machine put over its version, with a receipt), `delete` (a machine put with its interface, and deleted: two
 # commits), `list` (all machines), `second` (which machine has expired, at the next second of a clock, where none has) and
 # `quiet` (the same within one second, where the store runs no statement). The time of a round is that of all rounds, less that
-# of one, each the least of seven runs over a new copy, in turn with the runs that it is compared with. FOLDER is where the files
+# of none, each the least of seven runs over a new copy, in turn with the runs that it is compared with. FOLDER is where the files
 # are made: on the disk that counts.
 # Usage: tools/store_speed.sh [ROUNDS [FOLDER]]     Needs cc and Debian's libsqlite3-dev.
 set -euo pipefail
@@ -14,11 +14,13 @@ work=$(mktemp -d -p "${2:-${TMPDIR:-/tmp}}")
 trap 'rm -rf "$work"' EXIT
 . "$here/least.sh"
 cc -O2 -Wall -o "$work/in_c" "$here/store_speed.c" -lsqlite3 || { echo 'store_speed: libsqlite3-dev is missing' >&2; exit 1; }
-bench=$(built bench_hall "$work/first" store machine 10 1)
+logged store machine 10 1
+bench=$(built bench_hall "$work/first" 1 < "$work/log_machine_10")
 
-ours() { "$bench" "$1" store "${@:2}"; }
+# ours FILE CALL MACHINES TIMES, theirs FILE CALL MACHINES ROUNDS
+ours() { "$bench" "$1" "$4" < "$work/log_$2_$3"; }
 theirs() { "$work/in_c" "$@"; }
-# run WHOSE CALL MACHINES ROUNDS: over a new copy; its sum is left in the file said.
+# run WHOSE CALL MACHINES TIMES-OR-ROUNDS: over a new copy; its sum is left in the file said.
 run() {
     rm -f "$work"/hall*
     cp "$work/machines_$3" "$work/hall"
@@ -34,40 +36,47 @@ rounds_of() {
     *) echo $((rounds * 2)) ;;
     esac
 }
-# both CALL MACHINES ROUNDS: ours and the C library's, whose sums are the same.
+# both CALL MACHINES TIMES ROUNDS: ours and the C library's, whose sums are the same.
 both() {
-    run ours "$@"
+    run ours "$1" "$2" "$3"
     local sum
     sum=$(cat "$work/said")
     if [ "$1" = quiet ]; then return; fi
-    run theirs "$@"
+    run theirs "$1" "$2" "$4"
     [ "$sum" = "$(cat "$work/said")" ] || { echo "store_speed: $1, $2 machines: the sums differ" >&2; exit 1; }
 }
 row() { printf '%-11s %8s  %10s %10s %7s  %10s %10s %7s\n' "$@"; }
 
-for machines in 10 10000; do "$bench" "$work/machines_$machines" store machine "$machines" 0 > "$work/log"; done
+for machines in 10 10000; do
+    logged store machine "$machines" 1
+    "$bench" "$work/machines_$machines" 0 < "$work/log_machine_$machines" > "$work/log"
+done
 reads='machine address unknown uuid interfaces token'
-declare -A processor clock in_c clock_in_c
+declare -A processor clock in_c clock_in_c many all_of
 row 'call' machines processor 'in C' ratio clock 'in C' ratio
 for call in $reads change delete list second quiet; do
+    for machines in 10 10000; do
+        logged store "$call" "$machines" "$(rounds_of "$call" "$machines")"
+        many[$machines]=$times all_of[$machines]=$rounds_in
+    done
     for _ in 1 2 3 4 5 6 7; do
         for machines in 10 10000; do
-            both "$call" "$machines" 1
-            both "$call" "$machines" "$(rounds_of "$call" "$machines")"
+            both "$call" "$machines" 0 0
+            both "$call" "$machines" "${many[$machines]}" "${all_of[$machines]}"
         done
     done
     for machines in 10 10000; do
-        key=$call.$machines n=$(rounds_of "$call" "$machines")
-        one="ours $call $machines 1" all="ours $call $machines $n"
-        processor[$key]=$(a_round "${processor_of[$all]}" "${processor_of[$one]}" "$n")
-        clock[$key]=$(a_round "${clock_of[$all]}" "${clock_of[$one]}" "$n")
+        key=$call.$machines n=${all_of[$machines]}
+        none="ours $call $machines 0" all="ours $call $machines ${many[$machines]}"
+        processor[$key]=$(a_round "${processor_of[$all]}" "${processor_of[$none]}" "$n")
+        clock[$key]=$(a_round "${clock_of[$all]}" "${clock_of[$none]}" "$n")
         if [ "$call" = quiet ]; then
             row "$call" "$machines" "${processor[$key]}" - - "${clock[$key]}" - -
             continue
         fi
-        one="theirs $call $machines 1" all="theirs $call $machines $n"
-        in_c[$key]=$(a_round "${processor_of[$all]}" "${processor_of[$one]}" "$n")
-        clock_in_c[$key]=$(a_round "${clock_of[$all]}" "${clock_of[$one]}" "$n")
+        none="theirs $call $machines 0" all="theirs $call $machines $n"
+        in_c[$key]=$(a_round "${processor_of[$all]}" "${processor_of[$none]}" "$n")
+        clock_in_c[$key]=$(a_round "${clock_of[$all]}" "${clock_of[$none]}" "$n")
         row "$call" "$machines" "${processor[$key]}" "${in_c[$key]}" "$(ratio "${processor[$key]}" "${in_c[$key]}")" \
             "${clock[$key]}" "${clock_in_c[$key]}" "$(ratio "${clock[$key]}" "${clock_in_c[$key]}")"
     done

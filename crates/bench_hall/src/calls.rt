@@ -1,71 +1,96 @@
-//! The calls of the store that are measured.
+//! Calls of the store that are measured: `machine ID` finds its version, `address MAC` and `uuid HEX` the number of the machine,
+//! `interfaces ID` how many it has, `digest HEX` an operator, `list` the sum of the machines' numbers; `unknown MAC` finds no machine,
+//! and `expired MOMENT` none that has expired; `apply ROW; ROW; ..` makes a change, of the rows that play_store has. What finds
+//! one thing, or nothing where that is asked for, and a change count 1.
 use crate::fault::Fault;
+use hall_store::HallStore;
+use hall_types::{Change, Digest, MacAddress, MachineUuid, Moment, Number};
+use play_store::{change, first, words};
+use std::alloc::Global;
 
-/// What a round asks of the store. Each round of the reads of a machine, and of `Change`, is another machine's, in turn.
-#[derive(Clone, Copy, Debug, PartialEq, Eq)]
+/// A call of a store.
+#[derive(Drop)]
 pub enum Call {
-    /// The machine with a number; its version.
-    Machine,
-    /// The number of the machine with an address.
-    Address,
-    /// That of an address that no machine has; 1.
-    Unknown,
-    /// The number of the machine with a UUID.
-    Uuid,
-    /// The interfaces of a machine; how many.
-    Interfaces,
-    /// The operator whose token has a digest; 1.
-    Token,
-    /// A machine is put over its version, with a receipt, in one change; its new version.
-    Change,
-    /// A machine is put with its interface, and deleted, in two changes; its number.
-    Delete,
-    /// All machines; the sum of their numbers.
+    Machine(Number),
+    Address(MacAddress),
+    Unknown(MacAddress),
+    Uuid(MachineUuid),
+    Interfaces(Number),
+    Operator(Digest),
+    Expired(Moment),
     List,
-    /// A machine that has expired at the next second of a clock, where none has; 1.
-    Second,
-    /// A machine that has expired at the same second as before, where none has; 1.
-    Quiet,
+    Apply(Change),
 }
 
-/// What is asked of a hall with so many machines, in so many rounds.
-#[derive(Clone, Copy, Debug)]
-pub struct Calls {
-    pub call: Call,
-    pub machines: u32,
-    pub rounds: u32,
+/// The call that words ask for.
+pub fn parse_call(alloc: Global, text: &str) -> Result<Call, Fault> {
+    let (what, rest) = first(text);
+    let found = match what {
+        "machine" => Call::Machine(words::number(rest)?),
+        "address" => Call::Address(words::mac(rest)?),
+        "unknown" => Call::Unknown(words::mac(rest)?),
+        "uuid" => Call::Uuid(words::uuid(rest)?),
+        "interfaces" => Call::Interfaces(words::number(rest)?),
+        "digest" => Call::Operator(words::digest(rest)?),
+        "expired" => Call::Expired(words::moment(rest)?),
+        "list" => Call::List,
+        "apply" => Call::Apply(change(alloc, rest)?),
+        _ => return Err(Fault::Line),
+    };
+    Ok(found)
 }
 
-fn call_of(word: &str) -> Option<Call> {
-    match word {
-        "machine" => Some(Call::Machine),
-        "address" => Some(Call::Address),
-        "unknown" => Some(Call::Unknown),
-        "uuid" => Some(Call::Uuid),
-        "interfaces" => Some(Call::Interfaces),
-        "token" => Some(Call::Token),
-        "change" => Some(Call::Change),
-        "delete" => Some(Call::Delete),
-        "list" => Some(Call::List),
-        "second" => Some(Call::Second),
-        "quiet" => Some(Call::Quiet),
-        _ => None,
+// What is counted of the number that a look-up answers.
+fn number(found: Option<Number>) -> Result<u64, Fault> {
+    match found {
+        Some(id) => Ok(id.get()),
+        None => Err(Fault::Refused),
     }
 }
 
-impl Calls {
-    /// What three words ask for; 1 to 10,000 machines.
-    pub fn new(call: &str, machines: &str, rounds: &str) -> Result<Calls, Fault> {
-        let call = call_of(call).ok_or(Fault::StoreUsage)?;
-        let machines = machines.parse::<u32>().map_err(|_| Fault::StoreUsage)?;
-        let rounds = rounds.parse::<u32>().map_err(|_| Fault::StoreUsage)?;
-        if machines == 0 || machines > 10_000 {
-            return Err(Fault::StoreUsage);
+fn one(is_as_asked: bool) -> Result<u64, Fault> {
+    if is_as_asked {
+        Ok(1)
+    } else {
+        Err(Fault::Refused)
+    }
+}
+
+fn version<S: HallStore>(store: &mut S, id: Number) -> Result<u64, Fault> {
+    match store.machine(id)? {
+        Some(machine) => Ok(machine.version.get()),
+        None => Err(Fault::Refused),
+    }
+}
+
+fn interfaces<S: HallStore>(alloc: Global, store: &mut S, id: Number) -> Result<u64, Fault> {
+    let interfaces = store.interfaces_of(alloc, id)?;
+    Ok(interfaces.len() as u64)
+}
+
+fn list<S: HallStore>(alloc: Global, store: &mut S) -> Result<u64, Fault> {
+    let machines = store.machines(alloc)?;
+    let mut sum = 0u64;
+    for machine in machines.as_slice() {
+        sum = sum.saturating_add(machine.id.get());
+    }
+    Ok(sum)
+}
+
+/// Calls the store, and counts what it found.
+pub fn counted<S: HallStore>(alloc: Global, store: &mut S, call: &Call) -> Result<u64, Fault> {
+    match call {
+        Call::Machine(id) => version(store, *id),
+        Call::Address(mac) => number(store.by_mac(*mac)?),
+        Call::Unknown(mac) => one(store.by_mac(*mac)?.is_none()),
+        Call::Uuid(uuid) => number(store.by_uuid(*uuid)?),
+        Call::Interfaces(id) => interfaces(alloc, store, *id),
+        Call::Operator(digest) => one(store.operator_by_digest(digest)?.is_some()),
+        Call::Expired(moment) => one(store.next_expired(*moment)?.is_none()),
+        Call::List => list(alloc, store),
+        Call::Apply(change) => {
+            store.apply(change)?;
+            Ok(1)
         }
-        Ok(Calls {
-            call,
-            machines,
-            rounds,
-        })
     }
 }

@@ -1,19 +1,64 @@
-//! Why the benchmark ended early.
-use crate::asked::BenchFault;
+//! Why a benchmark ends early.
+use hall_store::Unavailable;
+use play_log::{LineFault, LogFault};
 use sql_file::FileFault;
-use thiserror::Error;
 
-/// Why the benchmark ended early.
-#[derive(Clone, Copy, Debug, PartialEq, Eq, Error)]
+/// Why a benchmark ends early.
+#[derive(Clone, Copy)]
 pub enum Fault {
-    #[error("words: FILE desk|store WHAT MACHINES ROUNDS")]
     Usage,
-    #[error("words: FILE store machine|address|unknown|uuid|interfaces|token|change|delete|list|second|quiet MACHINES ROUNDS")]
-    StoreUsage,
-    #[error("the file can't be looked for")]
+    Log,
+    Line,
+    /// A line of the new hall is refused.
+    Hall,
+    /// An answer isn't 200, or is silence, or a call finds nothing.
+    Refused,
+    File,
     Unavailable,
-    #[error(transparent)]
-    File(#[from] FileFault),
-    #[error(transparent)]
-    Rounds(#[from] BenchFault),
+    Memory,
+}
+
+impl Fault {
+    pub fn message(self) -> &'static str {
+        match self {
+            Fault::Usage => "words: FILE TIMES",
+            Fault::Log => "the log can't be read",
+            Fault::Line => "a line of the log is malformed",
+            Fault::Hall => "a line of the new hall is refused",
+            Fault::Refused => "an answer isn't 200, or is silence, or a call finds nothing",
+            Fault::File => "the file isn't a hall's, or can't be made, opened or closed",
+            Fault::Unavailable => "the store can't answer",
+            Fault::Memory => "out of memory",
+        }
+    }
+}
+
+impl From<LogFault> for Fault {
+    fn from(_: LogFault) -> Fault {
+        Fault::Log
+    }
+}
+
+impl From<LineFault> for Fault {
+    fn from(_: LineFault) -> Fault {
+        Fault::Line
+    }
+}
+
+impl From<play_store::Fault> for Fault {
+    fn from(_: play_store::Fault) -> Fault {
+        Fault::Line
+    }
+}
+
+impl From<FileFault> for Fault {
+    fn from(_: FileFault) -> Fault {
+        Fault::File
+    }
+}
+
+impl From<Unavailable> for Fault {
+    fn from(_: Unavailable) -> Fault {
+        Fault::Unavailable
+    }
 }

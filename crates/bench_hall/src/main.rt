@@ -1,71 +1,84 @@
-//! A benchmark of a hall: `FILE desk|store WHAT MACHINES ROUNDS` opens the hall in the file, or makes one with so many machines where
-//! there is no file, and plays so many rounds over it; where FILE is `-`, the hall is made in memory. `desk` answers arrivals, from octets to
-//! octets: `offer` a DISCOVER, `script` a script request of a machine that is Deployed, `repeat` a command with a key that was used,
-//! `list` a request for all machines, `allocate` an allocation, its release and the power program's answer, `report` a commissioning, its
-//! script request and the report that it failed. Each round is another machine's, in turn. It prints how many octets were answered.
-//! `store` calls the store itself, as `calls.rt` says, and prints the sum of what the calls answered. Over a file each change is durable
-//! before its call returns.
+//! A benchmark of a hall: `FILE TIMES`, with a log on standard input. The first line is `ADMIN DIGEST`. The lines after it are
+//! played over the new hall that is made where there is no file, or in memory where FILE is `-`: they are those of play_store. What
+//! is measured stands after the line `== rounds`: arrivals, as play_log parses them, and calls of the store, as `calls.rt` says. It is
+//! parsed first, and then played so many times, each time the arrivals at a desk and then the calls. The sum of the octets that were
+//! answered and of what the calls found is printed. What is answered by a refusal or by silence, and a call that finds nothing, end
+//! it. Over a file each change is durable before its call returns.
 #![tactic(auto)]
 
-mod arrivals;
-mod asked;
 mod calls;
 mod fault;
-mod hall;
-mod over;
-mod reads;
-mod records;
+mod log;
 mod rounds;
-mod texts;
-mod words;
-mod writes;
 
-use asked::BenchFault;
 use fault::Fault;
-use hall::admin;
-use over::play;
-use rounds::Rounds;
+use log::{Log, read};
+use rounds::play;
 use sql_file::{close, create, open};
 use std::alloc::Global;
-use std::fs;
 use std::process::ExitCode;
+use std::{env, fs, io};
 use store_memory::MemoryStore;
-use words::given;
 
-// Makes a hall without machines in the file, where there is none; whether it was made.
-fn made(rt: &HostRuntime, file: &str) -> Result<bool, Fault> {
-    if fs::exists(rt, file).map_err(|_| Fault::Unavailable)? {
-        return Ok(false);
+// Makes a hall in the file, where there is none; whether it was made.
+fn made(rt: &HostRuntime, file: &str, log: &Log) -> Result<bool, Fault> {
+    match fs::exists(rt, file) {
+        Ok(true) => Ok(false),
+        Ok(false) => {
+            create(rt, file, log.admin, log.digest)?;
+            Ok(true)
+        }
+        Err(_) => Err(Fault::Unavailable),
     }
-    let (name, digest) = admin()?;
-    create(rt, file, name, digest)?;
-    Ok(true)
 }
 
 // The only function that has the file's store. A fault of the rounds comes before one of the closing.
-fn over_file(rt: &HostRuntime, file: &str, rounds: Rounds, is_new: bool) -> Result<u64, Fault> {
+fn over_file(rt: &HostRuntime, file: &str, log: &Log, times: u64) -> Result<u64, Fault> {
+    let is_new = made(rt, file, log)?;
     let store = open(rt, file)?;
-    let (sum, store) = play(rt.alloc(), store, rounds, is_new);
+    let (sum, store) = play(rt.alloc(), store, log, is_new, times);
     let closing = close(store);
     let sum = sum?;
     closing?;
     Ok(sum)
 }
 
-fn in_memory(alloc: Global, rounds: Rounds) -> Result<u64, Fault> {
-    let (name, digest) = admin()?;
-    let store = MemoryStore::create(alloc, name, digest).map_err(|_| BenchFault::Memory)?;
-    let (sum, _) = play(alloc, store, rounds, true);
-    Ok(sum?)
+fn in_memory(alloc: Global, log: &Log, times: u64) -> Result<u64, Fault> {
+    match MemoryStore::create(alloc, log.admin, log.digest) {
+        Ok(store) => {
+            let (sum, _) = play(alloc, store, log, true, times);
+            sum
+        }
+        Err(_) => Err(Fault::Memory),
+    }
+}
+
+fn measure(rt: &HostRuntime, file: &str, times: &str) -> Result<u64, Fault> {
+    let Ok(times) = times.parse::<u64>() else {
+        return Err(Fault::Usage);
+    };
+    let log = read(rt.alloc(), rt.stdin())?;
+    if file == "-" {
+        in_memory(rt.alloc(), &log, times)
+    } else {
+        over_file(rt, file, &log, times)
+    }
+}
+
+// The two words after the program's name.
+fn given(rt: &HostRuntime) -> Result<(String, String), io::Error> {
+    let mut words = env::args(rt)?.skip(1);
+    match (words.next(), words.next(), words.next()) {
+        (Some(file), Some(times), None) => Ok((file, times)),
+        _ => Err(io::Error::from(io::ErrorKind::InvalidInput)),
+    }
 }
 
 fn run(rt: &HostRuntime) -> Result<u64, Fault> {
-    let words = given(rt)?;
-    if words.file.as_str() == "-" {
-        return in_memory(rt.alloc(), words.rounds);
+    match given(rt) {
+        Ok((file, times)) => measure(rt, file.as_str(), times.as_str()),
+        Err(_) => Err(Fault::Usage),
     }
-    let is_new = made(rt, words.file.as_str())?;
-    over_file(rt, words.file.as_str(), words.rounds, is_new)
 }
 
 fn main(rt: HostRuntime) -> ExitCode {
@@ -75,7 +88,7 @@ fn main(rt: HostRuntime) -> ExitCode {
             ExitCode::from(0)
         }
         Err(fault) => {
-            let _ = eprintln!(rt; "bench_hall: {fault}");
+            let _ = eprintln!(rt; "bench_hall: {}", fault.message());
             ExitCode::from(1)
         }
     }

@@ -1,29 +1,129 @@
-//! The rounds of a benchmark.
-use crate::asked::Asked;
-use crate::calls::Calls;
-use hall_types::Status;
+//! What is measured, over an open store, which is given back. The store's type stays open here, so that no proof looks into a file.
+use crate::calls::{Call, counted};
+use crate::fault::Fault;
+use crate::log::Log;
+use hall_desk::{Answer, Arrival, Desk};
+use hall_store::HallStore;
+use play_store::{Asked, play_line};
+use pxe_vendor::Place;
+use std::alloc::Global;
 
-/// Rounds of arrivals at the desk, or of calls of its store.
-#[derive(Clone, Copy, Debug)]
-pub enum Rounds {
-    Desk(Asked),
-    Store(Calls),
+// Plays a line of the new hall.
+fn make_line<S: HallStore>(alloc: Global, store: S, text: &str) -> (Result<(), Fault>, S) {
+    let mut answer = String::new(alloc);
+    let mut asked = Asked::NONE;
+    let (done, store) = play_line(alloc, store, text, &mut answer, &mut asked);
+    let is_made = answer.starts_with("200 ") || answer.as_str() == "applied\n";
+    let made = match done {
+        Ok(()) => if is_made { Ok(()) } else { Err(Fault::Hall) },
+        Err(fault) => Err(Fault::from(fault)),
+    };
+    (made, store)
 }
 
-impl Rounds {
-    /// How many machines a new hall has.
-    pub fn machines(self) -> u32 {
-        match self {
-            Rounds::Desk(asked) => asked.machines,
-            Rounds::Store(calls) => calls.machines,
+fn make<S: HallStore>(alloc: Global, store: S, lines: &[String]) -> (Result<(), Fault>, S) {
+    let mut store = store;
+    for line in lines {
+        let (made, after) = make_line(alloc, store, line.as_str());
+        store = after;
+        if made.is_err() {
+            return (made, store);
         }
     }
+    (Ok(()), store)
+}
 
-    /// The status of a new hall's machines.
-    pub fn status(self) -> Status {
-        match self {
-            Rounds::Desk(asked) => asked.what.status(),
-            Rounds::Store(_) => Status::Ready,
+// The number of octets that are answered, if they aren't a refusal.
+fn answered<S: HallStore>(
+    alloc: Global,
+    desk: &mut Desk<S>,
+    arrival: &Arrival,
+) -> Result<u64, Fault> {
+    let Answer::Octets(octets) = desk.answer(alloc, arrival) else {
+        return Err(Fault::Refused);
+    };
+    let octets = octets.as_slice();
+    if octets.starts_with(b"HTTP/1.1 ") && !octets.starts_with(b"HTTP/1.1 200") {
+        return Err(Fault::Refused);
+    }
+    Ok(octets.len() as u64)
+}
+
+fn answer_all<S: HallStore>(
+    alloc: Global,
+    desk: &mut Desk<S>,
+    arrivals: &[Arrival],
+    times: u64,
+) -> Result<u64, Fault> {
+    let mut sum = 0u64;
+    for _ in 0..times {
+        for arrival in arrivals {
+            sum = sum.saturating_add(answered(alloc, desk, arrival)?);
         }
+    }
+    Ok(sum)
+}
+
+// The sum of what the calls find.
+fn call_all<S: HallStore>(
+    alloc: Global,
+    store: &mut S,
+    calls: &[Call],
+    times: u64,
+) -> Result<u64, Fault> {
+    let mut sum = 0u64;
+    for _ in 0..times {
+        for call in calls {
+            sum = sum.saturating_add(counted(alloc, store, call)?);
+        }
+    }
+    Ok(sum)
+}
+
+fn over_desk<S: HallStore>(
+    alloc: Global,
+    store: S,
+    arrivals: &[Arrival],
+    times: u64,
+) -> (Result<u64, Fault>, S) {
+    let Ok(place) = Place::new(alloc, [192, 0, 2, 1], [192, 0, 2, 2], "hall.example") else {
+        return (Err(Fault::Memory), store);
+    };
+    let mut desk = Desk::new(store, place);
+    let sum = answer_all(alloc, &mut desk, arrivals, times);
+    (sum, desk.into_store())
+}
+
+// The sum over the arrivals, and over the calls.
+fn measure<S: HallStore>(
+    alloc: Global,
+    store: S,
+    log: &Log,
+    times: u64,
+) -> (Result<u64, Fault>, S) {
+    let (answers, mut store) = over_desk(alloc, store, log.arrivals.as_slice(), times);
+    let calls = call_all(alloc, &mut store, log.calls.as_slice(), times);
+    let sum = match (answers, calls) {
+        (Ok(octets), Ok(found)) => Ok(octets.saturating_add(found)),
+        (Err(fault), _) | (_, Err(fault)) => Err(fault),
+    };
+    (sum, store)
+}
+
+/// Makes the hall where it is new, and plays what is measured over it.
+pub fn play<S: HallStore>(
+    alloc: Global,
+    store: S,
+    log: &Log,
+    is_new: bool,
+    times: u64,
+) -> (Result<u64, Fault>, S) {
+    if !is_new {
+        return measure(alloc, store, log, times);
+    }
+    let (made, store) = make(alloc, store, log.hall.as_slice());
+    match made {
+        Ok(()) => measure(alloc, store, log, times),
+        Err(fault) => (Err(fault), store),
     }
 }

@@ -11,8 +11,9 @@ use Rattle.pxe_vendor.specs.declared.arch.Arch.TheVariants as arch
 use Rattle.ipxe_script.specs.Purpose.{HasKernelWord, is_kernel}
 use Rattle.ipxe_script.specs.PurposeLaws.{HasKernelWord-boot, HasKernelWord-no_kernel, IsArgument-hall}
 use Rattle.ipxe_script.specs.Script.{spelling, IsScript}
+use Rattle.ipxe_script.specs.Word.{is_hall_word}
 use Rattle.ipxe_script.specs.declared.command.Command.{Command}
-use Rattle.hall_types.specs.Image.{BootImage, has_hall_word, is_hall_word}
+use Rattle.hall_types.specs.Image.{BootImage, has_hall_word}
 use Rattle.hall_types.specs.Kinds.{erase_text, purpose_text}
 use Rattle.hall_types.specs.Number.{next_number}
 use Rattle.hall_types.specs.declared.boot.Boot.{Boot}

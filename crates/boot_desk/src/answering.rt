@@ -5,7 +5,7 @@ ghost use Rattle.boot_desk.specs.Decided.{Decides};
 ghost use Rattle.boot_desk.specs.OrderAnswer.{answered, answered_with, idle, stage_for};
 
 use crate::fault::{DeskFault, Verdict};
-use crate::following::{machine_row, with_entry};
+use crate::following::{first_row, machine_row, with_entry, with_row};
 use crate::views::{BootView, OrderView};
 use hall_types::{Change, Machine, Moment, Order, OrderStage, Outcome, Refusal, RowWrite};
 use life_cycle::{Signal, Step, next};
@@ -40,21 +40,17 @@ fn answered_with(
 ) -> Result<(Change, Verdict), DeskFault>
     ensures { Decides result (answered_with write view.now moment step) }
 {
-    let mut rows = Vec::new(alloc);
-    if rows.push(write).is_err() {
+    let Ok(rows) = first_row(alloc, write) else {
         return Err(DeskFault::Memory);
-    }
+    };
     if let Some(step) = step {
         let change = with_entry(rows, &view.machine, None, step, moment, view.numbers)?;
         return Ok((change, Verdict::Counted));
     }
-    if rows
-        .push(machine_row(&view.machine, idle(&view.machine)))
-        .is_err()
-    {
-        return Err(DeskFault::Memory);
+    match with_row(rows, machine_row(&view.machine, idle(&view.machine))) {
+        Ok(change) => Ok((change, Verdict::Counted)),
+        Err(AllocError) => Err(DeskFault::Memory),
     }
-    Ok((Change::from(rows), Verdict::Counted))
 }
 
 fn repeat(alloc: Global) -> (Change, Verdict)

@@ -5,7 +5,7 @@ ghost use Rattle.boot_desk.specs.Class.{class_of};
 use hall_types::{Machine, Purpose, Status};
 
 /// The kind of a machine's script.
-#[derive(Clone, Copy, Debug, PartialEq, Eq)]
+#[derive(Clone, Copy)]
 pub enum ScriptClass {
     /// It boots its own disk.
     Local,

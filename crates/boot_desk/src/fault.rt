@@ -3,7 +3,7 @@ use hall_types::Refusal;
 use thiserror::Error;
 
 /// Why there is no decision.
-#[derive(Clone, Copy, Debug, PartialEq, Eq, Error)]
+#[derive(Clone, Copy, Debug, Error)]
 pub enum DeskFault {
     #[error("refused")]
     Refused(Refusal),
@@ -12,7 +12,7 @@ pub enum DeskFault {
 }
 
 /// What a report or the answer to an order was.
-#[derive(Clone, Copy, Debug, PartialEq, Eq)]
+#[derive(Clone, Copy)]
 pub enum Verdict {
     /// It counts: the boot or the order has taken it.
     Counted,

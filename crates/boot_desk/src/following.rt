@@ -1,5 +1,5 @@
 //! The rows that a machine's entry into a status writes.
-ghost use Rattle.std.specs.Prelude.{◌≡◌, ◌++◌, IfOk, OnOk};
+ghost use Rattle.std.specs.Prelude.{◌≡◌, ◌++◌, [], ◌∷◌, IfOk, OnOk};
 ghost use Rattle.boot_desk.specs.Decided.{Decides};
 ghost use Rattle.boot_desk.specs.Following.{entry_rows, followed, machine_row, with_entry};
 ghost use Rattle.life_cycle.specs.Entering.{entered};
@@ -18,6 +18,24 @@ pub fn machine_row(before: &Machine, after: Machine) -> RowWrite
         machine: after,
         was: Some(before.version),
     }
+}
+
+/// The first row of some.
+pub(crate) fn first_row(alloc: Global, row: RowWrite) -> Result<Vec<RowWrite>, AllocError>
+    ensures { IfOk result (λ rows. rows.items ≡ row ∷ []) }
+{
+    let mut rows = Vec::new(alloc);
+    rows.push(row)?;
+    Ok(rows)
+}
+
+/// Some rows, and one more.
+pub(crate) fn with_row(rows: Vec<RowWrite>, row: RowWrite) -> Result<Change, AllocError>
+    ensures { IfOk result (λ change. change ≡ rows.items ++ row ∷ []) }
+{
+    let mut rows = rows;
+    rows.push(row)?;
+    Ok(Change::from(rows))
 }
 
 fn push_entry(

@@ -12,7 +12,7 @@ use std::alloc::{AllocError, Global};
 
 /// What a hall has of a client: the number of the machine that its address is recorded with, that of the
 /// machine that its UUID is recorded with, how many machines there are, and the last numbers.
-#[derive(Clone, Copy, Debug, PartialEq, Eq)]
+#[derive(Clone, Copy)]
 pub struct FrameView {
     pub by_mac: Option<Number>,
     pub by_uuid: Option<Number>,
@@ -21,7 +21,7 @@ pub struct FrameView {
 }
 
 /// Why a frame is not answered, in the order in which the causes are looked for.
-#[derive(Clone, Copy, Debug, PartialEq, Eq)]
+#[derive(Clone, Copy, Debug)]
 pub enum Silence {
     /// A DISCOVER came to the boot server's port, or a REQUEST to the DHCP server's.
     WrongPort = 1,
@@ -36,7 +36,7 @@ pub enum Silence {
 }
 
 /// How a frame is answered.
-#[derive(Clone, Copy, Debug, PartialEq, Eq)]
+#[derive(Clone, Copy)]
 pub enum Decision {
     /// With the loader for the client's architecture.
     Loader,

@@ -6,7 +6,7 @@ ghost use Rattle.boot_desk.specs.Report.{counted, is_current, is_wrong_stage, ju
 ghost use Rattle.boot_desk.specs.declared.reporting.Standing.{Standing};
 
 use crate::fault::{DeskFault, Verdict};
-use crate::following::follow;
+use crate::following::{first_row, follow};
 use crate::views::ReportView;
 use hall_types::{
     Boot, Change, Moment, Number, Progress, Purpose, Refusal, RowWrite, Stage, Status, Token,
@@ -64,14 +64,13 @@ fn counted(
 ) -> Result<(Change, Verdict), DeskFault>
     ensures { Decides result (counted view.now progress moment) }
 {
-    let mut rows = Vec::new(alloc);
     let boot = Boot {
         stage: progress.stage(),
         ..view.asked
     };
-    if rows.push(RowWrite::PutBoot(boot)).is_err() {
+    let Ok(rows) = first_row(alloc, RowWrite::PutBoot(boot)) else {
         return Err(DeskFault::Memory);
-    }
+    };
     let step = next(&view.at.machine, Signal::Report(progress));
     let change = follow(rows, &view.at, moment, step)?;
     Ok((change, Verdict::Counted))

@@ -99,6 +99,25 @@ fn push_erase(
     Ok(())
 }
 
+fn push_desk_arguments(
+    alloc: Global,
+    args: &mut Vec<Word>,
+    place: &Place,
+    purpose: Purpose,
+    erase: Option<Erase>,
+    boot: &Boot,
+) -> Result<(), AllocError>
+    ensures args { OnOk result (args.new.items ≡ args.old.items ++ desk_arguments place.now.host purpose erase boot.now) }
+    ensures few { length (desk_arguments place.now.host purpose erase boot.now) ≤ 5 }
+{
+    args.push(purpose_word(alloc, purpose)?)?;
+    push_erase(alloc, args, purpose, erase)?;
+    args.push(boot_word(alloc, boot.number)?)?;
+    args.push(token_word(alloc, boot.token)?)?;
+    args.push(desk_word(alloc, place)?)?;
+    Ok(())
+}
+
 // An image's arguments, and then the desk's.
 fn arguments(
     alloc: Global,
@@ -112,11 +131,7 @@ fn arguments(
     ensures few { IfOk result (λ args. length args ≤ 29) }
 {
     let mut args = image_args(alloc, image)?;
-    args.push(purpose_word(alloc, purpose)?)?;
-    push_erase(alloc, &mut args, purpose, erase)?;
-    args.push(boot_word(alloc, boot.number)?)?;
-    args.push(token_word(alloc, boot.token)?)?;
-    args.push(desk_word(alloc, place)?)?;
+    push_desk_arguments(alloc, &mut args, place, purpose, erase, boot)?;
     Ok(Words::from(args))
 }
 
@@ -168,10 +183,11 @@ fn boot_script(alloc: Global, kernel: Uri, args: Words, initrd: Uri) -> Result<S
     let _ = kernel.text();
     let _ = args.as_slice();
     let _ = initrd.text();
-    let mut commands = Vec::with_capacity(alloc, 3)?;
-    commands.push(Command::Kernel { uri: kernel, args })?;
-    commands.push(Command::Initrd { uri: initrd })?;
-    commands.push(Command::Boot)?;
+    let commands = vec![in alloc;
+        Command::Kernel { uri: kernel, args },
+        Command::Initrd { uri: initrd },
+        Command::Boot,
+    ]?;
     Ok(script(commands))
 }
 

@@ -167,6 +167,10 @@ module _ (h : Hall) (s : IsSound h) (in_second : h.schema ≡ second) (key : Lis
       by true e = keyed_keeps o known (at h.receipts (pair o.name key)) e
       by false e = cc
 
+  sender_known : (digest : List ℕ) (o : Operator) → operator_with_digest h digest ≡ Some o → HasRow h.operators o.name
+  sender_known digest o found =
+      ap (λ x. is_some x) (found_listed (λ (x : Operator). x.name) h.operators s.keyed.operators (λ (x : Operator). bytes_eq x.digest digest) o found).0
+
   -- the rows of a command leave the hall sound
   pub command_keeps : (bearer : Option (List ℕ)) → command_decision h bearer key command moment ≡ Ok (rows, content) → IsSound (applied rows h)
   unfolding command_decision
@@ -177,4 +181,4 @@ module _ (h : Hall) (s : IsSound h) (in_second : h.schema ≡ second) (key : Lis
       by None found e = cc
       by (Some o) found e =
           of_sender_keeps o
-          (ap (λ x. is_some x) (found_listed (λ (x : Operator). x.name) h.operators s.keyed.operators (λ (x : Operator). bytes_eq x.digest digest) o found).0) e
+          (sender_known digest o found) e

@@ -1,6 +1,7 @@
 //! The answer to a command.
-ghost use Rattle.std.specs.Prelude.{◌≡◌, IfOk};
+ghost use Rattle.std.specs.Prelude.{◌≡◌, ◌++◌, [], ◌∷◌, IfOk};
 ghost use Rattle.hall_types.specs.Hall.{second};
+ghost use Rattle.hall_types.specs.declared.change.RowWrite.TheVariants.{PutReceipt};
 ghost use Rattle.hall_events.specs.Command.{command_text};
 ghost use Rattle.hall_events.specs.Reply.{reply_of};
 ghost use Rattle.boot_desk.specs.Decided.{Decides};
@@ -56,6 +57,23 @@ fn receipt(
     })
 }
 
+// Some rows, and then the receipt of an accepted command.
+fn with_receipt(
+    alloc: Global,
+    rows: Change,
+    by: &Operator,
+    key: RequestKey,
+    command: &HallCommand,
+    reply: &Reply,
+) -> Result<Change, AllocError>
+    ensures { IfOk result (λ change. change ≡ rows ++ PutReceipt (record { operator = by.now.name; key = key; command = command_text command.now; status = 200; body = body_of reply.now }) ∷ []) }
+{
+    let receipt = receipt(alloc, by, key, command, reply)?;
+    let mut rows = rows.into_vec();
+    rows.push(RowWrite::PutReceipt(receipt))?;
+    Ok(Change::from(rows))
+}
+
 /// What an operator's new command is answered, with the rows that it writes, a receipt among them. The refusal is the
 /// first in the order of the refusals' numbers.
 #[tactic(auto, unfolding(crate::specs::Command::commanded))]
@@ -76,14 +94,10 @@ pub fn command(
     let Ok(reply) = reply(alloc, &subject) else {
         return Err(DeskFault::Memory);
     };
-    let Ok(receipt) = receipt(alloc, by, key, command, &reply) else {
-        return Err(DeskFault::Memory);
-    };
-    let mut rows = change.into_vec();
-    if rows.push(RowWrite::PutReceipt(receipt)).is_err() {
-        return Err(DeskFault::Memory);
+    match with_receipt(alloc, change, by, key, command, &reply) {
+        Ok(rows) => Ok((rows, reply)),
+        Err(AllocError) => Err(DeskFault::Memory),
     }
-    Ok((Change::from(rows), reply))
 }
 
 /// What a request is answered whose key has a receipt: the answer that the receipt keeps, or `KeyReused` where it was

@@ -95,10 +95,9 @@ fn two(alloc: Global, first: RowWrite, second: RowWrite) -> Result<Change, DeskF
     ensures rows { IfOk result (λ rows. rows ≡ first ∷ second ∷ []) }
     ensures memory { IfErr result (λ fault. fault ≡ DeskFault.Memory) }
 {
-    let mut rows = Vec::new(alloc);
-    if rows.push(first).is_err() || rows.push(second).is_err() {
+    let Ok(rows) = vec![in alloc; first, second] else {
         return Err(DeskFault::Memory);
-    }
+    };
     Ok(Change::from(rows))
 }
 
@@ -106,10 +105,9 @@ fn one(alloc: Global, row: RowWrite) -> Result<Change, DeskFault>
     ensures rows { IfOk result (λ rows. rows ≡ row ∷ []) }
     ensures memory { IfErr result (λ fault. fault ≡ DeskFault.Memory) }
 {
-    let mut rows = Vec::new(alloc);
-    if rows.push(row).is_err() {
+    let Ok(rows) = vec![in alloc; row] else {
         return Err(DeskFault::Memory);
-    }
+    };
     Ok(Change::from(rows))
 }
 
@@ -236,10 +234,11 @@ fn added_rows(
         machine: LastIssued::from(machine.id),
         ..numbers
     };
-    let mut rows = Vec::new(alloc);
-    rows.push(RowWrite::PutMachine { machine, was: None })?;
-    rows.push(RowWrite::PutInterface(interface))?;
-    rows.push(RowWrite::PutNumbers(last))?;
+    let rows = vec![in alloc;
+        RowWrite::PutMachine { machine, was: None },
+        RowWrite::PutInterface(interface),
+        RowWrite::PutNumbers(last),
+    ]?;
     Ok(rows)
 }
 

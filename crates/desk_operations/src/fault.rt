@@ -6,7 +6,7 @@ use hall_report::{ImportFault, ReportFault};
 use std::alloc::AllocError;
 
 /// The fault that ended a run.
-#[derive(Clone, Copy, Debug, PartialEq, Eq)]
+#[derive(Clone, Copy, PartialEq, Eq)]
 pub enum Fault {
     /// An input or the value of an option isn't of its form.
     BadInput,

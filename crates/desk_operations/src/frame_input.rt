@@ -100,7 +100,7 @@ fn decode(alloc: Global, text: &[u8]) -> Result<Option<Vec<u8>>, AllocError>
 }
 
 /// An input that was parsed. Contracts see its addresses and its octets.
-#[derive(Debug, Drop)]
+#[derive(Drop)]
 pub struct Input {
     addresses: Vec<[u8; 6]>,
     octets: Vec<u8>,

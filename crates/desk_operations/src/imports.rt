@@ -22,7 +22,7 @@ use std::alloc::{AllocError, Global};
 use std::io::Write;
 
 /// How an import ended.
-#[derive(Clone, Copy, Debug, PartialEq, Eq)]
+#[derive(Clone, Copy, PartialEq, Eq)]
 pub enum Imported {
     /// Each row was answered with the status 200.
     All,

@@ -15,7 +15,7 @@ use std::alloc::Global;
 use std::io::Write;
 
 /// What a report is about.
-#[derive(Clone, Copy, Debug, PartialEq, Eq)]
+#[derive(Clone, Copy, PartialEq, Eq)]
 pub enum What {
     /// How many machines each pool has in each status.
     Hall,

@@ -48,9 +48,9 @@ pub fn boot_view<S: HallStore>(
 {
     let boot = boot_at(store, machine.boot)?;
     let order = order_at(store, machine.waiting)?;
+    let numbers = store.numbers()?;
     let live = live_image(alloc, store, machine.arch)?;
     let image = image_at(alloc, store, machine.image)?;
-    let numbers = store.numbers()?;
     Ok(BootView {
         machine,
         boot,

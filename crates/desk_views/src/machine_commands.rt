@@ -9,7 +9,7 @@ use crate::named::{has_live, has_member, has_pool, image_arch, nothing};
 use desk_command::CommandView;
 use hall_events::MachineCommand;
 use hall_store::{HallStore, Unavailable};
-use hall_types::{MacAddress, Machine, Operator};
+use hall_types::{MacAddress, Machine, Name, Operator};
 use std::alloc::Global;
 
 // How many interfaces a machine has.
@@ -69,6 +69,49 @@ fn with_live<S: HallStore>(store: &mut S, machine: &Machine) -> Result<CommandVi
     Ok(CommandView { has_live, ..view })
 }
 
+// With whether there is a pool.
+fn with_pool<S: HallStore>(
+    store: &mut S,
+    machine: &Machine,
+    pool: &Name,
+) -> Result<CommandView, Unavailable>
+    ensures clean { S.HallStore.is_clean store.new → S.HallStore.is_clean store.old }
+    ensures look { S.HallStore.is_clean store.new → IsLook S.HallStore.holds S.HallStore.leaves store.old store.new result (λ h answer. answer ≡ record (view.of_machine h machine.now) { has_pool = view.has_pool h pool.now }) }
+{
+    let has_pool = has_pool(store, pool)?;
+    let view = of_machine(store, machine)?;
+    Ok(CommandView { has_pool, ..view })
+}
+
+// With whether an operator is a member of the machine's pool.
+fn with_member<S: HallStore>(
+    store: &mut S,
+    machine: &Machine,
+    by: &Operator,
+) -> Result<CommandView, Unavailable>
+    ensures clean { S.HallStore.is_clean store.new → S.HallStore.is_clean store.old }
+    ensures look { S.HallStore.is_clean store.new → IsLook S.HallStore.holds S.HallStore.leaves store.old store.new result (λ h answer. answer ≡ record (view.of_machine h machine.now) { is_member = view.has_member h machine.now.pool by.now.name }) }
+{
+    let is_member = has_member(store, &machine.pool, &by.name)?;
+    let view = of_machine(store, machine)?;
+    Ok(CommandView { is_member, ..view })
+}
+
+// With the architecture of an image.
+fn with_image<S: HallStore>(
+    alloc: Global,
+    store: &mut S,
+    machine: &Machine,
+    image: &Name,
+) -> Result<CommandView, Unavailable>
+    ensures clean { S.HallStore.is_clean store.new → S.HallStore.is_clean store.old }
+    ensures look { S.HallStore.is_clean store.new → IsLook S.HallStore.holds S.HallStore.leaves store.old store.new result (λ h answer. answer ≡ record (view.of_machine h machine.now) { image = view.image_arch h image.now }) }
+{
+    let image = image_arch(alloc, store, image)?;
+    let view = of_machine(store, machine)?;
+    Ok(CommandView { image, ..view })
+}
+
 pub(crate) fn machine_view<S: HallStore>(
     alloc: Global,
     store: &mut S,
@@ -83,21 +126,9 @@ pub(crate) fn machine_view<S: HallStore>(
         MachineCommand::AddInterface { mac } | MachineCommand::RemoveInterface { mac } => {
             with_interfaces(alloc, store, machine, *mac)
         }
-        MachineCommand::SetPool { pool } => {
-            let has_pool = has_pool(store, pool)?;
-            let view = of_machine(store, machine)?;
-            Ok(CommandView { has_pool, ..view })
-        }
-        MachineCommand::Allocate => {
-            let is_member = has_member(store, &machine.pool, &by.name)?;
-            let view = of_machine(store, machine)?;
-            Ok(CommandView { is_member, ..view })
-        }
-        MachineCommand::Deploy { image } => {
-            let image = image_arch(alloc, store, image)?;
-            let view = of_machine(store, machine)?;
-            Ok(CommandView { image, ..view })
-        }
+        MachineCommand::SetPool { pool } => with_pool(store, machine, pool),
+        MachineCommand::Allocate => with_member(store, machine, by),
+        MachineCommand::Deploy { image } => with_image(alloc, store, machine, image),
         MachineCommand::Commission { .. }
         | MachineCommand::Test
         | MachineCommand::Rescue

@@ -9,7 +9,7 @@ use std::marker::Model;
 /// The values of the options with one code, joined in order (RFC 3396 section 5). One value is borrowed
 /// from the octets that were read; memory is taken only for a second one. Contracts see the joined
 /// octets, or `None` where no value was joined.
-#[derive(Debug, Drop)]
+#[derive(Drop)]
 pub struct JoinedValue<'a> {
     octets: Option<CowSlice<'a, u8>>,
 }

@@ -15,7 +15,7 @@ use std::alloc::{AllocError, Global};
 
 /// The fields of a reply that differ between replies (RFC 2131 section 2). Of the other fields, op is 2
 /// (BOOTREPLY), htype 1 and hlen 6 (Ethernet), and hops, secs, yiaddr and sname are zeros.
-#[derive(Clone, Copy, Debug)]
+#[derive(Clone, Copy)]
 pub struct ReplyFields<'a> {
     pub xid: u32,
     pub flags: u16,
@@ -28,7 +28,7 @@ pub struct ReplyFields<'a> {
 }
 
 /// An option of a reply (RFC 2132 section 2).
-#[derive(Clone, Copy, Debug)]
+#[derive(Clone, Copy)]
 pub struct DhcpOption<'a> {
     /// The option's code, 1 to 254.
     pub code: u8,

@@ -5,3 +5,4 @@ pub mod ListingLemmas
 pub mod ReadingLemmas
 pub mod RunLemmas
 pub mod ServedLemmas
+pub mod PlanLemmas

@@ -1,8 +1,9 @@
 //! What is planned for each event.
-ghost use Rattle.std.specs.Prelude.{◌≡◌, [], IfOk, option_copied};
+ghost use Rattle.std.specs.Prelude.{◌≡◌, [], List, IfOk, option_copied};
 ghost use Rattle.pxe_vendor.specs.Place.{Site};
 ghost use Rattle.hall_types.specs.Hall.{Hall, second};
 ghost use Rattle.hall_types.specs.Lookup.{next_expired};
+ghost use Rattle.hall_types.specs.declared.change.RowWrite.{RowWrite};
 ghost use Rattle.hall_events.specs.Reply.{nothing, reply_of};
 ghost use Rattle.boot_desk.specs.Decided.{Decides};
 ghost use Rattle.boot_desk.specs.Expiry.{swept};
@@ -215,8 +216,18 @@ pub(crate) fn judge_answer<S: HallStore>(
     verdict_plan(alloc, order_answer(alloc, view.as_ref(), outcome, moment))
 }
 
-/// A quiet moment: the machine whose deadline comes first expires, if it is due.
+// No answer, with the rows of what expired.
 #[tactic(auto, unfolding(hall_events::specs::Reply::reply_of))]
+fn quiet_plan(swept: Result<Change, AllocError>) -> Result<(Change, Reply), Unavailable>
+    ensures { (rows : List RowWrite) → IfOk swept (λ change. change ≡ rows) → IfOk result (λ planned. Plans (record { rows = rows; content = nothing }) planned) }
+{
+    match swept {
+        Ok(change) => Ok((change, Reply::Nothing)),
+        Err(AllocError) => Err(Unavailable),
+    }
+}
+
+/// A quiet moment: the machine whose deadline comes first expires, if it is due.
 pub(crate) fn plan_quiet<S: HallStore>(
     alloc: Global,
     store: &mut S,
@@ -227,8 +238,5 @@ pub(crate) fn plan_quiet<S: HallStore>(
         (λ h planned. Plans (record { rows = swept (view.machine_view h (next_expired h moment)) moment; content = nothing }) planned) }
 {
     let view = expired_view(alloc, store, moment)?;
-    match sweep(alloc, view.as_ref(), moment) {
-        Ok(change) => Ok((change, Reply::Nothing)),
-        Err(_) => Err(Unavailable),
-    }
+    quiet_plan(sweep(alloc, view.as_ref(), moment))
 }

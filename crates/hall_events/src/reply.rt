@@ -14,7 +14,7 @@ use serde_json::{Value, json};
 use std::alloc::{AllocError, Global};
 
 /// The kind of a body (RFC 9110 section 8.3).
-#[derive(Clone, Copy, PartialEq, Eq)]
+#[derive(Clone, Copy)]
 pub enum BodyKind {
     /// `text/plain`
     Text,

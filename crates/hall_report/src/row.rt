@@ -13,7 +13,7 @@ use std::alloc::{AllocError, Global};
 use uuid::Uuid;
 
 /// A machine to be added, with the key of the request that adds it.
-#[derive(Clone, Copy, Debug, PartialEq, Eq)]
+#[derive(Clone, Copy)]
 pub struct ImportRow {
     pub key: RequestKey,
     pub mac: MacAddress,

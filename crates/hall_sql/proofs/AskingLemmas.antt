@@ -3,7 +3,7 @@ use Rattle.std.proofs.Common.{Ok, Err, Result}
 use Rattle.sqlite.specs.declared.error.Error.{Error}
 use Rattle.sqlite.specs.State.{State}
 use Rattle.hall_types.specs.Hall.{Hall}
-use Rattle.sql_rows.specs.Holding.{IsAsked}
+use Rattle.sql_schema.specs.Holding.{IsAsked}
 
 -- a read after one that was answered is of the same hall
 pub asked_twice : {X Y : Type 0} (old mid new : State) (Right : Hall → X → Type 0) (Reads Both : Hall → Y → Type 0) (x : X) (r : Result Y Error) → IsAsked old mid {E = Error} (Ok x) Right → IsAsked mid new r Reads

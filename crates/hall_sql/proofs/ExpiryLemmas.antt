@@ -12,7 +12,7 @@ use Rattle.hall_types.specs.Rows.{Rows, numbers, put}
 use Rattle.hall_types.specs.declared.change.RowWrite.{RowWrite}
 use Rattle.hall_types.specs.declared.change.RowWrite.TheVariants.{PutOperator, PutPool, PutMember, PutImage, ImageGone, PutLive, PutMachine, MachineGone, PutInterface, InterfaceGone, PutBoot, PutOrder, PutReceipt, PutNumbers}
 use Rattle.hall_types.specs.declared.machine.Machine.{Machine}
-use Rattle.sql_rows.specs.Holding.{IsHeld}
+use Rattle.sql_schema.specs.Holding.{IsHeld}
 use Rattle.sqlite.specs.State.{State}
 use Rattle.hall_sql.specs.Expiring.{HasNoEarlier, IsEarliest, PutsNoEarlier}
 

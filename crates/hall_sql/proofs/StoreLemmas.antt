@@ -8,9 +8,9 @@ use Rattle.sqlite_trees.specs.declared.store.Store as trees
 use Rattle.hall_types.specs.Hall.{Hall, applied}
 use Rattle.hall_types.specs.Lookup.{next_expired}
 use Rattle.hall_types.specs.declared.change.RowWrite.{RowWrite}
-use Rattle.sql_rows.specs.Holding.{IsHeld, Leaves, IsAsked}
-use Rattle.sql_rows.specs.HoldingLaws.{back_held, leaves_on}
-use Rattle.sql_rows.specs.Spelling.{SpellHall}
+use Rattle.sql_schema.specs.Holding.{IsHeld, Leaves, IsAsked}
+use Rattle.sql_schema.specs.HoldingLaws.{back_held, leaves_on}
+use Rattle.sql_schema.specs.Spelling.{SpellHall}
 use Rattle.std.specs.List.{AllByRecursion}
 use Rattle.hall_store.specs.Store.{IsRead, IsWrite}
 use Rattle.hall_store.specs.declared.store.Unavailable.{Unavailable}

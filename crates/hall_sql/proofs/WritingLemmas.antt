@@ -13,8 +13,8 @@ use Rattle.hall_types.specs.Hall.{Hall, applied, written}
 use Rattle.hall_types.specs.declared.change.RowWrite.{RowWrite}
 use Rattle.hall_store.specs.Rules.{AllKeep, Keeps}
 use Rattle.hall_store.specs.Versions.{HaveVersions, HasVersion}
-use Rattle.sql_rows.specs.Holding.{IsHeld, Holds, Leaves}
-use Rattle.sql_rows.specs.Spelling.{SpellHall}
+use Rattle.sql_schema.specs.Holding.{IsHeld, Holds, Leaves}
+use Rattle.sql_schema.specs.Spelling.{SpellHall}
 use Rattle.sql_writes.specs.Within.{IsWithinHall}
 use Rattle.hall_sql.specs.Applying.{IsTold}
 

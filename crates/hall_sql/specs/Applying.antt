@@ -5,7 +5,7 @@ use Rattle.hall_types.specs.Hall.{Hall, applied}
 use Rattle.hall_types.specs.declared.change.RowWrite.{RowWrite}
 use Rattle.hall_store.specs.Rules.{AllKeep}
 use Rattle.hall_store.specs.Versions.{HaveVersions}
-use Rattle.sql_rows.specs.Holding.{IsHeld, Holds, Leaves}
+use Rattle.sql_schema.specs.Holding.{IsHeld, Holds, Leaves}
 
 -- between calls: all rows are written over the versions that they expect and committed, or none is
 pub record IsTold (old new : State) {Y E : Type 0} (r : Result Y E) (rows : List RowWrite) : Type 0 where

@@ -6,8 +6,8 @@ use Rattle.sqlite.specs.State.{State, Survives}
 use Rattle.sqlite.specs.Tree.{Trees}
 use Rattle.sqlite_trees.specs.declared.store.Store as trees
 use Rattle.hall_types.specs.Hall.{Hall, second}
-use Rattle.sql_rows.specs.Holding.{Holds, Leaves}
-use Rattle.sql_statements.specs.Statements.{IsBack}
+use Rattle.sql_schema.specs.Holding.{Holds, Leaves}
+use Rattle.sql_schema.specs.Statements.{IsBack}
 use Rattle.hall_store.specs.declared.store.Unavailable.{Unavailable}
 use Rattle.hall_sql.specs.Expiring.{IsEarliest}
 use Rattle.hall_sql.specs.declared.store.SqlStore.{SqlStore}

@@ -4,16 +4,15 @@ ghost use Rattle.sqlite.specs.Held.{state};
 ghost use Rattle.sqlite.specs.State.{HasCleanDisk};
 ghost use Rattle.hall_types.specs.Lookup.{is_image_used};
 ghost use Rattle.hall_types.specs.Rows.{at};
-ghost use Rattle.sql_rows.specs.Holding.{IsAsked};
+ghost use Rattle.sql_schema.specs.Holding.{IsAsked};
 ghost use Rattle.hall_sql.specs.Store.{LeavesCommitted, Passes};
 
 use crate::store::SqlStore;
 use hall_store::Unavailable;
 use hall_types::{MacAddress, Name, Number};
 use sql_images::is_live;
-use sql_interfaces::find_interface;
-use sql_machine_reads::has_machine_with_image;
-use sql_statements::is_running;
+use sql_machine_parts::{find_interface, has_machine_with_image};
+use sql_schema::is_running;
 use sqlite::{Alter, Connection, Error};
 
 impl<S: Alter> SqlStore<S> {

@@ -4,7 +4,7 @@ ghost use Rattle.std.specs.List.{sum_by};
 ghost use Rattle.sqlite.specs.Held.{state};
 ghost use Rattle.sqlite.specs.State.{HasCleanDisk};
 ghost use Rattle.hall_types.specs.Rows.{size};
-ghost use Rattle.sql_rows.specs.Holding.{IsAsked};
+ghost use Rattle.sql_schema.specs.Holding.{IsAsked};
 
 use hall_store::Count;
 use sql_counts::list_counts;

@@ -3,8 +3,8 @@ ghost use Rattle.std.specs.Prelude.{◌≡◌, ◌↔◌, IsTrue, IfOk, IfErr, E
 ghost use Rattle.sqlite.specs.Held.{state};
 ghost use Rattle.sqlite.specs.State.{HasCleanDisk, Survives};
 ghost use Rattle.hall_types.specs.Hall.{Hall, new_hall, second};
-ghost use Rattle.sql_rows.specs.Holding.{Holds, IsHeld};
-ghost use Rattle.sql_rows.specs.Spelling.{SpellHall};
+ghost use Rattle.sql_schema.specs.Holding.{Holds, IsHeld};
+ghost use Rattle.sql_schema.specs.Spelling.{SpellHall};
 ghost use Rattle.sql_tables.specs.Creating.{KeepsTables, MayLeaveBesides, is_a_name_taken};
 ghost use Rattle.sql_tables.specs.Opening.{IsAnswered};
 ghost use Rattle.hall_sql.specs.Opening.{connection_of, outcome};

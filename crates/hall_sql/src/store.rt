@@ -2,7 +2,7 @@
 ghost use Rattle.std.specs.Prelude.{◌≡◌, [], ◌∷◌};
 ghost use Rattle.sqlite.specs.Held.{state};
 ghost use Rattle.hall_types.specs.Hall.{Hall};
-ghost use Rattle.sql_rows.specs.Holding.{Holds, IsHeld};
+ghost use Rattle.sql_schema.specs.Holding.{Holds, IsHeld};
 ghost use Rattle.hall_sql.specs.Store.{connection};
 
 use crate::applying::write_rows;
@@ -17,11 +17,11 @@ use hall_types::{
 use pxe_vendor::Arch;
 use sql_counts::list_counts;
 use sql_images::{find_image, find_live};
-use sql_interfaces::{interfaces_of, list_interfaces};
-use sql_machine_reads::{find_machine, find_uuid, list_machines};
+use sql_machine_parts::{find_machine, find_uuid, interfaces_of, list_interfaces, list_machines};
 use sql_machines::{find_boot, find_order, waiting_orders};
-use sql_names::{find_member, find_operator, find_operator_with_digest, find_pool};
-use sql_receipts::{find_numbers, find_receipt};
+use sql_operators::{
+    find_member, find_numbers, find_operator, find_operator_with_digest, find_pool, find_receipt,
+};
 use sqlite::{Alter, Connection};
 use std::alloc::Global;
 

@@ -2,7 +2,7 @@
 use hall_types::{Name, Status};
 
 /// How many machines a pool has in a status.
-#[derive(Clone, Copy, Debug, PartialEq, Eq)]
+#[derive(Clone, Copy, PartialEq, Eq)]
 pub struct Count {
     pub pool: Name,
     pub status: Status,

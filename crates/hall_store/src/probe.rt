@@ -11,7 +11,7 @@ use hall_types::{
 use std::alloc::Global;
 
 /// A call of a store.
-#[derive(Clone, Copy, Debug, PartialEq, Eq)]
+#[derive(Clone, Copy, PartialEq, Eq)]
 pub enum Call {
     ByMac,
     ByUuid,

@@ -1,3 +1,4 @@
 pub mod HallLemmas
+pub mod KindLemmas
 pub mod NameLemmas
 pub mod WriteLemmas

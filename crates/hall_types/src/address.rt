@@ -8,7 +8,7 @@ use std::cmp::Ordering;
 use std::marker::Model;
 
 /// An Ethernet address, six octets in the order in which they are sent. Contracts see the octets.
-#[derive(Clone, Copy, Debug, PartialEq, Eq)]
+#[derive(Clone, Copy, PartialEq, Eq)]
 pub struct MacAddress {
     octets: [u8; 6],
 }

@@ -8,7 +8,7 @@ use std::marker::Model;
 use thiserror::Error;
 
 /// A boot that a script issued to a machine.
-#[derive(Clone, Copy, Debug, PartialEq, Eq)]
+#[derive(Clone, Copy, PartialEq, Eq)]
 pub struct Boot {
     pub number: Number,
     pub machine: Number,
@@ -22,7 +22,7 @@ pub struct Boot {
 pub const MAX_BOOTS: u8 = 3;
 
 /// A count of boots, 0 to 3. Contracts see the number.
-#[derive(Clone, Copy, Debug, PartialEq, Eq)]
+#[derive(Clone, Copy, PartialEq, Eq)]
 pub struct BootCount {
     count: u8,
 }

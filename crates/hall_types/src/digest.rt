@@ -5,7 +5,7 @@ ghost use Rattle.hall_types.specs.Octets.{AreOctets};
 use std::marker::Model;
 
 /// The SHA-256 of an operator's bearer token, 32 octets. Contracts see the octets.
-#[derive(Clone, Copy, Debug, PartialEq, Eq)]
+#[derive(Clone, Copy, PartialEq, Eq)]
 pub struct Digest {
     octets: [u8; 32],
 }

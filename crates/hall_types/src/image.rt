@@ -1,8 +1,8 @@
 //! Boot images.
 ghost use Rattle.std.specs.Prelude.{◌≡◌, ◌≤◌, ◌<◌, ◌↔◌, true, false, length, IfOk, IsOk, IsErrOf};
 ghost use Rattle.std.specs.List.{list_any};
-ghost use Rattle.ipxe_script.specs.Word.{IsUri};
-ghost use Rattle.hall_types.specs.Image.{BootImage, has_hall_word, is_hall_word};
+ghost use Rattle.ipxe_script.specs.Word.{IsUri, is_hall_word};
+ghost use Rattle.hall_types.specs.Image.{BootImage, has_hall_word};
 
 use crate::name::Name;
 use ipxe_script::{Uri, Word, Words};
@@ -46,17 +46,10 @@ pub enum ImageFault {
     HallWord = 2,
 }
 
-#[tactic(auto, unfolding(crate::specs::Image::is_hall_word))]
-fn is_hall_word(word: &Word) -> bool
-    ensures { result ≡ is_hall_word word.now }
-{
-    word.text().as_bytes().starts_with(b"hall.")
-}
-
 fn has_hall_word(words: &[Word]) -> bool
     ensures { result ≡ has_hall_word words.now }
 {
-    words.iter().any(|word| is_hall_word(word))
+    words.iter().any(|word| word.is_hall_word())
 }
 
 impl Image {
@@ -141,7 +134,7 @@ impl Image {
 }
 
 /// The image that live systems of an architecture boot.
-#[derive(Clone, Copy, Debug, PartialEq, Eq)]
+#[derive(Clone, Copy, PartialEq, Eq)]
 pub struct Live {
     pub arch: Arch,
     pub image: Name,

@@ -16,7 +16,7 @@ pub struct UnknownWord;
 pub struct UnknownNumber;
 
 /// What an operator may do.
-#[derive(Clone, Copy, Debug, PartialEq, Eq)]
+#[derive(Clone, Copy, PartialEq, Eq)]
 pub enum Role {
     Admin,
     User,
@@ -25,8 +25,6 @@ pub enum Role {
 
 impl Role {
     ghost use Rattle.hall_types.specs.Kinds.{role_text, role_number};
-
-    const ALL: [Role; 3] = [Role::Admin, Role::User, Role::Power];
 
     /// The word in texts.
     #[tactic(auto, unfolding(crate::specs::Kinds::role_text))]
@@ -57,11 +55,14 @@ impl FromStr for Role {
 
     ghost from_str_gives = { λ text result. result_ok result ≡ role_of_text text };
 
+    #[tactic(auto, using(crate::proofs::KindLemmas::word_steps), unfolding(crate::specs::Kinds::role_text))]
     fn from_str(text: &str) -> Result<Role, UnknownWord> {
-        Role::ALL
-            .into_iter()
-            .find(|role| role.text() == text)
-            .ok_or(UnknownWord)
+        match text {
+            "admin" => Ok(Role::Admin),
+            "user" => Ok(Role::User),
+            "power" => Ok(Role::Power),
+            _ => Err(UnknownWord),
+        }
     }
 }
 
@@ -73,16 +74,19 @@ impl TryFrom<u8> for Role {
 
     ghost try_from_gives = { λ number result. result_ok result ≡ role_of_number number };
 
+    #[tactic(auto, unfolding(crate::specs::Kinds::role_number))]
     fn try_from(number: u8) -> Result<Role, UnknownNumber> {
-        Role::ALL
-            .into_iter()
-            .find(|role| role.number() == number)
-            .ok_or(UnknownNumber)
+        match number {
+            0 => Ok(Role::Admin),
+            1 => Ok(Role::User),
+            2 => Ok(Role::Power),
+            _ => Err(UnknownNumber),
+        }
     }
 }
 
 /// What a machine boots for.
-#[derive(Clone, Copy, Debug, PartialEq, Eq)]
+#[derive(Clone, Copy, PartialEq, Eq)]
 pub enum Purpose {
     Commission,
     Test,
@@ -188,7 +192,7 @@ impl TryFrom<u8> for Stage {
 }
 
 /// What a power order asks for.
-#[derive(Clone, Copy, Debug, PartialEq, Eq)]
+#[derive(Clone, Copy, PartialEq, Eq)]
 pub enum OrderKind {
     /// Off and on again.
     Cycle,
@@ -197,8 +201,6 @@ pub enum OrderKind {
 
 impl OrderKind {
     ghost use Rattle.hall_types.specs.Kinds.{order_kind_text, order_kind_number};
-
-    const ALL: [OrderKind; 2] = [OrderKind::Cycle, OrderKind::Off];
 
     /// The word in texts.
     #[tactic(auto, unfolding(crate::specs::Kinds::order_kind_text))]
@@ -228,11 +230,13 @@ impl TryFrom<u8> for OrderKind {
 
     ghost try_from_gives = { λ number result. result_ok result ≡ order_kind_of_number number };
 
+    #[tactic(auto, unfolding(crate::specs::Kinds::order_kind_number))]
     fn try_from(number: u8) -> Result<OrderKind, UnknownNumber> {
-        OrderKind::ALL
-            .into_iter()
-            .find(|order_kind| order_kind.number() == number)
-            .ok_or(UnknownNumber)
+        match number {
+            0 => Ok(OrderKind::Cycle),
+            1 => Ok(OrderKind::Off),
+            _ => Err(UnknownNumber),
+        }
     }
 }
 
@@ -285,7 +289,7 @@ impl TryFrom<u8> for OrderStage {
 }
 
 /// How disks are erased.
-#[derive(Clone, Copy, Debug, PartialEq, Eq)]
+#[derive(Clone, Copy, PartialEq, Eq)]
 pub enum Erase {
     Quick,
     Full,
@@ -293,8 +297,6 @@ pub enum Erase {
 
 impl Erase {
     ghost use Rattle.hall_types.specs.Kinds.{erase_text, erase_number};
-
-    const ALL: [Erase; 2] = [Erase::Quick, Erase::Full];
 
     /// The word in texts.
     #[tactic(auto, unfolding(crate::specs::Kinds::erase_text))]
@@ -324,11 +326,13 @@ impl FromStr for Erase {
 
     ghost from_str_gives = { λ text result. result_ok result ≡ erase_of_text text };
 
+    #[tactic(auto, using(crate::proofs::KindLemmas::word_steps), unfolding(crate::specs::Kinds::erase_text))]
     fn from_str(text: &str) -> Result<Erase, UnknownWord> {
-        Erase::ALL
-            .into_iter()
-            .find(|erase| erase.text() == text)
-            .ok_or(UnknownWord)
+        match text {
+            "quick" => Ok(Erase::Quick),
+            "full" => Ok(Erase::Full),
+            _ => Err(UnknownWord),
+        }
     }
 }
 
@@ -340,16 +344,18 @@ impl TryFrom<u8> for Erase {
 
     ghost try_from_gives = { λ number result. result_ok result ≡ erase_of_number number };
 
+    #[tactic(auto, unfolding(crate::specs::Kinds::erase_number))]
     fn try_from(number: u8) -> Result<Erase, UnknownNumber> {
-        Erase::ALL
-            .into_iter()
-            .find(|erase| erase.number() == number)
-            .ok_or(UnknownNumber)
+        match number {
+            0 => Ok(Erase::Quick),
+            1 => Ok(Erase::Full),
+            _ => Err(UnknownNumber),
+        }
     }
 }
 
 /// What a machine may report of its boot.
-#[derive(Clone, Copy, Debug, PartialEq, Eq)]
+#[derive(Clone, Copy, PartialEq, Eq)]
 pub enum Progress {
     Started,
     Done,
@@ -358,8 +364,6 @@ pub enum Progress {
 
 impl Progress {
     ghost use Rattle.hall_types.specs.Kinds.{progress_text};
-
-    const ALL: [Progress; 3] = [Progress::Started, Progress::Done, Progress::Failed];
 
     /// The word in texts.
     #[tactic(auto, unfolding(crate::specs::Kinds::progress_text))]
@@ -382,16 +386,19 @@ impl FromStr for Progress {
 
     ghost from_str_gives = { λ text result. result_ok result ≡ progress_of_text text };
 
+    #[tactic(auto, using(crate::proofs::KindLemmas::word_steps), unfolding(crate::specs::Kinds::progress_text))]
     fn from_str(text: &str) -> Result<Progress, UnknownWord> {
-        Progress::ALL
-            .into_iter()
-            .find(|progress| progress.text() == text)
-            .ok_or(UnknownWord)
+        match text {
+            "started" => Ok(Progress::Started),
+            "done" => Ok(Progress::Done),
+            "failed" => Ok(Progress::Failed),
+            _ => Err(UnknownWord),
+        }
     }
 }
 
 /// What the power program may answer to an order.
-#[derive(Clone, Copy, Debug, PartialEq, Eq)]
+#[derive(Clone, Copy, PartialEq, Eq)]
 pub enum Outcome {
     Done,
     Failed,
@@ -399,8 +406,6 @@ pub enum Outcome {
 
 impl Outcome {
     ghost use Rattle.hall_types.specs.Kinds.{outcome_text};
-
-    const ALL: [Outcome; 2] = [Outcome::Done, Outcome::Failed];
 
     /// The word in texts.
     #[tactic(auto, unfolding(crate::specs::Kinds::outcome_text))]
@@ -422,11 +427,13 @@ impl FromStr for Outcome {
 
     ghost from_str_gives = { λ text result. result_ok result ≡ outcome_of_text text };
 
+    #[tactic(auto, using(crate::proofs::KindLemmas::word_steps), unfolding(crate::specs::Kinds::outcome_text))]
     fn from_str(text: &str) -> Result<Outcome, UnknownWord> {
-        Outcome::ALL
-            .into_iter()
-            .find(|outcome| outcome.text() == text)
-            .ok_or(UnknownWord)
+        match text {
+            "done" => Ok(Outcome::Done),
+            "failed" => Ok(Outcome::Failed),
+            _ => Err(UnknownWord),
+        }
     }
 }
 

@@ -16,7 +16,7 @@ pub const MAX_MACHINES: u64 = 10_000;
 pub const MAX_INTERFACES: usize = 8;
 
 /// A machine of the hall.
-#[derive(Clone, Copy, Debug, PartialEq, Eq)]
+#[derive(Clone, Copy, PartialEq, Eq)]
 pub struct Machine {
     pub id: Number,
     pub arch: Arch,
@@ -46,7 +46,7 @@ pub struct Machine {
 }
 
 /// A network interface of a machine.
-#[derive(Clone, Copy, Debug, PartialEq, Eq)]
+#[derive(Clone, Copy, PartialEq, Eq)]
 pub struct Interface {
     pub mac: MacAddress,
     pub machine: Number,

@@ -6,7 +6,7 @@ use std::marker::Model;
 
 /// The UUID of a machine's system, 16 octets in the order in which a client sends them
 /// (RFC 4578 section 2.3). Contracts see the octets.
-#[derive(Clone, Copy, Debug, PartialEq, Eq)]
+#[derive(Clone, Copy, PartialEq, Eq)]
 pub struct MachineUuid {
     octets: [u8; 16],
 }

@@ -8,7 +8,7 @@ use thiserror::Error;
 pub const MAX_MOMENT: u64 = 1_000_000_000_000;
 
 /// A moment in seconds since 1970-01-01 00:00:00 UTC, at most 10^12. Contracts see the number.
-#[derive(Clone, Copy, Debug, PartialEq, Eq, PartialOrd, Ord)]
+#[derive(Clone, Copy, PartialEq, Eq, PartialOrd, Ord)]
 pub struct Moment {
     seconds: u64,
 }

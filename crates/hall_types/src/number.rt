@@ -9,7 +9,7 @@ use thiserror::Error;
 pub const MAX_NUMBER: u64 = 1_000_000_000_000_000;
 
 /// A number of a machine, a boot or an order: 1 to 10^15. Contracts see the number.
-#[derive(Clone, Copy, Debug, PartialEq, Eq, PartialOrd, Ord)]
+#[derive(Clone, Copy, PartialEq, Eq, PartialOrd, Ord)]
 pub struct Number {
     number: u64,
 }
@@ -73,7 +73,7 @@ impl Number {
 }
 
 /// The last number that was issued, 0 if none was: 0 to 10^15. Contracts see the number.
-#[derive(Clone, Copy, Debug, PartialEq, Eq, PartialOrd, Ord)]
+#[derive(Clone, Copy, PartialEq, Eq, PartialOrd, Ord)]
 pub struct LastIssued {
     number: u64,
 }
@@ -131,7 +131,7 @@ impl From<Number> for LastIssued {
 }
 
 /// The last numbers that were issued.
-#[derive(Clone, Copy, Debug, PartialEq, Eq)]
+#[derive(Clone, Copy, PartialEq, Eq)]
 pub struct Numbers {
     pub machine: LastIssued,
     pub boot: LastIssued,

@@ -6,7 +6,7 @@ ghost use Rattle.hall_types.specs.Status.{status_number};
 use crate::kinds::UnknownNumber;
 
 /// A machine's status, modelled on the node statuses of MAAS. Its number in tables is its place, from 0 on.
-#[derive(Clone, Copy, Debug, PartialEq, Eq)]
+#[derive(Clone, Copy, PartialEq, Eq)]
 pub enum Status {
     New,
     Commissioning,

@@ -5,7 +5,7 @@ ghost use Rattle.hall_types.specs.Octets.{AreOctets};
 use std::marker::Model;
 
 /// What a report of a boot has to name, 16 octets. Contracts see the octets.
-#[derive(Clone, Copy, Debug, PartialEq, Eq)]
+#[derive(Clone, Copy, PartialEq, Eq)]
 pub struct Token {
     octets: [u8; 16],
 }

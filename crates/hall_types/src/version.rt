@@ -6,7 +6,7 @@ use crate::number::{BadNumber, MAX_NUMBER};
 use std::marker::Model;
 
 /// The version of a machine's row: 1 to 10^15. Contracts see the number.
-#[derive(Clone, Copy, Debug, PartialEq, Eq)]
+#[derive(Clone, Copy, PartialEq, Eq)]
 pub struct Version {
     number: u64,
 }

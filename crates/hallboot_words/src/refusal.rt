@@ -6,7 +6,7 @@ use clap::error::ErrorKind;
 const USAGE: u8 = 2;
 
 /// Why the words of a command line name nothing to be done: a fault in them, a question for help, or want of memory.
-#[derive(Debug, Drop)]
+#[derive(Drop)]
 pub struct Refusal {
     error: Error,
 }

@@ -4,7 +4,7 @@ use crate::options::{
 };
 
 /// What a command line asks for.
-#[derive(Clone, Copy, Debug, PartialEq, Eq)]
+#[derive(Clone, Copy, PartialEq, Eq)]
 pub enum Subcommand {
     Frame,
     Init,

@@ -1,6 +1,6 @@
 -- Targets that are asked for most: what the router finds for them.
 use Rattle.std.proofs.Common.{◌≡◌, ◌⊎◌, ◌-◌, ◌+◌, ◌++◌, Bor, ℕ, zero, suc, Bool, true, false, List, [], ◌∷◌, length, Option, Some, None, refl, sym, ap, arith, ◌∙◌, inl, inr}
-use Rattle.std.specs.Prelude.{codes, cond, drop, nat_eq, take, IfSome, MatchOption, ◌==◌, ◌||◌}
+use Rattle.std.specs.Prelude.{codes, cond, drop, nat_eq, take, IfSome, MatchOption, OnOk, Result, Ok, Err, ◌==◌, ◌||◌}
 use Rattle.std.specs.List.{list_any}
 use Rattle.std.specs.Cmp.Lexicographic.{pointwise}
 use Rattle.std.specs.Str.{bytes_eq}
@@ -9,10 +9,12 @@ use Rattle.std.proofs.lemmas.Slice.Eq.{bytes_eq-Decides, strip_prefix_is}
 use Rattle.matchit.specs.Rows.{RowsOf, param_token, catch_all_token}
 use Rattle.matchit.specs.Seek.{seek, param_step, has_slash, or_else, own, step}
 use Rattle.matchit.proofs.OnLiterals.{matchit_on_literals}
-use Rattle.matchit.specs.Router.{RouteOf}
+use Rattle.matchit.specs.Route.{Scan}
+use Rattle.matchit.specs.Router.{InsertsRead, RouteOf}
+use Rattle.matchit.specs.declared.error.InsertError.{InsertError}
 use Rattle.http_requests.specs.declared.resource.Resource.{Resource}
 use Rattle.http_requests.specs.declared.resource.Resource.TheVariants.{Script, Commands}
-use Rattle.http_requests.specs.Resource.{routes, resource_of, value_of, IsSegment}
+use Rattle.http_requests.specs.Resource.{routes, resource_of, value_of, with_scan, IsSegment}
 
 module _ {K : Type 0} where
   abbrev no_rows : RowsOf K
@@ -111,3 +113,9 @@ slash_is (b ∷ text) = by (b == 47) (slash_is text)
     by : (is : Bool) → list_any (λ octet. octet == 47) text ≡ has_slash text → (is || list_any (λ octet. octet == 47) text) ≡ cond is true (has_slash text)
     by true e = refl
     by false e = e
+
+pub route_inserted : (s : Result Scan InsertError) (value : Resource) (old new : RowsOf (RouteOf Resource)) (r : Result (Unit {0}) InsertError) → InsertsRead s value old new r → OnOk r (new ≡ with_scan s value old)
+route_inserted (Ok s) value old new (Ok u) is = is.1
+route_inserted (Err e) value old new (Ok u) is = is.0
+route_inserted (Ok s) value old new (Err e) is = tt
+route_inserted (Err e) value old new (Err other) is = tt

@@ -1,8 +1,8 @@
 //! What a target names.
-ghost use Rattle.std.specs.Prelude.{◌≡◌, ◌==◌, ◌++◌, IfOk, IfSome, IsTrue, Some};
+ghost use Rattle.std.specs.Prelude.{◌≡◌, ◌==◌, ◌++◌, IfOk, IfSome, IsTrue, OnOk, Some, fold};
 ghost use Rattle.std.specs.List.{list_any};
 ghost use Rattle.std.specs.Str.{bytes_eq};
-ghost use Rattle.http_requests.specs.Resource.{routes, resource_of, method_of, IsSegment};
+ghost use Rattle.http_requests.specs.Resource.{routes, route_table, resource_of, method_of, with_route, IsSegment};
 
 use matchit::{InsertError, Router};
 use std::alloc::Global;
@@ -31,18 +31,35 @@ impl Resource {
     }
 }
 
+fn add_route(
+    router: &mut Router<Resource>,
+    route: &str,
+    resource: Resource,
+) -> Result<(), InsertError>
+    ensures { OnOk result (router.new ≡ with_route router.old (route.now, resource)) }
+{
+    router.insert(route, resource)
+}
+
+fn add_routes(router: &mut Router<Resource>) -> Result<(), InsertError>
+    ensures { OnOk result (router.new ≡ fold with_route router.old route_table) }
+{
+    add_route(router, "/ipxe/{mac}", Resource::Script)?;
+    add_route(router, "/report/{number}/{token}", Resource::Report)?;
+    add_route(router, "/orders", Resource::Orders)?;
+    add_route(router, "/orders/{number}", Resource::Order)?;
+    add_route(router, "/machines", Resource::Machines)?;
+    add_route(router, "/machines/{id}", Resource::Machine)?;
+    add_route(router, "/commands", Resource::Commands)
+}
+
 // The router of the hall's routes.
+#[tactic(auto, unfolding(crate::specs::Resource::routes))]
 fn router(alloc: Global) -> Result<Router<Resource>, InsertError>
     ensures { IfOk result (λ router. router ≡ routes) }
 {
     let mut router = Router::new(alloc);
-    router.insert("/ipxe/{mac}", Resource::Script)?;
-    router.insert("/report/{number}/{token}", Resource::Report)?;
-    router.insert("/orders", Resource::Orders)?;
-    router.insert("/orders/{number}", Resource::Order)?;
-    router.insert("/machines", Resource::Machines)?;
-    router.insert("/machines/{id}", Resource::Machine)?;
-    router.insert("/commands", Resource::Commands)?;
+    add_routes(&mut router)?;
     Ok(router)
 }
 

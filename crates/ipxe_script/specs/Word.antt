@@ -21,6 +21,10 @@ is_word (first ∷ others) = is_first_octet first && list_all is_word_octet othe
 unfoldable pub is_uri : List ℕ → Bool
 is_uri text = is_word text && starts_with nat_eq text (codes "http://")
 
+-- words that begin so are the desk's own
+unfoldable pub is_hall_word : List ℕ → Bool
+is_hall_word word = starts_with nat_eq word (codes "hall.")
+
 abbrev pub IsWord : List ℕ → Type 0
 IsWord text = IsTrue (is_word text)
 

@@ -7,7 +7,7 @@ use crate::words::Words;
 use std::alloc::{AllocError, Global};
 
 /// A command, which takes one line of a script (<https://ipxe.org/cmd>).
-#[derive(Debug, Drop)]
+#[derive(Drop)]
 pub enum Command {
     /// Fetches a kernel, which `Boot` starts with these arguments.
     Kernel { uri: Uri, args: Words },

@@ -14,7 +14,7 @@ const LINE_ROOM: usize = 128;
 
 /// A script for iPXE (<https://ipxe.org/scripting>): at most [`MAX_COMMANDS`] commands, each of at most
 /// [`MAX_WORDS`] words, its name among them. Contracts see its commands.
-#[derive(Debug, Drop)]
+#[derive(Drop)]
 pub struct Script {
     commands: Vec<Command>,
 }

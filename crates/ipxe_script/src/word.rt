@@ -1,7 +1,7 @@
 //! Words of a script, and the URIs among them.
 ghost use Rattle.std.specs.Prelude.{◌≡◌, ◌↔◌, IsTrue, IfOk, OnOk, IsErrOf};
 ghost use Rattle.std.specs.List.{list_all};
-ghost use Rattle.ipxe_script.specs.Word.{is_first_octet, is_word_octet, is_word, is_uri, IsWord, IsUri};
+ghost use Rattle.ipxe_script.specs.Word.{is_first_octet, is_word_octet, is_word, is_uri, is_hall_word, IsWord, IsUri};
 
 use crate::fault::WordFault;
 use std::alloc::{AllocError, Global};
@@ -12,7 +12,7 @@ pub const MAX_WORD_LEN: usize = 128;
 
 /// A word of a script: 1 to [`MAX_WORD_LEN`] characters. The first is a letter, a digit or one of `-_./`,
 /// each other one a letter, a digit or one of `-_./:=,+@%?;`. Contracts see its text.
-#[derive(Debug, Drop)]
+#[derive(Drop)]
 pub struct Word {
     text: String,
 }
@@ -84,6 +84,14 @@ impl Word {
         self.text.as_str()
     }
 
+    /// Whether the word begins `hall.`: such words of a kernel's command line are written by the desk alone.
+    #[tactic(auto, unfolding(crate::specs::Word::is_hall_word))]
+    pub fn is_hall_word(&self) -> bool
+        ensures { result ≡ is_hall_word self.now }
+    {
+        self.text().as_bytes().starts_with(b"hall.")
+    }
+
     /// Copies the word.
     pub fn copy(&self, alloc: Global) -> Result<Word, AllocError>
         ensures { IfOk result (λ copy. copy ≡ self.now) }
@@ -94,7 +102,7 @@ impl Word {
 }
 
 /// A word that begins with `http://`. Contracts see its text.
-#[derive(Debug, Drop)]
+#[derive(Drop)]
 pub struct Uri {
     word: Word,
 }

@@ -1,5 +1,5 @@
 -- No law is empty: at some step of the day its premise holds.
-use Rattle.std.proofs.Common.{◌≡◌, ◌≢◌, ℕ, List, [], ◌∷◌, Some, None, refl, sym, ap, ◌∙◌, inl, inr, All, arith}
+use Rattle.std.proofs.Common.{◌≡◌, ◌≢◌, ℕ, List, [], ◌∷◌, ◌++◌, Some, None, refl, sym, ap, ◌∙◌, inl, inr, All, arith}
 use Rattle.std.specs.Prelude.{codes}
 use Rattle.std.proofs.lemmas.List.Elements.{All-from_recursion}
 use Rattle.ipxe_script.specs.Purpose.{IsDeploying, IsErasing}
@@ -30,7 +30,7 @@ use Rattle.laws_model.specs.Refusing.{IsRefusal}
 use Rattle.laws_past.specs.Laws.{CountsSome, CountsVerdict, FirstRequest, GivesText, IsDeployed, IsFrame, IsMachineAt, IsMade, IsWaiting, LaterRequest, MakesBoot, MakesMachine, MakesOrder}
 use Rattle.laws_past.specs.Past.{CountsReport, IsAccepted, IsEntry, WasAnswered}
 use Rattle.laws_past.proofs.Computing.{computed}
-use Rattle.laws_past.proofs.Day.{ada, added_again, adds, boot, boot_started, booted_locally, client, client_enlisted, commission_booted, commission_done, commission_script, commissioned, commissioning, deploy_booted, deploy_script, deployed, erase_booted, erase_script, frame_unanswered, host, live, mac, machine_added, new_machine, order, order_done, token, token_unknown, until_deployed}
+use Rattle.laws_past.proofs.Day.{ada, added_again, adds, boot, boot_started, booted_locally, client, client_enlisted, commission_booted, commission_done, commission_script, commissioned, commissioning, deploy_booted, deploy_script, deployed, erase_booted, erase_script, erasing_begun, frame_unanswered, host, live, mac, machine_added, new_machine, order, order_done, token, token_unknown, until_deployed}
 
 -- ---- scripts
 
@@ -143,7 +143,7 @@ accepts = record {
   changes = another makes_machine.0 makes_machine.2 makes_machine.1;
 }
 
-accepted_before : FirstRequest ada.name (4 ∷ []) until_deployed
+accepted_before : FirstRequest ada.name (4 ∷ []) (until_deployed ++ booted_locally ∷ erasing_begun ∷ erase_booted ∷ client_enlisted ∷ frame_unanswered ∷ [])
 accepted_before = record { command = adds; content = machine_is 1 New 1; accepted = inr (inr (inr (inl accepts))) }
 
 comes_again : LaterRequest ada.name (4 ∷ []) added_again

@@ -6,7 +6,7 @@ use hall_types::{Machine, Operator, Refusal, Role};
 
 /// What an operator can do with a machine. Twelve of these have rows in the table of the life cycle;
 /// locking and unlocking have none, since they leave the status as it is.
-#[derive(Clone, Copy, PartialEq, Eq)]
+#[derive(Clone, Copy)]
 pub enum Action {
     Commission,
     Test,

@@ -11,7 +11,7 @@ use hall_types::{
 use thiserror::Error;
 
 /// What entering a status makes of a machine.
-#[derive(Clone, Copy, PartialEq, Eq)]
+#[derive(Clone, Copy)]
 pub struct Entered {
     /// The machine in its new status.
     pub machine: Machine,

@@ -4,7 +4,7 @@ use crate::action::Action;
 use hall_types::{Outcome, Progress};
 
 /// What can move a machine from one status to another.
-#[derive(Clone, Copy, PartialEq, Eq)]
+#[derive(Clone, Copy)]
 pub enum Signal {
     /// An operator takes an action.
     By(Action),

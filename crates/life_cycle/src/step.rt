@@ -13,7 +13,7 @@ use crate::signal::Signal;
 use hall_types::{Machine, OrderKind, Outcome, Progress, Status};
 
 /// The status to enter, and the kind of the order that is queued with it.
-#[derive(Clone, Copy, PartialEq, Eq)]
+#[derive(Clone, Copy)]
 pub struct Step {
     pub status: Status,
     pub order: Option<OrderKind>,

@@ -1,7 +1,9 @@
 //! The kinds of cases, by subject. Each function passes on the kinds that it doesn't have.
 use crate::cause::Cause;
 use crate::printing::Answer;
-use crate::{answers, decisions, faults, frames, kinds, life, office, records, requests, scripts};
+use crate::{
+    answers, decisions, ends, faults, frames, kinds, life, logs, office, records, requests, scripts,
+};
 use std::alloc::Global;
 
 /// Prints the answer to the case of a line, `KIND REST`.
@@ -80,9 +82,21 @@ fn play_request(alloc: Global, kind: &str, rest: &str, out: &mut Answer) -> Resu
 fn play_office(alloc: Global, kind: &str, rest: &str, out: &mut Answer) -> Result<(), Cause> {
     match kind {
         "office" => office::run(alloc, rest, out),
+        "cut" => office::cut_run(alloc, rest, out),
         "input" => office::input(alloc, rest, out),
         "whole" => office::whole(alloc, rest, out),
         "seconds" => office::seconds(alloc, rest, out),
+        _ => play_log_line(alloc, kind, rest, out),
+    }
+}
+
+fn play_log_line(alloc: Global, kind: &str, rest: &str, out: &mut Answer) -> Result<(), Cause> {
+    match kind {
+        "arrival" => logs::arrival(alloc, rest, out),
+        "turn" => logs::turn(alloc, rest, out),
+        "unknown" => logs::unknown(alloc, rest, out),
+        "takes" => ends::takes(rest, out),
+        "puts" => ends::puts(rest, out),
         _ => Err(Cause::Kind),
     }
 }

@@ -16,7 +16,8 @@ fn known(text: &str) -> Result<Option<Number>, Cause> {
     Ok(Some(issued(number(text)?)?))
 }
 
-fn numbers(machine: &str) -> Result<Numbers, Cause> {
+/// The last numbers of a hall, of which the last machine's is said.
+pub fn numbers(machine: &str) -> Result<Numbers, Cause> {
     match LastIssued::new(number(machine)?) {
         Ok(machine) => Ok(Numbers {
             machine,

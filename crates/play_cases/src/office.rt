@@ -3,10 +3,10 @@ use crate::cause::Cause;
 use crate::escapes::{string, text};
 use crate::frames::place;
 use crate::printing::Answer;
-use crate::values::{halves, port};
+use crate::values::{halves, number, port};
 use desk_operations::{Exit, Fault, Input, frame_run, moment_of, parse, read_input};
+use play_log::{Short, Slow};
 use std::alloc::Global;
-use std::io::{self, Read};
 
 fn exit_word(exit: Exit) -> &'static str {
     match exit {
@@ -14,6 +14,16 @@ fn exit_word(exit: Exit) -> &'static str {
         Exit::Fault(fault) => fault.name(),
         Exit::NotAll => "not all",
         Exit::Silence => "silence",
+    }
+}
+
+fn print_run(out: &mut Answer, exit: Exit, written: &[u8]) {
+    out.show(exit.status());
+    out.push(" ");
+    out.push(exit_word(exit));
+    if !written.is_empty() {
+        out.push(" ");
+        out.escaped(written);
     }
 }
 
@@ -26,13 +36,23 @@ pub fn run(alloc: Global, rest: &str, out: &mut Answer) -> Result<(), Cause> {
     let mut reader = input.as_slice();
     let mut written = Vec::new(alloc);
     let exit = frame_run(alloc, &mut reader, &mut written, port, &place);
-    out.show(exit.status());
-    out.push(" ");
-    out.push(exit_word(exit));
-    if !written.is_empty() {
-        out.push(" ");
-        out.escaped(written.as_slice());
-    }
+    print_run(out, exit, written.as_slice());
+    Ok(())
+}
+
+/// How such a run ends from a reader of one octet a call, which fails at a call, to a writer that takes so many octets and then
+/// fails: `CALL ROOM PORT TEXT`. At the call 0 none fails.
+pub fn cut_run(alloc: Global, rest: &str, out: &mut Answer) -> Result<(), Cause> {
+    let (call, rest) = halves(rest, " ")?;
+    let (room, rest) = halves(rest, " ")?;
+    let (at, input) = halves(rest, " ")?;
+    let (call, room, port) = (number(call)?, number(room)?, port(at)?);
+    let place = place(alloc)?;
+    let input = text(alloc, input)?;
+    let mut reader = Slow::new(input.as_slice(), 1, Some(call));
+    let mut writer = Short::new(Vec::new(alloc), room as usize);
+    let exit = frame_run(alloc, &mut reader, &mut writer, port, &place);
+    print_run(out, exit, writer.into_taken().as_slice());
     Ok(())
 }
 
@@ -60,26 +80,6 @@ pub fn input(alloc: Global, rest: &str, out: &mut Answer) -> Result<(), Cause> {
     Ok(())
 }
 
-// Gives its octets one at a time.
-#[derive(Drop)]
-struct OneByOne<'a> {
-    octets: &'a [u8],
-}
-
-impl<'a> Read for OneByOne<'a> {
-    fn read(&mut self, buf: &mut [u8]) -> io::Result<usize> {
-        if buf.is_empty() {
-            return Ok(0);
-        }
-        let Some((first, rest)) = self.octets.split_first() else {
-            return Ok(0);
-        };
-        buf[0] = *first;
-        self.octets = rest;
-        Ok(1)
-    }
-}
-
 fn print_read(out: &mut Answer, read: &Result<Vec<u8>, Fault>, given: &[u8]) {
     match read {
         Ok(octets) if octets.as_slice() == given => out.push("the same"),
@@ -92,7 +92,7 @@ fn print_whole(alloc: Global, out: &mut Answer, given: &[u8]) {
     let mut at_once = given;
     print_read(out, &read_input(alloc, &mut at_once), given);
     out.separate();
-    let mut one_by_one = OneByOne { octets: given };
+    let mut one_by_one = Slow::new(given, 1, None);
     print_read(out, &read_input(alloc, &mut one_by_one), given);
 }
 

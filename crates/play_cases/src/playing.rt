@@ -2,23 +2,9 @@
 use crate::cases::play_case;
 use crate::cause::{Cause, RunFault};
 use crate::printing::Answer;
+use play_log::next_line;
 use std::alloc::Global;
-use std::io::{BufRead, BufReader, Read, Write};
-
-// The next line, without its line feed.
-fn next_line<R: BufRead>(alloc: Global, reader: &mut R) -> Result<Option<String>, RunFault> {
-    let mut line = String::new(alloc);
-    match reader.read_line(&mut line) {
-        Ok(0) => Ok(None),
-        Ok(_) => {
-            if line.ends_with('\n') {
-                let _ = line.pop();
-            }
-            Ok(Some(line))
-        }
-        Err(_) => Err(RunFault::Io),
-    }
-}
+use std::io::{BufReader, Read, Write};
 
 fn answer_line(alloc: Global, line: &str) -> Result<String, Cause> {
     let mut out = Answer::new(alloc);
@@ -57,10 +43,11 @@ pub fn play<R: Read + Drop, W: Write>(
         return Err(RunFault::Memory);
     };
     for number in 1..u64::MAX {
-        let Some(line) = next_line(alloc, &mut reader)? else {
-            return Ok(());
-        };
-        play_line(alloc, writer, number, line.as_str())?;
+        match next_line(alloc, &mut reader) {
+            Ok(Some(line)) => play_line(alloc, writer, number, line.as_str())?,
+            Ok(None) => return Ok(()),
+            Err(_) => return Err(RunFault::Io),
+        }
     }
     Err(RunFault::Io)
 }

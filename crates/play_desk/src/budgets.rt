@@ -1,12 +1,39 @@
 //! Lines over a hall in memory, while memory ends ever later: a line that is refused as unavailable leaves the hall as it was. A line
-//! whose answer can't be kept for want of memory leaves it so too, or was carried out.
+//! whose answer can't be kept for want of memory leaves it so too, or was carried out. Of lines that stand together one is refused.
 use crate::stops::{Seen, first_line, play_line};
+use hall_store::HallStore;
 use play_log::hold_within;
-use play_store::Fault;
+use play_store::{Asked, Fault};
 use sqlite::{Alter, Connection};
 use std::alloc::Global;
 
 const MAX_TURNS: usize = 2_000;
+
+/// A hall that lines are played over.
+pub trait Hall: Drop {
+    /// Plays a line, and whether it could be; the hall is given back.
+    fn play(self, alloc: Global, text: &str, line: &mut String) -> (bool, Self);
+}
+
+impl<S: Alter + Drop> Hall for Connection<S> {
+    fn play(self, alloc: Global, text: &str, line: &mut String) -> (bool, Connection<S>) {
+        play_line(alloc, self, text, line)
+    }
+}
+
+/// The hall of a store.
+#[derive(Drop)]
+pub struct Stored<S> {
+    pub store: S,
+}
+
+impl<S: HallStore + Drop> Hall for Stored<S> {
+    fn play(self, alloc: Global, text: &str, line: &mut String) -> (bool, Stored<S>) {
+        let mut asked = Asked::NONE;
+        let (done, store) = play_store::play_line(alloc, self.store, text, line, &mut asked);
+        (done.is_ok(), Stored { store })
+    }
+}
 
 /// What a line came to where memory ended.
 #[derive(Clone, Copy, PartialEq, Eq)]
@@ -17,39 +44,38 @@ enum Played {
     Lost,
 }
 
+// What is answered where the store can't.
+const REFUSED: [&str; 3] = ["unavailable\n", "Unavailable\n", "refused\n"];
+
 fn played_as(is_done: bool, answer: &str) -> Played {
     if !is_done {
         return Played::Lost;
     }
-    if answer.starts_with("503 ") || answer == "unavailable\n" || answer == "Unavailable\n" {
+    if answer.starts_with("503 ") || REFUSED.iter().any(|refused| *refused == answer) {
         return Played::Refused;
     }
     Played::Answered
 }
 
 // Plays a line where memory ends after so many octets.
-fn play_within<S: Alter + Drop>(
+fn play_within<H: Hall>(
     alloc: Global,
-    conn: Connection<S>,
+    hall: H,
     text: &str,
     octets: usize,
-) -> Result<(Played, Connection<S>), Fault> {
+) -> Result<(Played, H), Fault> {
     let mut answer = String::new(alloc);
     let held = hold_within(alloc, octets)?;
-    let (is_done, conn) = play_line(alloc, conn, text, &mut answer);
+    let (is_done, hall) = hall.play(alloc, text, &mut answer);
     drop(held);
-    Ok((played_as(is_done, answer.as_str()), conn))
+    Ok((played_as(is_done, answer.as_str()), hall))
 }
 
 /// What the line prints by which halls are compared.
-pub fn hall_of<S: Alter + Drop>(
-    alloc: Global,
-    conn: Connection<S>,
-    look: &str,
-) -> (String, Connection<S>) {
-    let mut hall = String::new(alloc);
-    let (_, conn) = play_line(alloc, conn, look, &mut hall);
-    (hall, conn)
+pub fn look_at<H: Hall>(alloc: Global, hall: H, look: &str) -> (String, H) {
+    let mut line = String::new(alloc);
+    let (_, hall) = hall.play(alloc, look, &mut line);
+    (line, hall)
 }
 
 // What was seen of a line once it was played: nothing, if it is to be played again with more octets.
@@ -62,49 +88,56 @@ fn seen(played: Played, is_same: bool, octets: usize) -> Option<Seen> {
     }
 }
 
-// Plays a line with ever more octets, until it was carried out.
-fn play_with_more<S: Alter + Drop>(
+// Plays a line with ever more octets, until it was carried out, and notes whether it was refused before.
+fn play_with_more<H: Hall>(
     alloc: Global,
-    conn: Connection<S>,
+    hall: H,
     look: &str,
     text: &str,
     step: usize,
-) -> Result<(Seen, Connection<S>), Fault> {
-    let (before, mut conn) = hall_of(alloc, conn, look);
+    was_refused: &mut bool,
+) -> Result<(Seen, H), Fault> {
+    let (before, mut hall) = look_at(alloc, hall, look);
     for turn in 0..MAX_TURNS {
         let octets = step.saturating_mul(turn);
-        let (played, after) = play_within(alloc, conn, text, octets)?;
-        let (hall, after) = hall_of(alloc, after, look);
-        conn = after;
-        let is_same = hall.as_str() == before.as_str();
+        let (played, after) = play_within(alloc, hall, text, octets)?;
+        let (line, after) = look_at(alloc, after, look);
+        hall = after;
+        let is_same = line.as_str() == before.as_str();
         if let Some(seen) = seen(played, is_same, octets) {
-            return Ok((seen, conn));
+            return Ok((seen, hall));
         }
+        *was_refused = *was_refused || played == Played::Refused;
     }
-    Ok((Seen::Wrong(u64::MAX), conn))
+    Ok((Seen::Wrong(u64::MAX), hall))
 }
 
 /// Plays lines, ` && ` between two of them, each with no octets, with so many, with twice as many and so on, until it was carried out.
-pub fn play_in_budgets<S: Alter + Drop>(
+/// Where none was refused before, that is wrong.
+pub fn play_in_budgets<H: Hall>(
     alloc: Global,
-    conn: Connection<S>,
+    hall: H,
     look: &str,
     texts: &str,
     step: usize,
-) -> Result<(Seen, Connection<S>), Fault> {
-    let mut conn = conn;
+) -> Result<(Seen, H), Fault> {
+    let mut hall = hall;
     let mut rest = texts;
+    let mut was_refused = false;
     for _ in 0..texts.len() {
         if rest.is_empty() {
             break;
         }
         let (text, after) = first_line(rest);
         rest = after;
-        let (seen, after) = play_with_more(alloc, conn, look, text, step)?;
-        conn = after;
+        let (seen, after) = play_with_more(alloc, hall, look, text, step, &mut was_refused)?;
+        hall = after;
         if seen != Seen::Right {
-            return Ok((seen, conn));
+            return Ok((seen, hall));
         }
     }
-    Ok((Seen::Right, conn))
+    if !was_refused {
+        return Ok((Seen::Wrong(0), hall));
+    }
+    Ok((Seen::Right, hall))
 }

@@ -1,15 +1,19 @@
 //! The part of a log whose lines are played while something stops: a disk, and then memory.
-use crate::budgets::{hall_of, play_in_budgets};
+use crate::budgets::{Hall, Stored, look_at, play_in_budgets};
 use crate::disks::{Image, Which};
 use crate::stops::{Run, Seen};
-use play_log::hold_all_but;
+use play_log::{LogFault, admin, hold_all_but};
 use play_store::{Fault, PlayFault, first, is_comment, push_comment, write_answer, write_text};
-use sqlite::{Alter, Connection, MemStore};
+use sqlite::{Connection, MemStore};
 use std::alloc::Global;
 use std::io::Write;
+use store_memory::MemoryStore;
 
 // What the lines and their hall need at most while memory ends, in blocks.
 const BLOCKS: u32 = 300;
+
+// SQLite needs more memory than the store in memory, so it ends by so many times as many octets.
+const TIMES: usize = 32;
 
 /// A line of the part: how many calls of a disk, or octets of memory, there are more at each stop, and the lines that are played.
 #[derive(Drop)]
@@ -101,46 +105,115 @@ fn play_over_disks<W: Write>(
 }
 
 // Plays lines while memory ends.
-fn end_memory<S: Alter + Drop>(
+fn end_memory<H: Hall>(
     alloc: Global,
-    conn: Connection<S>,
+    hall: H,
     look: &str,
     text: &str,
+    times: usize,
     line: &mut String,
-) -> Result<Connection<S>, Fault> {
+) -> Result<H, Fault> {
     let trial = Trial::parse(text)?;
-    let (seen, conn) = play_in_budgets(alloc, conn, look, trial.texts, trial.octets)?;
+    let step = trial.octets.saturating_mul(times);
+    let (seen, hall) = play_in_budgets(alloc, hall, look, trial.texts, step)?;
     push_seen(alloc, line, "memory that ends", seen)?;
-    Ok(conn)
+    Ok(hall)
 }
 
-fn play_over_connection<S: Alter + Drop, W: Write>(
+// Plays the lines from a place on over a hall, and then looks at it.
+fn play_over_hall<H: Hall, W: Write>(
     alloc: Global,
-    conn: Connection<S>,
+    hall: H,
     look: &str,
     lines: &[String],
     from: usize,
+    times: usize,
     writer: &mut W,
 ) -> Result<(), PlayFault> {
-    let mut conn = conn;
+    let mut hall = hall;
     for (at, text) in lines.iter().enumerate().skip(from) {
         let text = text.as_str();
         if is_comment(text) {
             continue;
         }
         let mut line = String::new(alloc);
-        match end_memory(alloc, conn, look, text, &mut line) {
-            Ok(after) => conn = after,
+        match end_memory(alloc, hall, look, text, times, &mut line) {
+            Ok(after) => hall = after,
             Err(cause) => return Err(PlayFault::Line { line: at, cause }),
         }
         write_answer(writer, at, Ok(()), line.as_str())?;
     }
-    let (hall, _) = hall_of(alloc, conn, look);
-    write_text(writer, hall.as_str())?;
+    let (line, _) = look_at(alloc, hall, look);
+    write_text(writer, line.as_str())?;
     Ok(())
 }
 
-// Plays the lines once more over a hall in memory, while all that is left of memory is held.
+// Over SQLite in memory.
+fn play_in_sqlite<W: Write>(
+    alloc: Global,
+    look: &str,
+    lines: &[String],
+    from: usize,
+    writer: &mut W,
+) -> Result<(), PlayFault> {
+    let conn: Result<Connection<MemStore>, _> = Connection::open_in_memory(alloc);
+    match conn {
+        Ok(conn) => play_over_hall(alloc, conn, look, lines, from, TIMES, writer),
+        Err(_) => Err(PlayFault::Log(LogFault::Memory)),
+    }
+}
+
+// Over the store in memory of a new hall, whose administrator is named.
+fn play_in_store<W: Write>(
+    alloc: Global,
+    words: &str,
+    look: &str,
+    lines: &[String],
+    from: usize,
+    writer: &mut W,
+) -> Result<(), PlayFault> {
+    let Ok((name, digest)) = admin(words) else {
+        let cause = Fault::Arrival;
+        return Err(PlayFault::Line { line: from, cause });
+    };
+    match MemoryStore::create(alloc, name, digest) {
+        Ok(store) => play_over_hall(alloc, Stored { store }, look, lines, from, 1, writer),
+        Err(_) => Err(PlayFault::Log(LogFault::Memory)),
+    }
+}
+
+// Over the store in memory, from the line on that makes the hall.
+fn play_after_create<W: Write>(
+    alloc: Global,
+    look: &str,
+    lines: &[String],
+    from: usize,
+    writer: &mut W,
+) -> Result<(), PlayFault> {
+    for (at, text) in lines.iter().enumerate().skip(from) {
+        if let Some((_, words)) = text.as_str().split_once(" create ") {
+            let from = at.saturating_add(1);
+            return play_in_store(alloc, words, look, lines, from, writer);
+        }
+    }
+    let cause = Fault::Word;
+    Err(PlayFault::Line { line: from, cause })
+}
+
+fn play_over_both<W: Write>(
+    alloc: Global,
+    look: &str,
+    lines: &[String],
+    from: usize,
+    writer: &mut W,
+) -> Result<(), PlayFault> {
+    write_text(writer, "== memory\n")?;
+    play_in_sqlite(alloc, look, lines, from, writer)?;
+    write_text(writer, "== memory of the store in memory\n")?;
+    play_after_create(alloc, look, lines, from, writer)
+}
+
+// Plays the lines once more over halls in memory, while all that is left of memory is held.
 fn play_over_memory<W: Write>(
     alloc: Global,
     look: &str,
@@ -148,18 +221,10 @@ fn play_over_memory<W: Write>(
     from: usize,
     writer: &mut W,
 ) -> Result<(), PlayFault> {
-    let fault = PlayFault::Line {
-        line: from,
-        cause: Fault::Memory,
-    };
     let Ok(held) = hold_all_but(alloc, BLOCKS) else {
-        return Err(fault);
+        return Err(PlayFault::Log(LogFault::Memory));
     };
-    let conn: Connection<MemStore> = match Connection::open_in_memory(alloc) {
-        Ok(conn) => conn,
-        Err(_) => return Err(fault),
-    };
-    let done = play_over_connection(alloc, conn, look, lines, from, writer);
+    let done = play_over_both(alloc, look, lines, from, writer);
     drop(held);
     done
 }
@@ -178,6 +243,5 @@ pub fn play_stops<W: Write>(
     let look = look.as_str();
     let from = from.saturating_add(1);
     play_over_disks(alloc, look, lines, from, writer)?;
-    write_text(writer, "== memory\n")?;
     play_over_memory(alloc, look, lines, from, writer)
 }

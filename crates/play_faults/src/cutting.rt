@@ -1,16 +1,16 @@
 //! Requests and answers that are cut.
-use crate::ends::{Short, Slow};
 use crate::log::Log;
 use crate::playing::desk_over;
 use crate::trials::ProbeFault;
 use hall_desk::{Answer, Arrival, Desk, Input, Served};
 use hall_http::Noted;
 use hall_store::{HallStore, Unavailable};
+use play_log::{Short, Slow};
 use std::alloc::Global;
 use store_memory::MemoryStore;
 
 /// How many were cut.
-#[derive(Clone, Copy, Debug, PartialEq, Eq)]
+#[derive(Clone, Copy, PartialEq, Eq)]
 pub struct Cuts {
     pub requests: u64,
     pub answers: u64,

@@ -6,7 +6,6 @@
 
 mod budgets;
 mod cutting;
-mod ends;
 mod failing;
 mod log;
 mod playing;

@@ -2,18 +2,18 @@
 //! `boot MOMENT FRESH HEX`, `request MOMENT FRESH HEX` or `quiet MOMENT`. A request may be written readably:
 //! `command MOMENT TOKEN JSON`, `script MOMENT FRESH MAC`, `report MOMENT NUMBER BOOT STAGE`, `orders MOMENT TOKEN`,
 //! `order MOMENT TOKEN NUMBER OUTCOME`, `machines MOMENT TOKEN` or `machine MOMENT TOKEN ID`, where TOKEN is a bearer token, or
-//! `-` for none, and BOOT the token of a boot.
+//! `-` for none, and BOOT the token of a boot. Beside them are what ends while they are played: a reader, a writer, memory.
 #![tactic(auto)]
 
 mod answer;
+mod ends;
 mod line;
 mod memory;
 mod reading;
 mod request;
-#[cfg(test)]
-mod tests;
 
 pub use answer::{answer_line, answer_text, push_escaped};
+pub use ends::{Short, Slow};
 pub use line::{LineFault, admin, arrival};
 pub use memory::{hold_all_but, hold_within};
 pub use reading::{LogFault, next_line};

@@ -18,7 +18,13 @@ pub fn is_arrival(kind: &str) -> bool {
     }
 }
 
-fn push_answer(alloc: Global, line: &mut String, kind: &str, answer: &Answer) -> Result<(), Fault> {
+/// Writes an answer, by the first word of its arrival's line.
+pub fn push_answer(
+    alloc: Global,
+    line: &mut String,
+    kind: &str,
+    answer: &Answer,
+) -> Result<(), Fault> {
     let text = if is_readable(kind) {
         answer_text(alloc, answer)?
     } else {
@@ -51,8 +57,8 @@ pub fn place(alloc: Global) -> Result<Place, Fault> {
     }
 }
 
-// The arrival of a line, and the place that the desk serves.
-fn prepared(alloc: Global, text: &str) -> Result<(Arrival, Place), Fault> {
+/// The arrival of a line, and the place that the desk serves.
+pub fn prepared(alloc: Global, text: &str) -> Result<(Arrival, Place), Fault> {
     Ok((arrival(alloc, text)?, place(alloc)?))
 }
 

@@ -1,12 +1,13 @@
 //! Changes that no desk makes. Their rows stand one after the other, `; ` between two: `machine ID WAS VERSION POOL STATUS DEADLINE`
-//! is a machine of uefi64 over its row of version WAS, `-` for a new one, `machine_gone ID`, `interface MAC ID`,
-//! `interface_gone MAC`, `image_gone NAME`, `numbers MACHINE BOOT ORDER`, `boot NUMBER ID` and `order NUMBER ID`.
+//! is a machine of uefi64 over its row of version WAS, `-` for a new one, which may end in ` UUID` or ` UUID OWNER IMAGE`;
+//! `machine_gone ID`, `interface MAC ID`, `interface_gone MAC`, `image_gone NAME`, `numbers MACHINE BOOT ORDER`, `boot NUMBER ID`,
+//! `order NUMBER ID` and `receipt NAME KEY`.
 use crate::fault::Fault;
-use crate::words::{count, first, mac, moment, name, number, version};
+use crate::words::{count, first, key, mac, moment, name, number, uuid, version};
 use hall_store::HallStore;
 use hall_types::{
-    Arch, Boot, BootCount, Change, Interface, LastIssued, Machine, Numbers, Order, OrderKind,
-    OrderStage, Purpose, RowWrite, Stage, Status, Token, Version,
+    Arch, Boot, BootCount, Change, Interface, LastIssued, Machine, MachineUuid, Name, Numbers,
+    Order, OrderKind, OrderStage, Purpose, Receipt, RowWrite, Stage, Status, Text, Token, Version,
 };
 use std::alloc::Global;
 
@@ -15,6 +16,7 @@ fn status(word: &str) -> Result<Status, Fault> {
         "New" => Ok(Status::New),
         "Commissioning" => Ok(Status::Commissioning),
         "Ready" => Ok(Status::Ready),
+        "Deployed" => Ok(Status::Deployed),
         "Deploying" => Ok(Status::Deploying),
         "Broken" => Ok(Status::Broken),
         _ => Err(Fault::Word),
@@ -35,19 +37,36 @@ fn deadline(word: &str) -> Result<Option<u64>, Fault> {
     Ok(Some(moment(word)?.get()))
 }
 
-// `ID VERSION POOL STATUS DEADLINE`.
+fn some_name(word: &str) -> Result<Option<Name>, Fault> {
+    if word.is_empty() {
+        return Ok(None);
+    }
+    Ok(Some(name(word)?))
+}
+
+fn some_uuid(word: &str) -> Result<Option<MachineUuid>, Fault> {
+    if word.is_empty() {
+        return Ok(None);
+    }
+    Ok(Some(uuid(word)?))
+}
+
+// `ID VERSION POOL STATUS DEADLINE`, and what may stand after it.
 fn machine(id: &str, words: &str) -> Result<Machine, Fault> {
     let (its_version, words) = first(words);
     let (pool, words) = first(words);
-    let (its_status, its_deadline) = first(words);
+    let (its_status, words) = first(words);
+    let (its_deadline, words) = first(words);
+    let (its_uuid, words) = first(words);
+    let (owner, image) = first(words);
     Ok(Machine {
         id: number(id)?,
         arch: Arch::Uefi64,
-        uuid: None,
+        uuid: some_uuid(its_uuid)?,
         pool: name(pool)?,
         status: status(its_status)?,
-        owner: None,
-        image: None,
+        owner: some_name(owner)?,
+        image: some_name(image)?,
         tests: false,
         back: None,
         erase: None,
@@ -117,7 +136,23 @@ fn order(words: &str) -> Result<RowWrite, Fault> {
     }))
 }
 
-fn row(text: &str) -> Result<RowWrite, Fault> {
+fn text(alloc: Global, text: &str) -> Result<Text, Fault> {
+    Ok(Text::from(String::from_str(alloc, text)?))
+}
+
+// The receipt of a lock.
+fn receipt(alloc: Global, words: &str) -> Result<RowWrite, Fault> {
+    let (operator, its_key) = first(words);
+    Ok(RowWrite::PutReceipt(Receipt {
+        operator: name(operator)?,
+        key: key(its_key)?,
+        command: text(alloc, "{\"command\":\"lock\",\"machine\":1,\"version\":1}")?,
+        status: 200,
+        body: text(alloc, "{\"id\":1,\"status\":\"Ready\",\"version\":2}")?,
+    }))
+}
+
+fn row(alloc: Global, text: &str) -> Result<RowWrite, Fault> {
     let (kind, words) = first(text);
     match kind {
         "machine" => put_machine(words),
@@ -128,17 +163,19 @@ fn row(text: &str) -> Result<RowWrite, Fault> {
         "numbers" => numbers(words),
         "boot" => boot(words),
         "order" => order(words),
+        "receipt" => receipt(alloc, words),
         _ => Err(Fault::Word),
     }
 }
 
-fn change(alloc: Global, words: &str) -> Result<Change, Fault> {
+/// The change of words.
+pub fn change(alloc: Global, words: &str) -> Result<Change, Fault> {
     let mut rows = Vec::new(alloc);
     if words.is_empty() {
         return Ok(Change::from(rows));
     }
     for text in words.split("; ") {
-        if rows.push(row(text)?).is_err() {
+        if rows.push(row(alloc, text)?).is_err() {
             return Err(Fault::Memory);
         }
     }

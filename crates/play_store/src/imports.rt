@@ -9,6 +9,7 @@ use hall_desk::Desk;
 use hall_report::{ImportFault, import_rows};
 use hall_store::HallStore;
 use hall_types::{Digest, Moment};
+use play_log::Short;
 use pxe_vendor::Place;
 use std::alloc::Global;
 
@@ -73,22 +74,24 @@ fn push_import(
     Ok(())
 }
 
-/// An import: who asks, when, and the file.
+/// An import: who asks, when, the file, and how many octets are printed before the writer fails.
 #[derive(Drop)]
 pub struct Import {
     bearer: Digest,
     moment: Moment,
+    room: usize,
     file: String,
     place: Place,
 }
 
-/// The import of a line `MOMENT DIGEST TEXT`.
-pub fn import_of(alloc: Global, words: &str) -> Result<Import, Fault> {
+/// The import of a line `MOMENT DIGEST TEXT`, and so much room for what is printed.
+pub fn import_of(alloc: Global, room: usize, words: &str) -> Result<Import, Fault> {
     let (at, rest) = first(words);
     let (bearer, text) = first(rest);
     Ok(Import {
         bearer: digest(bearer)?,
         moment: moment(at)?,
+        room,
         file: file(alloc, text)?,
         place: place(alloc)?,
     })
@@ -102,15 +105,16 @@ pub fn import_over<S: HallStore>(
     line: &mut String,
 ) -> (Result<(), Fault>, S) {
     let mut desk = Desk::new(store, asked.place);
-    let mut octets = Vec::new(alloc);
+    let mut writer = Short::new(Vec::new(alloc), asked.room);
     let file = asked.file.as_bytes();
     let end = import(
         alloc,
         &mut desk,
-        &mut octets,
+        &mut writer,
         file,
         asked.bearer,
         asked.moment,
     );
+    let octets = writer.into_taken();
     (push_import(line, octets.as_slice(), end), desk.into_store())
 }

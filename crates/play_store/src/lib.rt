@@ -8,7 +8,11 @@
 //! - `log ARRIVAL` answers an arrival, and writes what a log says of it;
 //! - `hall`, `machine-text ID`, `order-text` and `export` write reports;
 //! - `import MOMENT DIGEST TEXT` imports a file, with `\n` for each line feed, and writes what is printed for its rows; `rows TEXT`
-//!   writes the rows that are parsed.
+//!   writes the rows that are parsed;
+//! - `serve REQUEST` answers a request from a reader to a writer, as its arrival is answered, or by the fault's name;
+//! - `short ROOM LINE` plays an import or a request by a writer that takes so many octets and then fails. What was printed stands
+//!   before the fault's name, that of a request is left out;
+//! - `failing CALL LINE` plays a line, any of those above, over the store that fails at one of its calls, the first being 1.
 #![tactic(auto)]
 
 mod arriving;
@@ -23,9 +27,11 @@ mod playing;
 mod reads;
 mod records;
 mod reports;
-mod words;
+mod serving;
+pub mod words;
 
 pub use asking::Asked;
+pub use changes::change;
 pub use fault::{Fault, PlayFault};
 pub use log::{FILES, STOPS, is_head, read_log};
 pub use playing::{is_comment, play, play_line, push_comment, write_answer, write_text};

@@ -82,8 +82,9 @@ fn of_hall<S: HallStore>(alloc: Global, store: &mut S, line: &mut String) -> Res
 }
 
 /// Writes all that a store has: `look KEY NAME ..` has what operators, pools and images have these names, which of them are
-/// members of which, and their receipts of the key; then the machines, boots and orders of the numbers 1 and 2; and last the
-/// live images, the last numbers, the lists and the counts. Nothing is written for what isn't there.
+/// members of which, and their receipts of the key; the number of the machine whose UUID has the key's octets; then the machines,
+/// boots and orders of the numbers 1 and 2; and last the live images, the last numbers, the lists and the counts. Nothing is
+/// written for what isn't there.
 pub fn look<S: HallStore>(
     alloc: Global,
     store: &mut S,
@@ -92,6 +93,7 @@ pub fn look<S: HallStore>(
 ) -> Result<(), Fault> {
     let (key, names) = words::first(rest);
     of_names(alloc, store, words::key(key)?, names, line)?;
+    let _ = finding::by_uuid(alloc, store, words::uuid(key)?, line)?;
     for number in 1..3u64 {
         let Ok(number) = Number::new(number) else {
             return Err(Fault::Word);

@@ -8,8 +8,9 @@ use crate::log::is_head;
 use crate::looking::look;
 use crate::reads::read;
 use crate::reports::print;
-use crate::words::first;
-use hall_store::HallStore;
+use crate::serving::serve;
+use crate::words::{count, first};
+use hall_store::{HallStore, Probe};
 use play_log::LogFault;
 use std::alloc::Global;
 use std::io::Write;
@@ -57,11 +58,73 @@ fn with_unavailable(line: &mut String, done: Result<(), Fault>) -> Result<(), Fa
 fn import<S: HallStore>(
     alloc: Global,
     store: S,
+    room: usize,
     words: &str,
     line: &mut String,
 ) -> (Result<(), Fault>, S) {
-    match import_of(alloc, words) {
+    match import_of(alloc, room, words) {
         Ok(asked) => import_over(alloc, store, asked, line),
+        Err(fault) => (Err(fault), store),
+    }
+}
+
+// An import or a request, `ROOM LINE`, by a writer that takes so many octets and then fails.
+fn short<S: HallStore>(
+    alloc: Global,
+    store: S,
+    words: &str,
+    line: &mut String,
+) -> (Result<(), Fault>, S) {
+    let (octets, text) = first(words);
+    let Ok(room) = octets.parse::<usize>() else {
+        return (Err(Fault::Word), store);
+    };
+    match text.strip_prefix("import ") {
+        Some(words) => import(alloc, store, room, words, line),
+        None => serve(alloc, store, room, text, line),
+    }
+}
+
+// Plays a line that isn't one over a store that fails.
+fn play_once<S: HallStore>(
+    alloc: Global,
+    store: S,
+    text: &str,
+    line: &mut String,
+    asked: &mut Asked,
+) -> (Result<(), Fault>, S) {
+    let (kind, rest) = first(text);
+    if is_arrival(kind) {
+        return arrive(alloc, store, kind, text, line, asked);
+    }
+    match kind {
+        "log" => log(alloc, store, rest, line),
+        "import" => import(alloc, store, usize::MAX, rest, line),
+        "serve" => serve(alloc, store, usize::MAX, rest, line),
+        "short" => short(alloc, store, rest, line),
+        _ => {
+            let mut store = store;
+            let done = ask(alloc, &mut store, kind, rest, line);
+            (with_unavailable(line, done), store)
+        }
+    }
+}
+
+// Plays a line, `CALL LINE`, over the store that fails at one of its calls.
+fn play_failing<S: HallStore>(
+    alloc: Global,
+    store: S,
+    words: &str,
+    line: &mut String,
+    asked: &mut Asked,
+) -> (Result<(), Fault>, S) {
+    let (call, text) = first(words);
+    match count(call) {
+        Ok(call) => {
+            let probe = Probe::new(store, Some(call));
+            let (done, probe) = play_once(alloc, probe, text, line, asked);
+            (done, probe.into_inner())
+        }
         Err(fault) => (Err(fault), store),
     }
 }
@@ -77,19 +140,10 @@ pub fn play_line<S: HallStore>(
     if is_comment(text) {
         return (push_comment(line, text), store);
     }
-    let (kind, rest) = first(text);
-    if is_arrival(kind) {
-        return arrive(alloc, store, kind, text, line, asked);
+    match text.strip_prefix("failing ") {
+        Some(words) => play_failing(alloc, store, words, line, asked),
+        None => play_once(alloc, store, text, line, asked),
     }
-    if kind == "log" {
-        return log(alloc, store, rest, line);
-    }
-    if kind == "import" {
-        return import(alloc, store, rest, line);
-    }
-    let mut store = store;
-    let done = ask(alloc, &mut store, kind, rest, line);
-    (with_unavailable(line, done), store)
 }
 
 /// Writes a text.

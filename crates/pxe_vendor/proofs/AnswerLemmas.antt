@@ -41,6 +41,17 @@ all_short kind server class identifier vendor are =
     let each = All-from_recursion (λ (o : DhcpOption). length o.value.now ≤ 255) (kind ∷ server ∷ class ∷ identifier ∷ vendor ∷ []) in
     (λ all. all 3 identifier (omega arith), λ short. each (are.type, (are.address, (are.pxe, (short, (are.area, tt))))))
 
+-- all values are short where there is no identifier
+pub all_short-without : (kind server class vendor : DhcpOption) → AreShort kind server class vendor → All (λ o. length o.value.now ≤ 255) (kind ∷ server ∷ class ∷ vendor ∷ [])
+all_short-without kind server class vendor are =
+    All-from_recursion (λ (o : DhcpOption). length o.value.now ≤ 255) (kind ∷ server ∷ class ∷ vendor ∷ []) (are.type, (are.address, (are.pxe, (are.area, tt))))
+
+pub none_long : (kind server class vendor : DhcpOption) → AreShort kind server class vendor → Any (λ o. 255 < length o.value.now) (kind ∷ server ∷ class ∷ vendor ∷ []) → ⊥
+none_long kind server class vendor are some =
+    let here : length some.1.value.now ≤ 255 = subst (λ (o : DhcpOption). length o.value.now ≤ 255) some.3 (all_short-without kind server class vendor are some.0 some.1 some.2) in
+    let long = some.4 in
+    omega arith
+
 -- some value is long just if the identifier is
 pub any_long : (kind server class identifier vendor : DhcpOption) → AreShort kind server class vendor → Any (λ o. 255 < length o.value.now) (kind ∷ server ∷ class ∷ identifier ∷ vendor ∷ []) ↔ (255 < length identifier.value.now)
 any_long kind server class identifier vendor are =

@@ -3,14 +3,14 @@ use crate::arch::Arch;
 use crate::octets::Octets;
 
 /// The kind of a client's message (RFC 2132 section 9.6).
-#[derive(Clone, Copy, Debug, PartialEq, Eq)]
+#[derive(Clone, Copy)]
 pub enum Kind {
     Discover,
     Request,
 }
 
 /// A machine that asks to be booted.
-#[derive(Debug, Drop)]
+#[derive(Drop)]
 pub struct Client {
     /// The Ethernet address.
     pub mac: [u8; 6],

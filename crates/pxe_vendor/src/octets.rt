@@ -4,7 +4,7 @@ ghost use Rattle.std.specs.Prelude.{◌≡◌, length};
 use std::marker::Model;
 
 /// A list of octets. Contracts see only the list: a `Vec` also has a capacity and a place in memory.
-#[derive(Debug, Drop)]
+#[derive(Drop)]
 pub struct Octets {
     items: Vec<u8>,
 }

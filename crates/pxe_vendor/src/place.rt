@@ -9,7 +9,7 @@ use thiserror::Error;
 
 /// The IP address of the boot server, the IP address of the next server, which has the boot files (siaddr
 /// in RFC 2131), and the host of the scripts.
-#[derive(Debug, Drop)]
+#[derive(Drop)]
 pub struct Place {
     server: [u8; 4],
     next: [u8; 4],

@@ -5,6 +5,7 @@ ghost use Rattle.dhcp_frame.specs.Message.{Message};
 ghost use Rattle.pxe_vendor.specs.Arch.{first_known, class_numbers, numbers_of};
 ghost use Rattle.pxe_vendor.specs.Client.{IsClient, uuid_of, is_ipxe, boot_item};
 ghost use Rattle.pxe_vendor.specs.Served.{Answers, kind_of, class_of, item_of, decided, client_of};
+ghost use Rattle.pxe_vendor.specs.Values.{values_of};
 
 use crate::arch;
 use crate::arch::Arch;
@@ -113,7 +114,10 @@ fn uuid_in(value: Option<&[u8]>) -> Option<[u8; UUID_LEN]>
 fn is_ipxe_class(value: Option<&[u8]>) -> bool
     ensures { result ≡ is_ipxe (option_copied value.entry) }
 {
-    matches!(value, Some(b"iPXE" | b"\x04iPXE"))
+    match value {
+        Some(class) => class == b"iPXE".as_slice() || class == b"\x04iPXE".as_slice(),
+        None => false,
+    }
 }
 
 #[tactic(auto, unfolding(crate::specs::Served::item_of))]
@@ -162,29 +166,36 @@ fn kept(alloc: Global, value: Option<&[u8]>) -> Result<Option<Octets>, AllocErro
     }
 }
 
+// The client that sent a message with these values, or the first cause not to serve it.
 #[tactic(auto, unfolding(crate::specs::Served::client_of))]
+fn client_with(alloc: Global, frame: &Frame<'_>, values: &Values<'_>) -> Result<Client, NotServed>
+    requires { values.now ≡ values_of frame.now.entries }
+    ensures { Answers result (client_of frame.now) }
+{
+    let (kind, arch, item) = decide(values)?;
+    let identifier = values.identifier.as_slice();
+    match kept(alloc, identifier) {
+        Ok(echo97) => Ok(Client {
+            mac: frame.mac(),
+            kind,
+            arch,
+            uuid: uuid_in(identifier),
+            echo97,
+            item,
+            ipxe: is_ipxe_class(values.user_class.as_slice()),
+        }),
+        Err(AllocError) => Err(NotServed::Memory),
+    }
+}
+
 fn client_inner(alloc: Global, frame: &Frame<'_>) -> Result<Client, NotServed>
     ensures { Answers result (client_of frame.now) }
 {
-    let values = match Values::of(alloc, frame) {
-        Ok(values) => values,
-        Err(AllocError) => return Err(NotServed::Memory),
-    };
-    let (kind, arch, item) = decide(&values)?;
-    let identifier = values.identifier.as_slice();
-    let echo97 = match kept(alloc, identifier) {
-        Ok(echo97) => echo97,
-        Err(AllocError) => return Err(NotServed::Memory),
-    };
-    Ok(Client {
-        mac: frame.mac(),
-        kind,
-        arch,
-        uuid: uuid_in(identifier),
-        echo97,
-        item,
-        ipxe: is_ipxe_class(values.user_class.as_slice()),
-    })
+    let mut values = Values::new();
+    match values.join(alloc, frame) {
+        Ok(()) => client_with(alloc, frame, &values),
+        Err(AllocError) => Err(NotServed::Memory),
+    }
 }
 
 /// Identifies the PXE client that sent a frame (PXE 2.1; RFC 4578). An error is the first cause not to

@@ -1,5 +1,5 @@
 //! The values that identify a client.
-ghost use Rattle.std.specs.Prelude.{◌≡◌, OnOk, IfOk};
+ghost use Rattle.std.specs.Prelude.{◌≡◌, None, OnOk};
 
 use dhcp_frame::option_codes::{
     CLIENT_ARCHITECTURES, MACHINE_IDENTIFIER, MESSAGE_TYPE, USER_CLASS, VENDOR_CLASS,
@@ -37,22 +37,29 @@ impl<'a> Values<'a> {
         }
     }
 
-    /// The values in a frame, joined in one pass over its options.
-    #[tactic(auto, using(crate::proofs::ValuesLemmas::values_steps))]
-    pub(crate) fn of(alloc: Global, frame: &Frame<'a>) -> Result<Values<'a>, AllocError>
-        ensures { IfOk result (λ values. values ≡ values_of frame.now.entries) }
+    /// No values yet.
+    pub(crate) fn new() -> Values<'a>
+        ensures { result ≡ record { message_type = None; class = None; architectures = None; vendor = None; identifier = None; user_class = None } }
     {
-        let mut values = Values {
+        Values {
             message_type: JoinedValue::new(),
             class: JoinedValue::new(),
             architectures: JoinedValue::new(),
             vendor: JoinedValue::new(),
             identifier: JoinedValue::new(),
             user_class: JoinedValue::new(),
-        };
-        for (code, value) in frame.options() {
-            values.push(alloc, code, value)?;
         }
-        Ok(values)
+    }
+
+    /// Joins the values in a frame, in one pass over its options. There are none before.
+    #[tactic(auto, using(crate::proofs::ValuesLemmas::values_steps))]
+    pub(crate) fn join(&mut self, alloc: Global, frame: &Frame<'a>) -> Result<(), AllocError>
+        requires { self.old ≡ record { message_type = None; class = None; architectures = None; vendor = None; identifier = None; user_class = None } }
+        ensures { OnOk result (self.new ≡ values_of frame.now.entries) }
+    {
+        for (code, value) in frame.options() {
+            self.push(alloc, code, value)?;
+        }
+        Ok(())
     }
 }

@@ -30,7 +30,7 @@ const MAX_DATAGRAM: usize = 65_535;
 const MAX_EVENTS: usize = 128;
 
 /// Where a service is to be reached.
-#[derive(Clone, Copy, Debug)]
+#[derive(Clone, Copy)]
 pub struct Addresses {
     /// For datagrams to the DHCP server, port 67 (RFC 2131 section 4.1).
     pub discover: SocketAddr,

@@ -21,7 +21,7 @@ pub trait Source {
 }
 
 /// What was handed to the desk.
-#[derive(Clone, Copy, Debug, PartialEq, Eq)]
+#[derive(Clone, Copy, PartialEq, Eq)]
 pub enum Kind {
     Datagram(Port),
     Request,
@@ -29,7 +29,7 @@ pub enum Kind {
 }
 
 /// What the desk answered.
-#[derive(Clone, Copy, Debug, PartialEq, Eq)]
+#[derive(Clone, Copy, PartialEq, Eq)]
 pub enum Said {
     Silence,
     Unavailable,
@@ -40,7 +40,7 @@ pub enum Said {
 }
 
 /// An arrival, for a log. It has no token and no key.
-#[derive(Clone, Copy, Debug, PartialEq, Eq)]
+#[derive(Clone, Copy)]
 pub struct Handover {
     pub kind: Kind,
     /// Where it came from. A quiet moment comes from nowhere.
@@ -51,7 +51,7 @@ pub struct Handover {
 }
 
 /// Why a connection was closed.
-#[derive(Clone, Copy, Debug, PartialEq, Eq)]
+#[derive(Clone, Copy)]
 pub enum Close {
     /// The client has taken all of its answer.
     Answered,
@@ -62,7 +62,7 @@ pub enum Close {
 }
 
 /// What a turn did.
-#[derive(Clone, Copy, Debug, PartialEq, Eq)]
+#[derive(Clone, Copy)]
 pub enum Turn {
     /// Something came and was handed to the desk.
     Handed(Handover),

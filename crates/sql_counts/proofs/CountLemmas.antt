@@ -18,23 +18,23 @@ use Rattle.sqlite_keyed.proofs.ListLemmas.{map-map}
 use Rattle.sqlite_keyed.proofs.KeyedLemmas.{IsKeyedBy-insert_by, IsKeyedBy-delete_where, IsKeyedBy-update_where, next_key_is_free}
 use Rattle.hall_types.specs.Hall.{Hall}
 use Rattle.hall_types.specs.RowLaws.{same_number}
-use Rattle.sql_statements.specs.Queries.{parameter, equals, cell, rising}
-use Rattle.sql_statements.specs.QueryLaws.{items_in_order, shown_answer}
-use Rattle.sql_statements.specs.StatementLaws.{shown_same}
-use Rattle.sql_statements.specs.ListLaws.{any_order, and_true}
-use Rattle.sql_statements.specs.TableLaws.{inserts, deletes_quietly, changes, next_rowid_is}
-use Rattle.sql_statements.specs.Rows.{Entry, row_of, rowid_of}
-use Rattle.sql_statements.specs.ValueLaws as value
+use Rattle.sql_schema.specs.Queries.{parameter, equals, cell, rising}
+use Rattle.sql_schema.specs.QueryLaws.{items_in_order, shown_answer}
+use Rattle.sql_schema.specs.StatementLaws.{shown_same}
+use Rattle.sql_schema.specs.ListLaws.{any_order, and_true}
+use Rattle.sql_schema.specs.TableLaws.{inserts, deletes_quietly, changes, next_rowid_is}
+use Rattle.sql_schema.specs.Rows.{Entry, row_of, rowid_of}
+use Rattle.sql_schema.specs.ValueLaws as value
 use Rattle.sql_schema.specs.CountStatements.{find_count_text, find_count_query, find_count_columns, add_count_text, set_count_text, remove_count_text}
 use Rattle.sql_schema.specs.CountStatementLaws.{find_count_is, add_count_is, set_count_is, remove_count_is}
 use Rattle.sql_schema.specs.Tables.{hall_schema, counts_table}
 use Rattle.sql_schema.specs.CascadeLaws.{never_follows, counts_go_alone}
-use Rattle.sql_rows.specs.Columns.{CountRow, number, count_columns}
-use Rattle.sql_rows.specs.Spelling.{SpellHall, HallRows, Counts, AreCounts, Spells, is_count_of, in_rows}
-use Rattle.sql_rows.specs.SpellingLaws.{sets_counts}
-use Rattle.sql_rows.specs.NumberedLaws.{number_key}
-use Rattle.sql_rows.specs.Holding.{IsWithin}
-use Rattle.sql_rows.specs.HoldingLaws.{within}
+use Rattle.sql_schema.specs.Columns.{CountRow, number, count_columns}
+use Rattle.sql_schema.specs.Spelling.{SpellHall, HallRows, Counts, AreCounts, Spells, is_count_of, in_rows}
+use Rattle.sql_schema.specs.SpellingLaws.{sets_counts}
+use Rattle.sql_schema.specs.NumberedLaws.{number_key}
+use Rattle.sql_schema.specs.Holding.{IsWithin}
+use Rattle.sql_schema.specs.HoldingLaws.{within}
 use Rattle.sql_counts.specs.Counts.{counting, with_count}
 use Rattle.sql_counts.proofs.CountLists.{filter_insert_none, filter_insert_one, filter_update_same, filter_update_other, filter_delete_same, filter_delete_other, same_pair, pair_refl, pair_apart}
 

@@ -23,15 +23,15 @@ use Rattle.hall_types.specs.Status.{status_number}
 use Rattle.hall_types.specs.declared.status.Status.{Status}
 use Rattle.hall_store.specs.declared.count.Count.{Count}
 use Rattle.hall_store.specs.Counts.{AreCounts, count_cmp, counted, is_about}
-use Rattle.sql_statements.specs.Queries.{cell, rising, IsBefore}
-use Rattle.sql_statements.specs.QueryLaws.{items_by}
-use Rattle.sql_statements.specs.ListLaws.{IsPermutation-map, map_has}
-use Rattle.sql_statements.specs.Rows.{Entry, rowid_of, item_of}
+use Rattle.sql_schema.specs.Queries.{cell, rising, IsBefore}
+use Rattle.sql_schema.specs.QueryLaws.{items_by}
+use Rattle.sql_schema.specs.ListLaws.{IsPermutation-map, map_has}
+use Rattle.sql_schema.specs.Rows.{Entry, rowid_of, item_of}
 use Rattle.sql_schema.specs.CountStatements.{list_counts_query}
-use Rattle.sql_rows.specs.Columns.{CountRow, number, count_columns}
-use Rattle.sql_rows.specs.ListedLaws.{AreRising, put_in, AreRising-put_in, put_in-permutes, filter_has}
-use Rattle.sql_rows.specs.NumberedLaws.{number_order}
-use Rattle.sql_rows.specs.Spelling.{SpellHall, in_rows, is_in}
+use Rattle.sql_schema.specs.Columns.{CountRow, number, count_columns}
+use Rattle.sql_schema.specs.ListedLaws.{AreRising, put_in, AreRising-put_in, put_in-permutes, filter_has}
+use Rattle.sql_schema.specs.NumberedLaws.{number_order}
+use Rattle.sql_schema.specs.Spelling.{SpellHall, in_rows, is_in}
 use Rattle.sql_counts.specs.Listing.{IsListing, count_row, is_at, row_cmp}
 use Rattle.sql_counts.proofs.CountLists.{pair_refl}
 

@@ -1,7 +1,7 @@
 -- Counts of machines, changed.
 use Rattle.std.specs.Prelude.{ℕ, ◌==◌, ◌&&◌, List, if◌then◌else◌}
 use Rattle.std.specs.Str.{bytes_eq}
-use Rattle.sql_rows.specs.Spelling.{Counts, HallRows}
+use Rattle.sql_schema.specs.Spelling.{Counts, HallRows}
 
 -- so many machines in this pool and status, and in each other as before
 abbrev pub counting : Counts → List ℕ → ℕ → ℕ → Counts

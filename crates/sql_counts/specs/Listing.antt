@@ -10,8 +10,8 @@ use Rattle.hall_types.specs.Hall.{Hall}
 use Rattle.hall_types.specs.Rows.{how_many}
 use Rattle.hall_types.specs.Status.{status_number}
 use Rattle.hall_store.specs.declared.count.Count.{Count}
-use Rattle.sql_rows.specs.Columns.{CountRow}
-use Rattle.sql_rows.specs.Spelling.{in_rows, is_in}
+use Rattle.sql_schema.specs.Columns.{CountRow}
+use Rattle.sql_schema.specs.Spelling.{in_rows, is_in}
 
 -- the row of a count
 abbrev pub count_row : Count → CountRow

@@ -7,14 +7,15 @@ ghost use Rattle.sqlite.specs.State.{HasCleanDisk, ExecutesInside, KeepsCommit, 
 ghost use Rattle.hall_types.specs.Hall.{Hall};
 ghost use Rattle.hall_types.specs.Status.{status_number};
 ghost use Rattle.sql_schema.specs.CountStatements.{add_count_text, find_count_text, remove_count_text, set_count_text};
-ghost use Rattle.sql_rows.specs.Columns.{number};
-ghost use Rattle.sql_rows.specs.Holding.{IsWithin};
-ghost use Rattle.sql_rows.specs.Spelling.{HallRows, in_rows};
+ghost use Rattle.sql_schema.specs.Columns.{number};
+ghost use Rattle.sql_schema.specs.Holding.{IsWithin};
+ghost use Rattle.sql_schema.specs.Spelling.{HallRows, in_rows};
 ghost use Rattle.sql_counts.specs.Counts.{with_count};
 
 use hall_types::{Name, Status};
-use sql_rows::{name_value, number_value, small_value};
-use sql_schema::{ADD_COUNT, FIND_COUNT, REMOVE_COUNT, SET_COUNT};
+use sql_schema::{
+    ADD_COUNT, FIND_COUNT, REMOVE_COUNT, SET_COUNT, name_value, number_value, small_value,
+};
 use sqlite::{Alter, Error, Row, Transaction};
 
 // The greatest number that a column has.

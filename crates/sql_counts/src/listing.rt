@@ -4,13 +4,12 @@ ghost use Rattle.sqlite.specs.Held.{state};
 ghost use Rattle.sqlite.specs.State.{HasCleanDisk, Survives, CommitsShowing, Shown, FailsToQuery};
 ghost use Rattle.sql_schema.specs.CountStatements.{list_counts_text};
 ghost use Rattle.hall_store.specs.Counts.{AreCounts};
-ghost use Rattle.sql_rows.specs.Columns.{count_columns};
-ghost use Rattle.sql_rows.specs.Holding.{IsAsked};
+ghost use Rattle.sql_schema.specs.Columns.{count_columns};
+ghost use Rattle.sql_schema.specs.Holding.{IsAsked};
 ghost use Rattle.sql_counts.specs.Listing.{IsListing, count_row};
 
 use hall_store::Count;
-use sql_rows::{name_in, status_in};
-use sql_schema::LIST_COUNTS;
+use sql_schema::{LIST_COUNTS, name_in, status_in};
 use sqlite::{Alter, Connection, Error, Row, params};
 use std::alloc::Global;
 

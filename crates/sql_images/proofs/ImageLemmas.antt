@@ -13,20 +13,20 @@ use Rattle.hall_types.specs.Kinds.{arch_number}
 use Rattle.hall_types.specs.Rows.{at}
 use Rattle.hall_types.specs.RowLaws.{same_text, put_cases, gone_found}
 use Rattle.hall_types.specs.Hall.{Hall}
-use Rattle.sql_statements.specs.Queries.{parameter, equals, cell, rising}
-use Rattle.sql_statements.specs.ListLaws.{and_true}
-use Rattle.sql_statements.specs.ValueLaws as value
+use Rattle.sql_schema.specs.Queries.{parameter, equals, cell, rising}
+use Rattle.sql_schema.specs.ListLaws.{and_true}
+use Rattle.sql_schema.specs.ValueLaws as value
 use Rattle.sql_schema.specs.NameStatements.{find_image_query, add_image_text, remove_image_text}
 use Rattle.sql_schema.specs.NameStatementLaws.{add_image_is, remove_image_is}
 use Rattle.sql_schema.specs.Tables.{hall_schema, images_table}
 use Rattle.sql_schema.specs.CascadeLaws.{images_go_alone}
-use Rattle.sql_rows.specs.Columns.{HasWords, number, image_columns, joined, words_in}
-use Rattle.sql_rows.specs.ColumnLaws.{same_arch}
-use Rattle.sql_rows.specs.Spelling.{SpellHall, HallRows}
-use Rattle.sql_rows.specs.SpellingLaws.{sets_images}
-use Rattle.sql_rows.specs.Holding.{IsWithin}
-use Rattle.sql_rows.specs.HoldingLaws.{within}
-use Rattle.sql_rows.specs.NamedLaws.{finds_named, adds_named, removes_named}
+use Rattle.sql_schema.specs.Columns.{HasWords, number, image_columns, joined, words_in}
+use Rattle.sql_schema.specs.ColumnLaws.{same_arch}
+use Rattle.sql_schema.specs.Spelling.{SpellHall, HallRows}
+use Rattle.sql_schema.specs.SpellingLaws.{sets_images}
+use Rattle.sql_schema.specs.Holding.{IsWithin}
+use Rattle.sql_schema.specs.HoldingLaws.{within}
+use Rattle.sql_schema.specs.NamedLaws.{finds_named, adds_named, removes_named}
 use Rattle.sql_images.specs.Images.{with_image, without_image}
 
 if_there : (o : Option BootImage) → ((i : BootImage) → o ≡ Some i → HasWords i) → IfSome o HasWords

@@ -16,20 +16,20 @@ use Rattle.hall_types.specs.RowLaws.{key-same}
 use Rattle.hall_types.specs.Kinds.{arch_number}
 use Rattle.hall_types.specs.Hall.{Hall}
 use Rattle.hall_types.specs.declared.image.Live.{Live}
-use Rattle.sql_statements.specs.Queries.{parameter, equals, cell, rising}
-use Rattle.sql_statements.specs.ListLaws.{and_true}
-use Rattle.sql_statements.specs.ValueLaws as value
+use Rattle.sql_schema.specs.Queries.{parameter, equals, cell, rising}
+use Rattle.sql_schema.specs.ListLaws.{and_true}
+use Rattle.sql_schema.specs.ValueLaws as value
 use Rattle.sql_schema.specs.NameStatements.{find_live_query, find_live_with_image_query, add_live_text, set_live_text}
 use Rattle.sql_schema.specs.NameStatementLaws.{add_live_is, set_live_is}
 use Rattle.sql_schema.specs.Tables.{hall_schema, lives_table}
 use Rattle.sql_schema.specs.CascadeLaws.{never_follows}
-use Rattle.sql_rows.specs.Columns.{number, live_columns, live_values}
-use Rattle.sql_rows.specs.ColumnLaws.{same_arch}
-use Rattle.sql_rows.specs.Spelling.{SpellHall, HallRows}
-use Rattle.sql_rows.specs.SpellingLaws.{sets_lives}
-use Rattle.sql_rows.specs.Holding.{IsWithin}
-use Rattle.sql_rows.specs.HoldingLaws.{within, shown_within}
-use Rattle.sql_rows.specs.NumberedLaws.{finds_numbered, lists_numbered, adds_numbered, sets_numbered, number_key}
+use Rattle.sql_schema.specs.Columns.{number, live_columns, live_values}
+use Rattle.sql_schema.specs.ColumnLaws.{same_arch}
+use Rattle.sql_schema.specs.Spelling.{SpellHall, HallRows}
+use Rattle.sql_schema.specs.SpellingLaws.{sets_lives}
+use Rattle.sql_schema.specs.Holding.{IsWithin}
+use Rattle.sql_schema.specs.HoldingLaws.{within, shown_within}
+use Rattle.sql_schema.specs.NumberedLaws.{finds_numbered, lists_numbered, adds_numbered, sets_numbered, number_key}
 use Rattle.sql_images.specs.Lives.{with_live}
 
 pub finds_live : (db : Trees) (h : Hall) → SpellHall db h → (n : ℕ) (rows : List Row) → IsAnswer find_live_query (overlay db []) (number n ∷ []) rows

@@ -6,7 +6,7 @@ use Rattle.std.proofs.lemmas.List.{take_more, take_all}
 use Rattle.std.proofs.lemmas.List.Elements.{All-nil, All-cons}
 use Rattle.std.proofs.lemmas.List.Splits.{slice_split_none, slice_split_at}
 use Rattle.ipxe_script.specs.Word.{is_first_octet, is_word_octet, is_word, IsWord}
-use Rattle.sql_rows.specs.Columns.{joined, words_in}
+use Rattle.sql_schema.specs.Columns.{joined, words_in}
 
 -- the words after the first, each after a space
 abbrev pub spaced : List (List ℕ) → List ℕ

@@ -2,7 +2,7 @@
 use Rattle.std.specs.Prelude.{ℕ, List}
 use Rattle.hall_types.specs.Image.{BootImage}
 use Rattle.hall_types.specs.Rows.{put, gone}
-use Rattle.sql_rows.specs.Spelling.{HallRows}
+use Rattle.sql_schema.specs.Spelling.{HallRows}
 
 -- with this image
 abbrev pub with_image : HallRows → BootImage → HallRows

@@ -2,7 +2,7 @@
 use Rattle.hall_types.specs.Kinds.{arch_number}
 use Rattle.hall_types.specs.Rows.{put}
 use Rattle.hall_types.specs.declared.image.Live.{Live}
-use Rattle.sql_rows.specs.Spelling.{HallRows}
+use Rattle.sql_schema.specs.Spelling.{HallRows}
 
 -- with this live image of its architecture
 abbrev pub with_live : HallRows → Live → HallRows

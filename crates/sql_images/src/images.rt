@@ -10,16 +10,17 @@ ghost use Rattle.hall_types.specs.Kinds.{arch_number};
 ghost use Rattle.hall_types.specs.Rows.{at};
 ghost use Rattle.hall_types.specs.Hall.{Hall};
 ghost use Rattle.sql_schema.specs.NameStatements.{add_image_text, find_image_text, remove_image_text};
-ghost use Rattle.sql_rows.specs.Columns.{number, image_columns, joined, words_in, HasWords};
-ghost use Rattle.sql_rows.specs.Holding.{IsAsked, IsWithin};
-ghost use Rattle.sql_rows.specs.Spelling.{HallRows};
+ghost use Rattle.sql_schema.specs.Columns.{number, image_columns, joined, words_in, HasWords};
+ghost use Rattle.sql_schema.specs.Holding.{IsAsked, IsWithin};
+ghost use Rattle.sql_schema.specs.Spelling.{HallRows};
 ghost use Rattle.sql_images.specs.Images.{with_image, without_image};
 
 use crate::words::{joined_words, words_of};
 use hall_types::{Image, Name, arch_number};
 use ipxe_script::{Uri, Word, WordFault};
-use sql_rows::{arch_in, name_in, name_value, small_value, text_value};
-use sql_schema::{ADD_IMAGE, FIND_IMAGE, REMOVE_IMAGE};
+use sql_schema::{
+    ADD_IMAGE, FIND_IMAGE, REMOVE_IMAGE, arch_in, name_in, name_value, small_value, text_value,
+};
 use sqlite::types::Type;
 use sqlite::{Alter, Connection, Error, ErrorCode, Row, Transaction};
 use std::alloc::Global;

@@ -10,15 +10,16 @@ ghost use Rattle.hall_types.specs.Kinds.{arch_number};
 ghost use Rattle.hall_types.specs.Rows.{at, listed};
 ghost use Rattle.hall_types.specs.Hall.{Hall};
 ghost use Rattle.sql_schema.specs.NameStatements.{add_live_text, find_live_text, find_live_with_image_text, set_live_text};
-ghost use Rattle.sql_rows.specs.Columns.{number, live_values};
-ghost use Rattle.sql_rows.specs.Holding.{IsAsked, IsWithin};
-ghost use Rattle.sql_rows.specs.Spelling.{HallRows};
+ghost use Rattle.sql_schema.specs.Columns.{number, live_values};
+ghost use Rattle.sql_schema.specs.Holding.{IsAsked, IsWithin};
+ghost use Rattle.sql_schema.specs.Spelling.{HallRows};
 ghost use Rattle.sql_images.specs.Lives.{with_live};
 
 use hall_types::{Live, Name, arch_number};
 use pxe_vendor::Arch;
-use sql_rows::{arch_in, name_in, name_value, small_value};
-use sql_schema::{ADD_LIVE, FIND_LIVE, FIND_LIVE_WITH_IMAGE, SET_LIVE};
+use sql_schema::{
+    ADD_LIVE, FIND_LIVE, FIND_LIVE_WITH_IMAGE, SET_LIVE, arch_in, name_in, name_value, small_value,
+};
 use sqlite::{Alter, Connection, Error, Row, Transaction};
 
 // What the query of the live image of an architecture answers.

@@ -13,20 +13,20 @@ use Rattle.hall_types.specs.RowLaws.{key-same, same_number}
 use Rattle.hall_types.specs.Kinds.{purpose_number, stage_number}
 use Rattle.hall_types.specs.Hall.{Hall}
 use Rattle.hall_types.specs.declared.boot.Boot.{Boot}
-use Rattle.sql_statements.specs.Queries.{parameter, equals, cell}
-use Rattle.sql_statements.specs.ListLaws.{and_true}
-use Rattle.sql_statements.specs.ValueLaws as value
+use Rattle.sql_schema.specs.Queries.{parameter, equals, cell}
+use Rattle.sql_schema.specs.ListLaws.{and_true}
+use Rattle.sql_schema.specs.ValueLaws as value
 use Rattle.sql_schema.specs.MachineStatements.{find_boot_query, add_boot_text, set_boot_text, remove_boots_text}
 use Rattle.sql_schema.specs.MachineStatementLaws.{add_boot_is, set_boot_is, remove_boots_is}
 use Rattle.sql_schema.specs.Tables.{hall_schema, boots_table}
 use Rattle.sql_schema.specs.CascadeLaws.{never_follows, boots_go_alone}
-use Rattle.sql_rows.specs.Columns.{number, boot_columns, boot_values}
-use Rattle.sql_rows.specs.ColumnLaws.{same_purpose, same_stage}
-use Rattle.sql_rows.specs.Spelling.{SpellHall, HallRows}
-use Rattle.sql_rows.specs.SpellingLaws.{sets_boots}
-use Rattle.sql_rows.specs.Holding.{IsWithin}
-use Rattle.sql_rows.specs.HoldingLaws.{within, shown_within}
-use Rattle.sql_rows.specs.NumberedLaws.{finds_numbered, adds_numbered, sets_numbered, removes_numbered_where, number_key}
+use Rattle.sql_schema.specs.Columns.{number, boot_columns, boot_values}
+use Rattle.sql_schema.specs.ColumnLaws.{same_purpose, same_stage}
+use Rattle.sql_schema.specs.Spelling.{SpellHall, HallRows}
+use Rattle.sql_schema.specs.SpellingLaws.{sets_boots}
+use Rattle.sql_schema.specs.Holding.{IsWithin}
+use Rattle.sql_schema.specs.HoldingLaws.{within, shown_within}
+use Rattle.sql_schema.specs.NumberedLaws.{finds_numbered, adds_numbered, sets_numbered, removes_numbered_where, number_key}
 use Rattle.sql_machines.specs.Boots.{with_boot, without_boots}
 
 pub finds_boot : (db : Trees) (h : Hall) → SpellHall db h → (n : ℕ) (rows : List Row) → IsAnswer find_boot_query (overlay db []) (number n ∷ []) rows

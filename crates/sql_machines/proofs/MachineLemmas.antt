@@ -27,22 +27,22 @@ use Rattle.hall_types.specs.declared.machine.Machine.{Machine}
 use Rattle.hall_types.specs.declared.machine.Interface.{Interface}
 use Rattle.hall_types.specs.declared.boot.Boot.{Boot}
 use Rattle.hall_types.specs.declared.order.Order.{Order}
-use Rattle.sql_statements.specs.CascadeLaws.{no_row_points}
-use Rattle.sql_statements.specs.Queries.{parameter, equals, cell}
-use Rattle.sql_statements.specs.ListLaws.{and_true, any_along}
-use Rattle.sql_statements.specs.Rows.{Entry, row_of, rowid_of, item_of}
-use Rattle.sql_statements.specs.ValueLaws as value
+use Rattle.sql_schema.specs.CascadeStepLaws.{no_row_points}
+use Rattle.sql_schema.specs.Queries.{parameter, equals, cell}
+use Rattle.sql_schema.specs.ListLaws.{and_true, any_along}
+use Rattle.sql_schema.specs.Rows.{Entry, row_of, rowid_of, item_of}
+use Rattle.sql_schema.specs.ValueLaws as value
 use Rattle.sql_schema.specs.MachineStatements.{add_machine_text, set_machine_text, remove_machine_text}
 use Rattle.sql_schema.specs.MachineStatementLaws.{add_machine_is, set_machine_is, remove_machine_is}
 use Rattle.sql_schema.specs.Tables.{hall_schema, machines_table, interfaces_table, boots_table, orders_table, wipes_table, belongs_to_machine}
 use Rattle.sql_schema.specs.CascadeLaws.{never_follows, machines_go_alone}
-use Rattle.sql_rows.specs.Columns.{Wipe, number, truth_number, or_null, machine_columns, machine_values, interface_columns, boot_columns, order_columns, wipe_columns}
-use Rattle.sql_rows.specs.Spelling.{HallRows}
-use Rattle.sql_rows.specs.ListedLaws.{listed_with_key}
-use Rattle.sql_rows.specs.SpellingLaws.{sets_machines}
-use Rattle.sql_rows.specs.Holding.{IsWithin}
-use Rattle.sql_rows.specs.HoldingLaws.{within, shown_within}
-use Rattle.sql_rows.specs.NumberedLaws.{adds_numbered, sets_numbered_if, removes_numbered, number_key}
+use Rattle.sql_schema.specs.Columns.{Wipe, number, truth_number, or_null, machine_columns, machine_values, interface_columns, boot_columns, order_columns, wipe_columns}
+use Rattle.sql_schema.specs.Spelling.{HallRows}
+use Rattle.sql_schema.specs.ListedLaws.{listed_with_key}
+use Rattle.sql_schema.specs.SpellingLaws.{sets_machines}
+use Rattle.sql_schema.specs.Holding.{IsWithin}
+use Rattle.sql_schema.specs.HoldingLaws.{within, shown_within}
+use Rattle.sql_schema.specs.NumberedLaws.{adds_numbered, sets_numbered_if, removes_numbered, number_key}
 use Rattle.sql_machines.specs.Machines.{with_machine, without_row, checked_values, HasNoChild, HasVersion}
 
 -- ---- a column that may be NULL keeps its values

@@ -20,20 +20,20 @@ use Rattle.hall_types.specs.Lookup.{waiting, waits}
 use Rattle.hall_types.specs.declared.kinds.OrderStage.{OrderStage}
 use Rattle.hall_types.specs.declared.kinds.OrderStage.TheVariants as stage
 use Rattle.hall_types.specs.declared.order.Order.{Order}
-use Rattle.sql_statements.specs.Queries.{parameter, equals, cell, rising}
-use Rattle.sql_statements.specs.ListLaws.{and_true}
-use Rattle.sql_statements.specs.ValueLaws as value
+use Rattle.sql_schema.specs.Queries.{parameter, equals, cell, rising}
+use Rattle.sql_schema.specs.ListLaws.{and_true}
+use Rattle.sql_schema.specs.ValueLaws as value
 use Rattle.sql_schema.specs.MachineStatements.{find_order_query, list_waiting_orders_query, add_order_text, set_order_text, remove_orders_text}
 use Rattle.sql_schema.specs.MachineStatementLaws.{add_order_is, set_order_is, remove_orders_is}
 use Rattle.sql_schema.specs.Tables.{hall_schema, orders_table}
 use Rattle.sql_schema.specs.CascadeLaws.{never_follows, orders_go_alone}
-use Rattle.sql_rows.specs.Columns.{number, order_columns, order_values}
-use Rattle.sql_rows.specs.ColumnLaws.{same_order_kind, same_order_stage}
-use Rattle.sql_rows.specs.Spelling.{SpellHall, HallRows}
-use Rattle.sql_rows.specs.SpellingLaws.{sets_orders}
-use Rattle.sql_rows.specs.Holding.{IsWithin}
-use Rattle.sql_rows.specs.HoldingLaws.{within, shown_within}
-use Rattle.sql_rows.specs.NumberedLaws.{finds_numbered, lists_numbered, adds_numbered, sets_numbered, removes_numbered_where, number_key}
+use Rattle.sql_schema.specs.Columns.{number, order_columns, order_values}
+use Rattle.sql_schema.specs.ColumnLaws.{same_order_kind, same_order_stage}
+use Rattle.sql_schema.specs.Spelling.{SpellHall, HallRows}
+use Rattle.sql_schema.specs.SpellingLaws.{sets_orders}
+use Rattle.sql_schema.specs.Holding.{IsWithin}
+use Rattle.sql_schema.specs.HoldingLaws.{within, shown_within}
+use Rattle.sql_schema.specs.NumberedLaws.{finds_numbered, lists_numbered, adds_numbered, sets_numbered, removes_numbered_where, number_key}
 use Rattle.sql_machines.specs.Orders.{with_order, without_orders}
 
 pub finds_order : (db : Trees) (h : Hall) → SpellHall db h → (n : ℕ) (rows : List Row) → IsAnswer find_order_query (overlay db []) (number n ∷ []) rows

@@ -2,7 +2,7 @@
 use Rattle.std.specs.Prelude.{ℕ, ◌==◌, not}
 use Rattle.hall_types.specs.Rows.{put, rows_where}
 use Rattle.hall_types.specs.declared.boot.Boot.{Boot}
-use Rattle.sql_rows.specs.Spelling.{HallRows}
+use Rattle.sql_schema.specs.Spelling.{HallRows}
 
 -- with this boot
 abbrev pub with_boot : HallRows → Boot → HallRows

@@ -7,8 +7,8 @@ use Rattle.hall_types.specs.declared.machine.Machine.{Machine}
 use Rattle.hall_types.specs.declared.machine.Interface.{Interface}
 use Rattle.hall_types.specs.declared.boot.Boot.{Boot}
 use Rattle.hall_types.specs.declared.order.Order.{Order}
-use Rattle.sql_rows.specs.Columns.{Wipe, number, machine_values}
-use Rattle.sql_rows.specs.Spelling.{HallRows}
+use Rattle.sql_schema.specs.Columns.{Wipe, number, machine_values}
+use Rattle.sql_schema.specs.Spelling.{HallRows}
 
 -- with this row of a machine
 abbrev pub with_machine : HallRows → Machine → HallRows

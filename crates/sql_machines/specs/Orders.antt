@@ -2,7 +2,7 @@
 use Rattle.std.specs.Prelude.{ℕ, ◌==◌, not}
 use Rattle.hall_types.specs.Rows.{put, rows_where}
 use Rattle.hall_types.specs.declared.order.Order.{Order}
-use Rattle.sql_rows.specs.Spelling.{HallRows}
+use Rattle.sql_schema.specs.Spelling.{HallRows}
 
 -- with this order
 abbrev pub with_order : HallRows → Order → HallRows

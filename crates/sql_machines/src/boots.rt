@@ -6,16 +6,16 @@ ghost use Rattle.sqlite.specs.State.{HasCleanDisk, ExecutesInside, KeepsCommit, 
 ghost use Rattle.hall_types.specs.Rows.{at};
 ghost use Rattle.hall_types.specs.Hall.{Hall};
 ghost use Rattle.sql_schema.specs.MachineStatements.{add_boot_text, find_boot_text, remove_boots_text, set_boot_text};
-ghost use Rattle.sql_rows.specs.Columns.{number, boot_values};
-ghost use Rattle.sql_rows.specs.Holding.{IsAsked, IsWithin};
-ghost use Rattle.sql_rows.specs.Spelling.{HallRows};
+ghost use Rattle.sql_schema.specs.Columns.{number, boot_values};
+ghost use Rattle.sql_schema.specs.Holding.{IsAsked, IsWithin};
+ghost use Rattle.sql_schema.specs.Spelling.{HallRows};
 ghost use Rattle.sql_machines.specs.Boots.{with_boot, without_boots};
 
 use hall_types::{Boot, Number};
-use sql_rows::{
-    number_in, number_value, octets_value, purpose_in, small_value, stage_in, token_in,
+use sql_schema::{
+    ADD_BOOT, FIND_BOOT, REMOVE_BOOTS, SET_BOOT, number_in, number_value, octets_value, purpose_in,
+    small_value, stage_in, token_in,
 };
-use sql_schema::{ADD_BOOT, FIND_BOOT, REMOVE_BOOTS, SET_BOOT};
 use sqlite::{Alter, Connection, Error, Row, Transaction};
 
 // What the query of the boot with a number answers.

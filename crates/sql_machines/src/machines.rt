@@ -9,14 +9,16 @@ ghost use Rattle.hall_types.specs.Hall.{Hall};
 ghost use Rattle.hall_types.specs.Rows.{at};
 ghost use Rattle.hall_types.specs.Status.{status_number};
 ghost use Rattle.sql_schema.specs.MachineStatements.{add_machine_text, remove_machine_text, set_machine_text};
-ghost use Rattle.sql_rows.specs.Columns.{machine_values, number, or_null};
-ghost use Rattle.sql_rows.specs.Holding.{IsWithin};
-ghost use Rattle.sql_rows.specs.Spelling.{HallRows};
+ghost use Rattle.sql_schema.specs.Columns.{machine_values, number, or_null};
+ghost use Rattle.sql_schema.specs.Holding.{IsWithin};
+ghost use Rattle.sql_schema.specs.Spelling.{HallRows};
 ghost use Rattle.sql_machines.specs.Machines.{HasNoChild, HasVersion, checked_values, with_machine, without_row};
 
 use hall_types::{Machine, MachineUuid, Name, Number, Status, Version, arch_number};
-use sql_rows::{name_value, number_value, octets_value, small_value, truth_value};
-use sql_schema::{ADD_MACHINE, REMOVE_MACHINE, SET_MACHINE};
+use sql_schema::{
+    ADD_MACHINE, REMOVE_MACHINE, SET_MACHINE, name_value, number_value, octets_value, small_value,
+    truth_value,
+};
 use sqlite::types::ValueRef;
 use sqlite::{Alter, Error, Row, Transaction};
 

@@ -7,14 +7,16 @@ ghost use Rattle.hall_types.specs.Rows.{at};
 ghost use Rattle.hall_types.specs.Hall.{Hall};
 ghost use Rattle.hall_types.specs.Lookup.{waiting};
 ghost use Rattle.sql_schema.specs.MachineStatements.{add_order_text, find_order_text, list_waiting_orders_text, remove_orders_text, set_order_text};
-ghost use Rattle.sql_rows.specs.Columns.{number, order_values};
-ghost use Rattle.sql_rows.specs.Holding.{IsAsked, IsWithin};
-ghost use Rattle.sql_rows.specs.Spelling.{HallRows};
+ghost use Rattle.sql_schema.specs.Columns.{number, order_values};
+ghost use Rattle.sql_schema.specs.Holding.{IsAsked, IsWithin};
+ghost use Rattle.sql_schema.specs.Spelling.{HallRows};
 ghost use Rattle.sql_machines.specs.Orders.{with_order, without_orders};
 
 use hall_types::{Number, Order};
-use sql_rows::{number_in, number_value, order_kind_in, order_stage_in, small_value};
-use sql_schema::{ADD_ORDER, FIND_ORDER, LIST_WAITING_ORDERS, REMOVE_ORDERS, SET_ORDER};
+use sql_schema::{
+    ADD_ORDER, FIND_ORDER, LIST_WAITING_ORDERS, REMOVE_ORDERS, SET_ORDER, number_in, number_value,
+    order_kind_in, order_stage_in, small_value,
+};
 use sqlite::{Alter, Connection, Error, Row, Transaction};
 use std::alloc::Global;
 

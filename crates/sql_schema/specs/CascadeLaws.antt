@@ -10,8 +10,8 @@ use Rattle.sqlite_schema.specs.Rules.{parent_key}
 use Rattle.sqlite_schema.specs.declared.schema.Keys.TheVariants.{Enforced}
 use Rattle.sqlite_rules.specs.Action.{works, work_for}
 use Rattle.sqlite_keyed.proofs.ListLemmas.{all-flat_map}
-use Rattle.sql_statements.specs.Cascades.{IsIdle, cascade, NeverFollows}
-use Rattle.sql_statements.specs.CascadeLaws.{child_is_idle}
+use Rattle.sql_schema.specs.Cascades.{IsIdle, cascade, NeverFollows}
+use Rattle.sql_schema.specs.CascadeStepLaws.{child_is_idle}
 use Rattle.sql_schema.specs.Tables.{hall_schema, belongs_to_machine, interfaces_table, boots_table, orders_table, wipes_table}
 
 -- no table follows a key that changes

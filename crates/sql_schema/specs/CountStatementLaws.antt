@@ -2,7 +2,7 @@
 use Rattle.std.proofs.Common.{refl}
 use Rattle.sqlite_tied.specs.Compute.{everything}
 use Rattle.sqlite.specs.Listing.{understood}
-use Rattle.sql_statements.specs.Statements.{IsQueryText, IsCommandText}
+use Rattle.sql_schema.specs.Statements.{IsQueryText, IsCommandText}
 use Rattle.sql_schema.specs.Tables.{hall_schema}
 use Rattle.sql_schema.specs.CountStatements.{add_count_command, add_count_text, find_count_columns, find_count_query, find_count_text, list_counts_columns, list_counts_query, list_counts_text, remove_count_command, remove_count_text, set_count_command, set_count_text}
 

@@ -6,8 +6,8 @@ use Rattle.sqlite.specs.Query.{Query}
 use Rattle.sqlite.specs.Command.{Command}
 use Rattle.sqlite.specs.Command.TheVariants.{Insert, Update, Delete}
 use Rattle.sqlite.specs.Source.TheVariants.{Values}
-use Rattle.sql_statements.specs.Queries.{parameter, cell, equals, rising, from_one}
-use Rattle.sql_statements.specs.Statements.{only}
+use Rattle.sql_schema.specs.Queries.{parameter, cell, equals, rising, from_one}
+use Rattle.sql_schema.specs.Statements.{only}
 
 -- the count of a pool and a status that had none
 abbrev pub add_count_text : List ℕ

@@ -7,7 +7,7 @@ use Rattle.sqlite.specs.Does.{lacks_sequence}
 use Rattle.sqlite.specs.Schema.{Schema}
 use Rattle.sqlite.specs.Table.{Table}
 use Rattle.sqlite_schema.specs.declared.schema.Index.{Index}
-use Rattle.sql_statements.specs.Statements.{IsKeptText}
+use Rattle.sql_schema.specs.Statements.{IsKeptText}
 
 -- over the first schema the text defines this table, and the second schema has it too
 pub record MakesTable (before : Schema) (sql : List ℕ) (t : Table) (after : Schema) : Type 0 where

@@ -6,7 +6,7 @@ use Rattle.sqlite.specs.Compile.{table_defined_by, index_defined_by}
 use Rattle.sqlite.specs.Change.{created, indexed}
 use Rattle.sqlite.specs.Does.{lacks_sequence}
 use Rattle.sqlite.specs.Listing.{understood}
-use Rattle.sql_statements.specs.Statements.{IsKeptText}
+use Rattle.sql_schema.specs.Statements.{IsKeptText}
 use Rattle.sql_schema.specs.Tables.{stage, hall_table, operators_table, pools_table, members_table, images_table, lives_table, machines_table, interfaces_table, boots_table, orders_table, receipts_table, counts_table, wipes_table, interfaces_index, boots_index, orders_index}
 use Rattle.sql_schema.specs.Creating.{create_hall_text, create_operators_text, create_pools_text, create_members_text, create_images_text, create_lives_text, create_machines_text, create_interfaces_text, create_boots_text, create_orders_text, create_receipts_text, create_counts_text, index_interfaces_text, index_boots_text, index_orders_text, create_wipes_text}
 

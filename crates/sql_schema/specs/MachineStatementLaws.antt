@@ -2,7 +2,7 @@
 use Rattle.std.proofs.Common.{refl}
 use Rattle.sqlite_tied.specs.Compute.{everything}
 use Rattle.sqlite.specs.Listing.{understood}
-use Rattle.sql_statements.specs.Statements.{IsQueryText, IsCommandText, IsReturningText}
+use Rattle.sql_schema.specs.Statements.{IsQueryText, IsCommandText, IsReturningText}
 use Rattle.sql_schema.specs.Tables.{hall_schema}
 use Rattle.sql_schema.specs.MachineStatements.{add_boot_command, add_boot_text, add_interface_command, add_interface_text, add_machine_command, add_machine_text, add_order_command, add_order_text, add_wipe_command, add_wipe_text, find_boot_columns, find_boot_query, find_boot_text, find_expired_columns, find_expired_query, find_expired_text, find_interface_columns, find_interface_query, find_interface_text, find_interfaces_columns, find_interfaces_query, find_interfaces_text, find_machine_columns, find_machine_query, find_machine_text, find_machine_with_image_columns, find_machine_with_image_query, find_machine_with_image_text, find_order_columns, find_order_query, find_order_text, find_uuid_columns, find_uuid_query, find_uuid_text, find_wipe_columns, find_wipe_query, find_wipe_text, list_interfaces_columns, list_interfaces_query, list_interfaces_text, list_machines_columns, list_machines_query, list_machines_text, list_waiting_orders_columns, list_waiting_orders_query, list_waiting_orders_text, list_wipes_columns, list_wipes_query, list_wipes_text, remove_boots_command, remove_boots_text, remove_interface_command, remove_interface_text, remove_interfaces_command, remove_interfaces_text, remove_machine_command, remove_machine_text, remove_orders_command, remove_orders_text, remove_wipe_command, remove_wipe_text, set_boot_command, set_boot_shows, set_boot_text, set_machine_command, set_machine_shows, set_machine_text, set_order_command, set_order_shows, set_order_text}
 

@@ -10,8 +10,8 @@ use Rattle.sqlite.specs.Command.{Command}
 use Rattle.sqlite.specs.Command.TheVariants.{Insert, Update, Delete}
 use Rattle.sqlite.specs.Source.TheVariants.{Values}
 use Rattle.sqlite_schema.specs.declared.command.Returning.{Returning}
-use Rattle.sql_statements.specs.Queries.{parameter, cell, equals, at_most, rising, from_one, first_from}
-use Rattle.sql_statements.specs.Statements.{only}
+use Rattle.sql_schema.specs.Queries.{parameter, cell, equals, at_most, rising, from_one, first_from}
+use Rattle.sql_schema.specs.Statements.{only}
 
 -- a new machine
 abbrev pub add_machine_text : List ℕ

@@ -2,7 +2,7 @@
 use Rattle.std.proofs.Common.{refl}
 use Rattle.sqlite_tied.specs.Compute.{everything}
 use Rattle.sqlite.specs.Listing.{understood}
-use Rattle.sql_statements.specs.Statements.{IsQueryText, IsCommandText, IsReturningText}
+use Rattle.sql_schema.specs.Statements.{IsQueryText, IsCommandText, IsReturningText}
 use Rattle.sql_schema.specs.Tables.{hall_schema}
 use Rattle.sql_schema.specs.NameStatements.{add_image_command, add_image_text, add_live_command, add_live_text, add_member_command, add_member_text, add_operator_command, add_operator_text, add_pool_command, add_pool_text, add_receipt_command, add_receipt_text, find_digest_columns, find_digest_query, find_digest_text, find_image_columns, find_image_query, find_image_text, find_live_columns, find_live_query, find_live_text, find_live_with_image_columns, find_live_with_image_query, find_live_with_image_text, find_member_columns, find_member_query, find_member_text, find_numbers_columns, find_numbers_query, find_numbers_text, find_operator_columns, find_operator_query, find_operator_text, find_pool_columns, find_pool_query, find_pool_text, find_receipt_columns, find_receipt_query, find_receipt_text, first_numbers_command, first_numbers_text, remove_image_command, remove_image_text, set_live_command, set_live_shows, set_live_text, set_numbers_command, set_numbers_text, set_operator_command, set_operator_shows, set_operator_text}
 

@@ -1,6 +1,6 @@
 //! What the texts mean, over the tables of a hall.
 ghost use Rattle.std.specs.Prelude.{◌≡◌};
-ghost use Rattle.sql_statements.specs.Statements.{IsCommandText, IsQueryText, IsReturningText};
+ghost use Rattle.sql_schema.specs.Statements.{IsCommandText, IsQueryText, IsReturningText};
 ghost use Rattle.sql_schema.specs.Tables.{hall_schema, stage, hall_table, operators_table, pools_table, members_table, images_table, lives_table, machines_table, interfaces_table, boots_table, orders_table, receipts_table, counts_table, wipes_table, interfaces_index, boots_index, orders_index};
 ghost use Rattle.sql_schema.specs.Creating.{MakesIndex, MakesTable};
 ghost use Rattle.sql_schema.specs.NameStatements.{add_image_command, add_live_command, add_member_command, add_operator_command, add_pool_command, add_receipt_command, find_digest_columns, find_digest_query, find_image_columns, find_image_query, find_live_columns, find_live_query, find_live_with_image_columns, find_live_with_image_query, find_member_columns, find_member_query, find_numbers_columns, find_numbers_query, find_operator_columns, find_operator_query, find_pool_columns, find_pool_query, find_receipt_columns, find_receipt_query, first_numbers_command, remove_image_command, set_live_command, set_live_shows, set_numbers_command, set_operator_command, set_operator_shows};

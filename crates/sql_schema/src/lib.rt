@@ -1,17 +1,25 @@
-//! The tables of a hall in SQLite, and the text of every statement that a store runs on them.
+//! The tables of a hall in SQLite: what a SQL statement does to a table, over any schema, in the words of the kit's `sqlite`; the text of
+//! every statement that a store runs; and which rows spell a hall. The definitions, the relation between tables and halls and the laws
+//! of reading and writing it are in `specs/`.
 #![tactic(auto)]
 
 mod count_statements;
 mod creating;
+mod kinds;
 mod laws;
 mod machine_statements;
 mod name_statements;
+mod probe;
+mod values;
 
 pub use count_statements::{ADD_COUNT, FIND_COUNT, LIST_COUNTS, REMOVE_COUNT, SET_COUNT};
 pub use creating::{
     CREATE_BOOTS, CREATE_COUNTS, CREATE_HALL, CREATE_IMAGES, CREATE_INTERFACES, CREATE_LIVES,
     CREATE_MACHINES, CREATE_MEMBERS, CREATE_OPERATORS, CREATE_ORDERS, CREATE_POOLS,
     CREATE_RECEIPTS, CREATE_WIPES, INDEX_BOOTS, INDEX_INTERFACES, INDEX_ORDERS,
+};
+pub use kinds::{
+    arch_in, erase_in, order_kind_in, order_stage_in, purpose_in, role_in, stage_in, status_in,
 };
 pub use laws::{
     count_statements_mean_these, machine_statements_mean_these, name_statements_mean_these,
@@ -28,4 +36,9 @@ pub use name_statements::{
     ADD_IMAGE, ADD_LIVE, ADD_MEMBER, ADD_OPERATOR, ADD_POOL, ADD_RECEIPT, FIND_DIGEST, FIND_IMAGE,
     FIND_LIVE, FIND_LIVE_WITH_IMAGE, FIND_MEMBER, FIND_NUMBERS, FIND_OPERATOR, FIND_POOL,
     FIND_RECEIPT, FIRST_NUMBERS, REMOVE_IMAGE, SET_LIVE, SET_NUMBERS, SET_OPERATOR,
+};
+pub use probe::is_running;
+pub use values::{
+    digest_in, mac_in, name_in, name_value, number_in, number_value, octets_value, request_key_in,
+    small_in, small_value, stored_number, text_value, token_in, truth_in, truth_value, uuid_in,
 };

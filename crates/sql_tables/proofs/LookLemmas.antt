@@ -16,10 +16,10 @@ use Rattle.sqlite.proofs.Callers.{IsPlain}
 use Rattle.sqlite.proofs.StateLemmas.{survives_then}
 use Rattle.sqlite_resolve.specs.declared.compiled.Compiled.{Compiled}
 use Rattle.sqlite_resolve.specs.declared.error.CompileError.{CompileError}
-use Rattle.sql_statements.specs.Queries.{cell}
-use Rattle.sql_statements.specs.QueryLaws.{items_in_order, shown_answer}
-use Rattle.sql_statements.specs.Statements.{IsBack}
-use Rattle.sql_statements.specs.StatementLaws.{not_run_back, shown_same}
+use Rattle.sql_schema.specs.Queries.{cell}
+use Rattle.sql_schema.specs.QueryLaws.{items_in_order, shown_answer}
+use Rattle.sql_schema.specs.Statements.{IsBack}
+use Rattle.sql_schema.specs.StatementLaws.{not_run_back, shown_same}
 use Rattle.sql_schema.specs.NameStatements.{find_numbers_text, find_numbers_query, find_numbers_columns}
 use Rattle.sql_tables.specs.declared.fault.OpenFault.{OpenFault}
 use Rattle.sql_tables.specs.declared.fault.OpenFault.TheVariants.{NotAHall, OtherVersion, Unavailable}

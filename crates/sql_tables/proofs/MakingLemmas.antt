@@ -20,18 +20,18 @@ use Rattle.hall_types.specs.Hall.{Hall}
 use Rattle.hall_types.specs.declared.number.Numbers.{Numbers}
 use Rattle.hall_types.specs.declared.operator.Operator.{Operator}
 use Rattle.hall_types.specs.declared.operator.Pool.{Pool}
-use Rattle.sql_statements.specs.Queries.{parameter}
-use Rattle.sql_statements.specs.StatementLaws.{makes_table, makes_index}
-use Rattle.sql_statements.specs.TableLaws.{inserts}
-use Rattle.sql_statements.specs.ValueLaws as value
+use Rattle.sql_schema.specs.Queries.{parameter}
+use Rattle.sql_schema.specs.StatementLaws.{makes_table, makes_index}
+use Rattle.sql_schema.specs.TableLaws.{inserts}
+use Rattle.sql_schema.specs.ValueLaws as value
 use Rattle.sql_schema.specs.Creating.{MakesTable, MakesIndex}
 use Rattle.sql_schema.specs.NameStatements.{add_operator_text, add_pool_text, first_numbers_text}
 use Rattle.sql_schema.specs.NameStatementLaws.{add_operator_is, add_pool_is, first_numbers_is}
 use Rattle.sql_schema.specs.Tables.{hall_schema, hall_table, operators_table, pools_table}
-use Rattle.sql_rows.specs.Columns.{operator_columns, pool_columns, numbers_row, number}
-use Rattle.sql_rows.specs.NamedLaws.{adds_named}
-use Rattle.sql_rows.specs.Spelling.{IsNumbered, IsNamed, HallRows, Spells, SpellHall, AreRowsOf, is_in, wipe_of}
-use Rattle.sql_rows.specs.SpellingLaws.{sets_operators, sets_pools}
+use Rattle.sql_schema.specs.Columns.{operator_columns, pool_columns, numbers_row, number}
+use Rattle.sql_schema.specs.NamedLaws.{adds_named}
+use Rattle.sql_schema.specs.Spelling.{IsNumbered, IsNamed, HallRows, Spells, SpellHall, AreRowsOf, is_in, wipe_of}
+use Rattle.sql_schema.specs.SpellingLaws.{sets_operators, sets_pools}
 use Rattle.sql_tables.specs.Creating.{HasNoRows, bare_hall, without_machines}
 
 -- ---- tables and indexes
@@ -143,7 +143,7 @@ operator_put c o free old new count ran was =
 pub spells_new : (db : Trees) (h : Hall) → h.machines ≡ no_rows → (database : Database) → database.trees ≡ db → Spells database (without_machines h) → SpellHall db h
 spells_new db h none database is was = record {
   hall_rows = without_machines h;
-  tables = subst (λ d. Rattle.sql_rows.specs.Spelling.AreTables d (without_machines h)) is was.tables;
+  tables = subst (λ d. Rattle.sql_schema.specs.Spelling.AreTables d (without_machines h)) is was.tables;
   agrees = record {
     hall = refl;
     counts = λ pool status. sym (none_pass (is_in pool status) h.machines (λ key row there. absurd (let e = sym (at-no_rows numbers key h.machines none) ∙ there in cc)));

@@ -9,15 +9,15 @@ use Rattle.sqlite_catalog.specs.Listing.{IsSound}
 use Rattle.sqlite_catalog.proofs.ReadLemmas.{lists_once}
 use Rattle.sqlite_resolve.specs.declared.compiled.Compiled.{Compiled}
 use Rattle.sqlite_resolve.specs.declared.error.CompileError.{CompileError}
-use Rattle.sql_statements.specs.Statements.{IsBack, IsQueryText}
+use Rattle.sql_schema.specs.Statements.{IsBack, IsQueryText}
 use Rattle.hall_types.specs.Hall.{Hall}
 use Rattle.sql_schema.specs.CountStatementLaws.{list_counts_is}
 use Rattle.sql_schema.specs.MachineStatementLaws.{find_boot_is, find_interface_is, find_machine_is, find_order_is, find_wipe_is}
 use Rattle.sql_schema.specs.NameStatementLaws.{find_image_is, find_live_is, find_member_is, find_numbers_is, find_operator_is, find_pool_is, find_receipt_is}
 use Rattle.sql_schema.specs.NameStatements.{find_numbers_text, find_numbers_query, find_numbers_columns}
 use Rattle.sql_schema.specs.Tables.{hall_schema}
-use Rattle.sql_rows.specs.Spelling.{SpellHall}
-use Rattle.sql_rows.specs.Holding.{IsHeld}
+use Rattle.sql_schema.specs.Spelling.{SpellHall}
+use Rattle.sql_schema.specs.Holding.{IsHeld}
 use Rattle.sql_tables.specs.declared.fault.OpenFault.{OpenFault}
 use Rattle.sql_tables.specs.declared.fault.OpenFault.TheVariants.{NotAHall, OtherVersion, Unavailable}
 use Rattle.sql_tables.specs.Creating.{IsFlat, KeepsTables}

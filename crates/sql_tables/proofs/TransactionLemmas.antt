@@ -11,9 +11,9 @@ use Rattle.sqlite_trees.specs.declared.store.Store as store
 use Rattle.sqlite.specs.Tree.{Trees}
 use Rattle.hall_types.specs.Hall.{Hall}
 use Rattle.hall_types.specs.Rows.{no_rows}
-use Rattle.sql_rows.specs.Spelling.{SpellHall, Spells}
-use Rattle.sql_rows.specs.Holding.{IsHeld, Leaves}
-use Rattle.sql_statements.specs.StatementLaws.{execute_keeps}
+use Rattle.sql_schema.specs.Spelling.{SpellHall, Spells}
+use Rattle.sql_schema.specs.Holding.{IsHeld, Leaves}
+use Rattle.sql_schema.specs.StatementLaws.{execute_keeps}
 use Rattle.sql_tables.specs.Creating.{KeepsTables, MayLeaveBesides, without_machines}
 use Rattle.sql_tables.proofs.MakingLemmas.{spells_new}
 

@@ -10,7 +10,7 @@ use Rattle.sqlite.specs.Tree.{Trees}
 use Rattle.hall_types.specs.Hall.{Hall, second, default_pool}
 use Rattle.hall_types.specs.Rows.{no_rows, put}
 use Rattle.sql_schema.specs.Tables.{all_tables}
-use Rattle.sql_rows.specs.Spelling.{HallRows, SpellHall}
+use Rattle.sql_schema.specs.Spelling.{HallRows, SpellHall}
 
 -- a table, an index or a view has the name of one of a hall's tables
 abbrev pub is_a_name_taken : Schema → Bool

@@ -8,7 +8,7 @@ use Rattle.sqlite.specs.Order.{Row}
 use Rattle.sqlite.specs.Schema.{Schema}
 use Rattle.sqlite.specs.State.{State, KeepsCommit}
 use Rattle.sqlite_resolve.specs.declared.compiled.Compiled.{Compiled}
-use Rattle.sql_statements.specs.Statements.{IsQueryText}
+use Rattle.sql_schema.specs.Statements.{IsQueryText}
 use Rattle.sql_schema.specs.NameStatements.{find_numbers_text, find_numbers_query, find_numbers_columns, find_operator_text, find_pool_text, find_member_text, find_image_text, find_live_text, find_receipt_text}
 use Rattle.sql_schema.specs.MachineStatements.{find_machine_text, find_interface_text, find_boot_text, find_order_text, find_wipe_text}
 use Rattle.sql_schema.specs.CountStatements.{list_counts_text}

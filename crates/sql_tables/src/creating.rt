@@ -6,7 +6,7 @@ ghost use Rattle.sqlite.specs.Held.{state};
 ghost use Rattle.sqlite.specs.State.{HasCleanDisk};
 ghost use Rattle.hall_types.specs.Hall.{new_hall, second};
 ghost use Rattle.sql_schema.specs.Tables.{no_schema};
-ghost use Rattle.sql_rows.specs.Holding.{IsHeld, Leaves};
+ghost use Rattle.sql_schema.specs.Holding.{IsHeld, Leaves};
 ghost use Rattle.sql_tables.specs.Creating.{IsFlat, KeepsTables, MayLeaveBesides, is_a_name_taken};
 
 use crate::fault::CreateFault;

@@ -10,8 +10,8 @@ ghost use Rattle.hall_types.specs.Rows.{at, put};
 ghost use Rattle.sql_schema.specs.Creating.{MakesIndex, MakesTable};
 ghost use Rattle.sql_schema.specs.NameStatements.{add_operator_text};
 ghost use Rattle.sql_schema.specs.Tables.{hall_schema, no_schema, stage};
-ghost use Rattle.sql_rows.specs.Columns.{operator_columns};
-ghost use Rattle.sql_rows.specs.Spelling.{Spells};
+ghost use Rattle.sql_schema.specs.Columns.{operator_columns};
+ghost use Rattle.sql_schema.specs.Spelling.{Spells};
 ghost use Rattle.sql_tables.specs.Creating.{HasNoRows, bare_hall, with_default_pool, without_machines};
 
 use hall_types::{Digest, Name, Operator, Role};

@@ -3,14 +3,14 @@ ghost use Rattle.std.specs.Prelude.{◌≡◌, IfErr, IsTrue, OnOk, false, [], �
 ghost use Rattle.sqlite.specs.Held.{state};
 ghost use Rattle.sqlite.specs.State.{HasCleanDisk, IsLive, Survives};
 ghost use Rattle.hall_types.specs.Hall.{Hall};
-ghost use Rattle.sql_rows.specs.Holding.{IsHeld, Leaves};
-ghost use Rattle.sql_rows.specs.Spelling.{SpellHall};
+ghost use Rattle.sql_schema.specs.Holding.{IsHeld, Leaves};
+ghost use Rattle.sql_schema.specs.Spelling.{SpellHall};
 ghost use Rattle.sql_tables.specs.Creating.{IsFlat, KeepsTables};
 ghost use Rattle.sql_tables.specs.Opening.{IsAnswered};
 
 use crate::fault::OpenFault;
 use crate::looking::look;
-use sql_statements::is_running;
+use sql_schema::is_running;
 use sqlite::{Alter, Connection};
 
 // The schema that a connection has is that of its tables.

@@ -8,21 +8,21 @@ use Rattle.hall_types.specs.Rows.{Rows, numbers, at, put, gone}
 use Rattle.hall_types.specs.Status.{status_number}
 use Rattle.hall_types.specs.Hall.{Hall}
 use Rattle.hall_types.specs.declared.machine.Machine.{Machine}
-use Rattle.sql_statements.specs.Queries.{equals, cell}
-use Rattle.sql_statements.specs.ListLaws.{and_true}
-use Rattle.sql_statements.specs.QueryLaws.{shown_answer}
-use Rattle.sql_statements.specs.StatementLaws.{shown_same}
-use Rattle.sql_statements.specs.ValueLaws as value
+use Rattle.sql_schema.specs.Queries.{equals, cell}
+use Rattle.sql_schema.specs.ListLaws.{and_true}
+use Rattle.sql_schema.specs.QueryLaws.{shown_answer}
+use Rattle.sql_schema.specs.StatementLaws.{shown_same}
+use Rattle.sql_schema.specs.ValueLaws as value
 use Rattle.sql_schema.specs.MachineStatements.{find_machine_text, find_machine_query, find_machine_columns}
 use Rattle.sql_schema.specs.MachineStatementLaws.{find_machine_is}
 use Rattle.sql_schema.specs.Tables.{hall_schema}
-use Rattle.sql_rows.specs.Columns.{number, machine_columns, machine_values}
-use Rattle.sql_rows.specs.Spelling.{HallRows, Spells, SpellHall}
-use Rattle.sql_rows.specs.Holding.{IsWithin}
-use Rattle.sql_rows.specs.NumberedLaws.{finds_numbered, number_key}
+use Rattle.sql_schema.specs.Columns.{number, machine_columns, machine_values}
+use Rattle.sql_schema.specs.Spelling.{HallRows, Spells, SpellHall}
+use Rattle.sql_schema.specs.Holding.{IsWithin}
+use Rattle.sql_schema.specs.NumberedLaws.{finds_numbered, number_key}
 use Rattle.sql_counts.specs.Counts.{with_count}
-use Rattle.sql_interfaces.specs.Wipes.{with_wipe}
-use Rattle.sql_interfaces.specs.WipeLaws.{put-gone, wipes_put}
+use Rattle.sql_machine_parts.specs.Wipes.{with_wipe}
+use Rattle.sql_machine_parts.specs.WipeLaws.{put-gone, wipes_put}
 use Rattle.sql_machines.specs.Machines.{with_machine}
 use Rattle.sql_writes.specs.Between.{IsBetween, with_row}
 use Rattle.sql_writes.specs.Groups.{group_of}

@@ -3,13 +3,13 @@ use Rattle.std.proofs.Common.{◌≡◌, ℕ, Option, Some, None, option_map, re
 use Rattle.sqlite.specs.declared.types.Value.TheVariants.{Text}
 use Rattle.sqlite.specs.Order.{Row, column}
 use Rattle.hall_types.specs.Status.{status_number}
-use Rattle.sql_rows.specs.Columns.{number, machine_values}
-use Rattle.sql_rows.specs.ColumnLaws.{same_status}
+use Rattle.sql_schema.specs.Columns.{number, machine_values}
+use Rattle.sql_schema.specs.ColumnLaws.{same_status}
 use Rattle.hall_types.specs.Rows.{at}
 use Rattle.hall_types.specs.Hall.{Hall}
 use Rattle.hall_types.specs.declared.machine.Machine.{Machine}
 use Rattle.hall_store.specs.Versions.{version_of}
-use Rattle.sql_rows.specs.Spelling.{HallRows}
+use Rattle.sql_schema.specs.Spelling.{HallRows}
 use Rattle.sql_machines.specs.Machines.{HasVersion}
 use Rattle.sql_writes.specs.Groups.{group_of}
 use Rattle.sql_writes.specs.declared.groups.Group.{Group}

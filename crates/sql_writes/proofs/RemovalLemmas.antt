@@ -8,11 +8,11 @@ use Rattle.hall_types.specs.Hall.{Hall, without_machine}
 use Rattle.hall_types.specs.declared.boot.Boot.{Boot}
 use Rattle.hall_types.specs.declared.machine.Interface.{Interface}
 use Rattle.hall_types.specs.declared.order.Order.{Order}
-use Rattle.sql_rows.specs.Columns.{Wipe}
-use Rattle.sql_rows.specs.Spelling.{HallRows}
-use Rattle.sql_rows.specs.Holding.{IsWithin}
-use Rattle.sql_rows.specs.ListedLaws.{listed_at}
-use Rattle.sql_interfaces.specs.WipeLaws.{wipes_gone}
+use Rattle.sql_schema.specs.Columns.{Wipe}
+use Rattle.sql_schema.specs.Spelling.{HallRows}
+use Rattle.sql_schema.specs.Holding.{IsWithin}
+use Rattle.sql_schema.specs.ListedLaws.{listed_at}
+use Rattle.sql_machine_parts.specs.WipeLaws.{wipes_gone}
 use Rattle.sql_machines.specs.Machines.{NonePointTo, HasNoChild, without_row}
 use Rattle.sql_writes.specs.Between.{IsBetween, childless}
 use Rattle.sql_writes.specs.Within.{IsWithinHall}

@@ -5,8 +5,8 @@ use Rattle.sqlite.specs.State.{State}
 use Rattle.hall_types.specs.Rows.{Rows, numbers, at, how_many}
 use Rattle.hall_types.specs.Hall.{Hall}
 use Rattle.hall_types.specs.declared.machine.Machine.{Machine}
-use Rattle.sql_rows.specs.Spelling.{HallRows, is_in, wipe_of}
-use Rattle.sql_rows.specs.Holding.{IsWithin}
+use Rattle.sql_schema.specs.Spelling.{HallRows, is_in, wipe_of}
+use Rattle.sql_schema.specs.Holding.{IsWithin}
 use Rattle.sql_writes.specs.Within.{IsWithinHall}
 
 pub moved : (old new : State) (before h : Hall) → IsWithinHall old before h → (change : Hall → Hall) → ((x : Hall) → (change x).machines ≡ x.machines)

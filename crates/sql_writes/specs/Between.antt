@@ -4,10 +4,10 @@ use Rattle.sqlite.specs.State.{State}
 use Rattle.hall_types.specs.Rows.{Rows, numbers, at, put, how_many}
 use Rattle.hall_types.specs.Hall.{Hall}
 use Rattle.hall_types.specs.declared.machine.Machine.{Machine}
-use Rattle.sql_rows.specs.Holding.{IsWithin}
-use Rattle.sql_rows.specs.Spelling.{HallRows, is_in, wipe_of}
-use Rattle.sql_interfaces.specs.Interfaces.{without_interfaces}
-use Rattle.sql_interfaces.specs.Wipes.{with_wipe}
+use Rattle.sql_schema.specs.Holding.{IsWithin}
+use Rattle.sql_schema.specs.Spelling.{HallRows, is_in, wipe_of}
+use Rattle.sql_machine_parts.specs.Interfaces.{without_interfaces}
+use Rattle.sql_machine_parts.specs.Wipes.{with_wipe}
 use Rattle.sql_machines.specs.Boots.{without_boots}
 use Rattle.sql_machines.specs.Orders.{without_orders}
 

@@ -7,17 +7,16 @@ ghost use Rattle.hall_types.specs.Hall.{Hall};
 ghost use Rattle.hall_types.specs.Rows.{Rows, numbers, at, put, gone};
 ghost use Rattle.hall_types.specs.declared.machine.Machine.{Machine};
 ghost use Rattle.sql_schema.specs.MachineStatements.{find_machine_text};
-ghost use Rattle.sql_rows.specs.Columns.{machine_values, number};
-ghost use Rattle.sql_rows.specs.Holding.{IsWithin};
-ghost use Rattle.sql_rows.specs.Spelling.{HallRows};
+ghost use Rattle.sql_schema.specs.Columns.{machine_values, number};
+ghost use Rattle.sql_schema.specs.Holding.{IsWithin};
+ghost use Rattle.sql_schema.specs.Spelling.{HallRows};
 ghost use Rattle.sql_writes.specs.Between.{IsBetween};
 ghost use Rattle.sql_writes.specs.Groups.{group_of};
 ghost use Rattle.sql_writes.specs.Within.{IsWithinHall};
 
 use hall_types::{Machine, Name, Number, Status};
 use sql_counts::{count_down, count_up};
-use sql_rows::{name_in, number_value, status_in};
-use sql_schema::FIND_MACHINE;
+use sql_schema::{FIND_MACHINE, name_in, number_value, status_in};
 use sqlite::{Alter, Error, Row, Transaction};
 
 /// Where a machine is counted.

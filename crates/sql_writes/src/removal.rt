@@ -4,9 +4,9 @@ ghost use Rattle.sqlite.specs.Held.{state};
 ghost use Rattle.sqlite.specs.State.{HasCleanDisk, KeepsCommit, Survives};
 ghost use Rattle.hall_types.specs.Hall.{Hall, without_machine};
 ghost use Rattle.hall_types.specs.Rows.{at, gone};
-ghost use Rattle.sql_rows.specs.Holding.{IsWithin};
-ghost use Rattle.sql_rows.specs.Spelling.{HallRows};
-ghost use Rattle.sql_interfaces.specs.Interfaces.{without_interfaces};
+ghost use Rattle.sql_schema.specs.Holding.{IsWithin};
+ghost use Rattle.sql_schema.specs.Spelling.{HallRows};
+ghost use Rattle.sql_machine_parts.specs.Interfaces.{without_interfaces};
 ghost use Rattle.sql_machines.specs.Boots.{without_boots};
 ghost use Rattle.sql_machines.specs.Orders.{without_orders};
 ghost use Rattle.sql_writes.specs.Between.{IsBetween, childless};
@@ -15,7 +15,7 @@ ghost use Rattle.sql_writes.specs.Within.{IsWithinHall};
 
 use crate::groups::{Group, count_out, find_group};
 use hall_types::Number;
-use sql_interfaces::{put_wipe, remove_interfaces};
+use sql_machine_parts::{put_wipe, remove_interfaces};
 use sql_machines::{remove_boots, remove_orders, remove_row};
 use sqlite::{Alter, Error, Transaction};
 

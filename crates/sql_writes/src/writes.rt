@@ -12,10 +12,9 @@ use crate::machines::{add_whole, set_whole};
 use crate::removal::remove_machine;
 use hall_types::{Machine, RowWrite, Version};
 use sql_images::{add_image, put_live, remove_image};
-use sql_interfaces::{add_interface, remove_interface};
+use sql_machine_parts::{add_interface, remove_interface};
 use sql_machines::{put_boot, put_order};
-use sql_names::{add_member, add_pool, put_operator};
-use sql_receipts::{add_receipt, set_numbers};
+use sql_operators::{add_member, add_pool, add_receipt, put_operator, set_numbers};
 use sqlite::{Alter, Error, Transaction};
 use std::alloc::Global;
 

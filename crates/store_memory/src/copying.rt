@@ -1,8 +1,21 @@
 //! Copies of row writes, taken before any row is written.
-ghost use Rattle.std.specs.Prelude.{◌≡◌, IfOk};
+ghost use Rattle.std.specs.Prelude.{◌≡◌, ◌++◌, [], ◌∷◌, IfOk, OnOk};
+ghost use Rattle.hall_types.specs.declared.change.RowWrite.TheVariants.{PutImage, PutReceipt};
 
-use hall_types::RowWrite;
+use hall_types::{Image, Receipt, RowWrite};
 use std::alloc::{AllocError, Global};
+
+fn copy_image(alloc: Global, image: &Image) -> Result<RowWrite, AllocError>
+    ensures { IfOk result (λ copy. copy ≡ PutImage image.now) }
+{
+    Ok(RowWrite::PutImage(image.copy(alloc)?))
+}
+
+fn copy_receipt(alloc: Global, receipt: &Receipt) -> Result<RowWrite, AllocError>
+    ensures { IfOk result (λ copy. copy ≡ PutReceipt receipt.now) }
+{
+    Ok(RowWrite::PutReceipt(receipt.copy(alloc)?))
+}
 
 fn copy_write(alloc: Global, write: &RowWrite) -> Result<RowWrite, AllocError>
     ensures { IfOk result (λ copy. copy ≡ write.now) }
@@ -11,7 +24,7 @@ fn copy_write(alloc: Global, write: &RowWrite) -> Result<RowWrite, AllocError>
         RowWrite::PutOperator(operator) => Ok(RowWrite::PutOperator(*operator)),
         RowWrite::PutPool(pool) => Ok(RowWrite::PutPool(*pool)),
         RowWrite::PutMember(member) => Ok(RowWrite::PutMember(*member)),
-        RowWrite::PutImage(image) => Ok(RowWrite::PutImage(image.copy(alloc)?)),
+        RowWrite::PutImage(image) => copy_image(alloc, image),
         RowWrite::ImageGone(name) => Ok(RowWrite::ImageGone(*name)),
         RowWrite::PutLive(live) => Ok(RowWrite::PutLive(*live)),
         RowWrite::PutMachine { machine, was } => Ok(RowWrite::PutMachine {
@@ -23,9 +36,17 @@ fn copy_write(alloc: Global, write: &RowWrite) -> Result<RowWrite, AllocError>
         RowWrite::InterfaceGone(mac) => Ok(RowWrite::InterfaceGone(*mac)),
         RowWrite::PutBoot(boot) => Ok(RowWrite::PutBoot(*boot)),
         RowWrite::PutOrder(order) => Ok(RowWrite::PutOrder(*order)),
-        RowWrite::PutReceipt(receipt) => Ok(RowWrite::PutReceipt(receipt.copy(alloc)?)),
+        RowWrite::PutReceipt(receipt) => copy_receipt(alloc, receipt),
         RowWrite::PutNumbers(numbers) => Ok(RowWrite::PutNumbers(*numbers)),
     }
+}
+
+fn push_copy(alloc: Global, copies: &mut Vec<RowWrite>, write: &RowWrite) -> Result<(), AllocError>
+    ensures { OnOk result (copies.new.items ≡ copies.old.items ++ write.now ∷ []) }
+{
+    let copy = copy_write(alloc, write)?;
+    copies.push(copy)?;
+    Ok(())
 }
 
 /// Equal row writes.
@@ -34,8 +55,7 @@ pub(crate) fn copies(alloc: Global, writes: &[RowWrite]) -> Result<Vec<RowWrite>
 {
     let mut copies = Vec::with_capacity(alloc, writes.len())?;
     'copying: for write in writes {
-        let copy = copy_write(alloc, write)?;
-        copies.push(copy)?;
+        push_copy(alloc, &mut copies, write)?;
     }
     Ok(copies)
 }

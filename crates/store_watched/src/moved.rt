@@ -5,14 +5,14 @@ ghost use Rattle.store_watched.specs.Moved.{is_status, moved_by, moved_by_put, m
 use hall_types::{Change, Machine, Number, RowWrite, Status};
 
 /// A machine that was read, and its status then.
-#[derive(Clone, Copy, Debug, PartialEq, Eq)]
+#[derive(Clone, Copy)]
 pub struct Seen {
     pub machine: Number,
     pub status: Status,
 }
 
 /// A machine whose status is another than before.
-#[derive(Clone, Copy, Debug, PartialEq, Eq)]
+#[derive(Clone, Copy)]
 pub struct Moved {
     pub machine: Number,
     /// The status before, none where the machine is new.

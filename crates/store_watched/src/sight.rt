@@ -4,7 +4,7 @@ use boot_desk::FrameView;
 use hall_types::{LastIssued, Numbers};
 
 /// What the calls of one arrival read of a store and changed. The default is that of no call.
-#[derive(Clone, Copy, Debug, PartialEq, Eq)]
+#[derive(Clone, Copy)]
 pub struct Sight {
     /// What the hall has of a client. What wasn't read is absent, or 0.
     pub view: FrameView,

@@ -3,7 +3,7 @@ use Rattle.std.specs.List.{list_any}
 use Rattle.sqlite.specs.Held.{state}
 use Rattle.hall_types.specs.Lookup.{is_named}
 use Rattle.hall_types.specs.Rows.{listed}
-use Rattle.sql_rows.specs.HoldingLaws.{asked_failed, asked_then}
+use Rattle.sql_schema.specs.HoldingLaws.{asked_failed, asked_then}
 use Rattle.hall_sql.proofs.AskingLemmas.{asked_twice}
 use Rattle.hall_sql.proofs.asking.is_image_used.Goals as goal
 

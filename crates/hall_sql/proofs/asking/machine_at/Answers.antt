@@ -1,7 +1,7 @@
 use Rattle.std.proofs.Common.{Some, None, Ok, ap, sym, ◌∙◌, option_map}
 use Rattle.sqlite.specs.Held.{state}
 use Rattle.hall_types.specs.declared.machine.Interface.{Interface}
-use Rattle.sql_rows.specs.HoldingLaws.{asked_failed, asked_then}
+use Rattle.sql_schema.specs.HoldingLaws.{asked_failed, asked_then}
 use Rattle.hall_sql.proofs.asking.machine_at.Goals as goal
 
 pub returns-in-Ok-Some-clause-asked : goal.returns-in-Ok-Some-clause-asked

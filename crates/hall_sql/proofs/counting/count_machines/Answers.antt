@@ -1,8 +1,8 @@
 use Rattle.std.proofs.Common.{◌∙◌, ap}
 use Rattle.std.specs.List.{sum_by}
 use Rattle.sqlite.specs.Held.{state}
-use Rattle.sql_statements.specs.StatementLaws.{if_ok}
-use Rattle.sql_rows.specs.HoldingLaws.{asked_failed, asked_then}
+use Rattle.sql_schema.specs.StatementLaws.{if_ok}
+use Rattle.sql_schema.specs.HoldingLaws.{asked_failed, asked_then}
 use Rattle.hall_sql.proofs.CountLemmas.{counts_total}
 use Rattle.hall_sql.proofs.counting.count_machines.Goals as goal
 

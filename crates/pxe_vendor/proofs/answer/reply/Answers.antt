@@ -4,7 +4,7 @@ use Rattle.std.proofs.lemmas.List.{length-take}
 use Rattle.dhcp_frame.specs.Area.{Entry, Reads}
 use Rattle.dhcp_frame.specs.Reply.{Reply, reply_octets}
 use Rattle.pxe_vendor.specs.Answer.{answer_to}
-use Rattle.pxe_vendor.proofs.AnswerLemmas.{reply_of-same, AreAnswers, AreShort, any_long, all_short, options-with_identifier, options-without_identifier}
+use Rattle.pxe_vendor.proofs.AnswerLemmas.{reply_of-same, AreAnswers, AreShort, any_long, none_long, all_short, all_short-without, options-with_identifier, options-without_identifier}
 use Rattle.pxe_vendor.proofs.answer.reply.Goals as goal
 use Rattle.pxe_vendor.proofs.answer.reply.Goals.{After-dhcp_option-vendor}
 
@@ -52,6 +52,27 @@ returns-in-Some-clause-octets c =
     let options = options-with_identifier _ _ _ _ _ c.dhcp_option-identifier.result _ _ (are_answers (goal.at.returns-in-Some-clause-octets c).After-dhcp_option-vendor) identifier c.in-Some.is in
     let whole = reply_of-same c.fields_to-fields.result (c.dhcp_option-kind.result ∷ c.dhcp_option-server.result ∷ c.dhcp_option-class.result ∷ c.dhcp_option-identifier.result ∷ c.dhcp_option-vendor.result ∷ []) (answer_to c.args.frame.now c.args.client.now c.args.place.now c.args.file.now) c.fields_to-fields.ensures options in
     subst (λ (r : Reply). IfOk c.write.result (λ out. out.items ≡ reply_octets r)) whole c.write.ensures.octets
+
+pub returns-in-None-clause-too_long : goal.returns-in-None-clause-too_long
+returns-in-None-clause-too_long c =
+    let short = are_short (goal.at.returns-in-None-clause-too_long c).After-dhcp_option-vendor in
+    let nothing = ap (λ o. length (unwrap_or o [])) c.in-None.is in
+    (λ is. absurd (none_long _ _ _ _ short (c.write-in-None.ensures.too_long.0 is)), λ long. absurd (omega arith))
+
+pub returns-in-None-clause-file_too_long : goal.returns-in-None-clause-file_too_long
+returns-in-None-clause-file_too_long c =
+    let all = all_short-without _ _ _ _ (are_short (goal.at.returns-in-None-clause-file_too_long c).After-dhcp_option-vendor) in
+    let nothing = ap (λ o. length (unwrap_or o [])) c.in-None.is in
+    let name = ap (λ (r : Reply). length r.file) c.fields_to-fields.ensures in (
+      λ is. let found = c.write-in-None.ensures.file_too_long.0 is in (omega arith, omega arith),
+      λ found. c.write-in-None.ensures.file_too_long.1 (all, omega arith),
+    )
+
+pub returns-in-None-clause-boot_file : goal.returns-in-None-clause-boot_file
+returns-in-None-clause-boot_file c = rw (ap (λ (r : Reply). r.file) c.fields_to-fields.ensures) at c.write-in-None.ensures.file
+
+pub returns-in-Some-clause-boot_file : goal.returns-in-Some-clause-boot_file
+returns-in-Some-clause-boot_file c = rw (ap (λ (r : Reply). r.file) c.fields_to-fields.ensures) at c.write.ensures.file
 
 pub returns-in-None-clause-options : goal.returns-in-None-clause-options
 returns-in-None-clause-options c =

@@ -1,9 +1,9 @@
 use Rattle.std.proofs.Common.{[], ◌∷◌, refl}
 use Rattle.sqlite.specs.declared.types.Value.TheVariants.{Text}
 use Rattle.hall_types.specs.Status.{status_number}
-use Rattle.sql_rows.specs.Columns.{number}
+use Rattle.sql_schema.specs.Columns.{number}
 use Rattle.sqlite.specs.Held.{state}
-use Rattle.sql_statements.specs.StatementLaws.{execute_keeps, execute_mode, on_made}
+use Rattle.sql_schema.specs.StatementLaws.{execute_keeps, execute_mode, on_made}
 use Rattle.sql_schema.specs.CountStatements.{add_count_text}
 use Rattle.sql_counts.proofs.CountLemmas.{adds_count}
 use Rattle.sql_counts.proofs.counts.add_count.Goals as goal

@@ -1,4 +1,4 @@
-use Rattle.sql_statements.specs.StatementLaws.{if_ok}
+use Rattle.sql_schema.specs.StatementLaws.{if_ok}
 use Rattle.sql_counts.proofs.counts.count_of.Goals as goal
 
 pub returns-in-Ok-clause-counted : goal.returns-in-Ok-clause-counted

@@ -2,7 +2,7 @@ use Rattle.std.proofs.Common.{◌≡◌, ◌+◌, ◌<◌, subst, sym, arith}
 use Rattle.sqlite.specs.Held.{state}
 use Rattle.sqlite.specs.State.{HasCleanDisk}
 use Rattle.hall_types.specs.Status.{status_number}
-use Rattle.sql_rows.specs.Holding.{IsWithin}
+use Rattle.sql_schema.specs.Holding.{IsWithin}
 use Rattle.sql_counts.specs.Counts.{with_count}
 use Rattle.sql_counts.proofs.CountLemmas.{on_ok}
 use Rattle.sql_counts.proofs.counts.count_up.Goals as goal

@@ -1,5 +1,5 @@
 use Rattle.sqlite.specs.Held.{state}
-use Rattle.sql_statements.specs.StatementLaws.{query_keeps, query_mode, if_ok}
+use Rattle.sql_schema.specs.StatementLaws.{query_keeps, query_mode, if_ok}
 use Rattle.hall_types.specs.Status.{status_number}
 use Rattle.sql_schema.specs.CountStatements.{find_count_text}
 use Rattle.sql_counts.proofs.CountLemmas.{finds_count, on_shown}

@@ -1,5 +1,5 @@
 use Rattle.std.proofs.Common.{◌≡◌, take, map}
-use Rattle.sql_rows.specs.Columns.{count_columns}
+use Rattle.sql_schema.specs.Columns.{count_columns}
 use Rattle.sql_counts.specs.Listing.{count_row}
 use Rattle.sql_counts.proofs.listing.counts_of.Given as goal
 

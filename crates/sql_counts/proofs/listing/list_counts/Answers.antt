@@ -1,7 +1,7 @@
 use Rattle.std.proofs.Common.{sym, ◌∙◌}
 use Rattle.sqlite.specs.Held.{state}
-use Rattle.sql_statements.specs.StatementLaws.{if_ok}
-use Rattle.sql_rows.specs.HoldingLaws.{asked_then, asked_failed}
+use Rattle.sql_schema.specs.StatementLaws.{if_ok}
+use Rattle.sql_schema.specs.HoldingLaws.{asked_then, asked_failed}
 use Rattle.sql_counts.proofs.ListingLemmas.{are_counts}
 use Rattle.sql_counts.proofs.listing.list_counts.Goals as goal
 

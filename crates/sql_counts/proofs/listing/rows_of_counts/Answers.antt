@@ -2,7 +2,7 @@ use Rattle.std.proofs.Common.{[]}
 use Rattle.sqlite.specs.Held.{state}
 use Rattle.sql_schema.specs.CountStatements.{list_counts_text, list_counts_query, list_counts_columns}
 use Rattle.sql_schema.specs.CountStatementLaws.{list_counts_is}
-use Rattle.sql_rows.specs.HoldingLaws.{asked}
+use Rattle.sql_schema.specs.HoldingLaws.{asked}
 use Rattle.sql_counts.proofs.ListingLemmas.{lists_counts}
 use Rattle.sql_counts.proofs.listing.rows_of_counts.Goals as goal
 

@@ -1,7 +1,7 @@
 use Rattle.std.proofs.Common.{refl}
-use Rattle.sql_rows.specs.Columns.{image_columns}
+use Rattle.sql_schema.specs.Columns.{image_columns}
 use Rattle.sqlite.specs.Held.{state}
-use Rattle.sql_statements.specs.StatementLaws.{execute_keeps, execute_mode, on_made}
+use Rattle.sql_schema.specs.StatementLaws.{execute_keeps, execute_mode, on_made}
 use Rattle.sql_schema.specs.NameStatements.{add_image_text}
 use Rattle.sql_images.proofs.ImageLemmas.{adds_image}
 use Rattle.sql_images.proofs.images.add_with_args.Goals as goal

@@ -3,7 +3,7 @@ use Rattle.sqlite.specs.declared.types.Value.TheVariants.{Text}
 use Rattle.sqlite.specs.Held.{state}
 use Rattle.sql_schema.specs.NameStatements.{find_image_text, find_image_query, find_image_columns}
 use Rattle.sql_schema.specs.NameStatementLaws.{find_image_is}
-use Rattle.sql_rows.specs.HoldingLaws.{asked}
+use Rattle.sql_schema.specs.HoldingLaws.{asked}
 use Rattle.sql_images.proofs.ImageLemmas.{finds_image}
 use Rattle.sql_images.proofs.images.rows_of_image.Goals as goal
 

@@ -1,7 +1,7 @@
 use Rattle.std.proofs.Common.{refl}
-use Rattle.sql_rows.specs.Columns.{live_values}
+use Rattle.sql_schema.specs.Columns.{live_values}
 use Rattle.sqlite.specs.Held.{state}
-use Rattle.sql_statements.specs.StatementLaws.{execute_keeps, execute_mode, on_made}
+use Rattle.sql_schema.specs.StatementLaws.{execute_keeps, execute_mode, on_made}
 use Rattle.sql_schema.specs.NameStatements.{add_live_text}
 use Rattle.sql_images.proofs.LiveLemmas.{adds_live}
 use Rattle.sql_images.proofs.lives.add_live.Goals as goal

@@ -1,6 +1,6 @@
 use Rattle.std.proofs.Common.{sym, ap, ◌∙◌, slice_get}
-use Rattle.sql_rows.specs.ColumnLaws.{first_is}
-use Rattle.sql_rows.specs.Columns.{live_values}
+use Rattle.sql_schema.specs.ColumnLaws.{first_is}
+use Rattle.sql_schema.specs.Columns.{live_values}
 use Rattle.sql_images.proofs.LiveLemmas.{same_live}
 use Rattle.sql_images.proofs.lives.first_live.Goals as goal
 

@@ -5,8 +5,8 @@ use Rattle.sqlite.specs.Held.{state}
 use Rattle.hall_types.specs.Kinds.{arch_number}
 use Rattle.hall_types.specs.Rows.{listed}
 use Rattle.hall_types.specs.declared.image.Live.{Live}
-use Rattle.sql_rows.specs.Columns.{number}
-use Rattle.sql_rows.specs.HoldingLaws.{asked_then, asked_failed}
+use Rattle.sql_schema.specs.Columns.{number}
+use Rattle.sql_schema.specs.HoldingLaws.{asked_then, asked_failed}
 use Rattle.sql_images.proofs.LiveLemmas.{some_first}
 use Rattle.sql_images.proofs.lives.is_live.Goals as goal
 

@@ -1,10 +1,10 @@
 use Rattle.std.proofs.Common.{[], ◌∷◌}
 use Rattle.hall_types.specs.Kinds.{arch_number}
-use Rattle.sql_rows.specs.Columns.{number}
+use Rattle.sql_schema.specs.Columns.{number}
 use Rattle.sqlite.specs.Held.{state}
 use Rattle.sql_schema.specs.NameStatements.{find_live_text, find_live_query, find_live_columns}
 use Rattle.sql_schema.specs.NameStatementLaws.{find_live_is}
-use Rattle.sql_rows.specs.HoldingLaws.{asked}
+use Rattle.sql_schema.specs.HoldingLaws.{asked}
 use Rattle.sql_images.proofs.LiveLemmas.{finds_live}
 use Rattle.sql_images.proofs.lives.rows_of_live.Goals as goal
 

@@ -3,7 +3,7 @@ use Rattle.sqlite.specs.declared.types.Value.TheVariants.{Text}
 use Rattle.sqlite.specs.Held.{state}
 use Rattle.sql_schema.specs.NameStatements.{find_live_with_image_text, find_live_with_image_query, find_live_with_image_columns}
 use Rattle.sql_schema.specs.NameStatementLaws.{find_live_with_image_is}
-use Rattle.sql_rows.specs.HoldingLaws.{asked}
+use Rattle.sql_schema.specs.HoldingLaws.{asked}
 use Rattle.sql_images.proofs.LiveLemmas.{finds_live_with_image}
 use Rattle.sql_images.proofs.lives.rows_of_live_with_image.Goals as goal
 

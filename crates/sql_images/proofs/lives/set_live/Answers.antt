@@ -1,8 +1,8 @@
 use Rattle.std.proofs.Common.{◌≡◌, length, arith}
 use Rattle.sqlite.specs.Held.{state}
-use Rattle.sql_statements.specs.StatementLaws.{query_keeps, query_mode}
+use Rattle.sql_schema.specs.StatementLaws.{query_keeps, query_mode}
 use Rattle.sql_schema.specs.NameStatements.{set_live_text}
-use Rattle.sql_rows.specs.HoldingLaws.{by_count}
+use Rattle.sql_schema.specs.HoldingLaws.{by_count}
 use Rattle.sql_images.proofs.LiveLemmas.{sets_live}
 use Rattle.sql_images.proofs.lives.set_live.Goals as goal
 

@@ -1,8 +1,8 @@
 use Rattle.std.proofs.Common.{refl}
 use Rattle.sqlite.specs.Held.{state}
-use Rattle.sql_statements.specs.StatementLaws.{execute_keeps, execute_mode, on_made}
+use Rattle.sql_schema.specs.StatementLaws.{execute_keeps, execute_mode, on_made}
 use Rattle.sql_schema.specs.MachineStatements.{add_boot_text}
-use Rattle.sql_rows.specs.Columns.{boot_values}
+use Rattle.sql_schema.specs.Columns.{boot_values}
 use Rattle.sql_machines.proofs.BootLemmas.{adds_boot}
 use Rattle.sql_machines.proofs.boots.add_boot.Goals as goal
 

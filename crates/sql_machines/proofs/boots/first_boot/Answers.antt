@@ -1,6 +1,6 @@
 use Rattle.std.proofs.Common.{sym, ap, ◌∙◌, slice_get}
-use Rattle.sql_rows.specs.ColumnLaws.{first_is}
-use Rattle.sql_rows.specs.Columns.{boot_values}
+use Rattle.sql_schema.specs.ColumnLaws.{first_is}
+use Rattle.sql_schema.specs.Columns.{boot_values}
 use Rattle.sql_machines.proofs.BootLemmas.{same_boot}
 use Rattle.sql_machines.proofs.boots.first_boot.Goals as goal
 

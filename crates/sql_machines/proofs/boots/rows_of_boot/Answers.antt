@@ -2,8 +2,8 @@ use Rattle.std.proofs.Common.{[], ◌∷◌}
 use Rattle.sqlite.specs.Held.{state}
 use Rattle.sql_schema.specs.MachineStatements.{find_boot_text, find_boot_query, find_boot_columns}
 use Rattle.sql_schema.specs.MachineStatementLaws.{find_boot_is}
-use Rattle.sql_rows.specs.Columns.{number}
-use Rattle.sql_rows.specs.HoldingLaws.{asked}
+use Rattle.sql_schema.specs.Columns.{number}
+use Rattle.sql_schema.specs.HoldingLaws.{asked}
 use Rattle.sql_machines.proofs.BootLemmas.{finds_boot}
 use Rattle.sql_machines.proofs.boots.rows_of_boot.Goals as goal
 

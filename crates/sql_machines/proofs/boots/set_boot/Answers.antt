@@ -1,8 +1,8 @@
 use Rattle.std.proofs.Common.{◌≡◌, length, arith}
 use Rattle.sqlite.specs.Held.{state}
-use Rattle.sql_statements.specs.StatementLaws.{query_keeps, query_mode}
+use Rattle.sql_schema.specs.StatementLaws.{query_keeps, query_mode}
 use Rattle.sql_schema.specs.MachineStatements.{set_boot_text}
-use Rattle.sql_rows.specs.HoldingLaws.{by_count}
+use Rattle.sql_schema.specs.HoldingLaws.{by_count}
 use Rattle.sql_machines.proofs.BootLemmas.{sets_boot}
 use Rattle.sql_machines.proofs.boots.set_boot.Goals as goal
 

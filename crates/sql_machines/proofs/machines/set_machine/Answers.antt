@@ -1,6 +1,6 @@
 use Rattle.std.proofs.Common.{◌≡◌, length, arith}
 use Rattle.sqlite.specs.Held.{state}
-use Rattle.sql_statements.specs.StatementLaws.{query_keeps, query_mode}
+use Rattle.sql_schema.specs.StatementLaws.{query_keeps, query_mode}
 use Rattle.sql_schema.specs.MachineStatements.{set_machine_text}
 use Rattle.sql_machines.proofs.MachineLemmas.{changed_machine}
 use Rattle.sql_machines.proofs.machines.set_machine.Goals as goal

@@ -1,8 +1,8 @@
 use Rattle.std.proofs.Common.{refl}
 use Rattle.sqlite.specs.Held.{state}
-use Rattle.sql_statements.specs.StatementLaws.{execute_keeps, execute_mode, on_made}
+use Rattle.sql_schema.specs.StatementLaws.{execute_keeps, execute_mode, on_made}
 use Rattle.sql_schema.specs.MachineStatements.{add_order_text}
-use Rattle.sql_rows.specs.Columns.{order_values}
+use Rattle.sql_schema.specs.Columns.{order_values}
 use Rattle.sql_machines.proofs.OrderLemmas.{adds_order}
 use Rattle.sql_machines.proofs.orders.add_order.Goals as goal
 

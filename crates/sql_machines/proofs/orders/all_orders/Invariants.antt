@@ -1,5 +1,5 @@
 use Rattle.std.proofs.Common.{◌≡◌, map, take}
-use Rattle.sql_rows.specs.Columns.{order_values}
+use Rattle.sql_schema.specs.Columns.{order_values}
 use Rattle.sql_machines.proofs.orders.all_orders.Given as goal
 
 -- the rows so far are those of the orders so far

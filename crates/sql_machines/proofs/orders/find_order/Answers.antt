@@ -1,7 +1,7 @@
 use Rattle.sqlite.specs.Held.{state}
 use Rattle.hall_types.specs.Rows.{at}
-use Rattle.sql_statements.specs.StatementLaws.{if_ok}
-use Rattle.sql_rows.specs.HoldingLaws.{asked_then, asked_failed}
+use Rattle.sql_schema.specs.StatementLaws.{if_ok}
+use Rattle.sql_schema.specs.HoldingLaws.{asked_then, asked_failed}
 use Rattle.sql_machines.proofs.orders.find_order.Goals as goal
 
 pub returns-in-Ok-clause-asked : goal.returns-in-Ok-clause-asked

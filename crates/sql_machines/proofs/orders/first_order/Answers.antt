@@ -1,6 +1,6 @@
 use Rattle.std.proofs.Common.{sym, ap, ◌∙◌, slice_get}
-use Rattle.sql_rows.specs.ColumnLaws.{first_is}
-use Rattle.sql_rows.specs.Columns.{order_values}
+use Rattle.sql_schema.specs.ColumnLaws.{first_is}
+use Rattle.sql_schema.specs.Columns.{order_values}
 use Rattle.sql_machines.proofs.OrderLemmas.{same_order}
 use Rattle.sql_machines.proofs.orders.first_order.Goals as goal
 

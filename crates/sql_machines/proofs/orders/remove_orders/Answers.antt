@@ -1,8 +1,8 @@
 use Rattle.std.proofs.Common.{[], ◌∷◌, refl}
 use Rattle.sqlite.specs.Held.{state}
-use Rattle.sql_statements.specs.StatementLaws.{execute_keeps, execute_mode, on_made}
+use Rattle.sql_schema.specs.StatementLaws.{execute_keeps, execute_mode, on_made}
 use Rattle.sql_schema.specs.MachineStatements.{remove_orders_text}
-use Rattle.sql_rows.specs.Columns.{number}
+use Rattle.sql_schema.specs.Columns.{number}
 use Rattle.sql_machines.proofs.OrderLemmas.{removes_orders}
 use Rattle.sql_machines.proofs.orders.remove_orders.Goals as goal
 

@@ -2,8 +2,8 @@ use Rattle.std.proofs.Common.{[], ◌∷◌}
 use Rattle.sqlite.specs.Held.{state}
 use Rattle.sql_schema.specs.MachineStatements.{find_order_text, find_order_query, find_order_columns}
 use Rattle.sql_schema.specs.MachineStatementLaws.{find_order_is}
-use Rattle.sql_rows.specs.Columns.{number}
-use Rattle.sql_rows.specs.HoldingLaws.{asked}
+use Rattle.sql_schema.specs.Columns.{number}
+use Rattle.sql_schema.specs.HoldingLaws.{asked}
 use Rattle.sql_machines.proofs.OrderLemmas.{finds_order}
 use Rattle.sql_machines.proofs.orders.rows_of_order.Goals as goal
 

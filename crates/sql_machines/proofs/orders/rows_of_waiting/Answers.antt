@@ -2,7 +2,7 @@ use Rattle.std.proofs.Common.{[]}
 use Rattle.sqlite.specs.Held.{state}
 use Rattle.sql_schema.specs.MachineStatements.{list_waiting_orders_text, list_waiting_orders_query, list_waiting_orders_columns}
 use Rattle.sql_schema.specs.MachineStatementLaws.{list_waiting_orders_is}
-use Rattle.sql_rows.specs.HoldingLaws.{asked}
+use Rattle.sql_schema.specs.HoldingLaws.{asked}
 use Rattle.sql_machines.proofs.OrderLemmas.{lists_waiting}
 use Rattle.sql_machines.proofs.orders.rows_of_waiting.Goals as goal
 

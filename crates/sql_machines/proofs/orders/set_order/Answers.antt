@@ -1,8 +1,8 @@
 use Rattle.std.proofs.Common.{◌≡◌, length, arith}
 use Rattle.sqlite.specs.Held.{state}
-use Rattle.sql_statements.specs.StatementLaws.{query_keeps, query_mode}
+use Rattle.sql_schema.specs.StatementLaws.{query_keeps, query_mode}
 use Rattle.sql_schema.specs.MachineStatements.{set_order_text}
-use Rattle.sql_rows.specs.HoldingLaws.{by_count}
+use Rattle.sql_schema.specs.HoldingLaws.{by_count}
 use Rattle.sql_machines.proofs.OrderLemmas.{sets_order}
 use Rattle.sql_machines.proofs.orders.set_order.Goals as goal
 

@@ -1,8 +1,8 @@
 use Rattle.std.proofs.Common.{sym, ◌∙◌}
 use Rattle.sqlite.specs.Held.{state}
 use Rattle.hall_types.specs.Lookup.{waiting}
-use Rattle.sql_statements.specs.StatementLaws.{if_ok}
-use Rattle.sql_rows.specs.HoldingLaws.{asked_then, asked_failed}
+use Rattle.sql_schema.specs.StatementLaws.{if_ok}
+use Rattle.sql_schema.specs.HoldingLaws.{asked_then, asked_failed}
 use Rattle.sql_machines.proofs.OrderLemmas.{same_orders}
 use Rattle.sql_machines.proofs.orders.waiting_orders.Goals as goal
 

@@ -3,7 +3,7 @@ use Rattle.sqlite.specs.Held.{Held, state}
 use Rattle.sqlite.specs.State.{HasCleanDisk}
 use Rattle.hall_types.specs.Hall.{new_hall, second}
 use Rattle.sql_schema.specs.Tables.{no_schema}
-use Rattle.sql_rows.specs.Holding.{IsHeld}
+use Rattle.sql_schema.specs.Holding.{IsHeld}
 use Rattle.sql_tables.specs.Creating.{MayLeaveBesides}
 use Rattle.sql_tables.proofs.TransactionLemmas.{held_new, left_by_commit}
 use Rattle.sql_tables.proofs.creating.make_in.Goals as goal

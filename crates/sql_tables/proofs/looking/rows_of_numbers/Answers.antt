@@ -1,7 +1,7 @@
 use Rattle.std.proofs.Common.{[]}
 use Rattle.sqlite.specs.Held.{state}
 use Rattle.sql_schema.specs.NameStatements.{find_numbers_text}
-use Rattle.sql_statements.specs.StatementLaws.{query_keeps}
+use Rattle.sql_schema.specs.StatementLaws.{query_keeps}
 use Rattle.sql_tables.proofs.LookLemmas.{schema_rows, schema_same}
 use Rattle.sql_tables.proofs.looking.rows_of_numbers.Goals as goal
 

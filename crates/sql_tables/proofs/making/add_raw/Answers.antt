@@ -1,4 +1,4 @@
-use Rattle.sql_rows.specs.ColumnLaws.{truth_bound}
+use Rattle.sql_schema.specs.ColumnLaws.{truth_bound}
 use Rattle.sql_tables.proofs.making.add_raw.Goals as goal
 
 pub returns-clause-same_reference : goal.returns-clause-same_reference

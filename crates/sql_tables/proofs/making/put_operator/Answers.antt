@@ -1,6 +1,6 @@
 use Rattle.sqlite.specs.Held.{state}
 use Rattle.sql_schema.specs.NameStatements.{add_operator_text}
-use Rattle.sql_rows.specs.Columns.{operator_columns}
+use Rattle.sql_schema.specs.Columns.{operator_columns}
 use Rattle.sql_tables.specs.Creating.{without_machines}
 use Rattle.sql_tables.proofs.MakingLemmas.{operator_put}
 use Rattle.sql_tables.proofs.TransactionLemmas.{inside, inside_keeps}

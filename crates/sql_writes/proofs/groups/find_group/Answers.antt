@@ -1,5 +1,5 @@
 use Rattle.hall_types.specs.Rows.{at}
-use Rattle.sql_statements.specs.StatementLaws.{if_ok}
+use Rattle.sql_schema.specs.StatementLaws.{if_ok}
 use Rattle.sql_writes.proofs.groups.find_group.Goals as goal
 
 pub returns-in-Ok-clause-found : goal.returns-in-Ok-clause-found

@@ -5,7 +5,7 @@ use Rattle.sqlite.specs.State.{HasCleanDisk}
 use Rattle.hall_types.specs.Rows.{gone}
 use Rattle.hall_types.specs.RowLaws.{at-gone-same}
 use Rattle.hall_types.specs.Status.{status_number}
-use Rattle.sql_rows.specs.ColumnLaws.{same_status}
+use Rattle.sql_schema.specs.ColumnLaws.{same_status}
 use Rattle.sql_writes.proofs.BetweenLemmas.{counts_stay, counts_again}
 use Rattle.sql_writes.proofs.ResultLemmas.{on_ok}
 use Rattle.sql_writes.proofs.groups.move_count.Goals as goal

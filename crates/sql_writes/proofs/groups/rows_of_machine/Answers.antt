@@ -1,5 +1,5 @@
 use Rattle.sqlite.specs.Held.{state}
-use Rattle.sql_statements.specs.StatementLaws.{query_keeps, query_mode, if_ok}
+use Rattle.sql_schema.specs.StatementLaws.{query_keeps, query_mode, if_ok}
 use Rattle.sql_schema.specs.MachineStatements.{find_machine_text}
 use Rattle.sql_writes.proofs.BetweenLemmas.{finds_machine}
 use Rattle.sql_writes.proofs.ResultLemmas.{on_shown}

@@ -1,7 +1,7 @@
 use Rattle.std.proofs.Common.{arith}
 use Rattle.sqlite.specs.Held.{state}
 use Rattle.sqlite.specs.State.{HasCleanDisk}
-use Rattle.sql_interfaces.specs.Interfaces.{without_interfaces}
+use Rattle.sql_machine_parts.specs.Interfaces.{without_interfaces}
 use Rattle.sql_machines.specs.Boots.{without_boots}
 use Rattle.sql_machines.specs.Orders.{without_orders}
 use Rattle.sql_writes.proofs.ResultLemmas.{on_ok}

@@ -2,7 +2,7 @@ use Rattle.std.proofs.Common.{sym, subst}
 use Rattle.sqlite.specs.Held.{state}
 use Rattle.sqlite.specs.State.{HasCleanDisk}
 use Rattle.hall_types.specs.Hall.{new_hall, second}
-use Rattle.sql_rows.specs.Holding.{IsHeld}
+use Rattle.sql_schema.specs.Holding.{IsHeld}
 use Rattle.hall_sql.proofs.store.SqlStore.create.Goals as goal
 
 pub returns-in-Ok-clause-settled : goal.returns-in-Ok-clause-settled

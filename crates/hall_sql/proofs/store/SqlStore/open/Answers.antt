@@ -1,7 +1,7 @@
 use Rattle.std.proofs.Common.{sym, subst}
 use Rattle.sqlite.specs.Held.{state}
 use Rattle.sqlite.specs.State.{HasCleanDisk}
-use Rattle.sql_rows.specs.Holding.{IsHeld}
+use Rattle.sql_schema.specs.Holding.{IsHeld}
 use Rattle.hall_sql.proofs.store.SqlStore.open.Goals as goal
 
 pub returns-clause-held : goal.returns-clause-held

@@ -1,0 +1,69 @@
+//! The log of a benchmark.
+use crate::calls::{Call, parse_call};
+use crate::fault::Fault;
+use hall_desk::Arrival;
+use hall_types::{Digest, Name};
+use play_log::{admin, arrival};
+use play_store::read_log;
+use std::alloc::Global;
+use std::io::Read;
+
+// The line after which stands what is measured.
+const ROUNDS: &str = "== rounds";
+
+/// A log, parsed.
+#[derive(Drop)]
+pub struct Log {
+    pub admin: Name,
+    pub digest: Digest,
+    /// The lines of a new hall.
+    pub hall: Vec<String>,
+    pub arrivals: Vec<Arrival>,
+    pub calls: Vec<Call>,
+}
+
+// Adds what a line after `== rounds` measures.
+fn add_round(alloc: Global, log: &mut Log, line: &str) -> Result<(), Fault> {
+    let is_added = match line.strip_prefix("call ") {
+        Some(words) => log.calls.push(parse_call(alloc, words)?).is_ok(),
+        None => log.arrivals.push(arrival(alloc, line)?).is_ok(),
+    };
+    if is_added { Ok(()) } else { Err(Fault::Memory) }
+}
+
+fn empty(alloc: Global, line: &str) -> Result<Log, Fault> {
+    let (admin, digest) = admin(line)?;
+    Ok(Log {
+        admin,
+        digest,
+        hall: Vec::new(alloc),
+        arrivals: Vec::new(alloc),
+        calls: Vec::new(alloc),
+    })
+}
+
+// Adds the lines after the first, in their order.
+fn add_lines(alloc: Global, log: &mut Log, lines: Vec<String>) -> Result<(), Fault> {
+    let mut is_round = false;
+    for line in lines.into_iter().skip(1) {
+        if is_round {
+            add_round(alloc, log, line.as_str())?;
+        } else if line.as_str() == ROUNDS {
+            is_round = true;
+        } else if log.hall.push(line).is_err() {
+            return Err(Fault::Memory);
+        }
+    }
+    Ok(())
+}
+
+/// Reads a log to its end.
+pub fn read<R: Read + Drop>(alloc: Global, reader: R) -> Result<Log, Fault> {
+    let lines = read_log(alloc, reader)?;
+    let Some(first) = lines.first() else {
+        return Err(Fault::Line);
+    };
+    let mut log = empty(alloc, first.as_str())?;
+    add_lines(alloc, &mut log, lines)?;
+    Ok(log)
+}

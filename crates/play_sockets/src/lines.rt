@@ -1,0 +1,198 @@
+//! The lines of a script, and what each is answered.
+use crate::client::{Client, named};
+use crate::datagrams::{push_reply, send_datagrams};
+use crate::fault::Fault;
+use crate::stage::Stage;
+use crate::texts::{number, push_got, unescaped};
+use hall_desk::Input;
+use hall_store::HallStore;
+use pxe_vendor::Octets;
+
+// So many clients of a name connect.
+fn connect<S: HallStore + Drop>(
+    rt: &HostRuntime,
+    stage: &mut Stage<S>,
+    name: &str,
+    count: &str,
+) -> Result<(), Fault> {
+    let service = stage.service.sockets().http_address()?;
+    for _ in 0..number(count)? {
+        let client = Client::connect(rt, name, service)?;
+        stage.clients.push(client).map_err(|_| Fault::Memory)?;
+    }
+    Ok(())
+}
+
+// The clients of a name leave.
+fn leave(clients: &mut [Client], name: &str) {
+    for client in clients.iter_mut() {
+        if client.name.as_str() == name {
+            client.stream = None;
+        }
+    }
+}
+
+fn request<S: HallStore + Drop>(stage: &mut Stage<S>, text: &str) -> Result<Octets, Fault> {
+    match stage.arrive(text)? {
+        Input::Request(octets) => Ok(octets),
+        _ => Err(Fault::Line),
+    }
+}
+
+// A client sends a request.
+fn ask<S: HallStore + Drop>(stage: &mut Stage<S>, name: &str, text: &str) -> Result<(), Fault> {
+    let octets = request(stage, text)?;
+    named(stage.clients.as_mut_slice(), name)?.send(octets.as_slice())
+}
+
+// A client sends a text.
+fn send<S: HallStore + Drop>(stage: &mut Stage<S>, name: &str, text: &str) -> Result<(), Fault> {
+    let text = unescaped(stage.alloc, text)?;
+    named(stage.clients.as_mut_slice(), name)?.send(text.as_bytes())
+}
+
+// A client sends a request octet by octet, and looks before each whether something came back.
+fn trickle<S: HallStore + Drop>(
+    stage: &mut Stage<S>,
+    name: &str,
+    text: &str,
+    line: &mut String,
+) -> Result<(), Fault> {
+    let octets = request(stage, text)?;
+    let mut early = Vec::new(stage.alloc);
+    for octet in octets.as_slice() {
+        let client = named(stage.clients.as_mut_slice(), name)?;
+        client.take(&mut early)?;
+        client.send(&[*octet])?;
+        stage.turns(2);
+    }
+    let (count, early) = (octets.as_slice().len(), early.len());
+    write!(line, "{count} octets, {early} came back before the last")?;
+    Ok(())
+}
+
+fn push_drained<S: HallStore + Drop>(
+    stage: &mut Stage<S>,
+    name: &str,
+    line: &mut String,
+) -> Result<(), Fault> {
+    let (octets, state) = stage.drain(name)?;
+    push_got(stage.alloc, line, state, octets.as_slice())?;
+    Ok(())
+}
+
+fn push_what_came<S: HallStore + Drop>(
+    stage: &mut Stage<S>,
+    name: &str,
+    line: &mut String,
+) -> Result<(), Fault> {
+    let mut octets = Vec::new(stage.alloc);
+    let state = named(stage.clients.as_mut_slice(), name)?.take(&mut octets)?;
+    push_got(stage.alloc, line, state, octets.as_slice())?;
+    Ok(())
+}
+
+fn push_log<S: HallStore + Drop>(
+    stage: &mut Stage<S>,
+    name: &str,
+    line: &mut String,
+) -> Result<(), Fault> {
+    let clients = stage.clients.as_slice();
+    for client in clients.iter().rev() {
+        if client.name.as_str() == name {
+            stage
+                .log
+                .push_about(line, client.address.as_str(), clients)?;
+            return Ok(());
+        }
+    }
+    Err(Fault::Line)
+}
+
+// Another client is served.
+fn serve_another<S: HallStore + Drop>(
+    rt: &HostRuntime,
+    stage: &mut Stage<S>,
+    text: &str,
+    line: &mut String,
+) -> Result<(), Fault> {
+    connect(rt, stage, "another", "1")?;
+    ask(stage, "another", text)?;
+    push_drained(stage, "another", line)
+}
+
+fn push_turns<S: HallStore + Drop>(
+    stage: &mut Stage<S>,
+    count: &str,
+    line: &mut String,
+) -> Result<(), Fault> {
+    let before = stage.log.turns;
+    stage.turns(number(count)?);
+    let told = stage.log.turns.saturating_sub(before);
+    write!(line, "{told} turns")?;
+    Ok(())
+}
+
+fn push_settled<S: HallStore + Drop>(stage: &mut Stage<S>, line: &mut String) -> Result<(), Fault> {
+    let word = if stage.settle() {
+        "settled"
+    } else {
+        "unsettled"
+    };
+    line.push_str(word)?;
+    Ok(())
+}
+
+// A line of one client, by its kind, the client's name and the rest of the line.
+fn play_client<S: HallStore + Drop>(
+    rt: &HostRuntime,
+    stage: &mut Stage<S>,
+    words: (&str, &str, &str),
+    line: &mut String,
+) -> Result<(), Fault> {
+    let (kind, name, rest) = words;
+    match kind {
+        "connect" => connect(rt, stage, name, rest),
+        "send" => send(stage, name, rest),
+        "ask" => ask(stage, name, rest),
+        "trickle" => trickle(stage, name, rest, line),
+        "got" => push_what_came(stage, name, line),
+        "drain" => push_drained(stage, name, line),
+        "log" => push_log(stage, name, line),
+        "datagrams" => send_datagrams(stage, name, rest),
+        "leave" => {
+            leave(stage.clients.as_mut_slice(), name);
+            Ok(())
+        }
+        _ => Err(Fault::Line),
+    }
+}
+
+/// Plays a line, and writes its answer.
+pub fn play_line<S: HallStore + Drop>(
+    rt: &HostRuntime,
+    stage: &mut Stage<S>,
+    text: &str,
+    line: &mut String,
+) -> Result<(), Fault> {
+    let (kind, rest) = text.split_once(' ').unwrap_or((text, ""));
+    match kind {
+        "turns" => push_turns(stage, rest, line),
+        "settle" => push_settled(stage, line),
+        "another" => serve_another(rt, stage, rest, line),
+        "reply" => push_reply(stage, line),
+        "at" => {
+            stage.clock.stamp.millis = number(rest)?;
+            Ok(())
+        }
+        "open" => {
+            let count = stage.service.sockets().connections();
+            write!(line, "{count} open")?;
+            Ok(())
+        }
+        _ => {
+            let (name, rest) = rest.split_once(' ').unwrap_or((rest, ""));
+            play_client(rt, stage, (kind, name, rest), line)
+        }
+    }
+}

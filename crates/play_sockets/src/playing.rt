@@ -1,0 +1,69 @@
+//! Playing a script over one service.
+use crate::fault::Fault;
+use crate::lines::play_line;
+use crate::stage::Stage;
+use crate::texts::number;
+use hall_store::HallStore;
+use play_log::next_line;
+use std::cell::RefCell;
+use std::io::BufRead;
+use store_watched::Sight;
+
+// Writes the answer of a line.
+fn answer<S: HallStore + Drop>(
+    rt: &HostRuntime,
+    stage: &mut Stage<S>,
+    text: &str,
+) -> Result<(), Fault> {
+    if text.is_empty() || text.starts_with('#') {
+        return Ok(println!(rt; "{text}")?);
+    }
+    let mut line = String::new(rt.alloc());
+    play_line(rt, stage, text, &mut line)?;
+    Ok(println!(rt; "{line}")?)
+}
+
+// What follows a line.
+#[derive(Clone, Copy)]
+enum Next {
+    Line,
+    Hall(u64),
+    End,
+}
+
+// Plays the next line, if there is one.
+fn step<S: HallStore + Drop, R: BufRead>(
+    rt: &HostRuntime,
+    stage: &mut Stage<S>,
+    reader: &mut R,
+) -> Result<Next, Fault> {
+    let text = match next_line(rt.alloc(), reader) {
+        Ok(Some(text)) => text,
+        Ok(None) => return Ok(Next::End),
+        Err(_) => return Err(Fault::Io),
+    };
+    if let Some(machines) = text.as_str().strip_prefix("new ") {
+        println!(rt; "")?;
+        return Ok(Next::Hall(number(machines)?));
+    }
+    answer(rt, stage, text.as_str())?;
+    Ok(Next::Line)
+}
+
+/// Plays the lines up to one that begins another hall: how many machines that one has.
+pub fn play<S: HallStore + Drop, R: BufRead>(
+    rt: &HostRuntime,
+    store: S,
+    sight: &RefCell<Sight>,
+    reader: &mut R,
+) -> Result<Option<u64>, Fault> {
+    let mut stage = Stage::new(rt, store, sight)?;
+    for _ in 0..u64::MAX {
+        match step(rt, &mut stage, reader)? {
+            Next::Line => {}
+            Next::Hall(machines) => return Ok(Some(machines)),
+            Next::End => return Ok(None),
+        }
+    }
+    Ok(None)
+}

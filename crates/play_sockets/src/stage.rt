@@ -1,0 +1,147 @@
+//! A service, its log and its clock, and the clients.
+use crate::client::{Client, named};
+use crate::fault::Fault;
+use crate::log::Log;
+use hall_desk::{Desk, Input};
+use hall_store::HallStore;
+use hall_types::{Moment, Token};
+use play_log::arrival;
+use pxe_vendor::Place;
+use serve_sockets::{Addresses, Service, Sockets, Source, Stamp};
+use std::alloc::Global;
+use std::cell::RefCell;
+use std::net::{IpAddr, Ipv4Addr, SocketAddr, UdpSocket};
+use store_watched::Sight;
+
+/// A clock that stands until it is moved.
+#[derive(Clone, Copy)]
+pub struct Clock {
+    pub stamp: Stamp,
+}
+
+impl Source for Clock {
+    fn stamp(&mut self) -> Option<Stamp> {
+        Some(self.stamp)
+    }
+}
+
+/// A service on loopback, and its clients.
+#[derive(Drop)]
+pub struct Stage<'a, S> {
+    pub alloc: Global,
+    pub service: Service<S>,
+    pub log: Log<'a>,
+    pub clock: Clock,
+    pub clients: Vec<Client>,
+    /// Sends datagrams.
+    pub asker: UdpSocket,
+}
+
+// An address of loopback, with a port that the system picks. The asker's is another one than the clients', which may have the same port.
+fn loopback(last: u8) -> SocketAddr {
+    SocketAddr::new(IpAddr::V4(Ipv4Addr::new(127, 0, 0, last)), 0)
+}
+
+// A service over the store, on loopback.
+fn service<S: HallStore + Drop>(rt: &HostRuntime, store: S) -> Result<Service<S>, Fault> {
+    let addresses = Addresses {
+        discover: loopback(1),
+        boot: loopback(1),
+        http: loopback(1),
+    };
+    let Ok(place) = Place::new(rt.alloc(), [192, 0, 2, 1], [192, 0, 2, 2], "hall.example") else {
+        return Err(Fault::Memory);
+    };
+    match Sockets::bind(rt, rt.alloc(), &addresses) {
+        Ok(sockets) => Ok(Service::new(rt.alloc(), Desk::new(store, place), sockets)),
+        Err(_) => Err(Fault::Io),
+    }
+}
+
+// The clock at the moment 1000.
+fn standing_clock() -> Result<Clock, Fault> {
+    let stamp = Stamp {
+        moment: Moment::new(1_000).map_err(|_| Fault::Line)?,
+        fresh: Token::from([0; 16]),
+        millis: 0,
+    };
+    Ok(Clock { stamp })
+}
+
+// The client that sends datagrams.
+fn asker(alloc: Global, address: SocketAddr) -> Result<Client, Fault> {
+    Ok(Client {
+        name: String::from_str(alloc, "asker")?,
+        address: address.to_string(alloc)?,
+        stream: None,
+    })
+}
+
+impl<'a, S: HallStore + Drop> Stage<'a, S> {
+    /// A service over the store, which makes its notes in the cell. The moment is 1000.
+    pub fn new(
+        rt: &HostRuntime,
+        store: S,
+        sight: &'a RefCell<Sight>,
+    ) -> Result<Stage<'a, S>, Fault> {
+        let alloc = rt.alloc();
+        let clock = standing_clock()?;
+        let socket = UdpSocket::bind(rt, loopback(2))?;
+        socket.set_nonblocking(true)?;
+        let client = asker(alloc, socket.local_addr()?)?;
+        let clients = Vec::from_array(alloc, [client]).map_err(|_| Fault::Memory)?;
+        Ok(Stage {
+            alloc,
+            service: service(rt, store)?,
+            log: Log::new(alloc, sight),
+            clock,
+            clients,
+            asker: socket,
+        })
+    }
+
+    /// What comes by an arrival's line. The clock is set to it.
+    pub fn arrive(&mut self, text: &str) -> Result<Input, Fault> {
+        match arrival(self.alloc, text) {
+            Ok(arrival) => {
+                self.clock.stamp.moment = arrival.moment;
+                self.clock.stamp.fresh = arrival.fresh;
+                Ok(arrival.input)
+            }
+            Err(_) => Err(Fault::Line),
+        }
+    }
+
+    /// Serves so many turns.
+    pub fn turns(&mut self, count: u64) {
+        self.service
+            .serve_turns(&mut self.clock, &mut self.log, count);
+    }
+
+    /// Serves turns until 16 in a row moved nothing, and says whether it came to that.
+    pub fn settle(&mut self) -> bool {
+        self.log.still = 0;
+        for _ in 0..10_000 {
+            self.turns(1);
+            if self.log.still >= 16 {
+                return true;
+            }
+        }
+        false
+    }
+
+    /// Serves turns until a client's connection has ended or 100 turns in a row moved nothing: what came to the client, and how its
+    /// connection is then.
+    pub fn drain(&mut self, name: &str) -> Result<(Vec<u8>, &'static str), Fault> {
+        let mut octets = Vec::new(self.alloc);
+        self.log.still = 0;
+        for _ in 0..10_000 {
+            let state = named(self.clients.as_mut_slice(), name)?.take(&mut octets)?;
+            if state != "open" || self.log.still >= 100 {
+                return Ok((octets, state));
+            }
+            self.turns(1);
+        }
+        Err(Fault::Io)
+    }
+}

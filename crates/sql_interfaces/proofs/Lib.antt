@@ -1,2 +1,0 @@
-pub mod InterfaceLemmas
-pub mod WipeLemmas

@@ -1,3 +1,0 @@
-pub mod Interfaces
-pub mod WipeLaws
-pub mod Wipes

@@ -1,0 +1,27 @@
+-- Reads in turn.
+use Rattle.std.proofs.Common.{Ok, Err, Result, IfOk}
+use Rattle.sqlite.specs.declared.error.Error.{Error}
+use Rattle.sqlite.specs.State.{State}
+use Rattle.hall_types.specs.Hall.{Hall}
+use Rattle.sql_schema.specs.Holding.{IsAsked}
+
+-- a read after one that was answered is of the same hall
+pub asked_twice : {X Y : Type 0} (old mid new : State) (Right : Hall → X → Type 0) (Reads Both : Hall → Y → Type 0) (x : X) (r : Result Y Error) → IsAsked old mid {E = Error} (Ok x) Right → IsAsked mid new r Reads
+    → ((h : Hall) (y : Y) → Right h x → Reads h y → Both h y) → IsAsked old new r Both
+asked_twice old mid new Right Reads Both x (Ok y) a b gives = record {
+  answer = λ h held. gives h y (a.answer h held) (b.answer h (a.same h held));
+  same = λ h held. b.same h (a.same h held);
+  back = tt;
+  crash = λ h held hs left. b.crash h (a.same h held) hs (a.crash h held hs left);
+}
+asked_twice old mid new Right Reads Both x (Err e) a b gives = record {
+  answer = tt;
+  same = tt;
+  back = λ h held. b.back h (a.same h held);
+  crash = λ h held hs left. b.crash h (a.same h held) hs (a.crash h held hs left);
+}
+
+-- what two clauses say together
+pub if_both : {X E : Type 0} (P Q R : X → Type 0) (r : Result X E) → IfOk r P → IfOk r Q → ((x : X) → P x → Q x → R x) → IfOk r R
+if_both P Q R (Ok x) p q gives = gives x p q
+if_both P Q R (Err e) p q gives = tt

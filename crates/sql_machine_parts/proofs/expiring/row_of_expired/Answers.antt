@@ -1,0 +1,13 @@
+use Rattle.sqlite.specs.Held.{state}
+use Rattle.hall_types.specs.Lookup.{next_expired}
+use Rattle.sql_schema.specs.StatementLaws.{if_ok}
+use Rattle.sql_schema.specs.HoldingLaws.{asked_then, asked_failed}
+use Rattle.sql_machine_parts.proofs.expiring.row_of_expired.Goals as goal
+
+pub returns-in-Ok-clause-asked : goal.returns-in-Ok-clause-asked
+returns-in-Ok-clause-asked g c clean =
+    asked_then (state g.S.Store c.args.conn.now) (state g.S.Store c.rows_of_expired.new.conn) _ _ c.in-Ok.rows c.first_machine.result (c.in-Ok.ensures.asked clean)
+    (if_ok _ _ c.first_machine.result c.first_machine.ensures (λ found first h is. record { row = first (next_expired h c.args.moment) is.0; recorded = is.1 }))
+
+pub returns-in-Err-clause-asked : goal.returns-in-Err-clause-asked
+returns-in-Err-clause-asked g c clean = asked_failed (state g.S.Store c.args.conn.now) (state g.S.Store c.rows_of_expired.new.conn) _ _ c.in-Err.error (c.in-Err.ensures.asked clean)

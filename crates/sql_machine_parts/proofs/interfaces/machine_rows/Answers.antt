@@ -1,0 +1,10 @@
+use Rattle.sql_machine_parts.proofs.interfaces.machine_rows.Goals as goal
+
+pub returns-clause-ok : goal.returns-clause-ok
+returns-clause-ok g c clean = rw (c.number_value.ensures, c.get.ensures.number) at (c.query_all.ensures.ok clean)
+
+pub returns-clause-err : goal.returns-clause-err
+returns-clause-err g c clean = rw (c.number_value.ensures, c.get.ensures.number) at (c.query_all.ensures.err clean)
+
+pub returns-clause-survives : goal.returns-clause-survives
+returns-clause-survives g c = rw (c.number_value.ensures, c.get.ensures.number) at c.query_all.ensures.survives

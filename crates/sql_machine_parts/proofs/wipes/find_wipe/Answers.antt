@@ -1,0 +1,12 @@
+use Rattle.sqlite.specs.Held.{state}
+use Rattle.sql_schema.specs.StatementLaws.{if_ok}
+use Rattle.sql_schema.specs.HoldingLaws.{asked_then, asked_failed}
+use Rattle.sql_machine_parts.proofs.wipes.find_wipe.Goals as goal
+
+pub returns-in-Ok-clause-asked : goal.returns-in-Ok-clause-asked
+returns-in-Ok-clause-asked g c clean =
+    asked_then (state g.S.Store c.args.conn.now) (state g.S.Store c.rows_of_wipe.new.conn) _ _ c.in-Ok.rows c.first_erase.result (c.in-Ok.ensures.asked clean)
+    (if_ok _ _ c.first_erase.result c.first_erase.ensures (λ found first h is. first h c.args.id is))
+
+pub returns-in-Err-clause-asked : goal.returns-in-Err-clause-asked
+returns-in-Err-clause-asked g c clean = asked_failed (state g.S.Store c.args.conn.now) (state g.S.Store c.rows_of_wipe.new.conn) _ _ c.in-Err.error (c.in-Err.ensures.asked clean)

@@ -1,3 +1,0 @@
-pub mod MemberLemmas
-pub mod OperatorLemmas
-pub mod PoolLemmas

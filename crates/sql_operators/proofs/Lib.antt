@@ -1,0 +1,5 @@
+pub mod MemberLemmas
+pub mod NumberLemmas
+pub mod OperatorLemmas
+pub mod PoolLemmas
+pub mod ReceiptLemmas

@@ -1,0 +1,10 @@
+use Rattle.sql_operators.proofs.receipts.add_raw.Goals as goal
+
+pub returns-clause-same_reference : goal.returns-clause-same_reference
+returns-clause-same_reference g c = c.execute.ensures.same_reference
+
+pub returns-clause-runs : goal.returns-clause-runs
+returns-clause-runs g c clean inside = rw (c.name_value.ensures, c.octets_value.ensures, c.text_value.ensures, c.text_value-2.ensures, c.number_value.ensures, c.octets-key.ensures.octets, c.from.ensures, c.as_str.ensures, c.as_str-2.ensures) at (c.execute.ensures.runs clean inside)
+
+pub returns-clause-survives : goal.returns-clause-survives
+returns-clause-survives g c = c.execute.ensures.survives

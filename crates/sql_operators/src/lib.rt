@@ -1,0 +1,14 @@
+//! The tables of operators, pools and members, of receipts and of the last numbers: each read and each write of a row.
+#![tactic(auto)]
+
+mod members;
+mod numbers;
+mod operators;
+mod pools;
+mod receipts;
+
+pub use members::{add_member, find_member};
+pub use numbers::{find_numbers, set_numbers};
+pub use operators::{find_operator, find_operator_with_digest, put_operator};
+pub use pools::{add_pool, find_pool};
+pub use receipts::{add_receipt, find_receipt};

@@ -1,0 +1,103 @@
+-- Laws of connections that hold a hall, for the proofs of callers: what goes through a call.
+use Rattle.std.proofs.Common.{◌≡◌, ◌⊎◌, inl, inr, ℕ, nat_eq, MatchBool, List, [], Ok, Err, Result, IfOk, IfErr, sym, ap, subst, ◌∙◌}
+use Rattle.sqlite.specs.declared.error.Error.{Error}
+use Rattle.sqlite.specs.Order.{Row}
+use Rattle.sqlite.specs.Query.{Query, IsAnswer}
+use Rattle.sqlite.specs.Program.{overlay}
+use Rattle.sqlite.specs.Effect.{Database}
+use Rattle.sqlite.specs.State.{State, HasCleanDisk, IsUnchanged, Survives, Shown, FailsToQuery, CommitsShowing, ExecutesInside}
+use Rattle.hall_types.specs.Hall.{Hall}
+use Rattle.sqlite.specs.Command.{Command}
+use Rattle.sqlite_schema.specs.declared.command.Returning.{Returning}
+use Rattle.sql_schema.specs.Statements.{IsBack, IsQueryText, IsReturningText}
+use Rattle.sql_schema.specs.WriteLaws.{shown_wrote}
+use Rattle.sql_schema.specs.StatementLaws.{query_refused, shown_same, query_survives}
+use Rattle.sql_schema.specs.QueryLaws.{shown_answer}
+use Rattle.sql_schema.specs.Tables.{hall_schema}
+use Rattle.sql_schema.specs.Spelling.{HallRows, Spells, SpellHall}
+use Rattle.sql_schema.specs.Holding.{Holds, Leaves, IsWithin, IsAsked}
+
+pub same_held : (old new : State) (h : Hall) → IsUnchanged old new → Holds old h → Holds new h
+same_held old new h same held live =
+    let was = held same.0.was_open in
+    record {
+      running = live;
+      schema = ap (λ (d : Database). d.schema) same.0.now_is ∙ was.schema;
+      spelt = subst (λ (d : Database). SpellHall d.trees h) (sym same.0.now_is) was.spelt;
+      kept = same.0.committed_is ∙ was.kept ∙ sym same.0.now_is;
+      autocommit = same.0.mode ∙ was.autocommit;
+    }
+
+-- what goes back to the last commit goes back to the hall
+pub back_held : (old new : State) (h : Hall) → IsBack old new → Holds old h → Holds new h
+back_held old new h (inl same) held live = same_held old new h same held live
+back_held old new h (inr back) held live =
+    let was = held (back.was_open live) in
+    let gone = back.undone live in
+    record {
+      running = live;
+      schema = ap (λ (d : Database). d.schema) (gone.0 ∙ was.kept) ∙ was.schema;
+      spelt = subst (λ (d : Database). SpellHall d.trees h) (sym (gone.0 ∙ was.kept)) was.spelt;
+      kept = gone.1 ∙ sym gone.0;
+      autocommit = back.autocommit;
+    }
+
+-- a call that commits nothing adds no outcome of a crash
+pub leaves_on : (old new : State) (hs : List Hall) → Survives old new (λ _. ⊥) → HasCleanDisk new → Leaves old hs → Leaves new hs
+leaves_on old new hs s clean left db may = elim (s.crash clean db may) [ inl before ↦ left db before | inr none ↦ absurd none ]
+
+-- a query whose text is known, of which the tables say what it answers
+pub asked : {X : Type 0} (sql : List ℕ) (params : Row) (q : Query) (names : List (List ℕ)) → IsQueryText hall_schema sql q names → (old new : State) (rows_of : X → List Row) (Right : Hall → X → Type 0) (r : Result X Error)
+    → IfOk r (λ x. Shown sql params old new (rows_of x)) → IfErr r (FailsToQuery sql params old new) → Survives old new (CommitsShowing sql params old) → HasCleanDisk new
+    → ((h : Hall) (x : X) → IsAnswer q (overlay old.now.trees []) params (rows_of x) → SpellHall old.now.trees h → Right h x) → IsAsked old new r Right
+asked sql params q names text old new rows_of Right (Ok x) ok err survives clean right = record {
+  answer = λ h held. right h x (shown_answer hall_schema sql q names text params old new (rows_of x) held.schema ok) held.spelt;
+  same = λ h held.
+      let same = shown_same sql params hall_schema text.plain old new (rows_of x) held.schema ok in
+      same_held old new h same (λ _. held) same.0.is_open;
+  back = tt;
+  crash = λ h held hs left. leaves_on old new hs (query_survives sql params hall_schema text.plain old new held.schema survives) clean left;
+}
+asked sql params q names text old new rows_of Right (Err e) ok err survives clean right = record {
+  answer = tt;
+  same = tt;
+  back = λ h held. back_held old new h (query_refused sql params old new e err) (λ _. held);
+  crash = λ h held hs left. leaves_on old new hs (query_survives sql params hall_schema text.plain old new held.schema survives) clean left;
+}
+
+-- an answer that is read from another one
+pub asked_then : {X Y : Type 0} (old new : State) (Right : Hall → X → Type 0) (Reads : Hall → Y → Type 0) (x : X) (r : Result Y Error) → IsAsked old new {E = Error} (Ok x) Right
+    → IfOk r (λ y. (h : Hall) → Right h x → Reads h y) → IsAsked old new r Reads
+asked_then old new Right Reads x (Ok y) a gives = record { answer = λ h held. gives h (a.answer h held); same = a.same; back = tt; crash = a.crash }
+asked_then old new Right Reads x (Err e) a gives = record { answer = tt; same = tt; back = λ h held live. a.same h held; crash = a.crash }
+
+-- a refused read is refused whatever it was to read
+pub asked_failed : {X Y : Type 0} (old new : State) (Right : Hall → X → Type 0) (Reads : Hall → Y → Type 0) (e : Error) → IsAsked old new {Y = X} (Err e) Right → IsAsked old new {Y = Y} (Err e) Reads
+asked_failed old new Right Reads e a = record { answer = tt; same = tt; back = a.back; crash = a.crash }
+
+-- a write inside a transaction, of which the tables say what it makes
+pub within : (sql : List ℕ) (params : Row) (old new : State) (before : Hall) (was now : HallRows) (count : ℕ) → IsWithin old before was → ExecutesInside 0 sql params old new (Ok count) → Spells new.now now → IsWithin new before now
+within sql params old new before was now count held ran spells = record {
+  spelt = spells;
+  committed_schema = ap (λ (d : Database). d.schema) ran.1.committed_is ∙ held.committed_schema;
+  kept = subst (λ (d : Database). SpellHall d.trees before) (sym ran.1.committed_is) held.kept;
+  mode = ran.1.mode;
+}
+
+-- a write with RETURNING inside a transaction
+pub shown_within : (sql : List ℕ) (params : Row) (command : Command) (what : Returning) → IsReturningText hall_schema sql command what → (old new : State) (before : Hall) (was now : HallRows) (rows : List Row)
+    → IsWithin old before was → Shown sql params old new rows → Spells new.now now → IsWithin new before now
+shown_within sql params command what text old new before was now rows held shown spells =
+    let it = shown_wrote sql params hall_schema command what text old new rows held.spelt.schema shown in
+    let same : new.committed ≡ old.committed = rw held.mode at it.1.shown.committed_is in
+    record {
+      spelt = spells;
+      committed_schema = ap (λ (d : Database). d.schema) same ∙ held.committed_schema;
+      kept = subst (λ (d : Database). SpellHall d.trees before) (sym same) held.kept;
+      mode = it.1.shown.mode ∙ held.mode;
+    }
+
+-- from how many rows were shown to whether one was
+pub by_count : (shown n : ℕ) → shown ≡ n → (There Absent Free : Type 0) → (Absent × Free × (shown ≡ 0)) ⊎ (There × (shown ≡ 1)) → MatchBool (nat_eq n 1) There (Absent × Free)
+by_count shown n same There Absent Free (inl it) = subst (λ k. MatchBool (nat_eq k 1) There (Absent × Free)) (sym it.2 ∙ same) (it.0, it.1)
+by_count shown n same There Absent Free (inr it) = subst (λ k. MatchBool (nat_eq k 1) There (Absent × Free)) (sym it.1 ∙ same) it.0

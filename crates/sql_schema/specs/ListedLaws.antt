@@ -1,0 +1,313 @@
+-- Laws of the list of all rows of a table, for the proofs of callers: what each change of rows makes of the list.
+use Rattle.std.proofs.Common.{◌≡◌, ◌≢◌, ◌⊎◌, not, inl, inr, ℕ, zero, suc, List, [], ◌∷◌, map, filter, length, ◌<◌, Bool, true, false, cond, Option, Some, None, Ordering, Less, Equal, Greater, refl, sym, ap, ap₂, subst, subst₂, ◌∙◌, arith, true≢false, IsPermutation, Contains, slice_index_or}
+use Rattle.std.specs.List.{AllByRecursion}
+use Rattle.std.specs.List.Sorted.{IsStrictlySortedBy}
+use Rattle.std.specs.Option.{option_to_list}
+use Rattle.std.specs.Ordering.{match_ordering, ordering_reverse}
+use Rattle.std.proofs.lemmas.Map.Keys.{sorted_head, sorted_tail}
+use Rattle.std.proofs.lemmas.List.Sorted.{IsPermutation-refl, IsPermutation-cons, IsPermutation-trans, IsPermutation-middle}
+use Rattle.sqlite.specs.Tree.{IsAscending}
+use Rattle.sqlite_rules.specs.Lists.{Has}
+use Rattle.sqlite_keyed.proofs.ListLemmas.{all_unmap, ascending-filter, ascending-map, ascending_weaker}
+use Rattle.sql_schema.specs.ListLaws.{has_map, map_has}
+use Rattle.hall_types.specs.Rows.{Keys, Rows, at, put, gone, rows_where, listed, same_key}
+use Rattle.hall_types.specs.Keyed.{StandUnder}
+use Rattle.hall_types.specs.RowLaws.{key-same, same-key, other-key, at-put-same, at-put-other, put_cases, gone_found, at-gone-other, where_found, where_kept}
+use Rattle.hall_types.specs.ListLaws.{Contains-listed, AllByRecursion-listed, IsStrictlySortedBy-listed}
+
+-- ---- membership
+
+has_contained : {X : Type 0} (xs : List X) (x : X) → Contains xs x → Has xs x
+has_contained xs x c = go xs c.0 c.1 c.2
+  where
+    go : (ys : List _) (k : ℕ) → k < length ys → slice_index_or ys k x ≡ x → Has ys x
+    go [] k low is = absurd (omega (arith, low))
+    go (y ∷ ys) zero low is = inl (sym is)
+    go (y ∷ ys) (suc k) low is = inr (go ys k (omega (arith, low)) is)
+
+all_has : {X : Type 0} (P : X → Type 0) (xs : List X) (x : X) → AllByRecursion P xs → Has xs x → P x
+all_has P [] x all h = absurd h
+all_has P (y ∷ ys) x all (inl same) = subst P (sym same) all.0
+all_has P (y ∷ ys) x all (inr h) = all_has P ys x all.1 h
+
+pub has_filter : {X : Type 0} (p : X → Bool) (xs : List X) (x : X) → Has (filter p xs) x → Has xs x × (p x ≡ true)
+has_filter p [] x h = absurd h
+has_filter p (y ∷ ys) x h = go (p y) refl (has_filter p ys x) h
+  where
+    go : (b : Bool) → p y ≡ b → (Has (filter p ys) x → Has ys x × (p x ≡ true)) → Has (cond b (y ∷ filter p ys) (filter p ys)) x → Has (y ∷ ys) x × (p x ≡ true)
+    go true e more (inl same) = (inl same, ap p same ∙ e)
+    go true e more (inr h) = let it = more h in (inr it.0, it.1)
+    go false e more h = let it = more h in (inr it.0, it.1)
+
+pub filter_has : {X : Type 0} (p : X → Bool) (xs : List X) (x : X) → Has xs x → p x ≡ true → Has (filter p xs) x
+filter_has p [] x h t = absurd h
+filter_has p (y ∷ ys) x h t = go (p y) refl (λ found. filter_has p ys x found t) h
+  where
+    go : (b : Bool) → p y ≡ b → (Has ys x → Has (filter p ys) x) → Has (y ∷ ys) x → Has (cond b (y ∷ filter p ys) (filter p ys)) x
+    go true e more (inl same) = inl same
+    go true e more (inr h) = inr (more h)
+    go false e more (inl same) = absurd (true≢false (sym t ∙ ap p same ∙ e))
+    go false e more (inr h) = more h
+
+-- ---- lists in the order of their keys
+
+module _ {K X : Type 0} (keys : Keys K) (key_of : X → K) where
+  -- each row's key is below those of the rows after it
+  abbrev pub AreRising : List X → Type 0
+  AreRising = IsAscending (λ a b. keys.cmp (key_of a) (key_of b) ≡ Less)
+
+  -- the rows, with this one in its place, and in place of one that has its key
+  abbrev pub put_in : List X → X → List X
+  put_in [] new = new ∷ []
+  put_in (x ∷ xs) new = match_ordering (keys.cmp (key_of x) (key_of new)) (x ∷ put_in xs new) (new ∷ xs) (new ∷ x ∷ xs)
+
+  backwards : (one other : K) → keys.cmp one other ≡ Less → keys.cmp other one ≡ Greater
+  backwards one other low = keys.total.antisymm other one ∙ ap ordering_reverse low
+
+  not_both : (one other : K) → keys.cmp one other ≡ Less → keys.cmp other one ≡ Less → ⊥
+  not_both one other low high = absurd (let e = sym (backwards one other low) ∙ high in cc)
+
+  above : (x : X) (xs : List X) (z : X) → AllByRecursion (λ y. keys.cmp (key_of x) (key_of y) ≡ Less) xs → Has xs z → keys.cmp (key_of x) (key_of z) ≡ Less
+  above x xs z all h = all_has (λ y. keys.cmp (key_of x) (key_of y) ≡ Less) xs z all h
+
+  -- rising lists with the same members are the same
+  pub same_lists : (xs ys : List X) → AreRising xs → AreRising ys → ((z : X) → Has xs z → Has ys z) → ((z : X) → Has ys z → Has xs z) → xs ≡ ys
+  same_lists [] [] up rise into back = refl
+  same_lists [] (y ∷ ys) up rise into back = absurd (back y (inl refl))
+  same_lists (x ∷ xs) [] up rise into back = absurd (into x (inl refl))
+  same_lists (x ∷ xs) (y ∷ ys) up rise into back =
+      let heads : x ≡ y = first (into x (inl refl)) (back y (inl refl)) in
+      ap₂ (λ a l. a ∷ l) heads (same_lists xs ys up.1 rise.1 (λ z h. rest z heads h (into z (inr h))) (λ z h. rest_back z heads h (back z (inr h))))
+    where
+      first : (x ≡ y) ⊎ Has ys x → (y ≡ x) ⊎ Has xs y → x ≡ y
+      first (inl same) other = same
+      first (inr h) (inl same) = sym same
+      first (inr h) (inr h') = absurd (not_both (key_of y) (key_of x) (above y ys x rise.0 h) (above x xs y up.0 h'))
+
+      rest : (z : X) → x ≡ y → Has xs z → (z ≡ y) ⊎ Has ys z → Has ys z
+      rest z heads h (inr found) = found
+      rest z heads h (inl same) = absurd (let low = subst (λ w. keys.cmp (key_of x) (key_of w) ≡ Less) (same ∙ sym heads) (above x xs z up.0 h) in not_both (key_of x) (key_of x) low low)
+
+      rest_back : (z : X) → x ≡ y → Has ys z → (z ≡ x) ⊎ Has xs z → Has xs z
+      rest_back z heads h (inr found) = found
+      rest_back z heads h (inl same) = absurd (let low = subst (λ w. keys.cmp (key_of y) (key_of w) ≡ Less) (same ∙ heads) (above y ys z rise.0 h) in not_both (key_of y) (key_of y) low low)
+
+  -- ---- a row put in its place
+
+  all_placed : (P : X → Type 0) (xs : List X) (new : X) → P new → AllByRecursion P xs → AllByRecursion P (put_in xs new)
+  all_placed P [] new fits all = (fits, tt)
+  all_placed P (x ∷ xs) new fits all = go (keys.cmp (key_of x) (key_of new)) (all_placed P xs new fits all.1)
+    where
+      go : (o : Ordering) → AllByRecursion P (put_in xs new) → AllByRecursion P (match_ordering o (x ∷ put_in xs new) (new ∷ xs) (new ∷ x ∷ xs))
+      go Less more = (all.0, more)
+      go Equal more = (fits, all.1)
+      go Greater more = (fits, all)
+
+  lower : (low : X) (new : X) (xs : List X) → keys.cmp (key_of new) (key_of low) ≡ Less → AllByRecursion (λ y. keys.cmp (key_of low) (key_of y) ≡ Less) xs → AllByRecursion (λ y. keys.cmp (key_of new) (key_of y) ≡ Less) xs
+  lower low new [] below all = tt
+  lower low new (y ∷ ys) below all = (keys.total.trans (key_of new) (key_of low) (key_of y) below all.0, lower low new ys below all.1)
+
+  same_above : (x new : X) (xs : List X) → key_of x ≡ key_of new → AllByRecursion (λ y. keys.cmp (key_of x) (key_of y) ≡ Less) xs → AllByRecursion (λ y. keys.cmp (key_of new) (key_of y) ≡ Less) xs
+  same_above x new xs same all = subst (λ k. AllByRecursion (λ y. keys.cmp k (key_of y) ≡ Less) xs) same all
+
+  pub AreRising-put_in : (xs : List X) (new : X) → AreRising xs → AreRising (put_in xs new)
+  AreRising-put_in [] new up = (tt, tt)
+  AreRising-put_in (x ∷ xs) new up = go (keys.cmp (key_of x) (key_of new)) refl (AreRising-put_in xs new up.1)
+    where
+      go : (o : Ordering) → keys.cmp (key_of x) (key_of new) ≡ o → AreRising (put_in xs new) → AreRising (match_ordering o (x ∷ put_in xs new) (new ∷ xs) (new ∷ x ∷ xs))
+      go Less e more = (all_placed (λ y. keys.cmp (key_of x) (key_of y) ≡ Less) xs new e up.0, more)
+      go Equal e more = (same_above x new xs (keys.same (key_of x) (key_of new) e) up.0, up.1)
+      go Greater e more =
+          let below : keys.cmp (key_of new) (key_of x) ≡ Less = keys.total.antisymm (key_of new) (key_of x) ∙ ap ordering_reverse e in
+          ((below, lower x new xs below up.0), up)
+
+  -- the new row is there
+  placed_new : (xs : List X) (new : X) → Has (put_in xs new) new
+  placed_new [] new = inl refl
+  placed_new (x ∷ xs) new = go (keys.cmp (key_of x) (key_of new)) (placed_new xs new)
+    where
+      go : (o : Ordering) → Has (put_in xs new) new → Has (match_ordering o (x ∷ put_in xs new) (new ∷ xs) (new ∷ x ∷ xs)) new
+      go Less more = inr more
+      go Equal more = inl refl
+      go Greater more = inl refl
+
+  -- so is each row with another key
+  placed_other : (xs : List X) (new z : X) → Has xs z → key_of z ≢ key_of new → Has (put_in xs new) z
+  placed_other [] new z h apart = absurd h
+  placed_other (x ∷ xs) new z h apart = go (keys.cmp (key_of x) (key_of new)) refl (λ found. placed_other xs new z found apart) h
+    where
+      go : (o : Ordering) → keys.cmp (key_of x) (key_of new) ≡ o → (Has xs z → Has (put_in xs new) z) → Has (x ∷ xs) z → Has (match_ordering o (x ∷ put_in xs new) (new ∷ xs) (new ∷ x ∷ xs)) z
+      go Less e more (inl same) = inl same
+      go Less e more (inr h) = inr (more h)
+      go Equal e more (inl same) = absurd (apart (ap key_of same ∙ keys.same (key_of x) (key_of new) e))
+      go Equal e more (inr h) = inr h
+      go Greater e more h = inr h
+
+  -- and no other row
+  placed_only : (xs : List X) (new z : X) → AreRising xs → Has (put_in xs new) z → (z ≡ new) ⊎ (Has xs z × (key_of z ≢ key_of new))
+  placed_only [] new z up (inl same) = inl same
+  placed_only [] new z up (inr h) = absurd h
+  placed_only (x ∷ xs) new z up h = go (keys.cmp (key_of x) (key_of new)) refl (placed_only xs new z up.1) h
+    where
+      apart_above : (y : X) → keys.cmp (key_of new) (key_of y) ≡ Less → key_of y ≢ key_of new
+      apart_above y low same = let e = subst (λ k. keys.cmp (key_of new) k ≡ Less) same low in absurd (not_both (key_of new) (key_of new) e e)
+
+      later : (z ≡ new) ⊎ (Has xs z × (key_of z ≢ key_of new)) → (z ≡ new) ⊎ (Has (x ∷ xs) z × (key_of z ≢ key_of new))
+      later (inl same) = inl same
+      later (inr it) = inr (inr it.0, it.1)
+
+      go : (o : Ordering) → keys.cmp (key_of x) (key_of new) ≡ o → (Has (put_in xs new) z → (z ≡ new) ⊎ (Has xs z × (key_of z ≢ key_of new)))
+          → Has (match_ordering o (x ∷ put_in xs new) (new ∷ xs) (new ∷ x ∷ xs)) z → (z ≡ new) ⊎ (Has (x ∷ xs) z × (key_of z ≢ key_of new))
+      go Less e more (inl same) =
+          inr (inl same, λ k. let low = subst (λ q. keys.cmp q (key_of new) ≡ Less) (sym (ap key_of same) ∙ k) e in absurd (not_both (key_of new) (key_of new) low low))
+      go Less e more (inr h) = later (more h)
+      go Equal e more (inl same) = inl same
+      go Equal e more (inr h) =
+          inr (inr h, apart_above z (subst (λ k. keys.cmp k (key_of z) ≡ Less) (keys.same (key_of x) (key_of new) e) (above x xs z up.0 h)))
+      go Greater e more (inl same) = inl same
+      go Greater e more (inr h) =
+          let below : keys.cmp (key_of new) (key_of x) ≡ Less = keys.total.antisymm (key_of new) (key_of x) ∙ ap ordering_reverse e in
+          inr (
+            h,
+            apart_above z (elim h [
+              | inl same ↦ subst (λ w. keys.cmp (key_of new) (key_of w) ≡ Less) (sym same) below
+              | inr found ↦ keys.total.trans (key_of new) (key_of x) (key_of z) below (above x xs z up.0 found)
+            ]),
+          )
+
+  -- where the key is free, the list has one row more
+  pub put_in-permutes : (new : X) (xs : List X) → ((z : X) → Has xs z → key_of z ≢ key_of new) → IsPermutation (put_in xs new) (new ∷ xs)
+  put_in-permutes new [] free = IsPermutation-refl _
+  put_in-permutes new (x ∷ xs) free = go (keys.cmp (key_of x) (key_of new)) refl (put_in-permutes new xs (λ z h. free z (inr h)))
+    where
+      go : (o : Ordering) → keys.cmp (key_of x) (key_of new) ≡ o → IsPermutation (put_in xs new) (new ∷ xs) → IsPermutation (match_ordering o (x ∷ put_in xs new) (new ∷ xs) (new ∷ x ∷ xs)) (new ∷ x ∷ xs)
+      go Less e more = IsPermutation-trans _ _ _ (IsPermutation-cons x _ _ more) (IsPermutation-middle (x ∷ []) new xs)
+      go Equal e more = absurd (free x (inl refl) (keys.same (key_of x) (key_of new) e))
+      go Greater e more = IsPermutation-refl _
+
+  -- ---- the list of all rows
+
+  rising_keys : (xs : List X) → IsStrictlySortedBy keys.cmp (map key_of xs) → AreRising xs
+  rising_keys [] sorted = tt
+  rising_keys (x ∷ xs) sorted =
+      (all_unmap (λ k. keys.cmp (key_of x) k ≡ Less) key_of xs (sorted_head keys.cmp (key_of x) (map key_of xs) sorted), rising_keys xs (sorted_tail keys.cmp (key_of x) (map key_of xs) sorted))
+
+  module _ (rows : Rows keys X) (under : StandUnder key_of rows) where
+    pub AreRising-listed : AreRising (listed rows)
+    AreRising-listed = rising_keys (listed rows) (IsStrictlySortedBy-listed key_of rows under)
+
+    -- a row that is listed stands under its key
+    pub listed_at : (x : X) → Has (listed rows) x → at rows (key_of x) ≡ Some x
+    listed_at x h = all_has (λ y. at rows (key_of y) ≡ Some y) (listed rows) x (AllByRecursion-listed key_of rows under) h
+
+    -- a row that stands under a key is listed
+    pub at_listed : (key : K) (x : X) → at rows key ≡ Some x → Has (listed rows) x
+    at_listed key x is = has_contained (listed rows) x (Contains-listed rows key x is)
+
+    -- the rows with a key are that of the key, or none
+    pub listed_with_key : (key : K) → filter (λ x. same_key keys (key_of x) key) (listed rows) ≡ option_to_list (at rows key)
+    listed_with_key key =
+        same_lists _ _ (ascending-filter _ (λ x. same_key keys (key_of x) key) (listed rows) AreRising-listed) (one_rises (at rows key))
+        (λ z h. let it = has_filter (λ x. same_key keys (key_of x) key) (listed rows) z h in
+        subst (λ o. Has (option_to_list o) z) (sym (subst (λ k. at rows k ≡ Some z) (key-same keys (key_of z) key it.1) (listed_at z it.0))) (inl refl))
+        (λ z h. let is : at rows key ≡ Some z = only z (at rows key) h in
+        filter_has (λ x. same_key keys (key_of x) key) (listed rows) z (at_listed key z is) (subst (λ k. same_key keys k key ≡ true) (sym (under key z is)) (same-key keys key)))
+      where
+        one_rises : (o : Option X) → AreRising (option_to_list o)
+        one_rises None = tt
+        one_rises (Some x) = (tt, tt)
+
+        only : (z : X) (o : Option X) → Has (option_to_list o) z → o ≡ Some z
+        only z None h = absurd h
+        only z (Some x) (inl same) = ap (λ y. Some y) (sym same)
+        only z (Some x) (inr h) = absurd h
+
+    pub StandUnder-put : (x : X) → StandUnder key_of (put (key_of x) x rows)
+    StandUnder-put x = λ key row is. elim (put_cases rows (key_of x) x key row is) [
+      | inl it ↦ ap key_of it.1 ∙ sym it.0
+      | inr it ↦ under key row it.1
+    ]
+
+    pub StandUnder-gone : (key : K) → StandUnder key_of (gone key rows)
+    StandUnder-gone key = λ k row is. under k row (gone_found rows key k row is).1
+
+    pub StandUnder-where : (p : X → Bool) → StandUnder key_of (rows_where p rows)
+    StandUnder-where p = λ k row is. under k row (where_found p rows k row is).0
+
+  -- ---- the list of all rows after a change
+
+  module _ (rows : Rows keys X) (under : StandUnder key_of rows) where
+    pub listed-put : (x : X) → listed (put (key_of x) x rows) ≡ put_in (listed rows) x
+    listed-put x =
+        let after = put (key_of x) x rows in
+        let stands = StandUnder-put rows under x in
+        same_lists (listed after) (put_in (listed rows) x) (AreRising-listed after stands) (AreRising-put_in (listed rows) x (AreRising-listed rows under))
+        (λ z h. elim (put_cases rows (key_of x) x (key_of z) z (listed_at after stands z h)) [
+          | inl it ↦ subst (Has (put_in (listed rows) x)) (sym it.1) (placed_new (listed rows) x)
+          | inr it ↦ placed_other (listed rows) x z (at_listed rows under (key_of z) z it.1) it.0
+        ])
+        (λ z h. elim (placed_only (listed rows) x z (AreRising-listed rows under) h) [
+          | inl same ↦ subst (Has (listed after)) (sym same) (at_listed after stands (key_of x) x (at-put-same rows (key_of x) x))
+          | inr it ↦ at_listed after stands (key_of z) z (at-put-other rows (key_of x) x (key_of z) it.1 ∙ listed_at rows under z it.0)
+        ])
+
+    -- where the key was free, one row more
+    pub listed-put-new : (x : X) → at rows (key_of x) ≡ None → IsPermutation (listed (put (key_of x) x rows)) (x ∷ listed rows)
+    listed-put-new x free = subst (λ l. IsPermutation l (x ∷ listed rows)) (sym (listed-put x))
+        (put_in-permutes x (listed rows) (λ z h same. absurd (let e = sym (subst (λ k. at rows k ≡ Some z) same (listed_at rows under z h)) ∙ free in cc)))
+
+    pub listed-gone : (key : K) → listed (gone key rows) ≡ filter (λ x. not (same_key keys (key_of x) key)) (listed rows)
+    listed-gone key =
+        let after = gone key rows in
+        let stands = StandUnder-gone rows under key in
+        let other = λ (x : X). not (same_key keys (key_of x) key) in
+        same_lists (listed after) (filter other (listed rows)) (AreRising-listed after stands) (ascending-filter _ other (listed rows) (AreRising-listed rows under))
+        (λ z h. let it = gone_found rows key (key_of z) z (listed_at after stands z h) in
+        filter_has other (listed rows) z (at_listed rows under (key_of z) z it.1) (ap not (other-key keys (key_of z) key it.0)))
+        (λ z h. let it = has_filter other (listed rows) z h in
+        at_listed after stands (key_of z) z (at-gone-other rows key (key_of z) (apart z it.1) ∙ listed_at rows under z it.0))
+      where
+        apart : (z : X) → not (same_key keys (key_of z) key) ≡ true → key_of z ≢ key
+        apart z t same = absurd (let e = ap not (subst (λ k. same_key keys (key_of z) k ≡ true) same (same-key keys (key_of z))) in true≢false (sym t ∙ e))
+
+    pub listed-where : (p : X → Bool) → listed (rows_where p rows) ≡ filter p (listed rows)
+    listed-where p =
+        let after = rows_where p rows in
+        let stands = StandUnder-where rows under p in
+        same_lists (listed after) (filter p (listed rows)) (AreRising-listed after stands) (ascending-filter _ p (listed rows) (AreRising-listed rows under))
+        (λ z h. let it = where_found p rows (key_of z) z (listed_at after stands z h) in filter_has p (listed rows) z (at_listed rows under (key_of z) z it.0) it.1)
+        (λ z h. let it = has_filter p (listed rows) z h in at_listed after stands (key_of z) z (where_kept p rows (key_of z) z (listed_at rows under z it.0) it.1))
+
+    -- where the key had a row, the new one is in its place
+    pub listed-put-there : (x old : X) → at rows (key_of x) ≡ Some old → listed (put (key_of x) x rows) ≡ map (λ y. cond (same_key keys (key_of y) (key_of x)) x y) (listed rows)
+    listed-put-there x old there =
+        let after = put (key_of x) x rows in
+        let stands = StandUnder-put rows under x in
+        same_lists (listed after) (map (swap x) (listed rows)) (AreRising-listed after stands)
+        (ascending-map _ (swap x) (listed rows) (ascending_weaker _ _ (λ a b low. subst₂ (λ k q. keys.cmp k q ≡ Less) (sym (swap_key x a)) (sym (swap_key x b)) low) (listed rows) (AreRising-listed rows under)))
+        (λ z h. elim (put_cases rows (key_of x) x (key_of z) z (listed_at after stands z h)) [
+          | inl it ↦ subst (Has (map (swap x) (listed rows))) (ap (λ b. cond b x old) (subst (λ k. same_key keys k (key_of x) ≡ true) (sym (under (key_of x) old there)) (same-key keys (key_of x))) ∙ sym it.1)
+              (map_has (swap x) (listed rows) old (at_listed rows under (key_of x) old there))
+          | inr it ↦ subst (Has (map (swap x) (listed rows))) (ap (λ b. cond b x z) (other-key keys (key_of z) (key_of x) it.0))
+              (map_has (swap x) (listed rows) z (at_listed rows under (key_of z) z it.1))
+        ])
+        (λ z h. let it = has_map (swap x) (listed rows) z h in back z it.0 it.1 it.2)
+      where
+        swap : (x : X) → X → X
+        swap x y = cond (same_key keys (key_of y) (key_of x)) x y
+
+        swap_key : (x y : X) → key_of (cond (same_key keys (key_of y) (key_of x)) x y) ≡ key_of y
+        swap_key x y = go (same_key keys (key_of y) (key_of x)) refl
+          where
+            go : (b : Bool) → same_key keys (key_of y) (key_of x) ≡ b → key_of (cond b x y) ≡ key_of y
+            go true e = sym (key-same keys (key_of y) (key_of x) e)
+            go false e = refl
+
+        back : (z y : X) → Has (listed rows) y → z ≡ cond (same_key keys (key_of y) (key_of x)) x y → Has (listed (put (key_of x) x rows)) z
+        back z y found = go (same_key keys (key_of y) (key_of x)) refl
+          where
+            go : (b : Bool) → same_key keys (key_of y) (key_of x) ≡ b → z ≡ cond b x y → Has (listed (put (key_of x) x rows)) z
+            go true e same = subst (Has (listed (put (key_of x) x rows))) (sym same) (at_listed (put (key_of x) x rows) (StandUnder-put rows under x) (key_of x) x (at-put-same rows (key_of x) x))
+            go false e same =
+                let apart : key_of y ≢ key_of x = λ k. absurd (true≢false (sym (same-key keys (key_of x)) ∙ subst (λ q. same_key keys q (key_of x) ≡ false) k e)) in
+                subst (Has (listed (put (key_of x) x rows))) (sym same) (at_listed (put (key_of x) x rows) (StandUnder-put rows under x) (key_of y) y (at-put-other rows (key_of x) x (key_of y) apart ∙ listed_at rows under y found))

@@ -1,5 +1,0 @@
-//! Tests of the reports on a hall whose store fails.
-#![tactic(auto)]
-
-#[cfg(test)]
-mod failing;

@@ -1,5 +1,0 @@
-//! Tests of readers and writers that fail.
-#![tactic(auto)]
-
-#[cfg(test)]
-mod noted;
