@@ -12,9 +12,12 @@ mod log;
 mod rounds;
 
 use fault::Fault;
+use hall_sql::SqlStore;
 use log::{Log, read};
 use rounds::play;
 use sql_file::{close, create, open};
+use sqlite::{Alter, FileStore};
+use sqlite_disk::Disk;
 use std::alloc::Global;
 use std::process::ExitCode;
 use std::{env, fs, io};
@@ -32,15 +35,37 @@ fn made(rt: &HostRuntime, file: &str, log: &Log) -> Result<bool, Fault> {
     }
 }
 
-// The only function that has the file's store. A fault of the rounds comes before one of the closing.
-fn over_file(rt: &HostRuntime, file: &str, log: &Log, times: u64) -> Result<u64, Fault> {
-    let is_new = made(rt, file, log)?;
-    let store = open(rt, file)?;
-    let (sum, store) = play(rt.alloc(), store, log, is_new, times);
+// Plays the rounds over a hall's tables.
+fn over_tables<S: Alter>(
+    alloc: Global,
+    store: SqlStore<S>,
+    log: &Log,
+    is_new: bool,
+    times: u64,
+) -> (Result<u64, Fault>, SqlStore<S>) {
+    play(alloc, store, log, is_new, times)
+}
+
+// Plays the rounds over a hall's tables on a disk, and closes them. A fault of the rounds comes before one of the closing.
+fn over_disk<D: Disk + Drop>(
+    alloc: Global,
+    store: SqlStore<FileStore<D>>,
+    log: &Log,
+    is_new: bool,
+    times: u64,
+) -> Result<u64, Fault> {
+    let (sum, store) = over_tables(alloc, store, log, is_new, times);
     let closing = close(store);
     let sum = sum?;
     closing?;
     Ok(sum)
+}
+
+// Plays the rounds over a hall's file. Each of these three takes one layer of the store's type.
+fn over_file(rt: &HostRuntime, file: &str, log: &Log, times: u64) -> Result<u64, Fault> {
+    let is_new = made(rt, file, log)?;
+    let store = open(rt, file)?;
+    over_disk(rt.alloc(), store, log, is_new, times)
 }
 
 fn in_memory(alloc: Global, log: &Log, times: u64) -> Result<u64, Fault> {

@@ -4,5 +4,4 @@ pub mod MoveLemmas
 pub mod NewHallLemmas
 pub mod PromiseLemmas
 pub mod StepLemmas
-pub mod TextLemmas
 pub mod WorkedRows

@@ -13,5 +13,7 @@ pub mod Purposes
 pub mod Report
 pub mod Sound
 pub mod SoundLaws
+pub mod TextLaws
 pub mod Texts
 pub mod Views
+pub mod WholeScripts

@@ -29,7 +29,7 @@ fn word(alloc: Global, text: &str) -> Result<Word, AllocError>
     }
 }
 
-#[tactic(auto, using(crate::proofs::TextLemmas::purpose_word))]
+#[tactic(auto, using(crate::specs::TextLaws::purpose_word))]
 fn purpose_word(alloc: Global, purpose: Purpose) -> Result<Word, AllocError>
     ensures { IfOk result (λ word. word ≡ codes "hall.purpose=" ++ purpose_text purpose) }
 {
@@ -37,7 +37,7 @@ fn purpose_word(alloc: Global, purpose: Purpose) -> Result<Word, AllocError>
     word(alloc, text.as_str())
 }
 
-#[tactic(auto, using(crate::proofs::TextLemmas::erase_word))]
+#[tactic(auto, using(crate::specs::TextLaws::erase_word))]
 fn erase_word(alloc: Global, erase: Erase) -> Result<Word, AllocError>
     ensures { IfOk result (λ word. word ≡ codes "hall.erase=" ++ erase_text erase) }
 {
@@ -45,7 +45,7 @@ fn erase_word(alloc: Global, erase: Erase) -> Result<Word, AllocError>
     word(alloc, text.as_str())
 }
 
-#[tactic(auto, using(crate::proofs::TextLemmas::boot_word))]
+#[tactic(auto, using(crate::specs::TextLaws::boot_word))]
 fn boot_word(alloc: Global, number: Number) -> Result<Word, AllocError>
     ensures { IfOk result (λ word. word ≡ codes "hall.boot=" ++ decimal number) }
 {
@@ -53,7 +53,7 @@ fn boot_word(alloc: Global, number: Number) -> Result<Word, AllocError>
     word(alloc, text.as_str())
 }
 
-#[tactic(auto, using(crate::proofs::TextLemmas::token_word))]
+#[tactic(auto, using(crate::specs::TextLaws::token_word))]
 fn token_word(alloc: Global, token: Token) -> Result<Word, AllocError>
     ensures { IfOk result (λ word. word ≡ codes "hall.token=" ++ encode_lower token) }
 {
@@ -62,7 +62,7 @@ fn token_word(alloc: Global, token: Token) -> Result<Word, AllocError>
     word(alloc, text.as_str())
 }
 
-#[tactic(auto, using(crate::proofs::TextLemmas::desk_word))]
+#[tactic(auto, using(crate::specs::TextLaws::desk_word))]
 fn desk_word(alloc: Global, place: &Place) -> Result<Word, AllocError>
     ensures { IfOk result (λ word. word ≡ codes "hall.desk=http://" ++ place.now.host) }
 {
@@ -83,7 +83,7 @@ fn image_args(alloc: Global, image: &Image) -> Result<Vec<Word>, AllocError>
     Ok(args)
 }
 
-#[tactic(auto, using(crate::proofs::TextLemmas::few_erase_arguments))]
+#[tactic(auto, using(crate::specs::TextLaws::few_erase_arguments))]
 fn push_erase(
     alloc: Global,
     args: &mut Vec<Word>,
@@ -147,7 +147,7 @@ fn script(commands: Vec<Command>) -> Script
 }
 
 /// The script of a machine that boots its own disk.
-#[tactic(auto, using(crate::proofs::TextLemmas::local_is_script), unfolding(crate::specs::Texts::local_script))]
+#[tactic(auto, using(crate::specs::TextLaws::local_is_script), unfolding(crate::specs::Texts::local_script))]
 pub(crate) fn local_script(alloc: Global, arch: Arch) -> Result<Script, AllocError>
     ensures { IfOk result (λ script. script ≡ local_script arch) }
 {
@@ -161,7 +161,7 @@ pub(crate) fn local_script(alloc: Global, arch: Arch) -> Result<Script, AllocErr
 const HELD: &str = "#!ipxe\necho This machine is held by the hall desk\npoweroff\n";
 
 /// The script of a machine that is held.
-#[tactic(auto, using(crate::proofs::TextLemmas::held, crate::proofs::TextLemmas::hold_is_script))]
+#[tactic(auto, using(crate::specs::TextLaws::held, crate::specs::TextLaws::hold_is_script))]
 pub(crate) fn hold_script(alloc: Global) -> Result<Script, AllocError>
     ensures { IfOk result (λ script. script ≡ hold_script) }
 {
@@ -174,7 +174,7 @@ pub(crate) fn hold_script(alloc: Global) -> Result<Script, AllocError>
 }
 
 // A kernel with its arguments, its initrd, and `boot`.
-#[tactic(auto, using(crate::proofs::TextLemmas::boot_is_script))]
+#[tactic(auto, using(crate::specs::TextLaws::boot_is_script))]
 fn boot_script(alloc: Global, kernel: Uri, args: Words, initrd: Uri) -> Result<Script, AllocError>
     requires { length args ≤ 29 }
     ensures { IfOk result (λ script. script ≡ line.Kernel kernel args ∷ line.Initrd initrd ∷ line.Boot ∷ []) }

@@ -1,5 +1,5 @@
 -- An import goes on by one row.
-use Rattle.std.proofs.Common.{◌≡◌, ◌≢◌, ◌+◌, ◌<◌, ◌==◌, ◌&&◌, ℕ, zero, Bool, true, false, List, [], ◌∷◌, ◌++◌, Option, Result, Ok, Err, IfErr, IsErrAnd, if◌then◌else◌, length, drop, map, take, get_or, refl, sym, ap, subst, ◌∙◌, suc, append-nil, append_assoc, add-zero, arith, inl, inr}
+use Rattle.std.proofs.Common.{◌≡◌, ◌≢◌, ◌+◌, ◌<◌, ◌==◌, ◌&&◌, ℕ, Bool, true, false, List, [], ◌∷◌, ◌++◌, Option, Result, Ok, Err, IfErr, IsErrAnd, if◌then◌else◌, length, drop, map, take, get_or, refl, sym, ap, subst, ◌∙◌, suc, append-nil, append_assoc, add-zero, arith}
 use Rattle.std.proofs.KnownBytes.{Appends-nil, Appends-trans}
 use Rattle.std.proofs.lemmas.List.{length-map, map-append, take-append-drop, take_more}
 use Rattle.std.proofs.lemmas.List.Folds.{list_all-append}
@@ -22,10 +22,6 @@ use Rattle.hall_report.specs.declared.row.ImportRow.{ImportRow}
 use Rattle.hall_desk.specs.Headline.{HasHistory}
 use Rattle.hall_desk.specs.History.{Item, carried_out}
 use Rattle.hall_desk.specs.Plan.{IsCarriedOut}
-use Rattle.http_requests.specs.WordLaws.{IsFreeEvent}
-use Rattle.hall_types.specs.Image.{BootImage, has_hall_word}
-use Rattle.hall_events.specs.declared.command.HallCommand.TheVariants.{AddImage}
-use Rattle.hall_events.specs.declared.event.Event.TheVariants.{Command}
 use Rattle.desk_operations.specs.Import.{IsImported, IsRowAnswered, IsRowDone, IsRowItem, IsRowStopped, IsStopped, GoOn, after_row, after_rows, end_of, event_of, is_ok, line_of, lines_of, replies_to, reply_to, row_line, unavailable}
 use Rattle.desk_operations.specs.declared.fault.Fault.{Fault}
 use Rattle.desk_operations.specs.declared.fault.Fault.TheVariants.{Io}
@@ -234,13 +230,10 @@ module _ {S : Type 0} (holds : S → Hall → Type 0) (site : Site) (bearer : Li
 
   -- a row's command is carried out
   pub carried_on : (old new : S) (row : ImportRow) (e : Event) (fresh : List ℕ) (reply : Reply) → e ≡ event_of bearer row → fresh ≡ replicate 16 0
-      → (IsFreeEvent e → (admin digest : List ℕ) (past : List Item) → HasHistory holds old admin digest past → HasHistory holds new admin digest (past ++ carried_out site e moment fresh reply ∷ []))
+      → ((admin digest : List ℕ) (past : List Item) → HasHistory holds old admin digest past → HasHistory holds new admin digest (past ++ carried_out site e moment fresh reply ∷ []))
       → GoOn holds old new site bearer moment
   carried_on old new row e fresh reply e_is fresh_is history admin digest past was = (
     carried_out site e moment fresh reply ∷ [],
     ((row, reply, ap (λ e. carried_out site e moment fresh reply) e_is ∙ ap (λ f. carried_out site (event_of bearer row) moment f reply) fresh_is), tt),
-    history (λ its key image is. no_image bearer row its key image (sym e_is ∙ is)) admin digest past was,
+    history admin digest past was,
   )
-    where
-      no_image : (bearer : List ℕ) (row : ImportRow) (its : Option (List ℕ)) (key : List ℕ) (image : BootImage) → event_of bearer row ≡ Command its key (AddImage image) → has_hall_word image.args ≡ false
-      no_image bearer row its key image is = cc

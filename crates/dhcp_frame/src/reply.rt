@@ -63,8 +63,7 @@ fn push_numbers(out: &mut Vec<u8>, fields: &ReplyFields<'_>) -> Result<(), Alloc
     start[HLEN] = ETHERNET_LEN;
     BigEndian::write_u32(&mut start[XID..SECS], fields.xid);
     BigEndian::write_u16(&mut start[FLAGS..CIADDR], fields.flags);
-    out.extend_from_slice(&start)?;
-    Ok(())
+    out.extend_from_slice(&start)
 }
 
 fn push_addresses(out: &mut Vec<u8>, fields: &ReplyFields<'_>) -> Result<(), AllocError>
@@ -75,8 +74,7 @@ fn push_addresses(out: &mut Vec<u8>, fields: &ReplyFields<'_>) -> Result<(), All
     push_zeros(out, SIADDR - YIADDR)?;
     out.extend_from_slice(&fields.siaddr)?;
     out.extend_from_slice(&fields.giaddr)?;
-    out.extend_from_slice(&fields.chaddr)?;
-    Ok(())
+    out.extend_from_slice(&fields.chaddr)
 }
 
 fn push_names(out: &mut Vec<u8>, file: &str) -> Result<(), AllocError>
@@ -96,8 +94,7 @@ fn push_option(out: &mut Vec<u8>, option: &DhcpOption<'_>) -> Result<(), AllocEr
 {
     out.push(option.code)?;
     out.push(option.value.len() as u8)?;
-    out.extend_from_slice(option.value)?;
-    Ok(())
+    out.extend_from_slice(option.value)
 }
 
 fn push_area(out: &mut Vec<u8>, options: &[DhcpOption<'_>]) -> Result<(), AllocError>

@@ -13,6 +13,7 @@ use Rattle.hall_events.specs.Reply.{Content, script, refused, counted, repeated,
 use Rattle.hall_events.specs.declared.event.Event.{Event}
 use Rattle.boot_desk.specs.Sound.{IsSound}
 use Rattle.laws_model.specs.Decision.{decision_of}
+use Rattle.laws_model.specs.Step.{IsTyped}
 use Rattle.http_requests.specs.Request.{IsEvent}
 use Rattle.http_requests.specs.declared.fault.HttpFault.{HttpFault}
 use Rattle.http_requests.specs.declared.fault.HttpFault.TheVariants.{Memory as NoMemory}
@@ -56,14 +57,14 @@ module _ (site : Site) where
 module _ {S : Type 0} (holds : S → Hall → Type 0) (leaves : S → List Hall → Type 0) where
   -- an arrival that asks the hall
   pub attempt_asked : AreRules → ((s : S) (h : Hall) → holds s h → h.schema ≡ second)
-      → (old new : S) (site : Site) (input : Input) (moment : ℕ) (fresh : List ℕ) (e : Event) (say : Content → Answer) → Means site input (asks e say)
+      → (old new : S) (site : Site) (input : Input) (moment : ℕ) (fresh : List ℕ) (e : Event) (say : Content → Answer) → Means site input (asks e say) → IsTyped site e fresh
       → (r : Result Answer Refusing)
       → IsCarriedOut holds leaves old new r (λ h. (decision_of site h e moment fresh).rows) (λ h a. a ≡ say (decision_of site h e moment fresh).content)
       → IsAttempt holds leaves old new site input moment fresh r
-  attempt_asked rules schema old new site input moment fresh e say means (Ok a) c = record {
+  attempt_asked rules schema old new site input moment fresh e say means typed (Ok a) c = record {
     came = λ h held sound. record {
       next = applied (decision_of site h e moment fresh).rows h;
-      come = record { meaning = asks e say; means = means; leads = (c.answer h held, refl) };
+      come = record { meaning = asks e say; means = means; leads = (c.answer h held, refl); typed = typed };
       held = c.made h held (rules.keep site h e moment fresh sound (schema old h held));
       sound = rules.sound site h e moment fresh sound (schema old h held);
       settled = λ left. c.settled h held (rules.keep site h e moment fresh sound (schema old h held)) left;
@@ -76,11 +77,11 @@ module _ {S : Type 0} (holds : S → Hall → Type 0) (leaves : S → List Hall 
     crash = λ h held sound hs left. record {
       next = applied (decision_of site h e moment fresh).rows h;
       answer = say (decision_of site h e moment fresh).content;
-      step = inl (record { meaning = asks e say; means = means; leads = (refl, refl) });
+      step = inl (record { meaning = asks e say; means = means; leads = (refl, refl); typed = typed });
       left = c.crash h held (rules.keep site h e moment fresh sound (schema old h held)) hs left;
     };
   }
-  attempt_asked rules schema old new site input moment fresh e say means (Err error) c = record {
+  attempt_asked rules schema old new site input moment fresh e say means typed (Err error) c = record {
     came = tt;
     missed = c.same;
     unavailable = tt;
@@ -88,7 +89,7 @@ module _ {S : Type 0} (holds : S → Hall → Type 0) (leaves : S → List Hall 
     crash = λ h held sound hs left. record {
       next = applied (decision_of site h e moment fresh).rows h;
       answer = say (decision_of site h e moment fresh).content;
-      step = inl (record { meaning = asks e say; means = means; leads = (refl, refl) });
+      step = inl (record { meaning = asks e say; means = means; leads = (refl, refl); typed = typed });
       left = c.crash h held (rules.keep site h e moment fresh sound (schema old h held)) hs left;
     };
   }
@@ -100,7 +101,7 @@ module _ {S : Type 0} (holds : S → Hall → Type 0) (leaves : S → List Hall 
     attempt_answered a means = record {
       came = λ h held sound. record {
         next = h;
-        come = record { meaning = answered a; means = means; leads = (refl, refl) };
+        come = record { meaning = answered a; means = means; leads = (refl, refl); typed = tt };
         held = held;
         sound = sound;
         settled = λ left. left;
@@ -111,7 +112,7 @@ module _ {S : Type 0} (holds : S → Hall → Type 0) (leaves : S → List Hall 
       crash = λ h held sound hs left. record {
         next = h;
         answer = a;
-        step = inl (record { meaning = answered a; means = means; leads = (refl, refl) });
+        step = inl (record { meaning = answered a; means = means; leads = (refl, refl); typed = tt });
         left = wider s h hs left;
       };
     }

@@ -1,19 +1,18 @@
 -- What came as steps of the model, and how a history goes on.
-use Rattle.std.proofs.Common.{◌≡◌, ◌⊎◌, ℕ, List, [], ◌∷◌, ◌++◌, Result, Ok, Err, Option, Some, None, refl, sym, ap, subst, ◌∙◌, inl, inr}
+use Rattle.std.proofs.Common.{◌≡◌, ◌⊎◌, ℕ, List, [], ◌∷◌, ◌++◌, Result, Ok, Err, Option, Some, None, refl, sym, subst, inl, inr}
 use Rattle.std.specs.Prelude.{IfOk, IfSome}
 use Rattle.pxe_vendor.specs.Place.{Site}
 use Rattle.hall_types.specs.Hall.{Hall, applied, new_hall, second}
 use Rattle.boot_desk.specs.Sound.{IsSound}
 use Rattle.laws_model.specs.Decision.{decision_of}
-use Rattle.hall_events.specs.Reply.{Content, reply_of}
+use Rattle.hall_events.specs.Reply.{reply_of}
 use Rattle.hall_events.specs.declared.reply.Reply.{Reply}
 use Rattle.hall_store.specs.Rules.{AllKeep}
 use Rattle.hall_store.specs.declared.store.Unavailable.{Unavailable as Refusing}
 use Rattle.hall_desk.specs.Plan.{IsCarriedOut}
-use Rattle.hall_events.specs.declared.command.HallCommand.TheVariants.{AddImage}
-use Rattle.laws_model.specs.Step.{Arrival as MachineArrival, IsRun, Step}
+use Rattle.laws_model.specs.Step.{Arrival as MachineArrival, IsRun, IsTyped, IsTypedStep, Step}
 use Rattle.hall_desk.specs.Attempt.{IsAnswered, IsKept, IsRan}
-use Rattle.hall_desk.specs.Octets.{HasMissed, IsArrivalRun, Leads, Meaning, Means, answered, asks}
+use Rattle.hall_desk.specs.Octets.{HasMissed, IsArrivalRun, IsOfType, Leads, Meaning, Means, answered, asks}
 use Rattle.hall_desk.specs.declared.arrival.Answer.{Answer}
 use Rattle.hall_desk.specs.declared.arrival.Arrival.{Arrival}
 use Rattle.hall_desk.specs.declared.arrival.Input.{Input}
@@ -23,8 +22,7 @@ use Rattle.hall_desk.specs.declared.serving.Served.{Served}
 use Rattle.hall_desk.specs.declared.serving.Served.TheVariants as serving
 use Rattle.hall_events.specs.declared.event.Event.{Event}
 use Rattle.hall_events.specs.declared.event.Event.TheVariants as event
-use Rattle.laws_past.specs.Laws.{BringsNoHallWord, BringNoHallWords}
-use Rattle.http_requests.specs.WordLaws.{IsFreeEvent, event_free}
+use Rattle.laws_past.specs.Laws.{AreTyped}
 use Rattle.hall_desk.specs.Headline.{HasHistory, HasServed, Headline}
 use Rattle.hall_desk.specs.History.{AllLead, AreStepsOf, Carried, Exchange, IsAside, IsCarried, IsStepOf, Item, ItemLeads, carried, carried_out, exchange, exchanged, exchanges}
 
@@ -40,10 +38,10 @@ aside h next end item items is same rest =
     (rest.0, subst (λ from. IsRun from rest.0 end) same rest.1, put_aside item items rest.0 is rest.2)
 
 by_meaning : (h next end : Hall) (x : Exchange) (items : List Item) (m : Meaning) → Means x.site x.arrival.input m
-    → Leads x.site h x.arrival.moment x.arrival.fresh m x.answer next → Found next items end → Found h (exchange x ∷ items) end
-by_meaning h next end x items (answered a) means leads rest =
+    → Leads x.site h x.arrival.moment x.arrival.fresh m x.answer next → IsOfType x.site x.arrival.fresh m → Found next items end → Found h (exchange x ∷ items) end
+by_meaning h next end x items (answered a) means leads typed rest =
     aside h next end (exchange x) items (inl (subst (λ b. Means x.site x.arrival.input (answered b)) (sym leads.0) means)) leads.1 rest
-by_meaning h next end x items (asks e say) means leads rest =
+by_meaning h next end x items (asks e say) means leads typed rest =
     let d = decision_of x.site h e x.arrival.moment x.arrival.fresh in
     let s : Step = record {
       before = h;
@@ -53,7 +51,7 @@ by_meaning h next end x items (asks e say) means leads rest =
     } in (
       s ∷ rest.0,
       (inl refl, inl (record { answer = refl; after = leads.1 }), rest.1),
-      inl (record { event = e; say = say; means = means; arrived = refl; content = d.content; gave = refl; sent = leads.0 }, rest.2),
+      inl (record { event = e; say = say; means = means; arrived = refl; content = d.content; gave = refl; sent = leads.0; typed = typed }, rest.2),
     )
 
 by_event : (h next end : Hall) (c : Carried) (items : List Item) → IsCarried h c next → Found next items end → Found h (carried c ∷ items) end
@@ -67,7 +65,7 @@ by_event h next end c items it rest =
     } in (
       s ∷ rest.0,
       (inl refl, inl (record { answer = refl; after = it.after }), rest.1),
-      inl (record { arrived = refl; content = d.content; gave = refl; replied = it.reply; free = it.free }, rest.2),
+      inl (record { arrived = refl; content = d.content; gave = refl; replied = it.reply; typed = it.typed }, rest.2),
     )
 
 pub steps_of : (h : Hall) (items : List Item) (end : Hall) → AllLead h items end → Found h items end
@@ -75,7 +73,7 @@ steps_of h [] end led = ([], inl led, refl)
 steps_of h (exchange x ∷ items) end led = by led.1 (steps_of led.0 items end led.2)
   where
     by : ItemLeads h (exchange x) led.0 → Found led.0 items end → Found h (exchange x ∷ items) end
-    by (inl come) rest = by_meaning h led.0 end x items come.meaning come.means come.leads rest
+    by (inl come) rest = by_meaning h led.0 end x items come.meaning come.means come.leads come.typed rest
     by (inr missed) rest = aside h led.0 end (exchange x) items (inr missed.answer) missed.same rest
 steps_of h (carried c ∷ items) end led = by_event h led.0 end c items led.1 (steps_of led.0 items end led.2)
 
@@ -99,27 +97,18 @@ item_on h past now led item end leads = all_on h past now led (item ∷ []) end 
 
 -- ---- what the steps bring
 
-meant_free : (site : Site) (what : Input) (e : Event) (say : Content → Answer) → Means site what (asks e say) → IsFreeEvent e
-meant_free site (input.Datagram port octets) e say means bearer key image is = absurd (not_command (sym means.event ∙ is))
-  where
-    not_command : event.Frame port means.client ≡ event.Command bearer key (AddImage image) → ⊥
-    not_command e = cc
-meant_free site (input.Request octets) e say means bearer key image is = event_free octets e means.0 bearer key image is
-meant_free site input.Quiet e say means bearer key image is = absurd (not_command (sym means.0 ∙ is))
-  where
-    not_command : event.Quiet ≡ event.Command bearer key (AddImage image) → ⊥
-    not_command e = cc
+typed_arrival : (s : Step) (a : MachineArrival) → s.arrival ≡ a → IsTyped a.site a.event a.fresh → IsTypedStep s
+typed_arrival s a is typed = subst (λ (its : MachineArrival). IsTyped its.site its.event its.fresh) (sym is) typed
 
-step_brings : (item : Item) (s : Step) → IsStepOf item s → BringsNoHallWord s
-step_brings (exchange x) s asked bearer key image is =
-    meant_free x.site x.arrival.input asked.event asked.say asked.means bearer key image (sym (ap (λ (a : MachineArrival). a.event) asked.arrived) ∙ is)
-step_brings (carried c) s it bearer key image is = it.free bearer key image (sym (ap (λ (a : MachineArrival). a.event) it.arrived) ∙ is)
+step_typed : (item : Item) (s : Step) → IsStepOf item s → IsTypedStep s
+step_typed (exchange x) s it = typed_arrival s _ it.arrived it.typed
+step_typed (carried c) s it = typed_arrival s _ it.arrived it.typed
 
-pub bring_none : (items : List Item) (steps : List Step) → AreStepsOf items steps → BringNoHallWords steps
-bring_none [] steps are = subst BringNoHallWords (sym are) tt
-bring_none (x ∷ items) [] are = tt
-bring_none (x ∷ items) (s ∷ steps) (inl it) = (step_brings x s it.0, bring_none items steps it.1)
-bring_none (x ∷ items) (s ∷ steps) (inr it) = bring_none items (s ∷ steps) it.1
+pub are_typed : (items : List Item) (steps : List Step) → AreStepsOf items steps → AreTyped steps
+are_typed [] steps are = subst AreTyped (sym are) tt
+are_typed (x ∷ items) [] are = tt
+are_typed (x ∷ items) (s ∷ steps) (inl it) = (step_typed x s it.0, are_typed items steps it.1)
+are_typed (x ∷ items) (s ∷ steps) (inr it) = are_typed items (s ∷ steps) it.1
 
 -- ---- calls
 
@@ -164,14 +153,14 @@ module _ (its : AreHistoryLaws) {S : Type 0} (holds : S → Hall → Type 0) (le
       (it.0, it.2, it.3, after_answer (record { moment = moment; fresh = fresh; input = input.Request octets }) it.0 it.1)
 
   -- an event that was carried out
-  pub after_event : (e : Event) (moment : ℕ) (fresh : List ℕ) (reply : Reply) → IsFreeEvent e
+  pub after_event : (e : Event) (moment : ℕ) (fresh : List ℕ) (reply : Reply) → IsTyped site e fresh
       → ((h : Hall) → IsSound h → h.schema ≡ second → AllKeep (decision_of site h e moment fresh).rows h) → ((store : S) (h : Hall) → holds store h → h.schema ≡ second)
       → IsCarriedOut holds leaves old new {E = Refusing} (Ok reply) (λ h. (decision_of site h e moment fresh).rows) (λ h reply. reply ≡ reply_of second (decision_of site h e moment fresh).content)
       → HasHistory holds new admin digest (past ++ carried_out site e moment fresh reply ∷ [])
-  after_event e moment fresh reply free keep schema it =
+  after_event e moment fresh reply typed keep schema it =
       after_item (carried_out site e moment fresh reply) (applied (decision_of site was.end e moment fresh).rows was.end)
       (it.made was.end was.held (keep was.end was.headline.sound (schema old was.end was.held)))
-      (record { reply = it.answer was.end was.held; after = refl; free = free })
+      (record { reply = it.answer was.end was.held; after = refl; typed = typed })
 
 pub after_served : AreHistoryLaws → {S : Type 0} (holds : S → Hall → Type 0) (leaves : S → List Hall → Type 0) (old new : S) (site : Site) (moment : ℕ) (fresh : List ℕ) (served : Served) (octets before after : Option (List ℕ))
     → IfSome octets (λ octets. IfSome before (λ before. IsServed holds leaves old new site moment fresh octets before served after))
@@ -182,10 +171,10 @@ after_served its holds leaves old new site moment fresh served (Some octets) Non
 after_served its holds leaves old new site moment fresh served (Some octets) (Some before) after it =
     λ admin digest past was. after_serving its holds leaves old new site admin digest past was octets before moment fresh served after it
 
-pub after_events : AreHistoryLaws → {S : Type 0} (holds : S → Hall → Type 0) (leaves : S → List Hall → Type 0) (old new : S) (site : Site) (e : Event) (moment : ℕ) (fresh : List ℕ) (r : Result Reply Refusing)
+pub after_events : AreHistoryLaws → {S : Type 0} (holds : S → Hall → Type 0) (leaves : S → List Hall → Type 0) (old new : S) (site : Site) (e : Event) (moment : ℕ) (fresh : List ℕ) (r : Result Reply Refusing) → IsTyped site e fresh
     → ((h : Hall) → IsSound h → h.schema ≡ second → AllKeep (decision_of site h e moment fresh).rows h) → ((store : S) (h : Hall) → holds store h → h.schema ≡ second)
     → IsCarriedOut holds leaves old new r (λ h. (decision_of site h e moment fresh).rows) (λ h reply. reply ≡ reply_of second (decision_of site h e moment fresh).content)
-    → IfOk r (λ reply. IsFreeEvent e → (admin digest : List ℕ) (past : List Item) → HasHistory holds old admin digest past → HasHistory holds new admin digest (past ++ carried_out site e moment fresh reply ∷ []))
-after_events its holds leaves old new site e moment fresh (Ok reply) keep schema it =
-    λ free admin digest past was. after_event its holds leaves old new site admin digest past was e moment fresh reply free keep schema it
-after_events its holds leaves old new site e moment fresh (Err error) keep schema it = tt
+    → IfOk r (λ reply. (admin digest : List ℕ) (past : List Item) → HasHistory holds old admin digest past → HasHistory holds new admin digest (past ++ carried_out site e moment fresh reply ∷ []))
+after_events its holds leaves old new site e moment fresh (Ok reply) typed keep schema it =
+    λ admin digest past was. after_event its holds leaves old new site admin digest past was e moment fresh reply typed keep schema it
+after_events its holds leaves old new site e moment fresh (Err error) typed keep schema it = tt

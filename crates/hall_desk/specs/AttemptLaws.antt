@@ -32,7 +32,7 @@ module _ {S : Type 0} (holds : S → Hall → Type 0) (leaves : S → List Hall 
     means_on (answered a) it = record { why = it.why; first = decided more (Err it.why) it.first; known = it.known; answer = it.answer }
 
     come_on : (h next : Hall) (a : Answer) → HasCome site h (Request octets) moment fresh a next → HasCome site h (Request (octets ++ more)) moment fresh a next
-    come_on h next a it = record { meaning = it.meaning; means = means_on it.meaning it.means; leads = it.leads }
+    come_on h next a it = record { meaning = it.meaning; means = means_on it.meaning it.means; leads = it.leads; typed = it.typed }
 
     missed_on : (h next : Hall) (a : Answer) → HasMissed h (Request octets) a next → HasMissed h (Request (octets ++ more)) a next
     missed_on h next a it = record { answer = it.answer; same = it.same }

@@ -10,7 +10,7 @@ use Rattle.pxe_vendor.specs.Place.{Site}
 use Rattle.hall_types.specs.Hall.{Hall, new_hall, second}
 use Rattle.boot_desk.specs.Sound.{IsSound}
 use Rattle.laws_model.specs.Step.{IsRun, Step}
-use Rattle.laws_past.specs.Laws.{AcceptsOnce, AcceptsWithOk, AlwaysWaitsForOne, BootsLocally, RefusesWithoutChange, CountsAnswerOnce, CountsOwnBoot, CountsStartedFirst, CountsVerdictOnce, DeploysRightly, EntersByTable, ErasesRightly, KeepsMachines, NumbersOnce, QueuesAtEntries, RepeatsFirst, ScriptIsAsked, WaitsForOne, WaitsNoMore}
+use Rattle.laws_past.specs.Laws.{AcceptsOnce, AcceptsWithOk, AlwaysWaitsForOne, BootsLocally, RefusesWithoutChange, CountsAnswerOnce, CountsOwnBoot, CountsStartedFirst, CountsVerdictOnce, DeploysRightly, EntersByTable, ErasesRightly, GivesScripts, KeepsMachines, NumbersOnce, QueuesAtEntries, RepeatsFirst, ScriptIsAsked, WaitsForOne, WaitsNoMore}
 use Rattle.laws_past.specs.Past.{AtEachStep}
 use Rattle.hall_desk.specs.History.{AllLead, AreStepsOf, Item, exchanged}
 use Rattle.hall_desk.specs.Octets.{octets_of}
@@ -31,6 +31,7 @@ pub record Headline (first : Hall) (items : List Item) (end : Hall) : Type 0 whe
   pub local_boots : AtEachStep BootsLocally steps
   -- erasing and deploying
   pub scripts_are_asked : AtEachStep ScriptIsAsked steps
+  pub texts_are_scripts : AtEachStep GivesScripts steps
   pub erasing_is_released : AtEachStep ErasesRightly steps
   pub deploying_is_commanded : AtEachStep DeploysRightly steps
   -- counting

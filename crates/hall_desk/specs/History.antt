@@ -5,9 +5,8 @@ use Rattle.hall_types.specs.Hall.{Hall, applied, second}
 use Rattle.hall_events.specs.Reply.{Content, reply_of}
 use Rattle.hall_events.specs.declared.event.Event.{Event}
 use Rattle.hall_events.specs.declared.reply.Reply.{Reply}
-use Rattle.http_requests.specs.WordLaws.{IsFreeEvent}
 use Rattle.laws_model.specs.Decision.{decision_of}
-use Rattle.laws_model.specs.Step.{Step}
+use Rattle.laws_model.specs.Step.{IsTyped, Step}
 use Rattle.hall_desk.specs.Octets.{IsArrivalStep, Means, answered, asks, missed_answer}
 use Rattle.hall_desk.specs.declared.arrival.Answer.{Answer}
 use Rattle.hall_desk.specs.declared.arrival.Arrival.{Arrival}
@@ -46,11 +45,11 @@ abbrev pub exchanges : Site → List Arrival → List Answer → List Item
 exchanges site (arrival ∷ arrivals) (a ∷ answers) = exchanged site arrival a ∷ exchanges site arrivals answers
 exchanges site arrivals answers = []
 
--- the event is carried out on this hall, and brings no argument that begins `hall.`
+-- the event is carried out on this hall, and is of its type
 pub record IsCarried (h : Hall) (c : Carried) (next : Hall) : Type 0 where
   pub reply : c.reply ≡ reply_of second (decision_of c.site h c.event c.moment c.fresh).content
   pub after : next ≡ applied (decision_of c.site h c.event c.moment c.fresh).rows h
-  pub free : IsFreeEvent c.event
+  pub typed : IsTyped c.site c.event c.fresh
 
 -- the item leads from one hall to the next
 abbrev pub ItemLeads : Hall → Item → Hall → Type 0
@@ -73,6 +72,7 @@ pub record IsAsked (x : Exchange) (s : Step) : Type 0 where
   pub content : Content
   pub gave : s.answer ≡ Some content
   pub sent : x.answer ≡ say content
+  pub typed : IsTyped x.site event x.arrival.fresh
 
 -- the step is the event's, and its content was the reply
 pub record IsCarriedBy (c : Carried) (s : Step) : Type 0 where
@@ -80,7 +80,7 @@ pub record IsCarriedBy (c : Carried) (s : Step) : Type 0 where
   pub content : Content
   pub gave : s.answer ≡ Some content
   pub replied : c.reply ≡ reply_of second content
-  pub free : IsFreeEvent c.event
+  pub typed : IsTyped c.site c.event c.fresh
 
 -- the item was this step
 abbrev pub IsStepOf : Item → Step → Type 0

@@ -19,6 +19,7 @@ use Rattle.http_requests.specs.declared.fault.HttpFault.TheVariants as fault
 use Rattle.hall_http.specs.Response.{response_of}
 use Rattle.hall_http.specs.declared.response.TheConstants.{UNAVAILABLE}
 use Rattle.laws_model.specs.Decision.{decision_of}
+use Rattle.laws_model.specs.Step.{IsTyped}
 use Rattle.hall_desk.specs.declared.arrival.Answer.{Answer}
 use Rattle.hall_desk.specs.declared.arrival.Answer.TheVariants as answer
 use Rattle.hall_desk.specs.declared.arrival.Arrival.{Arrival}
@@ -103,11 +104,17 @@ abbrev pub ChangesNothing : Site → Hall → ℕ → List ℕ → Meaning → T
 ChangesNothing site h moment fresh (asks e say) = (decision_of site h e moment fresh).rows ≡ []
 ChangesNothing site h moment fresh (answered a) = ⊤
 
+-- what came is of its type: none can be made otherwise
+abbrev pub IsOfType : Site → List ℕ → Meaning → Type 0
+IsOfType site fresh (asks e say) = IsTyped site e fresh
+IsOfType site fresh (answered a) = ⊤
+
 -- what came is answered so, and leads to the next hall
 pub record HasCome (site : Site) (h : Hall) (what : Input) (moment : ℕ) (fresh : List ℕ) (a : Answer) (next : Hall) : Type 0 where
   pub meaning : Meaning
   pub means : Means site what meaning
   pub leads : Leads site h moment fresh meaning a next
+  pub typed : IsOfType site fresh meaning
 
 -- how an arrival is answered that counts as not having come
 abbrev pub missed_answer : Input → Answer

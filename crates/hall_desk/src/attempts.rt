@@ -7,7 +7,9 @@ ghost use Rattle.hall_desk.specs.declared.arrival.Input.TheVariants as input;
 use crate::arrival::{Answer, Arrival, Input};
 use crate::carrying::{carry_frame, carry_quiet, carry_request};
 use crate::octets::fault_response;
+use crate::typed::{event_is_typed, frame_is_typed};
 use dhcp_frame::read;
+use hall_events::Event;
 use hall_http::{HttpFault, event_of};
 use hall_store::{HallStore, Unavailable};
 use hall_types::{Moment, Port, Token};
@@ -35,7 +37,10 @@ pub(crate) fn attempt_datagram<S: HallStore>(
         Err(_) => return Ok(Answer::Silence),
     };
     match client(alloc, &frame) {
-        Ok(client) => carry_frame(alloc, store, place, port, &frame, &client, moment, fresh),
+        Ok(client) => {
+            frame_is_typed(place, port, &client, fresh);
+            carry_frame(alloc, store, place, port, &frame, &client, moment, fresh)
+        }
         Err(cause) => match cause {
             NotServed::Memory => Err(Unavailable),
             _ => Ok(Answer::Silence),
@@ -58,7 +63,10 @@ pub(crate) fn attempt_request<S: HallStore>(
     steps_keep_halls_sound();
     decisions_keep_the_rules();
     match event_of(alloc, octets) {
-        Ok(event) => carry_request(alloc, store, place, &event, moment, fresh),
+        Ok(event) => {
+            event_is_typed(place, &event, fresh);
+            carry_request(alloc, store, place, &event, moment, fresh)
+        }
         Err(fault) => match fault {
             HttpFault::Memory => Err(Unavailable),
             _ => fault_response(alloc, fault),
@@ -79,6 +87,7 @@ pub(crate) fn attempt_quiet<S: HallStore>(
 {
     steps_keep_halls_sound();
     decisions_keep_the_rules();
+    event_is_typed(place, &Event::Quiet, fresh);
     carry_quiet(alloc, store, place, moment, fresh)
 }
 

@@ -1,7 +1,6 @@
 //! The desk: a store, and the place that it serves.
 ghost use Rattle.std.specs.Prelude.{◌≡◌, ℕ, List, [], ◌∷◌, ◌++◌, length, IfOk, OnErr};
 ghost use Rattle.hall_events.specs.Reply.{reply_of};
-ghost use Rattle.http_requests.specs.WordLaws.{IsFreeEvent};
 ghost use Rattle.laws_model.specs.Decision.{decision_of};
 ghost use Rattle.hall_types.specs.Hall.{Hall, new_hall, second};
 ghost use Rattle.desk_views.specs.Look.{IsLook};
@@ -16,6 +15,7 @@ use crate::arrival::{Answer, Arrival};
 use crate::attempts::{attempt, missed};
 use crate::laws::histories_keep_the_laws;
 use crate::planning::planned;
+use crate::typed::event_is_typed;
 use crate::writing::write;
 use hall_events::{Event, Reply};
 use hall_store::{HallStore, Unavailable};
@@ -80,12 +80,13 @@ impl<S: HallStore> Desk<S> {
         ensures step { S.HallStore.is_clean (store_of self.new) → IsCarriedOut S.HallStore.holds S.HallStore.leaves (store_of self.old) (store_of self.new) result
             (λ h. (decision_of (site_of self.old) h event.now moment fresh).rows)
             (λ h reply. reply ≡ reply_of second (decision_of (site_of self.old) h event.now moment fresh).content) }
-        ensures history { S.HallStore.is_clean (store_of self.new) → IfOk result (λ reply. IsFreeEvent event.now → (admin digest : List ℕ) (past : List Item)
+        ensures history { S.HallStore.is_clean (store_of self.new) → IfOk result (λ reply. (admin digest : List ℕ) (past : List Item)
             → HasHistory S.HallStore.holds (store_of self.old) admin digest past
             → HasHistory S.HallStore.holds (store_of self.new) admin digest (past ++ carried_out (site_of self.old) event.now moment fresh reply ∷ [])) }
     {
         histories_keep_the_laws();
         decisions_keep_the_rules();
+        event_is_typed(&self.place, event, fresh);
         self.carry_out(alloc, event, moment, fresh)
     }
 

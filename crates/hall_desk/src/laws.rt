@@ -12,7 +12,7 @@ ghost use Rattle.hall_desk.specs.declared.arrival.Arrival.{Arrival};
 use laws_past::{
     deploying_is_commanded, entries_by_table, erasing_is_released, local_boots, machines_stay,
     numbers_once, orders_and_answers, own_boots, refusals_leave_the_hall, reports_count_once,
-    request_keys, scripts_are_asked,
+    request_keys, scripts_are_asked, texts_are_scripts,
 };
 use laws_steps::steps_keep_halls_sound;
 
@@ -33,7 +33,7 @@ pub fn histories_go_on()
 {}
 
 /// Whatever came to a hall since it was new, it is a run of the model that keeps all laws of the past, and leads to a sound
-/// hall. That no image has an argument that begins `hall.` is no premise here: no octets bring one.
+/// hall. What comes is of its type, since no place, fresh octets or image can be made otherwise.
 pub fn histories_keep_the_laws()
     ensures { (admin digest : List ℕ) (items : List Item) (end : Hall) → AllLead (new_hall second admin digest) items end
         → Headline (new_hall second admin digest) items end }
@@ -42,6 +42,7 @@ pub fn histories_keep_the_laws()
     steps_keep_halls_sound();
     local_boots();
     scripts_are_asked();
+    texts_are_scripts();
     erasing_is_released();
     deploying_is_commanded();
     own_boots();

@@ -13,6 +13,7 @@ mod plans;
 mod reading;
 mod requests;
 mod serving;
+mod typed;
 mod writing;
 
 pub use arrival::{Answer, Arrival, Input};

@@ -1,4 +1,5 @@
 pub mod CommandLemmas
+pub mod ItemLemmas
 mod CommandRows
 pub mod ReplyLemmas
 mod ReplyRows

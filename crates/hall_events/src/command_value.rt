@@ -1,11 +1,12 @@
 //! Commands as JSON values.
-ghost use Rattle.std.specs.Prelude.{◌≡◌, ◌∷◌, [], map, option_map, IfOk, IfSome, OnOk};
-ghost use Rattle.serde_json.specs.Data.{array, string};
+ghost use Rattle.std.specs.Prelude.{◌≡◌, ◌∷◌, [], codes, map, option_map, IfOk, IfSome, OnOk};
+ghost use Rattle.hex.specs.Hex.{encode_lower};
+ghost use Rattle.serde_json.specs.Data.{array, put as with, string};
 ghost use Rattle.serde_json.specs.View.{view, items_of, members_view};
 ghost use Rattle.hall_types.specs.Number.{IsNumber};
 ghost use Rattle.hall_types.specs.Octets.{AreOctets};
-ghost use Rattle.hall_events.specs.Object.{count, object_of, put_all};
-ghost use Rattle.hall_events.specs.Command.{IsCommand, IsMachineCommand, command_data, command_member, erase_data, own_members};
+ghost use Rattle.hall_events.specs.Object.{count, member_if, put_all};
+ghost use Rattle.hall_events.specs.Command.{IsCommand, IsMachineCommand, command_data, command_member, erase_data, mac_data, members_of, own_members, uuid_data};
 ghost use Rattle.hall_events.specs.declared.command.HallCommand.{HallCommand};
 
 use crate::command::{HallCommand, MachineCommand};
@@ -16,44 +17,61 @@ use pxe_vendor::Arch;
 use serde_json::{Map, Value, put};
 use std::alloc::{AllocError, Global};
 
-// A command with one name.
-fn named_value(alloc: Global, command: &str, member: &str, name: Name) -> Result<Value, AllocError>
-    ensures { IfOk result (λ value. view value ≡ object_of (command_member command.now ∷ (member.now, string name) ∷ [])) }
-{
-    let mut members = Map::new(alloc);
-    put_text(alloc, &mut members, "command", command)?;
-    put_text(alloc, &mut members, member, name.text())?;
-    Ok(Value::Object(members))
-}
-
-#[tactic(auto, unfolding(crate::specs::Command::members_of))]
-fn grant_value(alloc: Global, pool: Name, operator: Name) -> Result<Value, AllocError>
-    ensures { IfOk result (λ value. view value ≡ command_data (HallCommand.Grant pool operator)) }
-{
-    let mut members = Map::new(alloc);
-    put_text(alloc, &mut members, "command", "grant")?;
-    put_text(alloc, &mut members, "operator", operator.text())?;
-    put_text(alloc, &mut members, "pool", pool.text())?;
-    Ok(Value::Object(members))
-}
-
-#[tactic(auto, unfolding(crate::specs::Command::members_of))]
-fn operator_value(
+// The members of a command with one name.
+fn put_named(
     alloc: Global,
+    members: &mut Map<String, Value>,
+    command: &str,
+    member: &str,
+    name: Name,
+) -> Result<(), AllocError>
+    ensures { OnOk result (members_view members.new.entries ≡ put_all (command_member command.now ∷ (member.now, string name) ∷ []) (members_view members.old.entries)) }
+{
+    put_text(alloc, members, "command", command)?;
+    put_text(alloc, members, member, name.text())
+}
+
+#[tactic(auto, unfolding(crate::specs::Command::members_of))]
+fn put_grant(
+    alloc: Global,
+    members: &mut Map<String, Value>,
+    pool: Name,
+    operator: Name,
+) -> Result<(), AllocError>
+    ensures { OnOk result (members_view members.new.entries ≡ put_all (members_of (HallCommand.Grant pool operator)) (members_view members.old.entries)) }
+{
+    put_text(alloc, members, "command", "grant")?;
+    put_text(alloc, members, "operator", operator.text())?;
+    put_text(alloc, members, "pool", pool.text())
+}
+
+fn put_digest(
+    alloc: Global,
+    members: &mut Map<String, Value>,
+    digest: Digest,
+) -> Result<(), AllocError>
+    ensures members { OnOk result (members_view members.new.entries ≡ with (codes "digest") (string (encode_lower digest)) (members_view members.old.entries)) }
+    ensures whole { OnOk result (AreOctets 32 digest) }
+{
+    let digest = hex::encode(alloc, digest.octets())?;
+    put(members, alloc, "digest", Value::String(digest))
+}
+
+#[tactic(auto, unfolding(crate::specs::Command::members_of))]
+fn put_operator(
+    alloc: Global,
+    members: &mut Map<String, Value>,
     operator: Name,
     role: Role,
     digest: Digest,
-) -> Result<Value, AllocError>
-    ensures value { IfOk result (λ value. view value ≡ command_data (HallCommand.AddOperator operator role digest)) }
+) -> Result<(), AllocError>
+    ensures members { OnOk result (members_view members.new.entries ≡ put_all (members_of (HallCommand.AddOperator operator role digest)) (members_view members.old.entries)) }
     ensures whole { OnOk result (AreOctets 32 digest) }
 {
-    let mut members = Map::new(alloc);
-    let digest = hex::encode(alloc, digest.octets())?;
-    put_text(alloc, &mut members, "command", "add_operator")?;
-    put(&mut members, alloc, "digest", Value::String(digest))?;
-    put_text(alloc, &mut members, "operator", operator.text())?;
-    put_text(alloc, &mut members, "role", role.text())?;
-    Ok(Value::Object(members))
+    put_text(alloc, members, "command", "add_operator")?;
+    put_digest(alloc, members, digest)?;
+    put_text(alloc, members, "operator", operator.text())?;
+    put_text(alloc, members, "role", role.text())
 }
 
 fn words_value(alloc: Global, words: &[Word]) -> Result<Value, AllocError>
@@ -66,43 +84,74 @@ fn words_value(alloc: Global, words: &[Word]) -> Result<Value, AllocError>
     Ok(Value::Array(items))
 }
 
-#[tactic(auto, unfolding(crate::specs::Command::members_of))]
-fn image_value(alloc: Global, image: &Image) -> Result<Value, AllocError>
-    ensures { IfOk result (λ value. view value ≡ command_data (HallCommand.AddImage image.now)) }
+fn put_words(
+    alloc: Global,
+    members: &mut Map<String, Value>,
+    words: &[Word],
+) -> Result<(), AllocError>
+    ensures { OnOk result (members_view members.new.entries ≡ with (codes "args") (array (items_of (map string words.now))) (members_view members.old.entries)) }
 {
-    let mut members = Map::new(alloc);
-    put_text(alloc, &mut members, "command", "add_image")?;
-    put_text(alloc, &mut members, "arch", image.arch().text())?;
-    put(
-        &mut members,
-        alloc,
-        "args",
-        words_value(alloc, image.args())?,
-    )?;
-    put_text(alloc, &mut members, "image", image.name().text())?;
-    put_text(alloc, &mut members, "initrd", image.initrd().text())?;
-    put_text(alloc, &mut members, "kernel", image.kernel().text())?;
-    Ok(Value::Object(members))
+    let words = words_value(alloc, words)?;
+    put(members, alloc, "args", words)
 }
 
 #[tactic(auto, unfolding(crate::specs::Command::members_of))]
-fn machine_value(
+fn put_image(
     alloc: Global,
+    members: &mut Map<String, Value>,
+    image: &Image,
+) -> Result<(), AllocError>
+    ensures { OnOk result (members_view members.new.entries ≡ put_all (members_of (HallCommand.AddImage image.now)) (members_view members.old.entries)) }
+{
+    put_text(alloc, members, "command", "add_image")?;
+    put_text(alloc, members, "arch", image.arch().text())?;
+    put_words(alloc, members, image.args())?;
+    put_text(alloc, members, "image", image.name().text())?;
+    put_text(alloc, members, "initrd", image.initrd().text())?;
+    put_text(alloc, members, "kernel", image.kernel().text())
+}
+
+fn put_mac(
+    alloc: Global,
+    members: &mut Map<String, Value>,
+    mac: MacAddress,
+) -> Result<(), AllocError>
+    ensures members { OnOk result (members_view members.new.entries ≡ with (codes "mac") (mac_data mac) (members_view members.old.entries)) }
+    ensures whole { OnOk result (AreOctets 6 mac) }
+{
+    let mac = mac_value(alloc, mac)?;
+    put(members, alloc, "mac", mac)
+}
+
+fn put_uuid(
+    alloc: Global,
+    members: &mut Map<String, Value>,
+    uuid: Option<MachineUuid>,
+) -> Result<(), AllocError>
+    ensures members { OnOk result (members_view members.new.entries ≡ put_all (member_if (codes "uuid") (option_map uuid_data uuid)) (members_view members.old.entries)) }
+    ensures whole { OnOk result (IfSome uuid (AreOctets 16)) }
+{
+    let uuid = uuid_value(alloc, uuid)?;
+    put_if(alloc, members, "uuid", uuid)
+}
+
+#[tactic(auto, unfolding(crate::specs::Command::members_of))]
+fn put_machine(
+    alloc: Global,
+    members: &mut Map<String, Value>,
     mac: MacAddress,
     arch: Arch,
     pool: Name,
     uuid: Option<MachineUuid>,
-) -> Result<Value, AllocError>
-    ensures value { IfOk result (λ value. view value ≡ command_data (HallCommand.AddMachine mac arch pool uuid)) }
+) -> Result<(), AllocError>
+    ensures members { OnOk result (members_view members.new.entries ≡ put_all (members_of (HallCommand.AddMachine mac arch pool uuid)) (members_view members.old.entries)) }
     ensures whole { OnOk result (AreOctets 6 mac × IfSome uuid (AreOctets 16)) }
 {
-    let mut members = Map::new(alloc);
-    put_text(alloc, &mut members, "command", "add_machine")?;
-    put_text(alloc, &mut members, "arch", arch.text())?;
-    put(&mut members, alloc, "mac", mac_value(alloc, mac)?)?;
-    put_text(alloc, &mut members, "pool", pool.text())?;
-    put_if(alloc, &mut members, "uuid", uuid_value(alloc, uuid)?)?;
-    Ok(Value::Object(members))
+    put_text(alloc, members, "command", "add_machine")?;
+    put_text(alloc, members, "arch", arch.text())?;
+    put_mac(alloc, members, mac)?;
+    put_text(alloc, members, "pool", pool.text())?;
+    put_uuid(alloc, members, uuid)
 }
 
 fn erase_value(alloc: Global, erase: Option<Erase>) -> Result<Value, AllocError>
@@ -113,6 +162,17 @@ fn erase_value(alloc: Global, erase: Option<Erase>) -> Result<Value, AllocError>
         Some(Erase::Full) => Ok(Value::from(true)),
         Some(Erase::Quick) => Value::try_from_str(alloc, Erase::Quick.text()),
     }
+}
+
+fn put_erase(
+    alloc: Global,
+    members: &mut Map<String, Value>,
+    erase: Option<Erase>,
+) -> Result<(), AllocError>
+    ensures { OnOk result (members_view members.new.entries ≡ with (codes "erase") (erase_data erase) (members_view members.old.entries)) }
+{
+    let erase = erase_value(alloc, erase)?;
+    put(members, alloc, "erase", erase)
 }
 
 // The member that only this command on a machine has, if there is one.
@@ -126,14 +186,12 @@ fn put_own(
 {
     match command {
         MachineCommand::AddInterface { mac } | MachineCommand::RemoveInterface { mac } => {
-            put(members, alloc, "mac", mac_value(alloc, *mac)?)
+            put_mac(alloc, members, *mac)
         }
         MachineCommand::SetPool { pool } => put_text(alloc, members, "pool", pool.text()),
         MachineCommand::Commission { tests } => put(members, alloc, "tests", Value::from(*tests)),
         MachineCommand::Deploy { image } => put_text(alloc, members, "image", image.text()),
-        MachineCommand::Release { erase } => {
-            put(members, alloc, "erase", erase_value(alloc, *erase)?)
-        }
+        MachineCommand::Release { erase } => put_erase(alloc, members, *erase),
         _ => Ok(()),
     }
 }
@@ -148,26 +206,29 @@ fn version_value(version: Option<Version>) -> Option<Value>
 }
 
 #[tactic(auto, using(crate::proofs::CommandLemmas::put_all_append), unfolding(crate::specs::Command::members_of))]
-fn on_machine_value(
+fn put_on_machine(
     alloc: Global,
+    members: &mut Map<String, Value>,
     machine: Number,
     version: Option<Version>,
     command: &MachineCommand,
-) -> Result<Value, AllocError>
-    ensures value { IfOk result (λ value. view value ≡ command_data (HallCommand.OnMachine machine version command.now)) }
+) -> Result<(), AllocError>
+    ensures members { OnOk result (members_view members.new.entries ≡ put_all (members_of (HallCommand.OnMachine machine version command.now)) (members_view members.old.entries)) }
     ensures whole { OnOk result (IsNumber machine × IfSome version IsNumber × IsMachineCommand command.now) }
 {
-    let mut members = Map::new(alloc);
-    put_text(alloc, &mut members, "command", command.word())?;
-    put_count(alloc, &mut members, "machine", machine.get())?;
-    put_own(alloc, &mut members, command)?;
-    put_if(alloc, &mut members, "version", version_value(version))?;
-    Ok(Value::Object(members))
+    put_text(alloc, members, "command", command.word())?;
+    put_count(alloc, members, "machine", machine.get())?;
+    put_own(alloc, members, command)?;
+    put_if(alloc, members, "version", version_value(version))
 }
 
 #[tactic(auto, unfolding(crate::specs::Command::members_of))]
-pub(crate) fn command_value(alloc: Global, command: &HallCommand) -> Result<Value, AllocError>
-    ensures value { IfOk result (λ value. view value ≡ command_data command.now) }
+fn put_command(
+    alloc: Global,
+    members: &mut Map<String, Value>,
+    command: &HallCommand,
+) -> Result<(), AllocError>
+    ensures members { OnOk result (members_view members.new.entries ≡ put_all (members_of command.now) (members_view members.old.entries)) }
     ensures whole { OnOk result (IsCommand command.now) }
 {
     match command {
@@ -175,25 +236,36 @@ pub(crate) fn command_value(alloc: Global, command: &HallCommand) -> Result<Valu
             operator,
             role,
             digest,
-        } => operator_value(alloc, *operator, *role, *digest),
+        } => put_operator(alloc, members, *operator, *role, *digest),
         HallCommand::DisableOperator { operator } => {
-            named_value(alloc, "disable_operator", "operator", *operator)
+            put_named(alloc, members, "disable_operator", "operator", *operator)
         }
-        HallCommand::AddPool { pool } => named_value(alloc, "add_pool", "pool", *pool),
-        HallCommand::Grant { pool, operator } => grant_value(alloc, *pool, *operator),
-        HallCommand::AddImage { image } => image_value(alloc, image),
-        HallCommand::DeleteImage { image } => named_value(alloc, "delete_image", "image", *image),
-        HallCommand::SetLive { image } => named_value(alloc, "set_live", "image", *image),
+        HallCommand::AddPool { pool } => put_named(alloc, members, "add_pool", "pool", *pool),
+        HallCommand::Grant { pool, operator } => put_grant(alloc, members, *pool, *operator),
+        HallCommand::AddImage { image } => put_image(alloc, members, image),
+        HallCommand::DeleteImage { image } => {
+            put_named(alloc, members, "delete_image", "image", *image)
+        }
+        HallCommand::SetLive { image } => { put_named(alloc, members, "set_live", "image", *image) }
         HallCommand::AddMachine {
             mac,
             arch,
             pool,
             uuid,
-        } => machine_value(alloc, *mac, *arch, *pool, *uuid),
+        } => put_machine(alloc, members, *mac, *arch, *pool, *uuid),
         HallCommand::OnMachine {
             machine,
             version,
             command,
-        } => on_machine_value(alloc, *machine, *version, command),
+        } => put_on_machine(alloc, members, *machine, *version, command),
     }
+}
+
+pub(crate) fn command_value(alloc: Global, command: &HallCommand) -> Result<Value, AllocError>
+    ensures value { IfOk result (λ value. view value ≡ command_data command.now) }
+    ensures whole { OnOk result (IsCommand command.now) }
+{
+    let mut members = Map::new(alloc);
+    put_command(alloc, &mut members, command)?;
+    Ok(Value::Object(members))
 }

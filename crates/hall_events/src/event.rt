@@ -1,4 +1,6 @@
 //! What comes to the desk.
+ghost use Rattle.hall_events.specs.Event.{BringsImage};
+
 use crate::command::HallCommand;
 use hall_types::{Digest, MacAddress, Number, Outcome, Port, Progress, RequestKey, Token};
 use pxe_vendor::Client;
@@ -48,4 +50,19 @@ pub enum Event {
     },
     /// Nothing came for a while.
     Quiet,
+}
+
+impl Event {
+    /// What every event's image is.
+    pub fn brings_image(&self)
+        ensures { BringsImage self.now }
+    {
+        if let Event::Command {
+            command: HallCommand::AddImage { image },
+            ..
+        } = self
+        {
+            image.is_image();
+        }
+    }
 }

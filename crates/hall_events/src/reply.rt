@@ -1,10 +1,10 @@
 //! What the desk answers.
-ghost use Rattle.std.specs.Prelude.{◌≡◌, codes, false, IfOk, string_bytes};
+ghost use Rattle.std.specs.Prelude.{◌≡◌, ◌++◌, codes, false, IfOk, OnOk, string_bytes};
 ghost use Rattle.serde_json.specs.View.{view};
-ghost use Rattle.serde_json.specs.Written.{has_float};
+ghost use Rattle.serde_json.specs.Written.{comma_if, compact_text, has_float};
 ghost use Rattle.hall_types.specs.Hall.{second};
 ghost use Rattle.hall_events.specs.Reply as content;
-ghost use Rattle.hall_events.specs.Reply.{id_data, listed, ok as answer_of, refusal_data, reply_of, result_data};
+ghost use Rattle.hall_events.specs.Reply.{id_data, listed, ok as answer_of, order_data, refusal_data, reply_of, result_data};
 
 use crate::list_text::push_item;
 use crate::machine_value::{machine_value, order_value, status_value};
@@ -74,6 +74,19 @@ fn id_value(alloc: Global, id: Number) -> Result<Value, AllocError>
     ensures { IfOk result (λ value. view value ≡ id_data id) }
 {
     json!(in alloc; {"id": id.get()})
+}
+
+// One more order, with a comma before it if it's a later one.
+fn push_order(
+    alloc: Global,
+    text: &mut String,
+    later: bool,
+    order: &Order,
+) -> Result<(), AllocError>
+    ensures { OnOk result (string_bytes text.new ≡ string_bytes text.old ++ (comma_if later ++ compact_text (order_data order.now))) }
+{
+    let order = order_value(alloc, order)?;
+    push_item(alloc, text, later, &order)
 }
 
 impl Reply {
@@ -146,7 +159,7 @@ impl Reply {
         let mut text = String::from_str(alloc, "{\"orders\":[")?;
         let mut later = false;
         for order in orders {
-            push_item(alloc, &mut text, later, &order_value(alloc, order)?)?;
+            push_order(alloc, &mut text, later, order)?;
             later = true;
         }
         text.push_str("]}")?;

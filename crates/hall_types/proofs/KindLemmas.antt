@@ -1,12 +1,12 @@
--- Words of kinds, compared either way round.
-use Rattle.std.proofs.Common.{◌≡◌, List, ℕ, sym}
+-- Words of kinds that a text isn't.
+use Rattle.std.proofs.Common.{◌≡◌, ℕ, Bool, true, false, List, refl, sym}
 use Rattle.std.specs.Str.{bytes_eq}
 use Rattle.std.proofs.lemmas.Slice.Eq.{bytes_eq-Decides}
-use Rattle.std.proofs.lemmas.Bool.Decides.{same_from_decides}
 
-pub bytes_eq-swap : (one other : List ℕ) → bytes_eq one other ≡ bytes_eq other one
-bytes_eq-swap one other =
-    same_from_decides (bytes_eq one other) (bytes_eq other one) (bytes_eq-Decides one other)
-    (λ t. sym ((bytes_eq-Decides other one).0 t), λ e. (bytes_eq-Decides other one).1 (sym e))
-
-pub ruleset word_steps = (bytes_eq-swap)
+-- a text that isn't a word does not have its octets
+pub missed : (word text : List ℕ) → (text ≡ word → ⊥) → bytes_eq word text ≡ false
+missed word text other = by (bytes_eq word text) refl
+  where
+    by : (b : Bool) → bytes_eq word text ≡ b → b ≡ false
+    by true same = absurd (other (sym ((bytes_eq-Decides word text).0 same)))
+    by false same = refl

@@ -1,7 +1,7 @@
 -- Boot images, and which arguments of a kernel they may have.
-use Rattle.std.specs.Prelude.{ℕ, Bool, List}
+use Rattle.std.specs.Prelude.{◌≡◌, ◌≤◌, ℕ, Bool, false, List, length, All}
 use Rattle.std.specs.List.{list_any}
-use Rattle.ipxe_script.specs.Word.{is_hall_word}
+use Rattle.ipxe_script.specs.Word.{IsUri, IsWord, is_hall_word}
 use Rattle.pxe_vendor.specs.declared.arch.Arch.{Arch}
 
 -- an image: its name, its architecture, the URIs of its kernel and its initrd, and its kernel's arguments
@@ -14,3 +14,11 @@ pub record BootImage : Type 0 where
 
 abbrev pub has_hall_word : List (List ℕ) → Bool
 has_hall_word words = list_any is_hall_word words
+
+-- an image as it may be made: two URIs, and at most 24 words, none of which begins `hall.`
+pub record IsImage (i : BootImage) : Type 0 where
+  pub kernel : IsUri i.kernel
+  pub initrd : IsUri i.initrd
+  pub words : All IsWord i.args
+  pub few : length i.args ≤ 24
+  pub free : has_hall_word i.args ≡ false

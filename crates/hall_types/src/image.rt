@@ -2,7 +2,7 @@
 ghost use Rattle.std.specs.Prelude.{◌≡◌, ◌≤◌, ◌<◌, ◌↔◌, true, false, length, IfOk, IsOk, IsErrOf};
 ghost use Rattle.std.specs.List.{list_any};
 ghost use Rattle.ipxe_script.specs.Word.{IsUri, is_hall_word};
-ghost use Rattle.hall_types.specs.Image.{BootImage, has_hall_word};
+ghost use Rattle.hall_types.specs.Image.{BootImage, IsImage, has_hall_word};
 
 use crate::name::Name;
 use ipxe_script::{Uri, Word, Words};
@@ -116,6 +116,15 @@ impl Image {
         self.args.as_slice()
     }
 
+    /// What every image is.
+    pub fn is_image(&self)
+        ensures { IsImage self.now }
+    {
+        let _ = self.kernel.text();
+        let _ = self.initrd.text();
+        let _ = self.args.as_slice();
+    }
+
     /// An equal image.
     pub fn copy(&self, alloc: Global) -> Result<Image, AllocError>
         ensures { IfOk result (λ copy. copy ≡ self.now) }
@@ -134,7 +143,7 @@ impl Image {
 }
 
 /// The image that live systems of an architecture boot.
-#[derive(Clone, Copy, PartialEq, Eq)]
+#[derive(Clone, Copy)]
 pub struct Live {
     pub arch: Arch,
     pub image: Name,

@@ -16,7 +16,7 @@ pub struct UnknownWord;
 pub struct UnknownNumber;
 
 /// What an operator may do.
-#[derive(Clone, Copy, PartialEq, Eq)]
+#[derive(Clone, Copy)]
 pub enum Role {
     Admin,
     User,
@@ -55,7 +55,6 @@ impl FromStr for Role {
 
     ghost from_str_gives = { λ text result. result_ok result ≡ role_of_text text };
 
-    #[tactic(auto, using(crate::proofs::KindLemmas::word_steps), unfolding(crate::specs::Kinds::role_text))]
     fn from_str(text: &str) -> Result<Role, UnknownWord> {
         match text {
             "admin" => Ok(Role::Admin),
@@ -326,7 +325,6 @@ impl FromStr for Erase {
 
     ghost from_str_gives = { λ text result. result_ok result ≡ erase_of_text text };
 
-    #[tactic(auto, using(crate::proofs::KindLemmas::word_steps), unfolding(crate::specs::Kinds::erase_text))]
     fn from_str(text: &str) -> Result<Erase, UnknownWord> {
         match text {
             "quick" => Ok(Erase::Quick),
@@ -355,7 +353,7 @@ impl TryFrom<u8> for Erase {
 }
 
 /// What a machine may report of its boot.
-#[derive(Clone, Copy, PartialEq, Eq)]
+#[derive(Clone, Copy)]
 pub enum Progress {
     Started,
     Done,
@@ -386,7 +384,6 @@ impl FromStr for Progress {
 
     ghost from_str_gives = { λ text result. result_ok result ≡ progress_of_text text };
 
-    #[tactic(auto, using(crate::proofs::KindLemmas::word_steps), unfolding(crate::specs::Kinds::progress_text))]
     fn from_str(text: &str) -> Result<Progress, UnknownWord> {
         match text {
             "started" => Ok(Progress::Started),
@@ -398,7 +395,7 @@ impl FromStr for Progress {
 }
 
 /// What the power program may answer to an order.
-#[derive(Clone, Copy, PartialEq, Eq)]
+#[derive(Clone, Copy)]
 pub enum Outcome {
     Done,
     Failed,
@@ -427,7 +424,6 @@ impl FromStr for Outcome {
 
     ghost from_str_gives = { λ text result. result_ok result ≡ outcome_of_text text };
 
-    #[tactic(auto, using(crate::proofs::KindLemmas::word_steps), unfolding(crate::specs::Kinds::outcome_text))]
     fn from_str(text: &str) -> Result<Outcome, UnknownWord> {
         match text {
             "done" => Ok(Outcome::Done),

@@ -73,7 +73,7 @@ impl Number {
 }
 
 /// The last number that was issued, 0 if none was: 0 to 10^15. Contracts see the number.
-#[derive(Clone, Copy, PartialEq, Eq, PartialOrd, Ord)]
+#[derive(Clone, Copy, PartialEq, Eq)]
 pub struct LastIssued {
     number: u64,
 }

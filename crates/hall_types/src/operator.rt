@@ -4,7 +4,7 @@ use crate::kinds::Role;
 use crate::name::Name;
 
 /// Who gives commands.
-#[derive(Clone, Copy, PartialEq, Eq)]
+#[derive(Clone, Copy)]
 pub struct Operator {
     pub name: Name,
     pub role: Role,
@@ -14,13 +14,13 @@ pub struct Operator {
 }
 
 /// A pool of machines.
-#[derive(Clone, Copy, PartialEq, Eq)]
+#[derive(Clone, Copy)]
 pub struct Pool {
     pub name: Name,
 }
 
 /// An operator's membership of a pool.
-#[derive(Clone, Copy, PartialEq, Eq)]
+#[derive(Clone, Copy)]
 pub struct Member {
     pub pool: Name,
     pub operator: Name,

@@ -6,7 +6,7 @@ use std::fmt;
 
 /// Why the desk refuses a request. A command is refused for the first cause of this order, from
 /// BadRequest to Exhausted.
-#[derive(Clone, Copy, Debug, PartialEq, Eq)]
+#[derive(Clone, Copy, Debug)]
 pub enum Refusal {
     /// The request is malformed.
     BadRequest = 1,

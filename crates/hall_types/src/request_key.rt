@@ -6,7 +6,7 @@ use std::marker::Model;
 
 /// The key that an operator gives a request, so that it is carried out at most once: the 16 octets of
 /// a UUID. Contracts see the octets.
-#[derive(Clone, Copy, PartialEq, Eq)]
+#[derive(Clone, Copy)]
 pub struct RequestKey {
     octets: [u8; 16],
 }

@@ -4,4 +4,3 @@ pub mod Kind
 pub mod Member
 pub mod Steps
 pub mod Value
-pub mod WordLaws

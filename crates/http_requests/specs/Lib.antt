@@ -7,4 +7,3 @@ pub mod Head
 pub mod Request
 pub mod Resource
 pub mod Target
-pub mod WordLaws

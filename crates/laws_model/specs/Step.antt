@@ -1,7 +1,9 @@
 -- The model: one step for each event, and runs of steps.
-use Rattle.std.specs.Prelude.{◌≡◌, ◌⊎◌, ℕ, List, [], ◌∷◌, Option, Some, None}
-use Rattle.pxe_vendor.specs.Place.{Site}
+use Rattle.std.specs.Prelude.{◌≡◌, ◌⊎◌, ℕ, IsTrue, List, [], ◌∷◌, Option, Some, None}
+use Rattle.pxe_vendor.specs.Place.{Site, is_host}
 use Rattle.hall_types.specs.Hall.{Hall, applied}
+use Rattle.hall_types.specs.Octets.{AreOctets}
+use Rattle.hall_events.specs.Event.{BringsImage}
 use Rattle.hall_events.specs.Reply.{Content}
 use Rattle.hall_events.specs.declared.event.Event.{Event}
 use Rattle.laws_model.specs.Decision.{decision_of}
@@ -14,12 +16,22 @@ pub record Arrival : Type 0 where
   pub moment : ℕ
   pub fresh : List ℕ
 
+-- what comes is of its type: a place has a host, 16 octets are fresh, and an image is one
+pub record IsTyped (site : Site) (e : Event) (fresh : List ℕ) : Type 0 where
+  pub host : IsTrue (is_host site.host)
+  pub octets : AreOctets 16 fresh
+  pub image : BringsImage e
+
 -- a step: an arrival between two halls, and what was answered, nothing where it counts as not having come
 pub record Step : Type 0 where
   pub before : Hall
   pub arrival : Arrival
   pub answer : Option Content
   pub after : Hall
+
+-- what the step's arrival brings is of its type
+abbrev pub IsTypedStep : Step → Type 0
+IsTypedStep s = IsTyped s.arrival.site s.arrival.event s.arrival.fresh
 
 -- the arrival came: the answer is the decision's, and its rows are written
 pub record Came (s : Step) : Type 0 where

@@ -60,7 +60,7 @@ use Rattle.laws_past.proofs.Computing.{bytes_eq-itself, computed}
 abbrev pub host : List ℕ
 host = codes "hall.example"
 
-abbrev site : Site
+abbrev pub site : Site
 site = record { server = 192 ∷ 0 ∷ 2 ∷ 1 ∷ []; next = 192 ∷ 0 ∷ 2 ∷ 2 ∷ []; host = host }
 
 abbrev pub ada : Operator
@@ -79,7 +79,7 @@ abbrev pub mac : List ℕ
 mac = 82 ∷ 84 ∷ 0 ∷ 18 ∷ 52 ∷ 86 ∷ []
 
 abbrev pub token : List ℕ
-token = 9 ∷ []
+token = 9 ∷ 9 ∷ 9 ∷ 9 ∷ 9 ∷ 9 ∷ 9 ∷ 9 ∷ 9 ∷ 9 ∷ 9 ∷ 9 ∷ 9 ∷ 9 ∷ 9 ∷ 9 ∷ []
 
 -- a boot of the machine, and an order to turn it off and on
 abbrev pub boot : ℕ → Purpose → Stage → Boot

@@ -31,9 +31,9 @@ use Rattle.boot_desk.specs.Texts.{work_script}
 use Rattle.boot_desk.specs.Views.{row_at, view_of}
 use Rattle.boot_desk.specs.declared.views.BootView.{BootView}
 use Rattle.desk_command.specs.Effect.{prepared}
-use Rattle.laws_model.specs.Step.{IsStep, Step}
+use Rattle.laws_model.specs.Step.{IsStep, IsTypedStep, Step}
 use Rattle.laws_steps.specs.Writes.{IsCommanded, IsEntering}
-use Rattle.laws_past.specs.Laws.{BringsNoHallWord, DeploysRightly, IsDeploy}
+use Rattle.laws_past.specs.Laws.{DeploysRightly, IsDeploy}
 use Rattle.laws_past.specs.Past.{IsAccepted, IsEntry, Last}
 use Rattle.laws_past.proofs.Commanded.{RefusalsStay, accepts, by_command, deploy, owner_named}
 use Rattle.laws_past.proofs.Effects.{StepDoes, decided, did, missed, step_does}
@@ -41,7 +41,7 @@ use Rattle.laws_past.proofs.Enterings.{new_status}
 use Rattle.laws_past.proofs.Frame.{last_kept, last_new}
 use Rattle.laws_past.proofs.Images.{ImagesMove, image_before, image_stays, images_move, same_images}
 use Rattle.laws_past.proofs.MachineRows.{IsSettled, MachineWas, has_entered, is_entry, machine_was, no_entry, settled_same, was_made, was_settled}
-use Rattle.laws_past.proofs.Scripts.{HaveNoHallWords, machine_there, view_words, was_given, words_step}
+use Rattle.laws_past.proofs.Scripts.{HasWholeRows, given_script, machine_there, rows_step, view_words, was_given}
 
 -- the machine's last entry was a deploy with its image, which is recorded as it was then
 pub record WasDeployed (past : List Step) (h : Hall) (id : ℕ) (m : Machine) : Type 0 where
@@ -53,7 +53,7 @@ pub record WasDeployed (past : List Step) (h : Hall) (id : ℕ) (m : Machine) : 
   pub deploy : IsDeploy id name image entry.step
 
 pub record KnowsDeploys (past : List Step) (h : Hall) : Type 0 where
-  pub words : HaveNoHallWords h
+  pub whole : HasWholeRows h
   pub deployed : (id : ℕ) (m : Machine) → at h.machines id ≡ Some m → m.status ≡ Deploying → WasDeployed past h id m
 
 -- what the texts' own law says
@@ -145,16 +145,17 @@ module _ (stay : RefusalsStay) (past : List Step) (s : Step) (step : IsStep s) (
       by (was_made event none new) = absurd (unlike (ap (λ (y : Machine). y.status) (sym new) ∙ deploys))
       by (has_entered rows x same its) = deploy_now move rows (decided s).content x id m same its is answer deploys
 
-pub deploys_step : RefusalsStay → (past : List Step) (s : Step) → BringsNoHallWord s → IsStep s → IsSound s.before → IsSound s.after → KnowsDeploys past s.before → KnowsDeploys (past ++ (s ∷ [])) s.after
+pub deploys_step : RefusalsStay → (past : List Step) (s : Step) → IsTypedStep s → IsStep s → IsSound s.before → IsSound s.after → KnowsDeploys past s.before → KnowsDeploys (past ++ (s ∷ [])) s.after
 deploys_step stay past s brings step sound later old =
     let does = step_does s step sound in
-    record { words = words_step s brings does old.words; deployed = deployed_after stay past s step sound later does old }
+    record { whole = rows_step s brings does old.whole; deployed = deployed_after stay past s step sound later does old }
 
-pub deploys_rightly : DeployingTexts → (past : List Step) (s : Step) → IsStep s → IsSound s.before → KnowsDeploys past s.before → DeploysRightly past s
-deploys_rightly texts past s step sound old mac commands was whole deploys =
+pub deploys_rightly : DeployingTexts → (past : List Step) (s : Step) → IsTypedStep s → IsStep s → IsSound s.before → KnowsDeploys past s.before → DeploysRightly past s
+deploys_rightly texts past s brings step sound old mac commands was deploys =
     let g = was_given s mac commands step was in
     let v = view_of s.before g.machine in
-    let says = texts s.arrival.site.host v s.arrival.moment s.arrival.fresh g.rows commands (view_words s.before g.machine old.words) whole g.is deploys in
+    let whole = given_script s commands brings old.whole mac g in
+    let says = texts s.arrival.site.host v s.arrival.moment s.arrival.fresh g.rows commands (view_words s.before g.machine old.whole) whole g.is deploys in
     let d = old.deployed g.machine.id g.machine (machine_there s.before sound mac g.machine g.asks) says.0 in
     let same : says.1.image ≡ d.image = some_is says.1.image d.image (sym says.1.image_is ∙ (ap (row_at s.before.images) d.has ∙ d.recorded)) in
     record {

@@ -28,23 +28,23 @@ use Rattle.boot_desk.specs.Sound.{IsSound}
 use Rattle.boot_desk.specs.Views.{view_of}
 use Rattle.boot_desk.specs.declared.views.BootView.{BootView}
 use Rattle.desk_command.specs.Effect.{prepared}
-use Rattle.laws_model.specs.Step.{IsStep, Step}
+use Rattle.laws_model.specs.Step.{IsStep, IsTypedStep, Step}
 use Rattle.laws_steps.specs.Writes.{IsCommanded, IsEntering}
-use Rattle.laws_past.specs.Laws.{BringsNoHallWord, ErasesRightly, IsReleaseErasing}
+use Rattle.laws_past.specs.Laws.{ErasesRightly, IsReleaseErasing}
 use Rattle.laws_past.specs.Past.{IsAccepted, IsEntry, Last}
 use Rattle.laws_past.proofs.Commanded.{RefusalsStay, accepts, by_command, owner_named, release_erasing}
 use Rattle.laws_past.proofs.Effects.{StepDoes, decided, did, missed, step_does}
 use Rattle.laws_past.proofs.Enterings.{new_status}
 use Rattle.laws_past.proofs.Frame.{last_kept, last_new}
 use Rattle.laws_past.proofs.MachineRows.{IsSettled, MachineWas, has_entered, is_entry, machine_was, no_entry, settled_same, was_made, was_settled}
-use Rattle.laws_past.proofs.Scripts.{HaveNoHallWords, machine_there, view_words, was_given, words_step}
+use Rattle.laws_past.proofs.Scripts.{HasWholeRows, given_script, machine_there, rows_step, view_words, was_given}
 
 -- the machine's last entry was a release that erases, of the kind that its row has
 abbrev pub Released : List Step → ℕ → Machine → Type 0
 Released past id m = (entry : Last (IsEntry id) past) × (kind : Erase) × (m.erase ≡ Some kind) × IsReleaseErasing id kind entry.step
 
 pub record KnowsReleases (past : List Step) (h : Hall) : Type 0 where
-  pub words : HaveNoHallWords h
+  pub whole : HasWholeRows h
   pub released : (id : ℕ) (m : Machine) → at h.machines id ≡ Some m → m.status ≡ DiskErasing → Released past id m
 
 -- what the texts' own law says
@@ -124,19 +124,20 @@ module _ (stay : RefusalsStay) (past : List Step) (s : Step) (step : IsStep s) (
       by (was_made event none new) = absurd (unlike (ap (λ (y : Machine). y.status) (sym new) ∙ erases))
       by (has_entered rows x same its) = release_now rows (decided s).content x id m same its is answer erases
 
-pub releases_step : RefusalsStay → (past : List Step) (s : Step) → BringsNoHallWord s → IsStep s → IsSound s.before → IsSound s.after → KnowsReleases past s.before → KnowsReleases (past ++ (s ∷ [])) s.after
+pub releases_step : RefusalsStay → (past : List Step) (s : Step) → IsTypedStep s → IsStep s → IsSound s.before → IsSound s.after → KnowsReleases past s.before → KnowsReleases (past ++ (s ∷ [])) s.after
 releases_step stay past s brings step sound later old =
     let does = step_does s step sound in
-    record { words = words_step s brings does old.words; released = released_after stay past s step sound does old }
+    record { whole = rows_step s brings does old.whole; released = released_after stay past s step sound does old }
 
 some_kind : (a b : Erase) → Some a ≡ Some b → a ≡ b
 some_kind a b is = cc
 
-pub erases_rightly : ErasingTexts → (past : List Step) (s : Step) → IsStep s → IsSound s.before → KnowsReleases past s.before → ErasesRightly past s
-erases_rightly texts past s step sound old mac commands was whole erases =
+pub erases_rightly : ErasingTexts → (past : List Step) (s : Step) → IsTypedStep s → IsStep s → IsSound s.before → KnowsReleases past s.before → ErasesRightly past s
+erases_rightly texts past s brings step sound old mac commands was erases =
     let g = was_given s mac commands step was in
     let v = view_of s.before g.machine in
-    let words = view_words s.before g.machine old.words in
+    let whole = given_script s commands brings old.whole mac g in
+    let words = view_words s.before g.machine old.whole in
     let status = texts.status s.arrival.site.host v s.arrival.moment s.arrival.fresh g.rows commands words whole g.is erases in
     let r = old.released g.machine.id g.machine (machine_there s.before sound mac g.machine g.asks) status in
     record {

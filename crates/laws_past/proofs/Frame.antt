@@ -78,13 +78,17 @@ module _ (keep : KeepSound) (Given : Step → Type 0) (I : List Step → Hall �
       (run_holds (past ++ (s ∷ [])) steps s.after end given.1
       (record { sound = next.0; in_second = next.1; holds = keeps past s given.0 run.1 here.sound next.0 here.holds }) run.2)
 
-  pub at_each : (P : List Step → Step → Type 0) → ((past : List Step) (s : Step) → IsStep s → IsSound s.before → I past s.before → P past s)
+  pub at_each_given : (P : List Step → Step → Type 0) → ((past : List Step) (s : Step) → Given s → IsStep s → IsSound s.before → I past s.before → P past s)
       → (steps : List Step) (h end : Hall) → AllByRecursion Given steps → IsSound h → h.schema ≡ second → I [] h → IsRun h steps end → AtEachStep P steps
-  at_each P gives steps h end given sound in_second start run past s later are =
+  at_each_given P gives steps h end given sound in_second start run past s later are =
       let parts = run_split past later s h end (subst (λ xs. IsRun h xs end) are run) in
       let all = all_split past later s (subst (AllByRecursion Given) are given) in
       let here = run_holds [] past h s.before all.0 (record { sound = sound; in_second = in_second; holds = start }) parts.0 in
-      gives past s parts.1 here.sound here.holds
+      gives past s all.1 parts.1 here.sound here.holds
+
+  pub at_each : (P : List Step → Step → Type 0) → ((past : List Step) (s : Step) → IsStep s → IsSound s.before → I past s.before → P past s)
+      → (steps : List Step) (h end : Hall) → AllByRecursion Given steps → IsSound h → h.schema ≡ second → I [] h → IsRun h steps end → AtEachStep P steps
+  at_each P gives = at_each_given P (λ past s given. gives past s)
 
 -- where nothing is asked of the steps
 pub anything : (steps : List Step) → AllByRecursion (λ s. Unit {0}) steps

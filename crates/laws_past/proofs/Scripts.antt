@@ -1,29 +1,38 @@
--- A script is given to the machine at the address that asks, from rows whose images have no word of the desk's.
-use Rattle.std.proofs.Common.{◌≡◌, ℕ, List, refl, sym, ap, subst, ◌∙◌, inl, inr}
-use Rattle.std.specs.Prelude.{Option, Some, None, Ok, Err, false}
+-- A script is given to the machine at the address that asks, from rows of their types.
+use Rattle.std.proofs.Common.{◌≡◌, ◌≤◌, ℕ, List, [], ◌∷◌, ◌++◌, refl, sym, ap, subst, ◌∙◌, inl, inr, arith}
+use Rattle.std.specs.Prelude.{Option, Some, None, Ok, Err}
+use Rattle.std.proofs.lemmas.Option.{none-some}
 use Rattle.pxe_vendor.specs.Place.{Site}
+use Rattle.ipxe_script.specs.Script.{IsScript}
 use Rattle.ipxe_script.specs.declared.command.Command.{Command}
-use Rattle.hall_types.specs.Hall.{Hall}
-use Rattle.hall_types.specs.Image.{BootImage, has_hall_word}
+use Rattle.hall_types.specs.Hall.{Hall, new_hall, second}
+use Rattle.hall_types.specs.Image.{BootImage, IsImage}
 use Rattle.hall_types.specs.Kinds.{arch_number}
-use Rattle.hall_types.specs.Rows.{at}
-use Rattle.hall_types.specs.RowLaws.{gone_found, put_cases}
+use Rattle.hall_types.specs.Number.{max_number}
+use Rattle.hall_types.specs.Rows.{at, numbers, texts}
+use Rattle.hall_types.specs.RowLaws.{at-no_rows, gone_found, put_cases}
+use Rattle.hall_types.specs.declared.boot.Boot.{Boot}
 use Rattle.hall_types.specs.declared.change.RowWrite.{RowWrite}
 use Rattle.hall_types.specs.declared.image.Live.{Live}
 use Rattle.hall_types.specs.declared.machine.Interface.{Interface}
 use Rattle.hall_types.specs.declared.machine.Machine.{Machine}
-use Rattle.hall_events.specs.Reply.{script}
+use Rattle.hall_types.specs.declared.number.Numbers.{Numbers}
+use Rattle.hall_events.specs.Reply.{Content, script}
+use Rattle.hall_events.specs.declared.event.Event.{Event}
 use Rattle.hall_events.specs.declared.event.Event.TheVariants as event
 use Rattle.boot_desk.specs.Fetch.{Fetched, fetched}
 use Rattle.boot_desk.specs.Purposes.{HasNoHallWords}
 use Rattle.boot_desk.specs.Sound.{IsSound}
 use Rattle.boot_desk.specs.Views.{image_named, interface_view, machine_view, row_at, view_of}
+use Rattle.boot_desk.specs.WholeScripts.{IsBoot, IsWholeView, fetched_is_script, number_in_range}
 use Rattle.laws_model.specs.Decision.{decision_of, given, given_if}
-use Rattle.laws_model.specs.Step.{IsStep, Step}
-use Rattle.laws_past.specs.Laws.{BringsNoHallWord, IsMachineAt}
+use Rattle.laws_model.specs.Step.{IsStep, IsTypedStep, Step}
+use Rattle.laws_past.specs.Laws.{GivesScripts, IsMachineAt}
 use Rattle.laws_past.specs.Past.{WasAnswered}
 use Rattle.laws_past.proofs.Answered.{came_so}
-use Rattle.laws_past.proofs.Effects.{StepDoes, did, missed}
+use Rattle.laws_past.proofs.BootRows.{BootWas, boot_was, issued_now, reported_now, same_boot}
+use Rattle.laws_past.proofs.Effects.{Effect, StepDoes, decided, did, edits, enters, goes, idles, issues, leaves, makes, missed, notes, step_does}
+use Rattle.laws_past.proofs.Enterings.{last_boot_same}
 use Rattle.laws_past.proofs.Images.{image_goes, images_move, ImagesMove, new_image, same_images}
 
 -- the machine that is given a script
@@ -65,32 +74,97 @@ was_given s mac commands is was = given_to s.arrival.site s.before mac s.arrival
 pub machine_there : (h : Hall) → IsSound h → (mac : List ℕ) (m : Machine) → IsMachineAt h mac m → at h.machines m.id ≡ Some m
 machine_there h s mac m asks = ap (at h.machines) (s.keyed.machines asks.interface.machine m asks.found) ∙ asks.found
 
--- ---- images
+-- ---- what is recorded
 
--- no image that is recorded has a word of the desk's
-pub record HaveNoHallWords (h : Hall) : Type 0 where
-  pub images : (name : List ℕ) (i : BootImage) → at h.images name ≡ Some i → has_hall_word i.args ≡ false
+-- what is recorded is of its type
+pub record HasWholeRows (h : Hall) : Type 0 where
+  pub images : (name : List ℕ) (i : BootImage) → at h.images name ≡ Some i → IsImage i
+  pub boots : (number : ℕ) (b : Boot) → at h.boots number ≡ Some b → IsBoot b
+  pub last : h.last.boot ≤ max_number
 
-pub words_step : (s : Step) → BringsNoHallWord s → StepDoes s → HaveNoHallWords s.before → HaveNoHallWords s.after
-words_step s brings (missed answer after) old = subst HaveNoHallWords (sym after) old
-words_step s brings (did answer after writes effect) old =
-    record { images = λ name i is. by name i (images_move s.before s.arrival.event s.arrival.moment s.arrival.fresh _ writes) (ap (λ (h : Hall). at h.images name) (sym after) ∙ is) }
+last_after : (h : Hall) (e : Event) (moment : ℕ) (fresh : List ℕ) (content : Content) (g : Hall) → Effect h e moment fresh content g → h.last.boot ≤ max_number → g.last.boot ≤ max_number
+last_after h e moment fresh content g effect low = by effect
   where
-    by : {g : Hall} (name : List ℕ) (i : BootImage) → ImagesMove s.before s.arrival.event g → at g.images name ≡ Some i → has_hall_word i.args ≡ false
+    as_last : (last : Numbers) → g.last ≡ last → last.boot ≤ max_number → g.last.boot ≤ max_number
+    as_last last is low = omega (arith, low, ap (λ (n : Numbers). n.boot) is)
+
+    by : Effect h e moment fresh content g → g.last.boot ≤ max_number
+    by (leaves quiet has) = as_last _ has.last low
+    by (makes by_event m new next has) = as_last _ has.last low
+    by (issues rows x has) = as_last _ has.last (number_in_range h.last.boot x.number low x.next)
+    by (enters rows x has) = let same = last_boot_same h e moment rows content x in as_last _ has.last (omega (arith, low, same))
+    by (notes rows x has) = as_last _ has.last low
+    by (idles rows x has) = as_last _ has.last low
+    by (edits command rows x has) = as_last _ has.last low
+    by (goes command id deletes has) = as_last _ has.last low
+
+pub rows_step : (s : Step) → IsTypedStep s → StepDoes s → HasWholeRows s.before → HasWholeRows s.after
+rows_step s brings (missed answer after) old = subst HasWholeRows (sym after) old
+rows_step s brings (did answer after writes effect) old = record {
+  images = λ name i is. by name i (images_move s.before s.arrival.event s.arrival.moment s.arrival.fresh _ writes) (ap (λ (h : Hall). at h.images name) (sym after) ∙ is);
+  boots = λ number b is. by_boot number b (boot_was s.before s.arrival.event s.arrival.moment s.arrival.fresh (decided s).content s.after effect number b is);
+  last = last_after s.before s.arrival.event s.arrival.moment s.arrival.fresh (decided s).content s.after effect old.last;
+}
+  where
+    by : {g : Hall} (name : List ℕ) (i : BootImage) → ImagesMove s.before s.arrival.event g → at g.images name ≡ Some i → IsImage i
     by name i (same_images same) is = old.images name i (ap (λ x. at x name) (sym same) ∙ is)
     by name i (new_image bearer key new event_is free same) is = elim (put_cases s.before.images new.name new name i (ap (λ x. at x name) (sym same) ∙ is)) [
-      | inl w ↦ ap (λ (x : BootImage). has_hall_word x.args) w.1 ∙ brings bearer key new event_is
+      | inl w ↦ subst IsImage (sym w.1) (brings.image bearer key new event_is)
       | inr w ↦ old.images name i w.1
     ]
     by name i (image_goes other used same) is = old.images name i (gone_found s.before.images other name i (ap (λ x. at x name) (sym same) ∙ is)).1
 
-pub view_words : (h : Hall) (m : Machine) → HaveNoHallWords h → HasNoHallWords (view_of h m)
-view_words h m have = record { live = λ i is. by_live (at h.lives (arch_number m.arch)) i is; image = λ i is. by_image m.image i is }
+    by_boot : (number : ℕ) (b : Boot) → BootWas s.before s.arrival.event s.arrival.fresh (decided s).content s.after number b → IsBoot b
+    by_boot number b (same_boot was) = old.boots number b was
+    by_boot number b (issued_now rows x at_number its machines) =
+        subst IsBoot (sym its) (record { number = number_in_range s.before.last.boot x.number old.last x.next; token = brings.octets })
+    by_boot number b (reported_now m k progress cause was its) =
+        let whole = old.boots number k was in subst IsBoot (sym its) (record { number = whole.number; token = whole.token })
+
+pub whole_view : (h : Hall) (m : Machine) → HasWholeRows h → IsWholeView (view_of h m)
+whole_view h m have = record {
+  live = λ i is. by_live (at h.lives (arch_number m.arch)) i is;
+  image = λ i is. by_image m.image i is;
+  boot = λ b is. by_boot m.boot b is;
+  last = have.last;
+}
   where
-    by_live : (l : Option Live) (i : BootImage) → image_named h l ≡ Some i → has_hall_word i.args ≡ false
+    by_live : (l : Option Live) (i : BootImage) → image_named h l ≡ Some i → IsImage i
     by_live None i is = cc
     by_live (Some l) i is = have.images l.image i is
 
-    by_image : (name : Option (List ℕ)) (i : BootImage) → row_at h.images name ≡ Some i → has_hall_word i.args ≡ false
+    by_image : (name : Option (List ℕ)) (i : BootImage) → row_at h.images name ≡ Some i → IsImage i
     by_image None i is = cc
     by_image (Some name) i is = have.images name i is
+
+    by_boot : (number : Option ℕ) (b : Boot) → row_at h.boots number ≡ Some b → IsBoot b
+    by_boot None b is = cc
+    by_boot (Some number) b is = have.boots number b is
+
+pub view_words : (h : Hall) (m : Machine) → HasWholeRows h → HasNoHallWords (view_of h m)
+view_words h m have = let v = whole_view h m have in record { live = λ i is. (v.live i is).free; image = λ i is. (v.image i is).free }
+
+-- what is given is a script
+pub given_script : (s : Step) (commands : List Command) → IsTypedStep s → HasWholeRows s.before → (mac : List ℕ)
+    → (g : IsGiven s.arrival.site s.before mac s.arrival.moment s.arrival.fresh commands) → IsScript commands
+given_script s commands brings have mac g =
+    fetched_is_script s.arrival.site.host brings.host (view_of s.before g.machine) s.arrival.moment s.arrival.fresh brings.octets (whole_view s.before g.machine have) g.rows commands g.is
+
+-- a new hall has no rows that aren't
+pub new_rows : (admin digest : List ℕ) → HasWholeRows (new_hall second admin digest)
+new_rows admin digest = record {
+  images = λ name i is. absurd (none-some i (sym (at-no_rows texts name _ refl) ∙ is));
+  boots = λ number b is. absurd (none-some b (sym (at-no_rows numbers number _ refl) ∙ is));
+  last = omega arith;
+}
+
+-- ---- every text is a script
+
+abbrev pub KnowsRows : List Step → Hall → Type 0
+KnowsRows past h = HasWholeRows h
+
+pub knows_step : (past : List Step) (s : Step) → IsTypedStep s → IsStep s → IsSound s.before → IsSound s.after → KnowsRows past s.before → KnowsRows (past ++ (s ∷ [])) s.after
+knows_step past s brings step sound later old = rows_step s brings (step_does s step sound) old
+
+pub gives_scripts : (past : List Step) (s : Step) → IsTypedStep s → IsStep s → IsSound s.before → KnowsRows past s.before → GivesScripts past s
+gives_scripts past s brings step sound old mac commands was = given_script s commands brings old mac (was_given s mac commands step was)

@@ -74,7 +74,7 @@ erased = step booted_locally.before (came (event.Script mac)) (made (script eras
 
 deployed_machine_is_erased : AtEachStep ErasesRightly (until_deployed ++ (erased ∷ [])) → ⊥
 deployed_machine_is_erased law =
-    let right = last ErasesRightly until_deployed erased law mac erase_script (record { event = refl; answer = refl }) gives_erasing.1 gives_erasing.2 in
+    let right = last ErasesRightly until_deployed erased law mac erase_script (record { event = refl; answer = refl }) gives_erasing.2 in
     differ (ap (λ (m : Machine). m.status) (one_machine booted_locally.before deployed right.machine asks right.asks) ∙ right.status)
   where
     differ : Deployed ≡ DiskErasing → ⊥
@@ -95,7 +95,7 @@ overwritten = step commission_done.after (came (event.Script mac)) (made (script
 
 ready_machine_is_deployed : AtEachStep DeploysRightly (until_ready ++ (overwritten ∷ [])) → ⊥
 ready_machine_is_deployed law =
-    let right = last DeploysRightly until_ready overwritten law mac deploy_script (record { event = refl; answer = refl }) gives_deploying.1 gives_deploying.2 in
+    let right = last DeploysRightly until_ready overwritten law mac deploy_script (record { event = refl; answer = refl }) gives_deploying.2 in
     differ (ap (λ (m : Machine). m.status) (one_machine commission_done.after ready right.machine ready_asks right.asks) ∙ right.status)
   where
     differ : Ready ≡ Deploying → ⊥

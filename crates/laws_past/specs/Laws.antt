@@ -7,7 +7,7 @@ use Rattle.ipxe_script.specs.Purpose.{IsDeploying, IsErasing}
 use Rattle.ipxe_script.specs.Script.{IsScript, spelling}
 use Rattle.ipxe_script.specs.declared.command.Command.{Command}
 use Rattle.hall_types.specs.Hall.{Hall, second}
-use Rattle.hall_types.specs.Image.{BootImage, has_hall_word}
+use Rattle.hall_types.specs.Image.{BootImage}
 use Rattle.hall_types.specs.Rows.{at}
 use Rattle.hall_types.specs.declared.boot.Boot.{Boot}
 use Rattle.hall_types.specs.declared.kinds.Erase.{Erase}
@@ -25,7 +25,7 @@ use Rattle.hall_types.specs.declared.status.Status.TheVariants.{Deployed, Deploy
 use Rattle.hall_events.specs.Command.{command_text}
 use Rattle.hall_events.specs.Reply.{Content, counted, nothing, refused, reply_of, script}
 use Rattle.hall_events.specs.declared.command.HallCommand.{HallCommand}
-use Rattle.hall_events.specs.declared.command.HallCommand.TheVariants.{AddImage, OnMachine}
+use Rattle.hall_events.specs.declared.command.HallCommand.TheVariants.{OnMachine}
 use Rattle.hall_events.specs.declared.command.MachineCommand.{MachineCommand}
 use Rattle.hall_events.specs.declared.command.MachineCommand.TheVariants as on
 use Rattle.hall_events.specs.declared.event.Event.{Event}
@@ -45,7 +45,7 @@ use Rattle.boot_desk.specs.Texts.{hold_script, local_script, work_script}
 use Rattle.desk_command.specs.Causes.{action_of}
 use Rattle.desk_command.specs.Command.{sender}
 use Rattle.laws_model.specs.Refusing.{IsRefusal}
-use Rattle.laws_model.specs.Step.{Step}
+use Rattle.laws_model.specs.Step.{IsTypedStep, Step}
 use Rattle.laws_steps.specs.Writes.{Makes}
 use Rattle.laws_past.specs.Past.{CountsAnswer, CountsReport, IsAccepted, IsEntry, IsOwnBoot, Last, NoneOf, SomeOf, WasAnswered}
 
@@ -74,13 +74,13 @@ BootsLocally past s =
     (mac : List ℕ) (m : Machine) (content : Content) → WasAnswered s (event.Script mac) content → IsMachineAt s.before mac m → IsDeployed m
     → (content ≡ script (local_script m.arch)) × (s.after ≡ s.before)
 
--- an image that an arrival brings has no argument that begins `hall.`: none can be made with one
-abbrev pub BringsNoHallWord : Step → Type 0
-BringsNoHallWord s =
-    (bearer : Option (List ℕ)) (key : List ℕ) (image : BootImage) → s.arrival.event ≡ event.Command bearer key (AddImage image) → has_hall_word image.args ≡ false
+-- every text that is given is a script, within the limits of scripts
+abbrev pub GivesScripts : List Step → Step → Type 0
+GivesScripts past s = (mac : List ℕ) (commands : List Command) → GivesText mac commands s → IsScript commands
 
-abbrev pub BringNoHallWords : List Step → Type 0
-BringNoHallWords steps = AllByRecursion BringsNoHallWord steps
+-- what each step's arrival brings is of its type: none can be made otherwise
+abbrev pub AreTyped : List Step → Type 0
+AreTyped steps = AllByRecursion IsTypedStep steps
 
 -- an accepted release of the machine with this way of erasing, by the operator who was its owner just before
 pub record IsReleaseErasing (id : ℕ) (kind : Erase) (s : Step) : Type 0 where
@@ -108,7 +108,7 @@ pub record IsRightlyErased (mac : List ℕ) (commands : List Command) (past : Li
 -- each script whose text has a kernel erase disks answers a request for a machine that is rightly erased
 abbrev pub ErasesRightly : List Step → Step → Type 0
 ErasesRightly past s =
-    (mac : List ℕ) (commands : List Command) → GivesText mac commands s → IsScript commands → IsErasing (spelling commands)
+    (mac : List ℕ) (commands : List Command) → GivesText mac commands s → IsErasing (spelling commands)
     → IsRightlyErased mac commands past s.before
 
 -- an accepted deploy of the machine with this image, as it was recorded then, by the operator who was its owner just before
@@ -138,7 +138,7 @@ pub record IsRightlyDeployed (host mac : List ℕ) (commands : List Command) (pa
 -- each script whose text has a kernel write an image to a disk answers a request for a machine that is rightly deployed
 abbrev pub DeploysRightly : List Step → Step → Type 0
 DeploysRightly past s =
-    (mac : List ℕ) (commands : List Command) → GivesText mac commands s → IsScript commands → IsDeploying (spelling commands)
+    (mac : List ℕ) (commands : List Command) → GivesText mac commands s → IsDeploying (spelling commands)
     → IsRightlyDeployed s.arrival.site.host mac commands past s.before
 
 -- ---- counting

@@ -2,7 +2,7 @@
 ghost use Rattle.std.specs.Prelude.{ℕ, List};
 ghost use Rattle.hall_types.specs.Hall.{Hall, new_hall, second};
 ghost use Rattle.laws_model.specs.Step.{IsRun, Step};
-ghost use Rattle.laws_past.specs.Laws.{AcceptsOnce, AcceptsWithOk, AlwaysWaitsForOne, BootsLocally, BringNoHallWords, CountsAnswerOnce, CountsOwnBoot, CountsStartedFirst, CountsVerdictOnce, DeploysRightly, EntersByTable, ErasesRightly, KeepsMachines, NumbersOnce, QueuesAtEntries, RefusesWithoutChange, RepeatsFirst, ScriptIsAsked, WaitsForOne, WaitsNoMore};
+ghost use Rattle.laws_past.specs.Laws.{AcceptsOnce, AcceptsWithOk, AlwaysWaitsForOne, BootsLocally, AreTyped, CountsAnswerOnce, CountsOwnBoot, CountsStartedFirst, CountsVerdictOnce, DeploysRightly, EntersByTable, ErasesRightly, GivesScripts, KeepsMachines, NumbersOnce, QueuesAtEntries, RefusesWithoutChange, RepeatsFirst, ScriptIsAsked, WaitsForOne, WaitsNoMore};
 ghost use Rattle.laws_past.specs.Past.{AtEachStep};
 
 use boot_desk::{deploying_texts, erasing_texts, new_halls_are_sound};
@@ -37,12 +37,21 @@ pub fn scripts_are_asked()
     steps_keep_halls_sound();
 }
 
+/// Every text that is given is a script, within the limits of scripts.
+pub fn texts_are_scripts()
+    ensures { (admin digest : List ℕ) (end : Hall) (steps : List Step)
+        → AreTyped steps → IsRun (new_hall second admin digest) steps end → AtEachStep GivesScripts steps }
+{
+    new_halls_are_sound();
+    steps_keep_halls_sound();
+}
+
 /// A script whose text has a kernel erase disks is given only to a machine in Disk erasing, whose last entry was made by
 /// an accepted release with erasing, by the operator who was its owner just before; and the text names the kind of erasing
-/// that this release named. The images that arrivals bring have no argument that begins `hall.`: none can be made with one.
+/// that this release named. What arrivals bring is of its type: no argument of an image begins `hall.`.
 pub fn erasing_is_released()
     ensures { (admin digest : List ℕ) (end : Hall) (steps : List Step)
-        → BringNoHallWords steps → IsRun (new_hall second admin digest) steps end → AtEachStep ErasesRightly steps }
+        → AreTyped steps → IsRun (new_hall second admin digest) steps end → AtEachStep ErasesRightly steps }
 {
     new_halls_are_sound();
     steps_keep_halls_sound();
@@ -55,7 +64,7 @@ pub fn erasing_is_released()
 /// initrd of the image that this deploy named, as it was recorded then.
 pub fn deploying_is_commanded()
     ensures { (admin digest : List ℕ) (end : Hall) (steps : List Step)
-        → BringNoHallWords steps → IsRun (new_hall second admin digest) steps end → AtEachStep DeploysRightly steps }
+        → AreTyped steps → IsRun (new_hall second admin digest) steps end → AtEachStep DeploysRightly steps }
 {
     new_halls_are_sound();
     steps_keep_halls_sound();

@@ -6,5 +6,5 @@ mod laws;
 pub use laws::{
     deploying_is_commanded, entries_by_table, erasing_is_released, local_boots, machines_stay,
     numbers_once, orders_and_answers, own_boots, refusals_leave_the_hall, reports_count_once,
-    request_keys, scripts_are_asked,
+    request_keys, scripts_are_asked, texts_are_scripts,
 };

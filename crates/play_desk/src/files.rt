@@ -3,7 +3,6 @@
 //! tables of a hall, `created` or the fault's name; `open` looks at the tables, `opened` or the fault's name; `faults create` and
 //! `faults open` write the numbers and the names of these faults. Each other line is
 //! played over the store of the file's hall, which is opened for it.
-use crate::disks::{connect, empty_files};
 use hall_sql::SqlStore;
 use hall_types::{Digest, Name};
 use play_log::admin;
@@ -11,8 +10,7 @@ use play_store::{
     Asked, Fault, PlayFault, first, is_comment, is_head, play_line, push_comment, write_answer,
 };
 use sql_tables::{CreateFault, OpenFault};
-use sqlite::{Alter, Connection, Error, Files};
-use sqlite_disk::Disk;
+use sqlite::{Alter, Connection, Error};
 use std::alloc::Global;
 use std::io::Write;
 
@@ -180,52 +178,26 @@ pub fn play_file_line<S: Alter>(
     }
 }
 
-fn play_over_connection<S: Alter + Drop, W: Write>(
+/// Plays the lines of the log from a place on over the tables of a connection, which is given back, up to where another part begins.
+pub fn play_lines<S: Alter + Drop, W: Write>(
     alloc: Global,
     conn: Connection<S>,
     lines: &[String],
     from: usize,
     writer: &mut W,
-) -> Result<(), PlayFault> {
+) -> (Result<(), PlayFault>, Connection<S>) {
     let mut conn = conn;
     let mut asked = Asked::NONE;
     for (at, text) in lines.iter().enumerate().skip(from) {
         if is_head(text.as_str()) {
-            return Ok(());
+            break;
         }
         let mut line = String::new(alloc);
         let (done, after) = play_file_line(alloc, conn, text.as_str(), &mut line, &mut asked);
         conn = after;
-        write_answer(writer, at, done, line.as_str())?;
+        if let Err(fault) = write_answer(writer, at, done, line.as_str()) {
+            return (Err(fault), conn);
+        }
     }
-    Ok(())
-}
-
-fn play_over_files<D: Disk + Drop, W: Write>(
-    alloc: Global,
-    files: Files<D>,
-    lines: &[String],
-    from: usize,
-    writer: &mut W,
-) -> Result<(), PlayFault> {
-    match connect(alloc, files) {
-        Ok(conn) => play_over_connection(alloc, conn, lines, from, writer),
-        Err(_) => Err(PlayFault::Line {
-            line: from,
-            cause: Fault::Memory,
-        }),
-    }
-}
-
-/// Plays the lines from a place on over an empty file, up to where another part of the log begins.
-pub fn play_file<W: Write>(
-    alloc: Global,
-    lines: &[String],
-    from: usize,
-    writer: &mut W,
-) -> Result<(), PlayFault> {
-    match empty_files(alloc) {
-        Ok(files) => play_over_files(alloc, files, lines, from, writer),
-        Err(cause) => Err(PlayFault::Line { line: from, cause }),
-    }
+    (Ok(()), conn)
 }

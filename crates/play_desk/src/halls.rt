@@ -1,13 +1,12 @@
 //! The halls of a log, over each store.
-use crate::disks::{connect, empty_files};
-use crate::files::play_file;
+use crate::disks::empty_files;
+use crate::tasks::{Outcome, Task, play_in};
 use crate::trials::play_stops;
 use hall_sql::SqlStore;
 use hall_types::{Digest, Name};
 use play_log::{LogFault, admin};
 use play_store::{Asked, FILES, Fault, PlayFault, STOPS, play, read_log, write_text};
-use sqlite::{Alter, Connection, Files};
-use sqlite_disk::Disk;
+use sqlite::{Alter, Connection};
 use std::alloc::Global;
 use std::io::{Read, Write};
 use store_memory::MemoryStore;
@@ -29,56 +28,50 @@ fn in_memory<W: Write>(
     asked: &mut Asked,
 ) -> Result<(), PlayFault> {
     match MemoryStore::create(alloc, name, digest) {
-        Ok(store) => play(alloc, store, lines, from, writer, asked),
+        Ok(store) => {
+            let (done, _) = play(alloc, store, lines, from, writer, asked);
+            done
+        }
         Err(_) => Err(PlayFault::Log(LogFault::Memory)),
     }
 }
 
-// A hall over a connection.
-fn over_connection<S: Alter + Drop, W: Write>(
+/// A hall over a connection, which is given back.
+pub fn play_over_tables<S: Alter + Drop>(
     alloc: Global,
     conn: Connection<S>,
     (name, digest): (Name, Digest),
     lines: &[String],
     from: usize,
-    writer: &mut W,
-    asked: &mut Asked,
-) -> Result<(), PlayFault> {
+    out: &mut Outcome,
+) -> Connection<S> {
     match SqlStore::create(alloc, conn, name, digest) {
-        Ok(store) => play(alloc, store, lines, from, writer, asked),
-        Err(_) => Err(PlayFault::Log(LogFault::Memory)),
+        Ok(store) => {
+            let (done, store) = play(alloc, store, lines, from, &mut out.text, &mut out.asked);
+            out.done = done;
+            store.into_connection()
+        }
+        Err(refused) => refused.connection,
     }
 }
 
-// A hall over empty files.
-fn over_files<D: Disk + Drop, W: Write>(
+/// Plays a part of the log over empty files, and writes what is answered.
+pub fn play_part<W: Write>(
     alloc: Global,
-    files: Files<D>,
-    admin: (Name, Digest),
-    lines: &[String],
-    from: usize,
+    task: &Task<'_>,
     writer: &mut W,
     asked: &mut Asked,
 ) -> Result<(), PlayFault> {
-    match connect(alloc, files) {
-        Ok(conn) => over_connection(alloc, conn, admin, lines, from, writer, asked),
-        Err(_) => Err(PlayFault::Log(LogFault::Memory)),
+    let Ok(files) = empty_files(alloc) else {
+        return Err(PlayFault::Log(LogFault::Memory));
+    };
+    let mut out = Outcome::none(alloc, *asked);
+    let _ = play_in(alloc, files, task, &mut out);
+    *asked = out.asked;
+    if writer.write_all(out.text.as_slice()).is_err() {
+        return Err(PlayFault::Log(LogFault::Io));
     }
-}
-
-// A hall in SQLite.
-fn in_sqlite<W: Write>(
-    alloc: Global,
-    admin: (Name, Digest),
-    lines: &[String],
-    from: usize,
-    writer: &mut W,
-    asked: &mut Asked,
-) -> Result<(), PlayFault> {
-    match empty_files(alloc) {
-        Ok(files) => over_files(alloc, files, admin, lines, from, writer, asked),
-        Err(_) => Err(PlayFault::Log(LogFault::Memory)),
-    }
+    out.done
 }
 
 // A hall of which the first line names the administrator.
@@ -97,7 +90,7 @@ fn play_hall<W: Write>(
     };
     match over {
         Over::Memory => in_memory(alloc, admin, lines, from, writer, asked),
-        Over::Sqlite => in_sqlite(alloc, admin, lines, from, writer, asked),
+        Over::Sqlite => play_part(alloc, &Task::Hall { admin, lines, from }, writer, asked),
     }
 }
 
@@ -150,7 +143,7 @@ fn play_files<W: Write>(alloc: Global, lines: &[String], writer: &mut W) -> Resu
             write_text(writer, "== files\n")?;
         }
         if is_file && text == "new" {
-            play_file(alloc, lines, from, writer)?;
+            play_part(alloc, &Task::File { lines, from }, writer, &mut Asked::NONE)?;
         }
     }
     Ok(())

@@ -18,6 +18,7 @@ mod disks;
 mod files;
 mod halls;
 mod stops;
+mod tasks;
 mod trials;
 
 use halls::play_twice;

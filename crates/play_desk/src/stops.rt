@@ -3,17 +3,19 @@
 //! a stop, or as its repeat.
 use crate::disks::{Image, Which, close, connect, crash};
 use crate::files::play_file_line;
+use crate::tasks::{Outcome, Task, play_in};
 use play_store::{Asked, Fault};
 use sqlite::{Alter, Connection, FileStore, Files};
 use sqlite_disk::Disk;
 use std::alloc::Global;
+use std::mem;
 
 const MAX_TURNS: u64 = 2_000;
 
 /// A line, and what it does over files that don't stop.
 #[derive(Drop)]
-pub struct Step<'a> {
-    text: &'a str,
+pub struct Step {
+    text: String,
     /// The answer.
     pub answer: String,
     /// The answer to its repeat.
@@ -29,7 +31,7 @@ pub struct Run<'a> {
     look: &'a str,
     /// What it prints of the hall before them.
     before: String,
-    pub steps: Vec<Step<'a>>,
+    pub steps: Vec<Step>,
 }
 
 /// What was seen of stops at ever later moments.
@@ -53,35 +55,12 @@ pub fn play_line<S: Alter>(
     (done.is_ok(), conn)
 }
 
-fn play_and_close<D: Disk + Drop>(
-    alloc: Global,
-    conn: Connection<FileStore<D>>,
-    text: &str,
-    line: &mut String,
-) -> Files<D> {
-    let (_, conn) = play_line(alloc, conn, text, line);
-    let (_, files) = close(conn);
-    files
-}
-
-// Plays a line over files, and closes them.
-fn play_in<D: Disk + Drop>(
-    alloc: Global,
-    files: Files<D>,
-    text: &str,
-    line: &mut String,
-) -> Files<D> {
-    match connect(alloc, files) {
-        Ok(conn) => play_and_close(alloc, conn, text, line),
-        Err(files) => files,
-    }
-}
-
 // The answer to a line over files that don't stop, and what they hold then.
 fn played(alloc: Global, image: &Image, text: &str) -> Result<(String, Image), Fault> {
-    let mut answer = String::new(alloc);
     let files = image.disks(alloc, Which::Log, u64::MAX)?;
-    let files = play_in(alloc, files, text, &mut answer);
+    let mut out = Outcome::none(alloc, Asked::NONE);
+    let (_, files) = play_in(alloc, files, &Task::Line(text), &mut out);
+    let answer = mem::replace(&mut out.line, String::new(alloc));
     Ok((answer, Image::of(alloc, &files)?))
 }
 
@@ -91,17 +70,12 @@ fn answer_of(alloc: Global, image: &Image, text: &str) -> Result<String, Fault> 
 }
 
 // A line over files that don't stop, and what they hold after it.
-fn step_of<'a>(
-    alloc: Global,
-    image: &Image,
-    look: &str,
-    text: &'a str,
-) -> Result<(Step<'a>, Image), Fault> {
+fn step_of(alloc: Global, image: &Image, look: &str, text: &str) -> Result<(Step, Image), Fault> {
     let (answer, then) = played(alloc, image, text)?;
     let again = answer_of(alloc, &then, text)?;
     let hall = answer_of(alloc, &then, look)?;
     let step = Step {
-        text,
+        text: String::from_str(alloc, text)?,
         answer,
         again,
         hall,
@@ -109,12 +83,7 @@ fn step_of<'a>(
     Ok((step, then))
 }
 
-fn push_step<'a>(
-    alloc: Global,
-    run: &mut Run<'a>,
-    image: &Image,
-    text: &'a str,
-) -> Result<Image, Fault> {
+fn push_step(alloc: Global, run: &mut Run<'_>, image: &Image, text: &str) -> Result<Image, Fault> {
     let (step, then) = step_of(alloc, image, run.look, text)?;
     match run.steps.push(step) {
         Ok(()) => Ok(then),
@@ -126,12 +95,12 @@ fn push_step<'a>(
 fn play_steps<S: Alter>(
     alloc: Global,
     conn: Connection<S>,
-    steps: &[Step<'_>],
+    steps: &[Step],
 ) -> (usize, Connection<S>) {
     let mut conn = conn;
     for (at, step) in steps.iter().enumerate() {
         let mut line = String::new(alloc);
-        let (is_done, after) = play_line(alloc, conn, step.text, &mut line);
+        let (is_done, after) = play_line(alloc, conn, step.text.as_str(), &mut line);
         conn = after;
         if !is_done || line.as_str() != step.answer.as_str() {
             return (at, conn);
@@ -143,7 +112,7 @@ fn play_steps<S: Alter>(
 fn play_steps_and_close<D: Disk + Drop>(
     alloc: Global,
     conn: Connection<FileStore<D>>,
-    steps: &[Step<'_>],
+    steps: &[Step],
 ) -> (usize, bool, Files<D>) {
     let (answered, conn) = play_steps(alloc, conn, steps);
     let (is_closed, files) = close(conn);
@@ -154,7 +123,7 @@ fn play_steps_and_close<D: Disk + Drop>(
 fn play_steps_in<D: Disk + Drop>(
     alloc: Global,
     files: Files<D>,
-    steps: &[Step<'_>],
+    steps: &[Step],
 ) -> (usize, bool, Files<D>) {
     match connect(alloc, files) {
         Ok(conn) => play_steps_and_close(alloc, conn, steps),
@@ -168,7 +137,7 @@ impl<'a> Run<'a> {
         alloc: Global,
         image: &Image,
         look: &'a str,
-        texts: &'a str,
+        texts: &str,
     ) -> Result<(Run<'a>, Image), Fault> {
         let mut run = Run {
             look,
@@ -218,10 +187,10 @@ impl<'a> Run<'a> {
         &self,
         alloc: Global,
         image: &Image,
-        step: &Step<'_>,
+        step: &Step,
         answer: &str,
     ) -> Result<bool, Fault> {
-        let (found, then) = played(alloc, image, step.text)?;
+        let (found, then) = played(alloc, image, step.text.as_str())?;
         let hall = answer_of(alloc, &then, self.look)?;
         Ok(found.as_str() == answer && hall.as_str() == step.hall.as_str())
     }

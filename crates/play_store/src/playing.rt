@@ -169,7 +169,7 @@ pub fn write_answer<W: Write>(
     Ok(())
 }
 
-/// Plays the lines from a place on over the store, up to where another part of the log begins.
+/// Plays the lines from a place on over the store, which is given back, up to where another part of the log begins.
 pub fn play<S: HallStore + Drop, W: Write>(
     alloc: Global,
     store: S,
@@ -177,16 +177,18 @@ pub fn play<S: HallStore + Drop, W: Write>(
     from: usize,
     writer: &mut W,
     asked: &mut Asked,
-) -> Result<(), PlayFault> {
+) -> (Result<(), PlayFault>, S) {
     let mut store = store;
     for (at, text) in lines.iter().enumerate().skip(from) {
         if is_head(text.as_str()) {
-            return Ok(());
+            break;
         }
         let mut line = String::new(alloc);
         let (done, after) = play_line(alloc, store, text.as_str(), &mut line, asked);
         store = after;
-        write_answer(writer, at, done, line.as_str())?;
+        if let Err(fault) = write_answer(writer, at, done, line.as_str()) {
+            return (Err(fault), store);
+        }
     }
-    Ok(())
+    (Ok(()), store)
 }

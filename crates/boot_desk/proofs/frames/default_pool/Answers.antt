@@ -1,5 +1,5 @@
 use Rattle.std.proofs.Common.{refl}
-use Rattle.boot_desk.proofs.TextLemmas.{default_is_name}
+use Rattle.boot_desk.specs.TextLaws.{default_is_name}
 use Rattle.boot_desk.proofs.frames.default_pool.Goals as goal
 
 pub unreachable-requires : goal.unreachable-requires

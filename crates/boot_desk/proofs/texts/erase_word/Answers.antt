@@ -1,4 +1,4 @@
-use Rattle.boot_desk.proofs.TextLemmas.{erase_word}
+use Rattle.boot_desk.specs.TextLaws.{erase_word}
 use Rattle.boot_desk.proofs.texts.erase_word.Goals as goal
 
 pub word-requires : goal.word-requires

@@ -4,7 +4,7 @@ use Rattle.ipxe_script.specs.Understood.{understood}
 use Rattle.ipxe_script.specs.declared.command.Command.{Command}
 use Rattle.ipxe_script.specs.declared.fault.ScriptFault.{ScriptFault}
 use Rattle.boot_desk.specs.Texts.{hold_script}
-use Rattle.boot_desk.proofs.TextLemmas.{held, hold_is_script}
+use Rattle.boot_desk.specs.TextLaws.{held, hold_is_script}
 use Rattle.boot_desk.proofs.texts.hold_script.Goals as goal
 
 pub returns-in-Ok : goal.returns-in-Ok

@@ -1,4 +1,4 @@
-use Rattle.boot_desk.proofs.TextLemmas.{purpose_word}
+use Rattle.boot_desk.specs.TextLaws.{purpose_word}
 use Rattle.boot_desk.proofs.texts.purpose_word.Goals as goal
 
 pub word-requires : goal.word-requires

@@ -1,4 +1,4 @@
-use Rattle.boot_desk.proofs.TextLemmas.{joined_arguments}
+use Rattle.boot_desk.specs.TextLaws.{joined_arguments}
 use Rattle.boot_desk.proofs.texts.push_desk_arguments.Goals as goal
 
 pub returns-clause-args : goal.returns-clause-args

@@ -1,4 +1,4 @@
-use Rattle.boot_desk.proofs.TextLemmas.{token_word}
+use Rattle.boot_desk.specs.TextLaws.{token_word}
 use Rattle.boot_desk.proofs.texts.token_word.Goals as goal
 
 pub word-requires : goal.word-requires

@@ -23,7 +23,7 @@ returns-in-Ok-client-clause-attempt g c clean =
       from = record { carries = c.in-Ok.ensures.frame; sent = c.in-Ok-client.ensures.client };
       event = refl;
       sends = refl;
-    }) c.carry_frame.result (c.carry_frame.ensures.carried clean)
+    }) c.frame_is_typed.ensures c.carry_frame.result (c.carry_frame.ensures.carried clean)
 
 pub returns-in-Memory-clause-attempt : goal.returns-in-Memory-clause-attempt
 returns-in-Memory-clause-attempt g c clean =

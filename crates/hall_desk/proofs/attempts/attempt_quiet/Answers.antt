@@ -10,4 +10,4 @@ returns-clause-attempt g c clean =
     attempt_asked g.S.HallStore.holds g.S.HallStore.leaves
     (record { keep = c.decisions_keep_the_rules.ensures; sound = c.steps_keep_halls_sound.ensures.rows }) g.S.HallStore.second_schema
     c.args.store.now c.carry_quiet.new.store c.args.place.now input.Quiet c.args.moment c.args.fresh
-    Quiet no_answer (refl, refl) c.carry_quiet.result (c.carry_quiet.ensures.carried clean)
+    Quiet no_answer (refl, refl) c.event_is_typed.ensures c.carry_quiet.result (c.carry_quiet.ensures.carried clean)

@@ -9,7 +9,7 @@ returns-in-Ok-clause-attempt g c clean =
     attempt_asked g.S.HallStore.holds g.S.HallStore.leaves
     (record { keep = c.decisions_keep_the_rules.ensures; sound = c.steps_keep_halls_sound.ensures.rows }) g.S.HallStore.second_schema
     c.args.store.now c.carry_request.new.store c.args.place.now (input.Request c.args.octets.now) c.args.moment c.args.fresh
-    c.in-Ok.event response_answer (c.in-Ok.ensures, refl) c.carry_request.result (c.carry_request.ensures.carried clean)
+    c.in-Ok.event response_answer (c.in-Ok.ensures, refl) c.event_is_typed.ensures c.carry_request.result (c.carry_request.ensures.carried clean)
 
 pub returns-in-Memory-clause-attempt : goal.returns-in-Memory-clause-attempt
 returns-in-Memory-clause-attempt g c clean =

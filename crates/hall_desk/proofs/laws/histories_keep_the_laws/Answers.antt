@@ -1,5 +1,5 @@
 use Rattle.hall_types.specs.Hall.{new_hall, second}
-use Rattle.hall_desk.proofs.HistoryLemmas.{bring_none}
+use Rattle.hall_desk.proofs.HistoryLemmas.{are_typed}
 use Rattle.hall_desk.proofs.laws.histories_keep_the_laws.Goals as goal
 
 pub returns : goal.returns
@@ -7,7 +7,7 @@ returns c = λ admin digest items end led.
     let found = c.items_are_steps.ensures (new_hall second admin digest) items end led in
     let steps = found.0 in
     let run = found.1 in
-    let words = bring_none items steps found.2 in
+    let typed = are_typed items steps found.2 in
     record {
       led = led;
       steps = steps;
@@ -16,8 +16,9 @@ returns c = λ admin digest items end led.
       sound = (c.steps_keep_halls_sound.ensures.from_new admin digest end steps run).0;
       local_boots = c.local_boots.ensures admin digest end steps run;
       scripts_are_asked = c.scripts_are_asked.ensures admin digest end steps run;
-      erasing_is_released = c.erasing_is_released.ensures admin digest end steps words run;
-      deploying_is_commanded = c.deploying_is_commanded.ensures admin digest end steps words run;
+      texts_are_scripts = c.texts_are_scripts.ensures admin digest end steps typed run;
+      erasing_is_released = c.erasing_is_released.ensures admin digest end steps typed run;
+      deploying_is_commanded = c.deploying_is_commanded.ensures admin digest end steps typed run;
       own_boots = c.own_boots.ensures admin digest end steps run;
       started_first = c.reports_count_once.ensures.started admin digest end steps run;
       verdict_once = c.reports_count_once.ensures.verdict admin digest end steps run;

@@ -1,19 +1,21 @@
 use Rattle.std.proofs.Common.{refl, sym, ◌∙◌}
 use Rattle.std.proofs.lemmas.Option.{none-some}
 use Rattle.hall_types.specs.Hall.{new_hall, second}
-use Rattle.hall_types.specs.Rows.{numbers, texts}
+use Rattle.hall_types.specs.Rows.{numbers}
 use Rattle.hall_types.specs.RowLaws.{at-no_rows}
-use Rattle.laws_past.specs.Laws.{BringsNoHallWord, ErasesRightly}
-use Rattle.laws_past.proofs.Frame.{at_each}
+use Rattle.laws_model.specs.Step.{IsTypedStep}
+use Rattle.laws_past.specs.Laws.{ErasesRightly}
+use Rattle.laws_past.proofs.Frame.{at_each_given}
 use Rattle.laws_past.proofs.Erasing.{KnowsReleases, erases_rightly, releases_step}
+use Rattle.laws_past.proofs.Scripts.{new_rows}
 use Rattle.laws_past.proofs.laws.erasing_is_released.Goals as goal
 
 pub returns : goal.returns
 returns c = λ admin digest end steps words run.
-    at_each c.steps_keep_halls_sound.ensures.step BringsNoHallWord KnowsReleases (releases_step c.refusals_change_nothing.ensures.hall)
+    at_each_given c.steps_keep_halls_sound.ensures.step IsTypedStep KnowsReleases (releases_step c.refusals_change_nothing.ensures.hall)
     ErasesRightly (erases_rightly (record { status = c.erasing_texts.ensures.status; kind = c.erasing_texts.ensures.kind; kept = c.erasing_texts.ensures.kept }))
     steps (new_hall second admin digest) end words (c.new_halls_are_sound.ensures second admin digest) refl
     (record {
-      words = record { images = λ name i is. absurd (none-some i (sym (at-no_rows texts name _ refl) ∙ is)) };
+      whole = new_rows admin digest;
       released = λ id m is erases. absurd (none-some m (sym (at-no_rows numbers id _ refl) ∙ is));
     }) run

@@ -1,0 +1,151 @@
+-- Each script that a machine is given is one within the limits, where it is made of what its types allow.
+use Rattle.std.specs.Prelude.{◌≡◌, ◌≤◌, ◌+◌, ◌++◌, ◌==◌, ℕ, Bool, true, false, List, [], ◌∷◌, length, Option, Some, None, Result, Ok, Err, IsTrue, codes, if◌then◌else◌}
+use Rattle.std.specs.Fmt.{decimal}
+use Rattle.std.specs.List.{AllByRecursion}
+use Rattle.std.proofs.Common.{refl, ap, subst, arith}
+use Rattle.std.proofs.lemmas.Bool.Decides.{nat_tests}
+use Rattle.std.proofs.lemmas.List.Elements.{All-from_recursion, recursion_from_All}
+use Rattle.hex.specs.Hex.{encode_lower}
+use Rattle.pxe_vendor.specs.Place.{is_host}
+use Rattle.ipxe_script.specs.Script.{IsScript}
+use Rattle.ipxe_script.specs.Word.{IsWord}
+use Rattle.ipxe_script.specs.declared.command.Command.{Command}
+use Rattle.hall_types.specs.Image.{BootImage, IsImage}
+use Rattle.hall_types.specs.Number.{max_number, next_number}
+use Rattle.hall_types.specs.Octets.{AreOctets}
+use Rattle.hall_types.specs.declared.boot.Boot.{Boot}
+use Rattle.hall_types.specs.declared.change.RowWrite.{RowWrite}
+use Rattle.hall_types.specs.declared.kinds.Erase.{Erase}
+use Rattle.hall_types.specs.declared.kinds.Purpose.{Purpose}
+use Rattle.hall_types.specs.declared.kinds.Purpose.TheVariants as purpose
+use Rattle.hall_types.specs.declared.refusal.Refusal.{Refusal}
+use Rattle.life_cycle.specs.Table.{step_of}
+use Rattle.life_cycle.specs.declared.signal.Signal.TheVariants.{FourthBoot}
+use Rattle.boot_desk.specs.Class.{class_of}
+use Rattle.boot_desk.specs.declared.class.ScriptClass.{ScriptClass}
+use Rattle.boot_desk.specs.declared.class.ScriptClass.TheVariants.{Local, Hold, Work}
+use Rattle.boot_desk.specs.declared.views.BootView.{BootView}
+use Rattle.boot_desk.specs.Fetch.{Fetched, fetched, fetched_by, image_for, is_fourth, is_offered, issued, new_boot, offered_boot, worked, worked_if}
+use Rattle.boot_desk.specs.Following.{answering, followed}
+use Rattle.boot_desk.specs.TextLaws.{boot_is_script, boot_word, desk_word, erase_word, hold_is_script, local_is_script, purpose_word, token_word}
+use Rattle.boot_desk.specs.Texts.{desk_arguments, erase_argument, hold_script, local_script, work_script}
+
+-- a boot: a number, and a token of 16 octets
+pub record IsBoot (b : Boot) : Type 0 where
+  pub number : b.number ≤ max_number
+  pub token : AreOctets 16 b.token
+
+-- what a machine's script is made of
+pub record IsWholeView (v : BootView) : Type 0 where
+  pub live : (i : BootImage) → v.live ≡ Some i → IsImage i
+  pub image : (i : BootImage) → v.image ≡ Some i → IsImage i
+  pub boot : (b : Boot) → v.boot ≡ Some b → IsBoot b
+  pub last : v.numbers.boot ≤ max_number
+
+erase_words : (p : Purpose) (e : Option Erase) → AllByRecursion IsWord (erase_argument p e)
+erase_words purpose.Commission e = tt
+erase_words purpose.Test e = tt
+erase_words purpose.Deploy e = tt
+erase_words purpose.Erase None = tt
+erase_words purpose.Erase (Some e) = (erase_word e, tt)
+erase_words purpose.Rescue e = tt
+
+few_erase : (p : Purpose) (e : Option Erase) (more : List (List ℕ)) → length (erase_argument p e ++ more) ≤ 1 + length more
+few_erase purpose.Commission e more = omega arith
+few_erase purpose.Test e more = omega arith
+few_erase purpose.Deploy e more = omega arith
+few_erase purpose.Erase None more = omega arith
+few_erase purpose.Erase (Some e) more = omega arith
+few_erase purpose.Rescue e more = omega arith
+
+all_append : (xs ys : List (List ℕ)) → AllByRecursion IsWord xs → AllByRecursion IsWord ys → AllByRecursion IsWord (xs ++ ys)
+all_append [] ys one other = other
+all_append (x ∷ xs) ys one other = (one.0, all_append xs ys one.1 other)
+
+long : (xs ys : List (List ℕ)) → length (xs ++ ys) ≡ length xs + length ys
+long [] ys = omega arith
+long (x ∷ xs) ys = let rest = long xs ys in omega (arith, rest)
+
+module _ (host : List ℕ) (is : IsTrue (is_host host)) where
+  pub work_is_script : (p : Purpose) (e : Option Erase) (b : Boot) (i : BootImage) → IsBoot b → IsImage i → IsScript (work_script host p e b i)
+  unfolding work_script
+  work_is_script p e b i boot image =
+      let own = desk_arguments host p e b in
+      let words : AllByRecursion IsWord own =
+      (purpose_word p, all_append (erase_argument p e) _ (erase_words p e) (boot_word b.number (omega (arith, boot.number)), (token_word b.token boot.token, (desk_word host is, tt)))) in
+      let few = few_erase p e ((codes "hall.boot=" ++ decimal b.number) ∷ (codes "hall.token=" ++ encode_lower b.token) ∷ (codes "hall.desk=http://" ++ host) ∷ []) in
+      boot_is_script i.kernel (i.args ++ own) i.initrd image.kernel (All-from_recursion IsWord (i.args ++ own) (all_append i.args own (recursion_from_All IsWord i.args image.words) words)) image.initrd
+      (omega (arith, long i.args own, few, image.few))
+
+abbrev script_in : Fetched → List Command
+script_in (Ok answer) = answer.1
+script_in (Err refusal) = []
+
+some_number : (a b : ℕ) → Some a ≡ Some b → a ≡ b
+some_number a b e = cc
+
+-- a number that is issued is in the range
+pub number_in_range : (last number : ℕ) → last ≤ max_number → next_number last ≡ Some number → number ≤ max_number
+number_in_range last number low next = by (last == max_number) refl next
+  where
+    in_range : (last number : ℕ) → (last == max_number) ≡ false → last ≤ max_number → last + 1 ≡ number → number ≤ max_number
+    in_range last number at low is = grind (arith, nat_tests)
+
+    by : (top : Bool) → (last == max_number) ≡ top → ◌≡◌ {A = Option ℕ} (if top then None else Some (last + 1)) (Some number) → number ≤ max_number
+    by true at is = cc
+    by false at is = in_range last number at low (some_number (last + 1) number is)
+
+module _ (host : List ℕ) (host_is : IsTrue (is_host host)) (v : BootView) (moment : ℕ) (fresh : List ℕ) (fresh_are : AreOctets 16 fresh) (whole : IsWholeView v) where
+  as_script : (one other : List Command) → IsScript one → one ≡ other → IsScript other
+  as_script one other its same = subst IsScript same its
+
+  by_held : (rows : List RowWrite) (script : List Command) (after : Result (List RowWrite) Refusal) → answering hold_script after ≡ Ok (rows, script) → IsScript script
+  by_held rows script (Ok its) is = as_script hold_script script hold_is_script (ap script_in is)
+  by_held rows script (Err refusal) is = cc
+
+  by_number : (p : Purpose) (i : BootImage) → IsImage i → (number : Option ℕ) → next_number v.numbers.boot ≡ number → (rows : List RowWrite) (script : List Command) → issued host v p i fresh number ≡ Ok (rows, script) → IsScript script
+  by_number p i image None next rows script is = cc
+  by_number p i image (Some number) next rows script is =
+      as_script (work_script host p v.machine.erase (new_boot number v.machine p fresh) i) script
+      (work_is_script host host_is p v.machine.erase (new_boot number v.machine p fresh) i (record { number = number_in_range v.numbers.boot number whole.last next; token = fresh_are }) image)
+      (ap script_in is)
+
+  offered_is : (b : Option Boot) (o : Boot) → offered_boot b ≡ Some o → ((x : Boot) → b ≡ Some x → IsBoot x) → IsBoot o
+  offered_is None o is all = cc
+  offered_is (Some b) o is all = by (is_offered b.stage) is
+    where
+      by : (offered : Bool) → ◌≡◌ {A = Option Boot} (if offered then Some b else None) (Some o) → IsBoot o
+      by true e = all o e
+      by false e = cc
+
+  by_offered : (p : Purpose) (i : BootImage) → IsImage i → (offered : Option Boot) → offered_boot v.boot ≡ offered → (rows : List RowWrite) (script : List Command) → worked host v moment fresh p i offered ≡ Ok (rows, script) → IsScript script
+  by_offered p i image (Some b) at rows script is =
+      as_script (work_script host p v.machine.erase b i) script (work_is_script host host_is p v.machine.erase b i (offered_is v.boot b at whole.boot) image) (ap script_in is)
+  by_offered p i image None at rows script is = by (is_fourth v.machine) is
+    where
+      by : (fourth : Bool)
+          → ◌≡◌ {A = Fetched} (if fourth then answering hold_script (followed [] v moment (step_of v.machine FourthBoot)) else issued host v p i fresh (next_number v.numbers.boot)) (Ok (rows, script))
+          → IsScript script
+      by true e = by_held rows script (followed [] v moment (step_of v.machine FourthBoot)) e
+      by false e = by_number p i image (next_number v.numbers.boot) refl rows script e
+
+  image_is : (p : Purpose) (i : BootImage) → image_for p v ≡ Some i → IsImage i
+  image_is purpose.Commission i is = whole.live i is
+  image_is purpose.Test i is = whole.live i is
+  image_is purpose.Deploy i is = whole.image i is
+  image_is purpose.Erase i is = whole.live i is
+  image_is purpose.Rescue i is = whole.live i is
+
+  by_image : (p : Purpose) (i : Option BootImage) → image_for p v ≡ i → (rows : List RowWrite) (script : List Command) → worked_if host v moment fresh p i ≡ Ok (rows, script) → IsScript script
+  by_image p None at rows script is = as_script hold_script script hold_is_script (ap script_in is)
+  by_image p (Some i) at rows script is = by_offered p i (image_is p i at) (offered_boot v.boot) refl rows script is
+
+  by_class : (class : ScriptClass) (rows : List RowWrite) (script : List Command) → fetched_by class host v moment fresh ≡ Ok (rows, script) → IsScript script
+  by_class Local rows script is = as_script (local_script v.machine.arch) script (local_is_script v.machine.arch) (ap script_in is)
+  by_class Hold rows script is = as_script hold_script script hold_is_script (ap script_in is)
+  by_class (Work p) rows script is = by_image p (image_for p v) refl rows script is
+
+  -- what a machine is given is a script
+  pub fetched_is_script : (rows : List RowWrite) (script : List Command) → fetched host v moment fresh ≡ Ok (rows, script) → IsScript script
+  unfolding fetched
+  fetched_is_script rows script is = by_class (class_of v.machine) rows script is

@@ -1,0 +1,4 @@
+use Rattle.hall_desk.proofs.typed.event_is_typed.Goals as goal
+
+pub returns : goal.returns
+returns c = record { host = c.host.ensures.host; octets = c.octets.ensures.range; image = c.brings_image.ensures }
