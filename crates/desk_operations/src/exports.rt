@@ -1,7 +1,7 @@
 //! The export of all machines.
 ghost use Rattle.std.specs.Prelude.{◌≡◌, ◌≢◌, IfErr};
 ghost use Rattle.std.specs.Io.KnownBytes.{Appends};
-ghost use Rattle.hall_store.specs.Store.{IsRead};
+ghost use Rattle.hall_store.specs.Store.{Reads};
 ghost use Rattle.hall_report.specs.Export.{export_text};
 ghost use Rattle.desk_operations.specs.Fault.{IsStoreFault};
 
@@ -21,8 +21,7 @@ pub fn export<S: HallStore, W: Write>(
     store: &mut S,
     writer: &mut W,
 ) -> Result<(), Fault>
-    ensures clean { S.HallStore.is_clean store.new → S.HallStore.is_clean store.old }
-    ensures read { S.HallStore.is_clean store.new → IsRead S.HallStore.holds S.HallStore.leaves store.old store.new result
+    ensures read { Reads S.HallStore.is_clean S.HallStore.holds S.HallStore.leaves store.old store.new result
         (λ h _. Appends (W.contents writer.old) (W.contents writer.new) (export_text h)) }
     ensures fault { IfErr result IsStoreFault }
     ensures nothing { IfErr result (λ fault. fault ≢ Fault.Io → writer.new ≡ writer.old) }

@@ -2,7 +2,7 @@
 ghost use Rattle.std.specs.Prelude.{◌≡◌, ◌≢◌, ℕ, List, Err, IfErr, string_bytes};
 ghost use Rattle.std.specs.Io.KnownBytes.{Appends};
 ghost use Rattle.hall_types.specs.Hall.{Hall};
-ghost use Rattle.hall_store.specs.Store.{IsRead};
+ghost use Rattle.hall_store.specs.Store.{Reads};
 ghost use Rattle.desk_operations.specs.Fault.{IsReportFault};
 ghost use Rattle.desk_operations.specs.Report.{IsMissing, IsReport};
 
@@ -26,8 +26,7 @@ pub enum What {
 }
 
 fn text_of_machine<S: HallStore>(alloc: Global, store: &mut S, id: u64) -> Result<String, Fault>
-    ensures clean { S.HallStore.is_clean store.new → S.HallStore.is_clean store.old }
-    ensures read { S.HallStore.is_clean store.new → IsRead S.HallStore.holds S.HallStore.leaves store.old store.new result (λ h text. IsReport (What.Machine id) h (string_bytes text)) }
+    ensures read { Reads S.HallStore.is_clean S.HallStore.holds S.HallStore.leaves store.old store.new result (λ h text. IsReport (What.Machine id) h (string_bytes text)) }
     ensures missing { S.HallStore.is_clean store.new → result ≡ Err Fault.NoMachine → (h : Hall) → S.HallStore.holds store.old h → IsMissing (What.Machine id) h }
     ensures fault { IfErr result IsReportFault }
     ensures no_io { IfErr result (λ fault. fault ≢ Fault.Io) }
@@ -39,8 +38,7 @@ fn text_of_machine<S: HallStore>(alloc: Global, store: &mut S, id: u64) -> Resul
 }
 
 fn report_text<S: HallStore>(alloc: Global, store: &mut S, what: What) -> Result<String, Fault>
-    ensures clean { S.HallStore.is_clean store.new → S.HallStore.is_clean store.old }
-    ensures read { S.HallStore.is_clean store.new → IsRead S.HallStore.holds S.HallStore.leaves store.old store.new result (λ h text. IsReport what h (string_bytes text)) }
+    ensures read { Reads S.HallStore.is_clean S.HallStore.holds S.HallStore.leaves store.old store.new result (λ h text. IsReport what h (string_bytes text)) }
     ensures missing { S.HallStore.is_clean store.new → result ≡ Err Fault.NoMachine → (h : Hall) → S.HallStore.holds store.old h → IsMissing what h }
     ensures fault { IfErr result IsReportFault }
     ensures no_io { IfErr result (λ fault. fault ≢ Fault.Io) }
@@ -64,8 +62,7 @@ pub fn report<S: HallStore, W: Write>(
     writer: &mut W,
     what: What,
 ) -> Result<(), Fault>
-    ensures clean { S.HallStore.is_clean store.new → S.HallStore.is_clean store.old }
-    ensures read { S.HallStore.is_clean store.new → IsRead S.HallStore.holds S.HallStore.leaves store.old store.new result
+    ensures read { Reads S.HallStore.is_clean S.HallStore.holds S.HallStore.leaves store.old store.new result
         (λ h _. (text : List ℕ) × IsReport what h text × Appends (W.contents writer.old) (W.contents writer.new) text) }
     ensures missing { S.HallStore.is_clean store.new → result ≡ Err Fault.NoMachine → (h : Hall) → S.HallStore.holds store.old h → IsMissing what h }
     ensures fault { IfErr result IsReportFault }

@@ -12,3 +12,8 @@ module _ {S : Type 0} (holds : S → Hall → Type 0) (leaves : S → List Hall 
     pub same : (h : Hall) → holds old h → holds new h
     -- a stop leaves what it left before
     pub crash : (h : Hall) → holds old h → (hs : List Hall) → leaves old hs → leaves new hs
+
+-- Where a store took no wrong answer of a disk for a right one (`clean`), it took none before, and it was read so.
+module _ {S : Type 0} (clean : S → Type 0) (holds : S → Hall → Type 0) (leaves : S → List Hall → Type 0) (old new : S) {Y E : Type 0} (r : Result Y E) where
+  abbrev pub Looks : (Hall → Y → Type 0) → Type 0
+  Looks Right = clean new → clean old × IsLook holds leaves old new r Right

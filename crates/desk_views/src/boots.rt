@@ -4,7 +4,7 @@ ghost use Rattle.hall_types.specs.Lookup.{next_expired};
 ghost use Rattle.hall_types.specs.Rows.{at};
 ghost use Rattle.boot_desk.specs.Views as view;
 ghost use Rattle.boot_desk.specs.Views.{machine_view, row_at, view_of};
-ghost use Rattle.desk_views.specs.Look.{IsLook};
+ghost use Rattle.desk_views.specs.Look.{Looks};
 
 use crate::images::{image_at, live_image};
 use boot_desk::{BootView, OrderView, ReportView};
@@ -14,8 +14,7 @@ use std::alloc::Global;
 
 // The boot with a number, if there is a number.
 fn boot_at<S: HallStore>(store: &mut S, number: Option<Number>) -> Result<Option<Boot>, Unavailable>
-    ensures clean { S.HallStore.is_clean store.new → S.HallStore.is_clean store.old }
-    ensures look { S.HallStore.is_clean store.new → IsLook S.HallStore.holds S.HallStore.leaves store.old store.new result (λ h answer. answer ≡ row_at h.boots number) }
+    ensures { Looks S.HallStore.is_clean S.HallStore.holds S.HallStore.leaves store.old store.new result (λ h answer. answer ≡ row_at h.boots number) }
 {
     match number {
         Some(number) => store.boot(number),
@@ -28,8 +27,7 @@ pub(crate) fn order_at<S: HallStore>(
     store: &mut S,
     number: Option<Number>,
 ) -> Result<Option<Order>, Unavailable>
-    ensures clean { S.HallStore.is_clean store.new → S.HallStore.is_clean store.old }
-    ensures look { S.HallStore.is_clean store.new → IsLook S.HallStore.holds S.HallStore.leaves store.old store.new result (λ h answer. answer ≡ row_at h.orders number) }
+    ensures { Looks S.HallStore.is_clean S.HallStore.holds S.HallStore.leaves store.old store.new result (λ h answer. answer ≡ row_at h.orders number) }
 {
     match number {
         Some(number) => store.order(number),
@@ -43,8 +41,7 @@ pub fn boot_view<S: HallStore>(
     store: &mut S,
     machine: Machine,
 ) -> Result<BootView, Unavailable>
-    ensures clean { S.HallStore.is_clean store.new → S.HallStore.is_clean store.old }
-    ensures look { S.HallStore.is_clean store.new → IsLook S.HallStore.holds S.HallStore.leaves store.old store.new result (λ h answer. answer ≡ view_of h machine) }
+    ensures { Looks S.HallStore.is_clean S.HallStore.holds S.HallStore.leaves store.old store.new result (λ h answer. answer ≡ view_of h machine) }
 {
     let boot = boot_at(store, machine.boot)?;
     let order = order_at(store, machine.waiting)?;
@@ -67,8 +64,7 @@ fn numbered_view<S: HallStore>(
     store: &mut S,
     id: Number,
 ) -> Result<Option<BootView>, Unavailable>
-    ensures clean { S.HallStore.is_clean store.new → S.HallStore.is_clean store.old }
-    ensures look { S.HallStore.is_clean store.new → IsLook S.HallStore.holds S.HallStore.leaves store.old store.new result (λ h answer. answer ≡ machine_view h (at h.machines id)) }
+    ensures { Looks S.HallStore.is_clean S.HallStore.holds S.HallStore.leaves store.old store.new result (λ h answer. answer ≡ machine_view h (at h.machines id)) }
 {
     match store.machine(id)? {
         Some(machine) => Ok(Some(boot_view(alloc, store, machine)?)),
@@ -82,8 +78,7 @@ pub fn view_at<S: HallStore>(
     store: &mut S,
     mac: MacAddress,
 ) -> Result<Option<BootView>, Unavailable>
-    ensures clean { S.HallStore.is_clean store.new → S.HallStore.is_clean store.old }
-    ensures look { S.HallStore.is_clean store.new → IsLook S.HallStore.holds S.HallStore.leaves store.old store.new result (λ h answer. answer ≡ view.view_at h mac) }
+    ensures { Looks S.HallStore.is_clean S.HallStore.holds S.HallStore.leaves store.old store.new result (λ h answer. answer ≡ view.view_at h mac) }
 {
     match store.by_mac(mac)? {
         Some(id) => numbered_view(alloc, store, id),
@@ -97,8 +92,7 @@ pub fn report_view<S: HallStore>(
     store: &mut S,
     number: Number,
 ) -> Result<Option<ReportView>, Unavailable>
-    ensures clean { S.HallStore.is_clean store.new → S.HallStore.is_clean store.old }
-    ensures look { S.HallStore.is_clean store.new → IsLook S.HallStore.holds S.HallStore.leaves store.old store.new result (λ h answer. answer ≡ view.report_view h number) }
+    ensures { Looks S.HallStore.is_clean S.HallStore.holds S.HallStore.leaves store.old store.new result (λ h answer. answer ≡ view.report_view h number) }
 {
     let Some(asked) = store.boot(number)? else {
         return Ok(None);
@@ -115,8 +109,7 @@ pub fn order_view<S: HallStore>(
     store: &mut S,
     number: Number,
 ) -> Result<Option<OrderView>, Unavailable>
-    ensures clean { S.HallStore.is_clean store.new → S.HallStore.is_clean store.old }
-    ensures look { S.HallStore.is_clean store.new → IsLook S.HallStore.holds S.HallStore.leaves store.old store.new result (λ h answer. answer ≡ view.order_view h number) }
+    ensures { Looks S.HallStore.is_clean S.HallStore.holds S.HallStore.leaves store.old store.new result (λ h answer. answer ≡ view.order_view h number) }
 {
     let Some(asked) = store.order(number)? else {
         return Ok(None);
@@ -133,8 +126,7 @@ pub fn expired_view<S: HallStore>(
     store: &mut S,
     moment: Moment,
 ) -> Result<Option<BootView>, Unavailable>
-    ensures clean { S.HallStore.is_clean store.new → S.HallStore.is_clean store.old }
-    ensures look { S.HallStore.is_clean store.new → IsLook S.HallStore.holds S.HallStore.leaves store.old store.new result (λ h answer. answer ≡ machine_view h (next_expired h moment)) }
+    ensures { Looks S.HallStore.is_clean S.HallStore.holds S.HallStore.leaves store.old store.new result (λ h answer. answer ≡ machine_view h (next_expired h moment)) }
 {
     match store.next_expired(moment)? {
         Some(machine) => Ok(Some(boot_view(alloc, store, machine)?)),

@@ -2,7 +2,7 @@
 ghost use Rattle.std.specs.Prelude.{◌≡◌};
 ghost use Rattle.desk_command.specs.View.{by_uuid};
 ghost use Rattle.desk_views.specs.Client.{IsEnough};
-ghost use Rattle.desk_views.specs.Look.{IsLook};
+ghost use Rattle.desk_views.specs.Look.{Looks};
 
 use boot_desk::FrameView;
 use hall_store::{HallStore, Unavailable};
@@ -20,8 +20,7 @@ pub(crate) fn by_uuid<S: HallStore>(
     store: &mut S,
     uuid: Option<MachineUuid>,
 ) -> Result<Option<Number>, Unavailable>
-    ensures clean { S.HallStore.is_clean store.new → S.HallStore.is_clean store.old }
-    ensures look { S.HallStore.is_clean store.new → IsLook S.HallStore.holds S.HallStore.leaves store.old store.new result (λ h answer. answer ≡ by_uuid h uuid) }
+    ensures { Looks S.HallStore.is_clean S.HallStore.holds S.HallStore.leaves store.old store.new result (λ h answer. answer ≡ by_uuid h uuid) }
 {
     match uuid {
         Some(uuid) => store.by_uuid(uuid),
@@ -33,8 +32,7 @@ pub(crate) fn by_uuid<S: HallStore>(
 /// where its address is unknown, how many machines there are and the last numbers.
 #[tactic(auto, using(crate::proofs::ClientLemmas::whole_enough))]
 pub fn frame_view<S: HallStore>(store: &mut S, client: &Client) -> Result<FrameView, Unavailable>
-    ensures clean { S.HallStore.is_clean store.new → S.HallStore.is_clean store.old }
-    ensures look { S.HallStore.is_clean store.new → IsLook S.HallStore.holds S.HallStore.leaves store.old store.new result (λ h view. IsEnough h client.now view) }
+    ensures { Looks S.HallStore.is_clean S.HallStore.holds S.HallStore.leaves store.old store.new result (λ h view. IsEnough h client.now view) }
 {
     let by_mac = store.by_mac(MacAddress::from(client.mac))?;
     let by_uuid = by_uuid(store, client.uuid.map(MachineUuid::from))?;

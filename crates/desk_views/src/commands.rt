@@ -4,7 +4,7 @@ ghost use Rattle.hall_types.specs.Lookup.{is_image_used, operator_with_digest};
 ghost use Rattle.hall_types.specs.Rows.{at, size};
 ghost use Rattle.desk_command.specs.Command as made;
 ghost use Rattle.desk_command.specs.View as view;
-ghost use Rattle.desk_views.specs.Look.{IsLook};
+ghost use Rattle.desk_views.specs.Look.{Looks};
 
 use crate::clients::by_uuid;
 use crate::machine_commands::machine_view;
@@ -20,8 +20,7 @@ pub fn sender<S: HallStore>(
     store: &mut S,
     bearer: Option<Digest>,
 ) -> Result<Option<Operator>, Unavailable>
-    ensures clean { S.HallStore.is_clean store.new → S.HallStore.is_clean store.old }
-    ensures look { S.HallStore.is_clean store.new → IsLook S.HallStore.holds S.HallStore.leaves store.old store.new result (λ h answer. answer ≡ made.sender h bearer) }
+    ensures { Looks S.HallStore.is_clean S.HallStore.holds S.HallStore.leaves store.old store.new result (λ h answer. answer ≡ made.sender h bearer) }
 {
     match bearer {
         Some(digest) => store.operator_by_digest(&digest),
@@ -35,8 +34,7 @@ fn operator_view<S: HallStore>(
     name: &Name,
     digest: &Digest,
 ) -> Result<CommandView, Unavailable>
-    ensures clean { S.HallStore.is_clean store.new → S.HallStore.is_clean store.old }
-    ensures look { S.HallStore.is_clean store.new → IsLook S.HallStore.holds S.HallStore.leaves store.old store.new result (λ h answer. answer ≡ record (view.nothing_of h) { operator = at h.operators name.now; has_digest = is_some (operator_with_digest h digest.now) }) }
+    ensures { Looks S.HallStore.is_clean S.HallStore.holds S.HallStore.leaves store.old store.new result (λ h answer. answer ≡ record (view.nothing_of h) { operator = at h.operators name.now; has_digest = is_some (operator_with_digest h digest.now) }) }
 {
     let operator = store.operator(name)?;
     let has_digest = has_digest(store, digest)?;
@@ -50,8 +48,7 @@ fn operator_view<S: HallStore>(
 
 // What a hall has of an operator that is disabled.
 fn disabled_view<S: HallStore>(store: &mut S, name: &Name) -> Result<CommandView, Unavailable>
-    ensures clean { S.HallStore.is_clean store.new → S.HallStore.is_clean store.old }
-    ensures look { S.HallStore.is_clean store.new → IsLook S.HallStore.holds S.HallStore.leaves store.old store.new result (λ h answer. answer ≡ record (view.nothing_of h) { operator = at h.operators name.now }) }
+    ensures { Looks S.HallStore.is_clean S.HallStore.holds S.HallStore.leaves store.old store.new result (λ h answer. answer ≡ record (view.nothing_of h) { operator = at h.operators name.now }) }
 {
     let operator = store.operator(name)?;
     let nothing = nothing(store)?;
@@ -63,8 +60,7 @@ fn disabled_view<S: HallStore>(store: &mut S, name: &Name) -> Result<CommandView
 
 // What a hall has of a new pool.
 fn pool_view<S: HallStore>(store: &mut S, pool: &Name) -> Result<CommandView, Unavailable>
-    ensures clean { S.HallStore.is_clean store.new → S.HallStore.is_clean store.old }
-    ensures look { S.HallStore.is_clean store.new → IsLook S.HallStore.holds S.HallStore.leaves store.old store.new result (λ h answer. answer ≡ record (view.nothing_of h) { has_pool = view.has_pool h pool.now }) }
+    ensures { Looks S.HallStore.is_clean S.HallStore.holds S.HallStore.leaves store.old store.new result (λ h answer. answer ≡ record (view.nothing_of h) { has_pool = view.has_pool h pool.now }) }
 {
     let has_pool = has_pool(store, pool)?;
     let nothing = nothing(store)?;
@@ -80,8 +76,7 @@ fn member_view<S: HallStore>(
     pool: &Name,
     name: &Name,
 ) -> Result<CommandView, Unavailable>
-    ensures clean { S.HallStore.is_clean store.new → S.HallStore.is_clean store.old }
-    ensures look { S.HallStore.is_clean store.new → IsLook S.HallStore.holds S.HallStore.leaves store.old store.new result (λ h answer. answer ≡ record (view.nothing_of h) { has_pool = view.has_pool h pool.now; operator = at h.operators name.now; is_member = view.has_member h pool.now name.now }) }
+    ensures { Looks S.HallStore.is_clean S.HallStore.holds S.HallStore.leaves store.old store.new result (λ h answer. answer ≡ record (view.nothing_of h) { has_pool = view.has_pool h pool.now; operator = at h.operators name.now; is_member = view.has_member h pool.now name.now }) }
 {
     let has_pool = has_pool(store, pool)?;
     let operator = store.operator(name)?;
@@ -101,8 +96,7 @@ fn image_view<S: HallStore>(
     store: &mut S,
     image: &Name,
 ) -> Result<CommandView, Unavailable>
-    ensures clean { S.HallStore.is_clean store.new → S.HallStore.is_clean store.old }
-    ensures look { S.HallStore.is_clean store.new → IsLook S.HallStore.holds S.HallStore.leaves store.old store.new result (λ h answer. answer ≡ record (view.nothing_of h) { image = view.image_arch h image.now }) }
+    ensures { Looks S.HallStore.is_clean S.HallStore.holds S.HallStore.leaves store.old store.new result (λ h answer. answer ≡ record (view.nothing_of h) { image = view.image_arch h image.now }) }
 {
     let image = image_arch(alloc, store, image)?;
     let nothing = nothing(store)?;
@@ -115,8 +109,7 @@ fn deleted_view<S: HallStore>(
     store: &mut S,
     image: &Name,
 ) -> Result<CommandView, Unavailable>
-    ensures clean { S.HallStore.is_clean store.new → S.HallStore.is_clean store.old }
-    ensures look { S.HallStore.is_clean store.new → IsLook S.HallStore.holds S.HallStore.leaves store.old store.new result (λ h answer. answer ≡ record (view.nothing_of h) { image = view.image_arch h image.now; image_used = is_image_used h image.now }) }
+    ensures { Looks S.HallStore.is_clean S.HallStore.holds S.HallStore.leaves store.old store.new result (λ h answer. answer ≡ record (view.nothing_of h) { image = view.image_arch h image.now; image_used = is_image_used h image.now }) }
 {
     let image_used = store.image_used(image)?;
     let image = image_arch(alloc, store, image)?;
@@ -135,8 +128,7 @@ fn added_view<S: HallStore>(
     pool: &Name,
     uuid: Option<MachineUuid>,
 ) -> Result<CommandView, Unavailable>
-    ensures clean { S.HallStore.is_clean store.new → S.HallStore.is_clean store.old }
-    ensures look { S.HallStore.is_clean store.new → IsLook S.HallStore.holds S.HallStore.leaves store.old store.new result (λ h answer. answer ≡ record (view.nothing_of h) { has_pool = view.has_pool h pool.now; by_mac = view.by_mac h mac; by_uuid = view.by_uuid h uuid; machines = size h.machines }) }
+    ensures { Looks S.HallStore.is_clean S.HallStore.holds S.HallStore.leaves store.old store.new result (λ h answer. answer ≡ record (view.nothing_of h) { has_pool = view.has_pool h pool.now; by_mac = view.by_mac h mac; by_uuid = view.by_uuid h uuid; machines = size h.machines }) }
 {
     let has_pool = has_pool(store, pool)?;
     let by_mac = store.by_mac(mac)?;
@@ -160,8 +152,7 @@ fn numbered_view<S: HallStore>(
     id: Number,
     command: &MachineCommand,
 ) -> Result<CommandView, Unavailable>
-    ensures clean { S.HallStore.is_clean store.new → S.HallStore.is_clean store.old }
-    ensures look { S.HallStore.is_clean store.new → IsLook S.HallStore.holds S.HallStore.leaves store.old store.new result (λ h answer. answer ≡ view.machine_view_if h by.now (at h.machines id) command.now) }
+    ensures { Looks S.HallStore.is_clean S.HallStore.holds S.HallStore.leaves store.old store.new result (λ h answer. answer ≡ view.machine_view_if h by.now (at h.machines id) command.now) }
 {
     match store.machine(id)? {
         Some(machine) => machine_view(alloc, store, by, &machine, command),
@@ -177,8 +168,7 @@ pub fn command_view<S: HallStore>(
     by: &Operator,
     command: &HallCommand,
 ) -> Result<CommandView, Unavailable>
-    ensures clean { S.HallStore.is_clean store.new → S.HallStore.is_clean store.old }
-    ensures look { S.HallStore.is_clean store.new → IsLook S.HallStore.holds S.HallStore.leaves store.old store.new result (λ h answer. answer ≡ view.command_view h by.now command.now) }
+    ensures { Looks S.HallStore.is_clean S.HallStore.holds S.HallStore.leaves store.old store.new result (λ h answer. answer ≡ view.command_view h by.now command.now) }
 {
     match command {
         HallCommand::AddOperator {

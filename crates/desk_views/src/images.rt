@@ -2,7 +2,7 @@
 ghost use Rattle.std.specs.Prelude.{◌≡◌};
 ghost use Rattle.hall_types.specs.Kinds.{arch_number};
 ghost use Rattle.boot_desk.specs.Views.{live_image, row_at};
-ghost use Rattle.desk_views.specs.Look.{IsLook};
+ghost use Rattle.desk_views.specs.Look.{Looks};
 
 use hall_store::{HallStore, Unavailable};
 use hall_types::{Arch, Image, Name};
@@ -14,8 +14,7 @@ pub(crate) fn image_at<S: HallStore>(
     store: &mut S,
     name: Option<Name>,
 ) -> Result<Option<Image>, Unavailable>
-    ensures clean { S.HallStore.is_clean store.new → S.HallStore.is_clean store.old }
-    ensures look { S.HallStore.is_clean store.new → IsLook S.HallStore.holds S.HallStore.leaves store.old store.new result (λ h answer. answer ≡ row_at h.images name) }
+    ensures { Looks S.HallStore.is_clean S.HallStore.holds S.HallStore.leaves store.old store.new result (λ h answer. answer ≡ row_at h.images name) }
 {
     match name {
         Some(name) => store.image(alloc, &name),
@@ -29,8 +28,7 @@ pub(crate) fn live_image<S: HallStore>(
     store: &mut S,
     arch: Arch,
 ) -> Result<Option<Image>, Unavailable>
-    ensures clean { S.HallStore.is_clean store.new → S.HallStore.is_clean store.old }
-    ensures look { S.HallStore.is_clean store.new → IsLook S.HallStore.holds S.HallStore.leaves store.old store.new result (λ h answer. answer ≡ live_image h (arch_number arch)) }
+    ensures { Looks S.HallStore.is_clean S.HallStore.holds S.HallStore.leaves store.old store.new result (λ h answer. answer ≡ live_image h (arch_number arch)) }
 {
     match store.live(arch)? {
         Some(live) => store.image(alloc, &live.image),

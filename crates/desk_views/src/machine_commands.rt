@@ -2,7 +2,7 @@
 ghost use Rattle.std.specs.Prelude.{◌≡◌, length};
 ghost use Rattle.hall_types.specs.Lookup.{interfaces_of};
 ghost use Rattle.desk_command.specs.View as view;
-ghost use Rattle.desk_views.specs.Look.{IsLook};
+ghost use Rattle.desk_views.specs.Look.{Looks};
 
 use crate::boots::order_at;
 use crate::named::{has_live, has_member, has_pool, image_arch, nothing};
@@ -18,8 +18,7 @@ fn interface_count<S: HallStore>(
     store: &mut S,
     machine: &Machine,
 ) -> Result<u64, Unavailable>
-    ensures clean { S.HallStore.is_clean store.new → S.HallStore.is_clean store.old }
-    ensures look { S.HallStore.is_clean store.new → IsLook S.HallStore.holds S.HallStore.leaves store.old store.new result (λ h answer. answer ≡ length (interfaces_of h machine.now.id)) }
+    ensures { Looks S.HallStore.is_clean S.HallStore.holds S.HallStore.leaves store.old store.new result (λ h answer. answer ≡ length (interfaces_of h machine.now.id)) }
 {
     let interfaces = store.interfaces_of(alloc, machine.id)?;
     Ok(interfaces.len() as u64)
@@ -27,8 +26,7 @@ fn interface_count<S: HallStore>(
 
 // A machine, and the order that it waits for.
 fn of_machine<S: HallStore>(store: &mut S, machine: &Machine) -> Result<CommandView, Unavailable>
-    ensures clean { S.HallStore.is_clean store.new → S.HallStore.is_clean store.old }
-    ensures look { S.HallStore.is_clean store.new → IsLook S.HallStore.holds S.HallStore.leaves store.old store.new result (λ h answer. answer ≡ view.of_machine h machine.now) }
+    ensures { Looks S.HallStore.is_clean S.HallStore.holds S.HallStore.leaves store.old store.new result (λ h answer. answer ≡ view.of_machine h machine.now) }
 {
     let order = order_at(store, machine.waiting)?;
     let nothing = nothing(store)?;
@@ -46,8 +44,7 @@ fn with_interfaces<S: HallStore>(
     machine: &Machine,
     mac: MacAddress,
 ) -> Result<CommandView, Unavailable>
-    ensures clean { S.HallStore.is_clean store.new → S.HallStore.is_clean store.old }
-    ensures look { S.HallStore.is_clean store.new → IsLook S.HallStore.holds S.HallStore.leaves store.old store.new result (λ h answer. answer ≡ view.with_interfaces h machine.now mac) }
+    ensures { Looks S.HallStore.is_clean S.HallStore.holds S.HallStore.leaves store.old store.new result (λ h answer. answer ≡ view.with_interfaces h machine.now mac) }
 {
     let interfaces = interface_count(alloc, store, machine)?;
     let by_mac = store.by_mac(mac)?;
@@ -61,8 +58,7 @@ fn with_interfaces<S: HallStore>(
 
 // With whether the machine's architecture has a live image.
 fn with_live<S: HallStore>(store: &mut S, machine: &Machine) -> Result<CommandView, Unavailable>
-    ensures clean { S.HallStore.is_clean store.new → S.HallStore.is_clean store.old }
-    ensures look { S.HallStore.is_clean store.new → IsLook S.HallStore.holds S.HallStore.leaves store.old store.new result (λ h answer. answer ≡ view.with_live h machine.now) }
+    ensures { Looks S.HallStore.is_clean S.HallStore.holds S.HallStore.leaves store.old store.new result (λ h answer. answer ≡ view.with_live h machine.now) }
 {
     let has_live = has_live(store, machine.arch)?;
     let view = of_machine(store, machine)?;
@@ -75,8 +71,7 @@ fn with_pool<S: HallStore>(
     machine: &Machine,
     pool: &Name,
 ) -> Result<CommandView, Unavailable>
-    ensures clean { S.HallStore.is_clean store.new → S.HallStore.is_clean store.old }
-    ensures look { S.HallStore.is_clean store.new → IsLook S.HallStore.holds S.HallStore.leaves store.old store.new result (λ h answer. answer ≡ record (view.of_machine h machine.now) { has_pool = view.has_pool h pool.now }) }
+    ensures { Looks S.HallStore.is_clean S.HallStore.holds S.HallStore.leaves store.old store.new result (λ h answer. answer ≡ record (view.of_machine h machine.now) { has_pool = view.has_pool h pool.now }) }
 {
     let has_pool = has_pool(store, pool)?;
     let view = of_machine(store, machine)?;
@@ -89,8 +84,7 @@ fn with_member<S: HallStore>(
     machine: &Machine,
     by: &Operator,
 ) -> Result<CommandView, Unavailable>
-    ensures clean { S.HallStore.is_clean store.new → S.HallStore.is_clean store.old }
-    ensures look { S.HallStore.is_clean store.new → IsLook S.HallStore.holds S.HallStore.leaves store.old store.new result (λ h answer. answer ≡ record (view.of_machine h machine.now) { is_member = view.has_member h machine.now.pool by.now.name }) }
+    ensures { Looks S.HallStore.is_clean S.HallStore.holds S.HallStore.leaves store.old store.new result (λ h answer. answer ≡ record (view.of_machine h machine.now) { is_member = view.has_member h machine.now.pool by.now.name }) }
 {
     let is_member = has_member(store, &machine.pool, &by.name)?;
     let view = of_machine(store, machine)?;
@@ -104,8 +98,7 @@ fn with_image<S: HallStore>(
     machine: &Machine,
     image: &Name,
 ) -> Result<CommandView, Unavailable>
-    ensures clean { S.HallStore.is_clean store.new → S.HallStore.is_clean store.old }
-    ensures look { S.HallStore.is_clean store.new → IsLook S.HallStore.holds S.HallStore.leaves store.old store.new result (λ h answer. answer ≡ record (view.of_machine h machine.now) { image = view.image_arch h image.now }) }
+    ensures { Looks S.HallStore.is_clean S.HallStore.holds S.HallStore.leaves store.old store.new result (λ h answer. answer ≡ record (view.of_machine h machine.now) { image = view.image_arch h image.now }) }
 {
     let image = image_arch(alloc, store, image)?;
     let view = of_machine(store, machine)?;
@@ -119,8 +112,7 @@ pub(crate) fn machine_view<S: HallStore>(
     machine: &Machine,
     command: &MachineCommand,
 ) -> Result<CommandView, Unavailable>
-    ensures clean { S.HallStore.is_clean store.new → S.HallStore.is_clean store.old }
-    ensures look { S.HallStore.is_clean store.new → IsLook S.HallStore.holds S.HallStore.leaves store.old store.new result (λ h answer. answer ≡ view.machine_view h by.now machine.now command.now) }
+    ensures { Looks S.HallStore.is_clean S.HallStore.holds S.HallStore.leaves store.old store.new result (λ h answer. answer ≡ view.machine_view h by.now machine.now command.now) }
 {
     match command {
         MachineCommand::AddInterface { mac } | MachineCommand::RemoveInterface { mac } => {

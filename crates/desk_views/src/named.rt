@@ -4,7 +4,7 @@ ghost use Rattle.hall_types.specs.Kinds.{arch_number};
 ghost use Rattle.hall_types.specs.Lookup.{operator_with_digest};
 ghost use Rattle.hall_types.specs.Rows.{at};
 ghost use Rattle.desk_command.specs.View as view;
-ghost use Rattle.desk_views.specs.Look.{IsLook};
+ghost use Rattle.desk_views.specs.Look.{Looks};
 
 use desk_command::CommandView;
 use hall_store::{HallStore, Unavailable};
@@ -13,8 +13,7 @@ use std::alloc::Global;
 
 // Nothing but the last numbers.
 pub(crate) fn nothing<S: HallStore>(store: &mut S) -> Result<CommandView, Unavailable>
-    ensures clean { S.HallStore.is_clean store.new → S.HallStore.is_clean store.old }
-    ensures look { S.HallStore.is_clean store.new → IsLook S.HallStore.holds S.HallStore.leaves store.old store.new result (λ h answer. answer ≡ view.nothing_of h) }
+    ensures { Looks S.HallStore.is_clean S.HallStore.holds S.HallStore.leaves store.old store.new result (λ h answer. answer ≡ view.nothing_of h) }
 {
     let numbers = store.numbers()?;
     Ok(CommandView {
@@ -36,8 +35,7 @@ pub(crate) fn nothing<S: HallStore>(store: &mut S) -> Result<CommandView, Unavai
 }
 
 pub(crate) fn has_pool<S: HallStore>(store: &mut S, pool: &Name) -> Result<bool, Unavailable>
-    ensures clean { S.HallStore.is_clean store.new → S.HallStore.is_clean store.old }
-    ensures look { S.HallStore.is_clean store.new → IsLook S.HallStore.holds S.HallStore.leaves store.old store.new result (λ h answer. answer ≡ view.has_pool h pool.now) }
+    ensures { Looks S.HallStore.is_clean S.HallStore.holds S.HallStore.leaves store.old store.new result (λ h answer. answer ≡ view.has_pool h pool.now) }
 {
     Ok(store.pool(pool)?.is_some())
 }
@@ -47,22 +45,19 @@ pub(crate) fn has_member<S: HallStore>(
     pool: &Name,
     operator: &Name,
 ) -> Result<bool, Unavailable>
-    ensures clean { S.HallStore.is_clean store.new → S.HallStore.is_clean store.old }
-    ensures look { S.HallStore.is_clean store.new → IsLook S.HallStore.holds S.HallStore.leaves store.old store.new result (λ h answer. answer ≡ view.has_member h pool.now operator.now) }
+    ensures { Looks S.HallStore.is_clean S.HallStore.holds S.HallStore.leaves store.old store.new result (λ h answer. answer ≡ view.has_member h pool.now operator.now) }
 {
     Ok(store.member(pool, operator)?.is_some())
 }
 
 pub(crate) fn has_live<S: HallStore>(store: &mut S, arch: Arch) -> Result<bool, Unavailable>
-    ensures clean { S.HallStore.is_clean store.new → S.HallStore.is_clean store.old }
-    ensures look { S.HallStore.is_clean store.new → IsLook S.HallStore.holds S.HallStore.leaves store.old store.new result (λ h answer. answer ≡ is_some (at h.lives (arch_number arch))) }
+    ensures { Looks S.HallStore.is_clean S.HallStore.holds S.HallStore.leaves store.old store.new result (λ h answer. answer ≡ is_some (at h.lives (arch_number arch))) }
 {
     Ok(store.live(arch)?.is_some())
 }
 
 pub(crate) fn has_digest<S: HallStore>(store: &mut S, digest: &Digest) -> Result<bool, Unavailable>
-    ensures clean { S.HallStore.is_clean store.new → S.HallStore.is_clean store.old }
-    ensures look { S.HallStore.is_clean store.new → IsLook S.HallStore.holds S.HallStore.leaves store.old store.new result (λ h answer. answer ≡ is_some (operator_with_digest h digest.now)) }
+    ensures { Looks S.HallStore.is_clean S.HallStore.holds S.HallStore.leaves store.old store.new result (λ h answer. answer ≡ is_some (operator_with_digest h digest.now)) }
 {
     Ok(store.operator_by_digest(digest)?.is_some())
 }
@@ -73,8 +68,7 @@ pub(crate) fn image_arch<S: HallStore>(
     store: &mut S,
     image: &Name,
 ) -> Result<Option<Arch>, Unavailable>
-    ensures clean { S.HallStore.is_clean store.new → S.HallStore.is_clean store.old }
-    ensures look { S.HallStore.is_clean store.new → IsLook S.HallStore.holds S.HallStore.leaves store.old store.new result (λ h answer. answer ≡ view.image_arch h image.now) }
+    ensures { Looks S.HallStore.is_clean S.HallStore.holds S.HallStore.leaves store.old store.new result (λ h answer. answer ≡ view.image_arch h image.now) }
 {
     match store.image(alloc, image)? {
         Some(image) => Ok(Some(image.arch())),

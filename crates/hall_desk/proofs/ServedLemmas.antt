@@ -8,7 +8,7 @@ use Rattle.http_requests.specs.Decided.{IsDecided}
 use Rattle.hall_desk.specs.Attempt.{IsAnswered}
 use Rattle.hall_desk.specs.AttemptLaws.{answered_on, missed_same}
 use Rattle.hall_desk.specs.Octets.{octets_of}
-use Rattle.hall_desk.specs.Served.{IsSent, IsServed, IsWritten, Reads}
+use Rattle.hall_desk.specs.Served.{IsSent, IsServed, IsWritten, TakesWhole}
 use Rattle.hall_desk.specs.declared.reading.Reading.{Reading}
 use Rattle.hall_desk.specs.declared.reading.Reading.TheVariants.{Whole}
 use Rattle.hall_desk.specs.declared.arrival.Answer.{Answer}
@@ -29,8 +29,8 @@ appends_then (Some xa) None c xs ys f g = absurd f
 appends_then (Some xa) (Some bs) None xs ys f g = absurd g
 appends_then (Some xa) (Some bs) (Some cs) xs ys f g = g ∙ ap (λ t. t ++ ys) f ∙ append_assoc xa xs ys
 
-pub reads_whole : (r : Reading) (octets : List ℕ) (old new : Option (List ℕ)) → r ≡ Whole octets → Consumes old new octets → (IsAtEnd new ⊎ IsDecided octets) → Reads r old new
-reads_whole r octets old new is consumed ends = subst (λ (x : Reading). Reads x old new) (sym is) (consumed, ends)
+pub reads_whole : (r : Reading) (octets : List ℕ) (old new : Option (List ℕ)) → r ≡ Whole octets → Consumes old new octets → (IsAtEnd new ⊎ IsDecided octets) → TakesWhole r old new
+reads_whole r octets old new is consumed ends = subst (λ (x : Reading). TakesWhole x old new) (sym is) (consumed, ends)
 
 module _ {S : Type 0} (holds : S → Hall → Type 0) (leaves : S → List Hall → Type 0) (old new : S) (site : Site) (moment : ℕ) (fresh : List ℕ) where
   -- an answer to what was read is one to the input

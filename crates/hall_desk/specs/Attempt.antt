@@ -44,6 +44,14 @@ module _ {S : Type 0} (holds : S → Hall → Type 0) (leaves : S → List Hall 
     pub unavailable : a ≡ Unavailable → (h : Hall) → holds old h → holds new h
     pub crash : (h : Hall) → holds old h → IsSound h → (hs : List Hall) → leaves old hs → IsTorn h hs
 
+-- Where a store took no wrong answer of a disk for a right one (`clean`), it took none before, and this was attempted, or answered.
+module _ {S : Type 0} (clean : S → Type 0) (holds : S → Hall → Type 0) (leaves : S → List Hall → Type 0) (old new : S) (site : Site) (input : Input) (moment : ℕ) (fresh : List ℕ) where
+  abbrev pub Attempts : {E : Type 0} → Result Answer E → Type 0
+  Attempts r = clean new → clean old × IsAttempt holds leaves old new site input moment fresh r
+
+  abbrev pub GivesAnswer : Answer → Type 0
+  GivesAnswer a = clean new → clean old × IsAnswered holds leaves old new site input moment fresh a
+
 -- none of the arrivals changes this hall
 abbrev pub ChangeNothing : Site → Hall → List Arrival → Type 0
 ChangeNothing site h arrivals = AllByRecursion (λ arrival. (m : Meaning) → Means site arrival.input m → ChangesNothing site h arrival.moment arrival.fresh m) arrivals

@@ -36,10 +36,10 @@ IfWriteFailed ReadFailed failed = Unit {0}
 IfWriteFailed (WriteFailed n) failed = failed ≡ true
 
 -- the octets are the whole input, or they are its front and decide the request
-abbrev pub Reads : Reading → Option (List ℕ) → Option (List ℕ) → Type 0
-Reads (reading.Whole octets) old new = Consumes old new octets × (IsAtEnd new ⊎ IsDecided octets)
-Reads reading.NoMemory old new = Unit {0}
-Reads reading.Failed old new = Unit {0}
+abbrev pub TakesWhole : Reading → Option (List ℕ) → Option (List ℕ) → Type 0
+TakesWhole (reading.Whole octets) old new = Consumes old new octets × (IsAtEnd new ⊎ IsDecided octets)
+TakesWhole reading.NoMemory old new = Unit {0}
+TakesWhole reading.Failed old new = Unit {0}
 
 -- what was read: but for the octets of one last read, 512 at most, it doesn't end a request
 pub record IsReadInTime (old new : Option (List ℕ)) : Type 0 where

@@ -1,6 +1,6 @@
 //! Attempts to carry out what came.
 ghost use Rattle.std.specs.Prelude.{◌≡◌};
-ghost use Rattle.hall_desk.specs.Attempt.{IsAttempt};
+ghost use Rattle.hall_desk.specs.Attempt.{Attempts};
 ghost use Rattle.hall_desk.specs.Octets.{missed_answer};
 ghost use Rattle.hall_desk.specs.declared.arrival.Input.TheVariants as input;
 
@@ -27,8 +27,7 @@ pub(crate) fn attempt_datagram<S: HallStore>(
     moment: Moment,
     fresh: Token,
 ) -> Result<Answer, Unavailable>
-    ensures clean { S.HallStore.is_clean store.new → S.HallStore.is_clean store.old }
-    ensures attempt { S.HallStore.is_clean store.new → IsAttempt S.HallStore.holds S.HallStore.leaves store.old store.new place.now (input.Datagram port octets.now) moment fresh result }
+    ensures { Attempts S.HallStore.is_clean S.HallStore.holds S.HallStore.leaves store.old store.new place.now (input.Datagram port octets.now) moment fresh result }
 {
     steps_keep_halls_sound();
     decisions_keep_the_rules();
@@ -57,8 +56,7 @@ pub(crate) fn attempt_request<S: HallStore>(
     moment: Moment,
     fresh: Token,
 ) -> Result<Answer, Unavailable>
-    ensures clean { S.HallStore.is_clean store.new → S.HallStore.is_clean store.old }
-    ensures attempt { S.HallStore.is_clean store.new → IsAttempt S.HallStore.holds S.HallStore.leaves store.old store.new place.now (input.Request octets.now) moment fresh result }
+    ensures { Attempts S.HallStore.is_clean S.HallStore.holds S.HallStore.leaves store.old store.new place.now (input.Request octets.now) moment fresh result }
 {
     steps_keep_halls_sound();
     decisions_keep_the_rules();
@@ -82,8 +80,7 @@ pub(crate) fn attempt_quiet<S: HallStore>(
     moment: Moment,
     fresh: Token,
 ) -> Result<Answer, Unavailable>
-    ensures clean { S.HallStore.is_clean store.new → S.HallStore.is_clean store.old }
-    ensures attempt { S.HallStore.is_clean store.new → IsAttempt S.HallStore.holds S.HallStore.leaves store.old store.new place.now input.Quiet moment fresh result }
+    ensures { Attempts S.HallStore.is_clean S.HallStore.holds S.HallStore.leaves store.old store.new place.now input.Quiet moment fresh result }
 {
     steps_keep_halls_sound();
     decisions_keep_the_rules();
@@ -98,8 +95,7 @@ pub(crate) fn attempt<S: HallStore>(
     place: &Place,
     arrival: &Arrival,
 ) -> Result<Answer, Unavailable>
-    ensures clean { S.HallStore.is_clean store.new → S.HallStore.is_clean store.old }
-    ensures attempt { S.HallStore.is_clean store.new → IsAttempt S.HallStore.holds S.HallStore.leaves store.old store.new place.now arrival.now.input arrival.now.moment arrival.now.fresh result }
+    ensures { Attempts S.HallStore.is_clean S.HallStore.holds S.HallStore.leaves store.old store.new place.now arrival.now.input arrival.now.moment arrival.now.fresh result }
 {
     let moment = arrival.moment;
     let fresh = arrival.fresh;

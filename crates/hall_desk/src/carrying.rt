@@ -4,7 +4,7 @@ ghost use Rattle.hall_events.specs.Reply.{Content};
 ghost use Rattle.hall_events.specs.declared.event.Event.TheVariants as event;
 ghost use Rattle.laws_model.specs.Decision.{decision_of};
 ghost use Rattle.hall_desk.specs.Octets.{frame_answer, no_answer, response_answer};
-ghost use Rattle.hall_desk.specs.Plan.{IsCarriedOut};
+ghost use Rattle.hall_desk.specs.Plan.{CarriesOut};
 
 use crate::arrival::Answer;
 use crate::octets::{client_answer, response};
@@ -30,8 +30,7 @@ pub(crate) fn carry_frame<S: HallStore>(
     moment: Moment,
     fresh: Token,
 ) -> Result<Answer, Unavailable>
-    ensures clean { S.HallStore.is_clean store.new → S.HallStore.is_clean store.old }
-    ensures carried { S.HallStore.is_clean store.new → IsCarriedOut S.HallStore.holds S.HallStore.leaves store.old store.new result
+    ensures { CarriesOut S.HallStore.is_clean S.HallStore.holds S.HallStore.leaves store.old store.new result
         (λ h. (decision_of place.now h (event.Frame port client.now) moment fresh).rows)
         (λ h answer. answer ≡ frame_answer place.now frame.now client.now (decision_of place.now h (event.Frame port client.now) moment fresh).content) }
 {
@@ -50,8 +49,7 @@ pub(crate) fn carry_request<S: HallStore>(
     moment: Moment,
     fresh: Token,
 ) -> Result<Answer, Unavailable>
-    ensures clean { S.HallStore.is_clean store.new → S.HallStore.is_clean store.old }
-    ensures carried { S.HallStore.is_clean store.new → IsCarriedOut S.HallStore.holds S.HallStore.leaves store.old store.new result
+    ensures { CarriesOut S.HallStore.is_clean S.HallStore.holds S.HallStore.leaves store.old store.new result
         (λ h. (decision_of place.now h event.now moment fresh).rows)
         (λ h answer. answer ≡ response_answer (decision_of place.now h event.now moment fresh).content) }
 {
@@ -69,8 +67,7 @@ pub(crate) fn carry_quiet<S: HallStore>(
     moment: Moment,
     fresh: Token,
 ) -> Result<Answer, Unavailable>
-    ensures clean { S.HallStore.is_clean store.new → S.HallStore.is_clean store.old }
-    ensures carried { S.HallStore.is_clean store.new → IsCarriedOut S.HallStore.holds S.HallStore.leaves store.old store.new result
+    ensures { CarriesOut S.HallStore.is_clean S.HallStore.holds S.HallStore.leaves store.old store.new result
         (λ h. (decision_of place.now h event.Quiet moment fresh).rows)
         (λ h answer. answer ≡ no_answer (decision_of place.now h event.Quiet moment fresh).content) }
 {

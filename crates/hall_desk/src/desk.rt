@@ -3,13 +3,13 @@ ghost use Rattle.std.specs.Prelude.{◌≡◌, ℕ, List, [], ◌∷◌, ◌++�
 ghost use Rattle.hall_events.specs.Reply.{reply_of};
 ghost use Rattle.laws_model.specs.Decision.{decision_of};
 ghost use Rattle.hall_types.specs.Hall.{Hall, new_hall, second};
-ghost use Rattle.desk_views.specs.Look.{IsLook};
+ghost use Rattle.desk_views.specs.Look.{Looks};
 ghost use Rattle.boot_desk.specs.Sound.{IsSound};
-ghost use Rattle.hall_desk.specs.Attempt.{ChangeNothing, IsAnswered, IsRan};
+ghost use Rattle.hall_desk.specs.Attempt.{ChangeNothing, GivesAnswer, IsRan};
 ghost use Rattle.hall_desk.specs.Desk.{site_of, store_of};
 ghost use Rattle.hall_desk.specs.Headline.{HasHistory};
 ghost use Rattle.hall_desk.specs.History.{Item, carried_out, exchanged, exchanges};
-ghost use Rattle.hall_desk.specs.Plan.{IsCarriedOut, Plans};
+ghost use Rattle.hall_desk.specs.Plan.{CarriesOut, Plans};
 
 use crate::arrival::{Answer, Arrival};
 use crate::attempts::{attempt, missed};
@@ -57,9 +57,8 @@ impl<S: HallStore> Desk<S> {
         moment: Moment,
         fresh: Token,
     ) -> Result<(Change, Reply), Unavailable>
-        ensures clean { S.HallStore.is_clean (store_of self.new) → S.HallStore.is_clean (store_of self.old) }
         ensures site { site_of self.new ≡ site_of self.old }
-        ensures plan { S.HallStore.is_clean (store_of self.new) → IsLook S.HallStore.holds S.HallStore.leaves (store_of self.old) (store_of self.new) result
+        ensures plan { Looks S.HallStore.is_clean S.HallStore.holds S.HallStore.leaves (store_of self.old) (store_of self.new) result
             (λ h planned. Plans (decision_of (site_of self.old) h event.now moment fresh) planned) }
     {
         planned(alloc, &mut self.store, &self.place, event, moment, fresh)
@@ -75,9 +74,8 @@ impl<S: HallStore> Desk<S> {
         moment: Moment,
         fresh: Token,
     ) -> Result<Reply, Unavailable>
-        ensures clean { S.HallStore.is_clean (store_of self.new) → S.HallStore.is_clean (store_of self.old) }
         ensures site { site_of self.new ≡ site_of self.old }
-        ensures step { S.HallStore.is_clean (store_of self.new) → IsCarriedOut S.HallStore.holds S.HallStore.leaves (store_of self.old) (store_of self.new) result
+        ensures step { CarriesOut S.HallStore.is_clean S.HallStore.holds S.HallStore.leaves (store_of self.old) (store_of self.new) result
             (λ h. (decision_of (site_of self.old) h event.now moment fresh).rows)
             (λ h reply. reply ≡ reply_of second (decision_of (site_of self.old) h event.now moment fresh).content) }
         ensures history { S.HallStore.is_clean (store_of self.new) → IfOk result (λ reply. (admin digest : List ℕ) (past : List Item)
@@ -98,9 +96,8 @@ impl<S: HallStore> Desk<S> {
         moment: Moment,
         fresh: Token,
     ) -> Result<Reply, Unavailable>
-        ensures clean { S.HallStore.is_clean (store_of self.new) → S.HallStore.is_clean (store_of self.old) }
         ensures site { site_of self.new ≡ site_of self.old }
-        ensures step { S.HallStore.is_clean (store_of self.new) → IsCarriedOut S.HallStore.holds S.HallStore.leaves (store_of self.old) (store_of self.new) result
+        ensures step { CarriesOut S.HallStore.is_clean S.HallStore.holds S.HallStore.leaves (store_of self.old) (store_of self.new) result
             (λ h. (decision_of (site_of self.old) h event.now moment fresh).rows)
             (λ h reply. reply ≡ reply_of second (decision_of (site_of self.old) h event.now moment fresh).content) }
     {
@@ -112,9 +109,8 @@ impl<S: HallStore> Desk<S> {
     /// Answers what came. After `Unavailable`, and after a datagram's silence, the hall may be as it was before. With all that came to
     /// the hall since it was new, at this place or others, it is a history that keeps all laws.
     pub fn answer(&mut self, alloc: Global, arrival: &Arrival) -> Answer
-        ensures clean { S.HallStore.is_clean (store_of self.new) → S.HallStore.is_clean (store_of self.old) }
         ensures site { site_of self.new ≡ site_of self.old }
-        ensures answer { S.HallStore.is_clean (store_of self.new) → IsAnswered S.HallStore.holds S.HallStore.leaves (store_of self.old) (store_of self.new)
+        ensures answer { GivesAnswer S.HallStore.is_clean S.HallStore.holds S.HallStore.leaves (store_of self.old) (store_of self.new)
             (site_of self.old) arrival.now.input arrival.now.moment arrival.now.fresh result }
         ensures history { S.HallStore.is_clean (store_of self.new) → (admin digest : List ℕ) (past : List Item)
             → HasHistory S.HallStore.holds (store_of self.old) admin digest past
@@ -127,9 +123,8 @@ impl<S: HallStore> Desk<S> {
     // Answers what came.
     #[tactic(auto, using(crate::proofs::AttemptLemmas::answered_ok, crate::proofs::AttemptLemmas::answered_err))]
     fn take(&mut self, alloc: Global, arrival: &Arrival) -> Answer
-        ensures clean { S.HallStore.is_clean (store_of self.new) → S.HallStore.is_clean (store_of self.old) }
         ensures site { site_of self.new ≡ site_of self.old }
-        ensures answer { S.HallStore.is_clean (store_of self.new) → IsAnswered S.HallStore.holds S.HallStore.leaves (store_of self.old) (store_of self.new)
+        ensures answer { GivesAnswer S.HallStore.is_clean S.HallStore.holds S.HallStore.leaves (store_of self.old) (store_of self.new)
             (site_of self.old) arrival.now.input arrival.now.moment arrival.now.fresh result }
     {
         match attempt(alloc, &mut self.store, &self.place, arrival) {

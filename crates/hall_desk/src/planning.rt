@@ -1,6 +1,6 @@
 //! What is planned for every event.
 ghost use Rattle.laws_model.specs.Decision.{decision_of};
-ghost use Rattle.desk_views.specs.Look.{IsLook};
+ghost use Rattle.desk_views.specs.Look.{Looks};
 ghost use Rattle.hall_desk.specs.Plan.{Plans};
 
 use crate::plans::{plan_frame, plan_quiet, plan_report, plan_script};
@@ -23,8 +23,7 @@ pub(crate) fn planned<S: HallStore>(
     moment: Moment,
     fresh: Token,
 ) -> Result<(Change, Reply), Unavailable>
-    ensures clean { S.HallStore.is_clean store.new → S.HallStore.is_clean store.old }
-    ensures look { S.HallStore.is_clean store.new → IsLook S.HallStore.holds S.HallStore.leaves store.old store.new result
+    ensures { Looks S.HallStore.is_clean S.HallStore.holds S.HallStore.leaves store.old store.new result
         (λ h its. Plans (decision_of place.now h event.now moment fresh) its) }
 {
     match event {

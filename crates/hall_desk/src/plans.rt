@@ -14,7 +14,7 @@ ghost use Rattle.boot_desk.specs.Report.{Judged, reported};
 ghost use Rattle.boot_desk.specs.Views as view;
 ghost use Rattle.laws_model.specs.Decision as made;
 ghost use Rattle.laws_model.specs.Decision.{framed, given_if, judged, refuses, verdict_content};
-ghost use Rattle.desk_views.specs.Look.{IsLook};
+ghost use Rattle.desk_views.specs.Look.{Looks};
 ghost use Rattle.hall_desk.specs.Plan.{Plans, rows_for};
 
 use boot_desk::{Decision, DeskFault, Verdict, enlist, fetch, frame, order_answer, report, sweep};
@@ -73,8 +73,7 @@ pub(crate) fn plan_client<S: HallStore>(
     port: Port,
     client: &Client,
 ) -> Result<(Change, Decision), Unavailable>
-    ensures clean { S.HallStore.is_clean store.new → S.HallStore.is_clean store.old }
-    ensures look { S.HallStore.is_clean store.new → IsLook S.HallStore.holds S.HallStore.leaves store.old store.new result
+    ensures { Looks S.HallStore.is_clean S.HallStore.holds S.HallStore.leaves store.old store.new result
         (λ h planned. (planned.1 ≡ event.frame_decision (event.frame_view h client.now) port client.now)
         × ((site : Site) → planned.0 ≡ (framed (event.frame_decision (event.frame_view h client.now) port client.now) site h client.now).rows)) }
 {
@@ -110,8 +109,7 @@ pub(crate) fn plan_frame<S: HallStore>(
     port: Port,
     client: &Client,
 ) -> Result<(Change, Reply), Unavailable>
-    ensures clean { S.HallStore.is_clean store.new → S.HallStore.is_clean store.old }
-    ensures look { S.HallStore.is_clean store.new → IsLook S.HallStore.holds S.HallStore.leaves store.old store.new result
+    ensures { Looks S.HallStore.is_clean S.HallStore.holds S.HallStore.leaves store.old store.new result
         (λ h planned. Plans (framed (event.frame_decision (event.frame_view h client.now) port client.now) place.now h client.now) planned) }
 {
     let (change, decision) = plan_client(alloc, store, port, client)?;
@@ -146,8 +144,7 @@ pub(crate) fn plan_script<S: HallStore>(
     moment: Moment,
     fresh: Token,
 ) -> Result<(Change, Reply), Unavailable>
-    ensures clean { S.HallStore.is_clean store.new → S.HallStore.is_clean store.old }
-    ensures look { S.HallStore.is_clean store.new → IsLook S.HallStore.holds S.HallStore.leaves store.old store.new result
+    ensures { Looks S.HallStore.is_clean S.HallStore.holds S.HallStore.leaves store.old store.new result
         (λ h planned. Plans (given_if place.now.host (view.view_at h mac) moment fresh) planned) }
 {
     match view_at(alloc, store, mac)? {
@@ -192,8 +189,7 @@ pub(crate) fn plan_report<S: HallStore>(
     progress: Progress,
     moment: Moment,
 ) -> Result<(Change, Reply), Unavailable>
-    ensures clean { S.HallStore.is_clean store.new → S.HallStore.is_clean store.old }
-    ensures look { S.HallStore.is_clean store.new → IsLook S.HallStore.holds S.HallStore.leaves store.old store.new result
+    ensures { Looks S.HallStore.is_clean S.HallStore.holds S.HallStore.leaves store.old store.new result
         (λ h planned. Plans (judged (reported (view.report_view h boot) token progress moment)) planned) }
 {
     let view = report_view(alloc, store, boot)?;
@@ -208,8 +204,7 @@ pub(crate) fn judge_answer<S: HallStore>(
     outcome: Outcome,
     moment: Moment,
 ) -> Result<(Change, Reply), Unavailable>
-    ensures clean { S.HallStore.is_clean store.new → S.HallStore.is_clean store.old }
-    ensures look { S.HallStore.is_clean store.new → IsLook S.HallStore.holds S.HallStore.leaves store.old store.new result
+    ensures { Looks S.HallStore.is_clean S.HallStore.holds S.HallStore.leaves store.old store.new result
         (λ h planned. Plans (judged (answered (view.order_view h order) outcome moment)) planned) }
 {
     let view = order_view(alloc, store, order)?;
@@ -233,8 +228,7 @@ pub(crate) fn plan_quiet<S: HallStore>(
     store: &mut S,
     moment: Moment,
 ) -> Result<(Change, Reply), Unavailable>
-    ensures clean { S.HallStore.is_clean store.new → S.HallStore.is_clean store.old }
-    ensures look { S.HallStore.is_clean store.new → IsLook S.HallStore.holds S.HallStore.leaves store.old store.new result
+    ensures { Looks S.HallStore.is_clean S.HallStore.holds S.HallStore.leaves store.old store.new result
         (λ h planned. Plans (record { rows = swept (view.machine_view h (next_expired h moment)) moment; content = nothing }) planned) }
 {
     let view = expired_view(alloc, store, moment)?;

@@ -2,7 +2,7 @@
 ghost use Rattle.std.specs.Prelude.{◌≡◌, ◌≤◌, ◌++◌, false, IfOk, IsTrue};
 ghost use Rattle.hall_http.specs.Noted.{failed_of, inner_of, takes_of};
 ghost use Rattle.http_requests.specs.Decided.{Ends, IsDecided};
-ghost use Rattle.hall_desk.specs.Served.{IfFailed, IsReadInTime, Reads};
+ghost use Rattle.hall_desk.specs.Served.{IfFailed, IsReadInTime, TakesWhole};
 ghost use Rattle.hall_desk.specs.declared.reading.Reading.TheVariants as reading;
 
 use hall_http::{Noted, is_decided};
@@ -48,7 +48,7 @@ fn whole(octets: Vec<u8>) -> Reading
 pub(crate) fn read_request<R: Read>(alloc: Global, reader: &mut Noted<R>) -> Reading
     requires takes { takes_of reader.old ≡ 0 }
     requires failed { failed_of reader.old ≡ false }
-    ensures reads { Reads result (R.remaining (inner_of reader.old)) (R.remaining (inner_of reader.new)) }
+    ensures reads { TakesWhole result (R.remaining (inner_of reader.old)) (R.remaining (inner_of reader.new)) }
     ensures fails { IfFailed result (failed_of reader.new) (takes_of reader.new) }
     ensures in_time { IsReadInTime (R.remaining (inner_of reader.old)) (R.remaining (inner_of reader.new)) }
     ensures takes { takes_of reader.new ≤ 4096 }

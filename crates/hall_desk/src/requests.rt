@@ -11,7 +11,7 @@ ghost use Rattle.desk_command.specs.Command.{replied};
 ghost use Rattle.desk_command.specs.Effect.{Effect};
 ghost use Rattle.laws_model.specs.Decision.{commanded, if_role, judged, listed_if, listed_of, may_answer, may_see_machines, may_see_orders, says};
 ghost use Rattle.hall_events.specs.Reply.{machine_list, waiting_orders};
-ghost use Rattle.desk_views.specs.Look.{IsLook};
+ghost use Rattle.desk_views.specs.Look.{Looks};
 ghost use Rattle.hall_desk.specs.Plan.{Plans};
 
 use crate::listing::list_machines;
@@ -49,8 +49,7 @@ fn plan_new_command<S: HallStore>(
     wish: &HallCommand,
     moment: Moment,
 ) -> Result<(Change, Reply), Unavailable>
-    ensures clean { S.HallStore.is_clean store.new → S.HallStore.is_clean store.old }
-    ensures look { S.HallStore.is_clean store.new → IsLook S.HallStore.holds S.HallStore.leaves store.old store.new result
+    ensures { Looks S.HallStore.is_clean S.HallStore.holds S.HallStore.leaves store.old store.new result
         (λ h planned. Plans (commanded (commands.keyed h by.now None key wish.now moment)) planned) }
 {
     if !may_send(by.role, wish) {
@@ -69,8 +68,7 @@ fn plan_keyed<S: HallStore>(
     wish: &HallCommand,
     moment: Moment,
 ) -> Result<(Change, Reply), Unavailable>
-    ensures clean { S.HallStore.is_clean store.new → S.HallStore.is_clean store.old }
-    ensures look { S.HallStore.is_clean store.new → IsLook S.HallStore.holds S.HallStore.leaves store.old store.new result
+    ensures { Looks S.HallStore.is_clean S.HallStore.holds S.HallStore.leaves store.old store.new result
         (λ h planned. Plans (commanded (commands.keyed h by.now (at h.receipts (pair by.now.name key)) key wish.now moment)) planned) }
 {
     match store.receipt(alloc, &by.name, key)? {
@@ -88,8 +86,7 @@ pub(crate) fn plan_command<S: HallStore>(
     wish: &HallCommand,
     moment: Moment,
 ) -> Result<(Change, Reply), Unavailable>
-    ensures clean { S.HallStore.is_clean store.new → S.HallStore.is_clean store.old }
-    ensures look { S.HallStore.is_clean store.new → IsLook S.HallStore.holds S.HallStore.leaves store.old store.new result
+    ensures { Looks S.HallStore.is_clean S.HallStore.holds S.HallStore.leaves store.old store.new result
         (λ h planned. Plans (commanded (commands.command_decision h bearer key wish.now moment)) planned) }
 {
     match sender(store, bearer)? {
@@ -144,8 +141,7 @@ pub(crate) fn said(
 }
 
 fn list_orders<S: HallStore>(alloc: Global, store: &mut S) -> Result<(Change, Reply), Unavailable>
-    ensures clean { S.HallStore.is_clean store.new → S.HallStore.is_clean store.old }
-    ensures look { S.HallStore.is_clean store.new → IsLook S.HallStore.holds S.HallStore.leaves store.old store.new result
+    ensures { Looks S.HallStore.is_clean S.HallStore.holds S.HallStore.leaves store.old store.new result
         (λ h planned. Plans (says (waiting_orders (waiting h))) planned) }
 {
     let orders = store.waiting_orders(alloc)?;
@@ -157,8 +153,7 @@ pub(crate) fn plan_orders<S: HallStore>(
     store: &mut S,
     bearer: Option<Digest>,
 ) -> Result<(Change, Reply), Unavailable>
-    ensures clean { S.HallStore.is_clean store.new → S.HallStore.is_clean store.old }
-    ensures look { S.HallStore.is_clean store.new → IsLook S.HallStore.holds S.HallStore.leaves store.old store.new result
+    ensures { Looks S.HallStore.is_clean S.HallStore.holds S.HallStore.leaves store.old store.new result
         (λ h planned. Plans (if_role may_see_orders (commands.sender h bearer) (says (waiting_orders (waiting h)))) planned) }
 {
     match sender(store, bearer)? {
@@ -181,8 +176,7 @@ pub(crate) fn plan_order_answer<S: HallStore>(
     outcome: Outcome,
     moment: Moment,
 ) -> Result<(Change, Reply), Unavailable>
-    ensures clean { S.HallStore.is_clean store.new → S.HallStore.is_clean store.old }
-    ensures look { S.HallStore.is_clean store.new → IsLook S.HallStore.holds S.HallStore.leaves store.old store.new result
+    ensures { Looks S.HallStore.is_clean S.HallStore.holds S.HallStore.leaves store.old store.new result
         (λ h planned. Plans (if_role may_answer (commands.sender h bearer) (judged (answered (view.order_view h order) outcome moment))) planned) }
 {
     match sender(store, bearer)? {
@@ -203,8 +197,7 @@ fn list_one<S: HallStore>(
     store: &mut S,
     id: Number,
 ) -> Result<(Change, Reply), Unavailable>
-    ensures clean { S.HallStore.is_clean store.new → S.HallStore.is_clean store.old }
-    ensures look { S.HallStore.is_clean store.new → IsLook S.HallStore.holds S.HallStore.leaves store.old store.new result
+    ensures { Looks S.HallStore.is_clean S.HallStore.holds S.HallStore.leaves store.old store.new result
         (λ h planned. Plans (listed_if h (at h.machines id)) planned) }
 {
     let Some(machine) = store.machine(id)? else {
@@ -220,8 +213,7 @@ pub(crate) fn plan_one_machine<S: HallStore>(
     bearer: Option<Digest>,
     id: Number,
 ) -> Result<(Change, Reply), Unavailable>
-    ensures clean { S.HallStore.is_clean store.new → S.HallStore.is_clean store.old }
-    ensures look { S.HallStore.is_clean store.new → IsLook S.HallStore.holds S.HallStore.leaves store.old store.new result
+    ensures { Looks S.HallStore.is_clean S.HallStore.holds S.HallStore.leaves store.old store.new result
         (λ h planned. Plans (if_role may_see_machines (commands.sender h bearer) (listed_if h (at h.machines id))) planned) }
 {
     match sender(store, bearer)? {
@@ -241,8 +233,7 @@ pub(crate) fn plan_machines<S: HallStore>(
     store: &mut S,
     bearer: Option<Digest>,
 ) -> Result<(Change, Reply), Unavailable>
-    ensures clean { S.HallStore.is_clean store.new → S.HallStore.is_clean store.old }
-    ensures look { S.HallStore.is_clean store.new → IsLook S.HallStore.holds S.HallStore.leaves store.old store.new result
+    ensures { Looks S.HallStore.is_clean S.HallStore.holds S.HallStore.leaves store.old store.new result
         (λ h planned. Plans (if_role may_see_machines (commands.sender h bearer) (says (machine_list (map (listed_of h) (listed h.machines))))) planned) }
 {
     match sender(store, bearer)? {

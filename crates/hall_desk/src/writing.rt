@@ -1,14 +1,13 @@
 //! Writing what was planned.
 ghost use Rattle.std.specs.Prelude.{⊤};
-ghost use Rattle.hall_desk.specs.Plan.{IsCarriedOut};
+ghost use Rattle.hall_desk.specs.Plan.{CarriesOut};
 
 use hall_store::{HallStore, Unavailable};
 use hall_types::Change;
 
 /// Writes the rows of a change, if there are any.
 pub(crate) fn write<S: HallStore>(store: &mut S, change: &Change) -> Result<(), Unavailable>
-    ensures clean { S.HallStore.is_clean store.new → S.HallStore.is_clean store.old }
-    ensures write { S.HallStore.is_clean store.new → IsCarriedOut S.HallStore.holds S.HallStore.leaves store.old store.new result (λ h. change.now) (λ h answer. ⊤) }
+    ensures { CarriesOut S.HallStore.is_clean S.HallStore.holds S.HallStore.leaves store.old store.new result (λ h. change.now) (λ h answer. ⊤) }
 {
     if change.writes().is_empty() {
         return Ok(());

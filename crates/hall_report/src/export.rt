@@ -3,7 +3,7 @@ ghost use Rattle.std.specs.Prelude.{◌≡◌, ◌≢◌, ◌==◌, ◌++◌, Li
 ghost use Rattle.std.specs.List.{flat_map};
 ghost use Rattle.std.specs.List.Sorted.{IsNonDecreasingBy};
 ghost use Rattle.csv.specs.Records.{AllText, fields_of};
-ghost use Rattle.hall_store.specs.Store.{IsRead};
+ghost use Rattle.hall_store.specs.Store.{Reads};
 ghost use Rattle.hall_report.specs.Lines.{uuid_text};
 ghost use Rattle.hall_report.specs.Export.{HasWritten, export_text, hardware_fields, header, holder_fields, machine_fields, or_empty, record_text};
 
@@ -148,8 +148,7 @@ fn machines_export(
 /// nothing for what is absent, and `yes` or `no` for `locked`. Each record ends with LF. The store isn't changed. The faults
 /// are `Unavailable` and `Memory`.
 pub fn export_text<S: HallStore>(alloc: Global, store: &mut S) -> Result<String, ReportFault>
-    ensures clean { S.HallStore.is_clean store.new → S.HallStore.is_clean store.old }
-    ensures read { S.HallStore.is_clean store.new → IsRead S.HallStore.holds S.HallStore.leaves store.old store.new result (λ h text. string_bytes text ≡ export_text h) }
+    ensures read { Reads S.HallStore.is_clean S.HallStore.holds S.HallStore.leaves store.old store.new result (λ h text. string_bytes text ≡ export_text h) }
     ensures fault { IfErr result (λ fault. fault ≢ ReportFault.NoMachine) }
 {
     let machines = store.machines(alloc)?;

@@ -2,7 +2,7 @@
 ghost use Rattle.std.specs.Prelude.{◌≡◌, ◌≢◌, ◌++◌, IfErr, IfOk, OnOk, string_bytes};
 ghost use Rattle.std.specs.Fmt.{decimal};
 ghost use Rattle.std.specs.List.{flat_map};
-ghost use Rattle.hall_store.specs.Store.{IsRead};
+ghost use Rattle.hall_store.specs.Store.{Reads};
 ghost use Rattle.hall_report.specs.Columns.{in_right};
 ghost use Rattle.hall_report.specs.Lines.{order_line, order_text};
 
@@ -54,8 +54,7 @@ fn orders_text(alloc: Global, orders: &[Order]) -> Result<String, AllocError>
 /// The power orders that wait, by number, one a line: the order's number and its machine's, each at the right end of 16
 /// columns, and `cycle` or `off`. The store isn't changed. The faults are `Unavailable` and `Memory`.
 pub fn order_text<S: HallStore>(alloc: Global, store: &mut S) -> Result<String, ReportFault>
-    ensures clean { S.HallStore.is_clean store.new → S.HallStore.is_clean store.old }
-    ensures read { S.HallStore.is_clean store.new → IsRead S.HallStore.holds S.HallStore.leaves store.old store.new result (λ h text. string_bytes text ≡ order_text h) }
+    ensures read { Reads S.HallStore.is_clean S.HallStore.holds S.HallStore.leaves store.old store.new result (λ h text. string_bytes text ≡ order_text h) }
     ensures fault { IfErr result (λ fault. fault ≢ ReportFault.NoMachine) }
 {
     let orders = store.waiting_orders(alloc)?;

@@ -29,3 +29,11 @@ module _ {S : Type 0} (holds : S → Hall → Type 0) (leaves : S → List Hall 
     pub crash : (h : Hall) → holds old h → AllKeep (rows h) h → (hs : List Hall) → leaves old hs → leaves new (applied (rows h) h ∷ hs)
     -- and once the write is answered, the hall with all of the rows alone
     pub settled : OnOk r ((h : Hall) → holds old h → AllKeep (rows h) h → leaves new (applied (rows h) h ∷ []))
+
+-- Where a store took no wrong answer of a disk for a right one (`clean`), it took none before, and it was read or written so.
+module _ {S : Type 0} (clean : S → Type 0) (holds : S → Hall → Type 0) (leaves : S → List Hall → Type 0) (old new : S) {Y E : Type 0} (r : Result Y E) where
+  abbrev pub Reads : (Hall → Y → Type 0) → Type 0
+  Reads Right = clean new → clean old × IsRead holds leaves old new r Right
+
+  abbrev pub Writes : (Hall → List RowWrite) → Type 0
+  Writes rows = clean new → clean old × IsWrite holds leaves old new r rows

@@ -5,7 +5,7 @@ ghost use Rattle.hall_types.specs.Kinds.{arch_number};
 ghost use Rattle.hall_types.specs.Lookup.{interfaces_of, is_image_used, machine_with_uuid, next_expired, operator_with_digest, waiting};
 ghost use Rattle.hall_types.specs.Rows.{at, listed, size};
 ghost use Rattle.hall_store.specs.Counts.{AreCounts};
-ghost use Rattle.hall_store.specs.Store.{IsRead, IsWrite};
+ghost use Rattle.hall_store.specs.Store.{Reads, Writes};
 
 use crate::count::Count;
 use hall_types::{
@@ -24,8 +24,8 @@ pub struct Unavailable;
 /// What keeps a hall. A read answers what the hall has, or `Unavailable`, and leaves the hall as it is; `apply`
 /// writes all rows of a change or none.
 ///
-/// Each promise is made under the premise that the store is clean afterwards: that it hasn't taken a wrong
-/// answer of a disk for a right one. A store that is clean afterwards was clean before.
+/// Each promise is made where the store is clean afterwards: where it hasn't taken a wrong answer of a disk for a right one. A store that is
+/// clean afterwards was clean before.
 pub trait HallStore {
     // no wrong answer of a disk was taken for a right one
     ghost is_clean: { Self → Type 0 };
@@ -42,63 +42,51 @@ pub trait HallStore {
 
     /// The number of the machine that an address is recorded with.
     fn by_mac(&mut self, mac: MacAddress) -> Result<Option<Number>, Unavailable>
-        ensures clean { is_clean self.new → is_clean self.old }
-        ensures read { is_clean self.new → IsRead holds leaves self.old self.new result (λ h answer. answer ≡ option_map (λ i. i.machine) (at h.interfaces mac)) };
+        ensures { Reads is_clean holds leaves self.old self.new result (λ h answer. answer ≡ option_map (λ i. i.machine) (at h.interfaces mac)) };
 
     /// The number of the machine that a UUID is recorded with.
     fn by_uuid(&mut self, uuid: MachineUuid) -> Result<Option<Number>, Unavailable>
-        ensures clean { is_clean self.new → is_clean self.old }
-        ensures read { is_clean self.new → IsRead holds leaves self.old self.new result (λ h answer. answer ≡ option_map (λ m. m.id) (machine_with_uuid h uuid)) };
+        ensures { Reads is_clean holds leaves self.old self.new result (λ h answer. answer ≡ option_map (λ m. m.id) (machine_with_uuid h uuid)) };
 
     /// The machine with a number.
     fn machine(&mut self, id: Number) -> Result<Option<Machine>, Unavailable>
-        ensures clean { is_clean self.new → is_clean self.old }
-        ensures read { is_clean self.new → IsRead holds leaves self.old self.new result (λ h answer. answer ≡ at h.machines id) };
+        ensures { Reads is_clean holds leaves self.old self.new result (λ h answer. answer ≡ at h.machines id) };
 
     /// The boot with a number.
     fn boot(&mut self, number: Number) -> Result<Option<Boot>, Unavailable>
-        ensures clean { is_clean self.new → is_clean self.old }
-        ensures read { is_clean self.new → IsRead holds leaves self.old self.new result (λ h answer. answer ≡ at h.boots number) };
+        ensures { Reads is_clean holds leaves self.old self.new result (λ h answer. answer ≡ at h.boots number) };
 
     /// The order with a number.
     fn order(&mut self, number: Number) -> Result<Option<Order>, Unavailable>
-        ensures clean { is_clean self.new → is_clean self.old }
-        ensures read { is_clean self.new → IsRead holds leaves self.old self.new result (λ h answer. answer ≡ at h.orders number) };
+        ensures { Reads is_clean holds leaves self.old self.new result (λ h answer. answer ≡ at h.orders number) };
 
     /// The operator with a name.
     fn operator(&mut self, name: &Name) -> Result<Option<Operator>, Unavailable>
-        ensures clean { is_clean self.new → is_clean self.old }
-        ensures read { is_clean self.new → IsRead holds leaves self.old self.new result (λ h answer. answer ≡ at h.operators name.now) };
+        ensures { Reads is_clean holds leaves self.old self.new result (λ h answer. answer ≡ at h.operators name.now) };
 
     /// The operator whose token has a digest.
     fn operator_by_digest(&mut self, digest: &Digest) -> Result<Option<Operator>, Unavailable>
-        ensures clean { is_clean self.new → is_clean self.old }
-        ensures read { is_clean self.new → IsRead holds leaves self.old self.new result (λ h answer. answer ≡ operator_with_digest h digest.now) };
+        ensures { Reads is_clean holds leaves self.old self.new result (λ h answer. answer ≡ operator_with_digest h digest.now) };
 
     /// The pool with a name.
     fn pool(&mut self, name: &Name) -> Result<Option<Pool>, Unavailable>
-        ensures clean { is_clean self.new → is_clean self.old }
-        ensures read { is_clean self.new → IsRead holds leaves self.old self.new result (λ h answer. answer ≡ at h.pools name.now) };
+        ensures { Reads is_clean holds leaves self.old self.new result (λ h answer. answer ≡ at h.pools name.now) };
 
     /// The membership of an operator in a pool.
     fn member(&mut self, pool: &Name, operator: &Name) -> Result<Option<Member>, Unavailable>
-        ensures clean { is_clean self.new → is_clean self.old }
-        ensures read { is_clean self.new → IsRead holds leaves self.old self.new result (λ h answer. answer ≡ at h.members (pair pool.now operator.now)) };
+        ensures { Reads is_clean holds leaves self.old self.new result (λ h answer. answer ≡ at h.members (pair pool.now operator.now)) };
 
     /// The image with a name. `alloc` is for the answer.
     fn image(&mut self, alloc: Global, name: &Name) -> Result<Option<Image>, Unavailable>
-        ensures clean { is_clean self.new → is_clean self.old }
-        ensures read { is_clean self.new → IsRead holds leaves self.old self.new result (λ h answer. answer ≡ at h.images name.now) };
+        ensures { Reads is_clean holds leaves self.old self.new result (λ h answer. answer ≡ at h.images name.now) };
 
     /// Whether an image is an architecture's live image or a machine's image.
     fn image_used(&mut self, name: &Name) -> Result<bool, Unavailable>
-        ensures clean { is_clean self.new → is_clean self.old }
-        ensures read { is_clean self.new → IsRead holds leaves self.old self.new result (λ h answer. answer ≡ is_image_used h name.now) };
+        ensures { Reads is_clean holds leaves self.old self.new result (λ h answer. answer ≡ is_image_used h name.now) };
 
     /// The live image of an architecture.
     fn live(&mut self, arch: Arch) -> Result<Option<Live>, Unavailable>
-        ensures clean { is_clean self.new → is_clean self.old }
-        ensures read { is_clean self.new → IsRead holds leaves self.old self.new result (λ h answer. answer ≡ at h.lives (arch_number arch)) };
+        ensures { Reads is_clean holds leaves self.old self.new result (λ h answer. answer ≡ at h.lives (arch_number arch)) };
 
     /// The receipt of an operator's request. `alloc` is for the answer.
     fn receipt(
@@ -107,54 +95,44 @@ pub trait HallStore {
         operator: &Name,
         key: RequestKey,
     ) -> Result<Option<Receipt>, Unavailable>
-        ensures clean { is_clean self.new → is_clean self.old }
-        ensures read { is_clean self.new → IsRead holds leaves self.old self.new result (λ h answer. answer ≡ at h.receipts (pair operator.now key)) };
+        ensures { Reads is_clean holds leaves self.old self.new result (λ h answer. answer ≡ at h.receipts (pair operator.now key)) };
 
     /// The last numbers that were issued.
     fn numbers(&mut self) -> Result<Numbers, Unavailable>
-        ensures clean { is_clean self.new → is_clean self.old }
-        ensures read { is_clean self.new → IsRead holds leaves self.old self.new result (λ h answer. answer ≡ h.last) };
+        ensures { Reads is_clean holds leaves self.old self.new result (λ h answer. answer ≡ h.last) };
 
     /// Of the machines whose deadline is at most a moment, the one with the least deadline, and of those with the
     /// same one the one with the least number.
     fn next_expired(&mut self, moment: Moment) -> Result<Option<Machine>, Unavailable>
-        ensures clean { is_clean self.new → is_clean self.old }
-        ensures read { is_clean self.new → IsRead holds leaves self.old self.new result (λ h answer. answer ≡ next_expired h moment) };
+        ensures { Reads is_clean holds leaves self.old self.new result (λ h answer. answer ≡ next_expired h moment) };
 
     /// How many machines there are.
     fn machine_count(&mut self) -> Result<u64, Unavailable>
-        ensures clean { is_clean self.new → is_clean self.old }
-        ensures read { is_clean self.new → IsRead holds leaves self.old self.new result (λ h answer. answer ≡ size h.machines) };
+        ensures { Reads is_clean holds leaves self.old self.new result (λ h answer. answer ≡ size h.machines) };
 
     /// The interfaces of a machine, by address.
     fn interfaces_of(&mut self, alloc: Global, id: Number) -> Result<Vec<Interface>, Unavailable>
-        ensures clean { is_clean self.new → is_clean self.old }
-        ensures read { is_clean self.new → IsRead holds leaves self.old self.new result (λ h answer. answer.items ≡ interfaces_of h id) };
+        ensures { Reads is_clean holds leaves self.old self.new result (λ h answer. answer.items ≡ interfaces_of h id) };
 
     /// All interfaces, by address.
     fn interfaces(&mut self, alloc: Global) -> Result<Vec<Interface>, Unavailable>
-        ensures clean { is_clean self.new → is_clean self.old }
-        ensures read { is_clean self.new → IsRead holds leaves self.old self.new result (λ h answer. answer.items ≡ listed h.interfaces) };
+        ensures { Reads is_clean holds leaves self.old self.new result (λ h answer. answer.items ≡ listed h.interfaces) };
 
     /// All machines, by number.
     fn machines(&mut self, alloc: Global) -> Result<Vec<Machine>, Unavailable>
-        ensures clean { is_clean self.new → is_clean self.old }
-        ensures read { is_clean self.new → IsRead holds leaves self.old self.new result (λ h answer. answer.items ≡ listed h.machines) };
+        ensures { Reads is_clean holds leaves self.old self.new result (λ h answer. answer.items ≡ listed h.machines) };
 
     /// The orders that wait, by number.
     fn waiting_orders(&mut self, alloc: Global) -> Result<Vec<Order>, Unavailable>
-        ensures clean { is_clean self.new → is_clean self.old }
-        ensures read { is_clean self.new → IsRead holds leaves self.old self.new result (λ h answer. answer.items ≡ waiting h) };
+        ensures { Reads is_clean holds leaves self.old self.new result (λ h answer. answer.items ≡ waiting h) };
 
     /// How many machines each pool has in each status, by the pool's name and the status's number, without those
     /// of which there are none.
     fn counts(&mut self, alloc: Global) -> Result<Vec<Count>, Unavailable>
-        ensures clean { is_clean self.new → is_clean self.old }
-        ensures read { is_clean self.new → IsRead holds leaves self.old self.new result (λ h answer. AreCounts h answer.items) };
+        ensures { Reads is_clean holds leaves self.old self.new result (λ h answer. AreCounts h answer.items) };
 
     /// Writes all rows of a change in turn, or none. They are to keep the tables' rules (`AllKeep`). A machine's
     /// row that was to have another version is a refusal.
     fn apply(&mut self, change: &Change) -> Result<(), Unavailable>
-        ensures clean { is_clean self.new → is_clean self.old }
-        ensures write { is_clean self.new → IsWrite holds leaves self.old self.new result (λ h. change.now) };
+        ensures { Writes is_clean holds leaves self.old self.new result (λ h. change.now) };
 }

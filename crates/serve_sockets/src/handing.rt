@@ -1,6 +1,6 @@
 //! Handing what came to the desk.
 ghost use Rattle.std.specs.Prelude.{◌≡◌};
-ghost use Rattle.hall_desk.specs.Attempt.{IsAnswered};
+ghost use Rattle.hall_desk.specs.Attempt.{GivesAnswer};
 ghost use Rattle.hall_desk.specs.Desk.{site_of, store_of};
 ghost use Rattle.hall_desk.specs.declared.arrival.Input.TheVariants as input;
 
@@ -19,9 +19,8 @@ pub(crate) fn hand<S: HallStore, L: TurnLog>(
     stamp: Stamp,
     input: Input,
 ) -> Answer
-    ensures clean { S.HallStore.is_clean (store_of desk.new) → S.HallStore.is_clean (store_of desk.old) }
     ensures site { site_of desk.new ≡ site_of desk.old }
-    ensures answered { S.HallStore.is_clean (store_of desk.new) → IsAnswered S.HallStore.holds S.HallStore.leaves (store_of desk.old) (store_of desk.new)
+    ensures answered { GivesAnswer S.HallStore.is_clean S.HallStore.holds S.HallStore.leaves (store_of desk.old) (store_of desk.new)
         (site_of desk.old) input stamp.moment stamp.fresh result }
 {
     let arrival = Arrival {
@@ -43,9 +42,8 @@ pub(crate) fn hand_datagram<S: HallStore, L: TurnLog>(
     port: Port,
     octets: &[u8],
 ) -> Answer
-    ensures clean { S.HallStore.is_clean (store_of desk.new) → S.HallStore.is_clean (store_of desk.old) }
     ensures site { site_of desk.new ≡ site_of desk.old }
-    ensures answered { S.HallStore.is_clean (store_of desk.new) → IsAnswered S.HallStore.holds S.HallStore.leaves (store_of desk.old) (store_of desk.new)
+    ensures answered { GivesAnswer S.HallStore.is_clean S.HallStore.holds S.HallStore.leaves (store_of desk.old) (store_of desk.new)
         (site_of desk.old) (input.Datagram port octets.now) stamp.moment stamp.fresh result }
 {
     match Vec::from_slice(alloc, octets) {

@@ -5,9 +5,12 @@ use Rattle.hall_desk.specs.declared.arrival.Input.TheVariants as input
 use Rattle.hall_desk.proofs.AttemptLemmas.{attempt_asked}
 use Rattle.hall_desk.proofs.attempts.attempt_quiet.Goals as goal
 
-pub returns-clause-attempt : goal.returns-clause-attempt
-returns-clause-attempt g c clean =
-    attempt_asked g.S.HallStore.holds g.S.HallStore.leaves
-    (record { keep = c.decisions_keep_the_rules.ensures; sound = c.steps_keep_halls_sound.ensures.rows }) g.S.HallStore.second_schema
-    c.args.store.now c.carry_quiet.new.store c.args.place.now input.Quiet c.args.moment c.args.fresh
-    Quiet no_answer (refl, refl) c.event_is_typed.ensures c.carry_quiet.result (c.carry_quiet.ensures.carried clean)
+pub returns : goal.returns
+returns g c clean =
+    let done = c.carry_quiet.ensures clean in (
+      done.0,
+      attempt_asked g.S.HallStore.holds g.S.HallStore.leaves
+          (record { keep = c.decisions_keep_the_rules.ensures; sound = c.steps_keep_halls_sound.ensures.rows }) g.S.HallStore.second_schema
+          c.args.store.now c.carry_quiet.new.store c.args.place.now input.Quiet c.args.moment c.args.fresh
+          Quiet no_answer (refl, refl) c.event_is_typed.ensures c.carry_quiet.result done.1,
+    )

@@ -5,4 +5,4 @@ use Rattle.hall_desk.proofs.desk.Desk.answer.Goals as goal
 pub returns-clause-history : goal.returns-clause-history
 returns-clause-history g c = λ clean admin digest past was.
     after_answer (record { laws = c.histories_keep_the_laws.ensures }) g.S.HallStore.holds g.S.HallStore.leaves (store_of c.args.self.now) (store_of c.take.new.self)
-    (site_of c.args.self.now) admin digest past was c.args.arrival.now c.take.result (c.take.ensures.answer clean)
+    (site_of c.args.self.now) admin digest past was c.args.arrival.now c.take.result (c.take.ensures.answer clean).1

@@ -26,19 +26,19 @@ loop-arrival-preserved g c =
     let here : c.loop-arrival.arrival-index < length c.args.arrivals.now = c.loop-arrival-test.true in
     let before = c.loop-arrival.invariant in
     record {
-      clean = λ clean. before.clean (c.answer-answer.ensures.clean clean);
+      clean = λ clean. before.clean (c.answer-answer.ensures.answer clean).0;
       site = c.answer-answer.ensures.site ∙ before.site;
       ran = λ clean h held sound.
           rw (take_more c.args.arrivals.now c.loop-arrival.arrival-index c.arrival-item.result here, sym c.arrival-item.is, c.push.ensures.items, c.if-is_err.ensures.negation)
           (ran_more g.S.HallStore.holds g.S.HallStore.leaves (site_of c.args.self.now) (site_of c.loop-arrival.self) before.site
           (store_of c.loop-arrival.self) (store_of c.answer-answer.new.self) h
           (take c.loop-arrival.arrival-index c.args.arrivals.now) c.loop-arrival.answers.items c.arrival-item.result c.answer-answer.result
-          (before.ran (c.answer-answer.ensures.clean clean) h held sound) (c.answer-answer.ensures.answer clean));
+          (before.ran (c.answer-answer.ensures.answer clean).0 h held sound) (c.answer-answer.ensures.answer clean).1);
       idle = λ clean h held none.
-          let was = before.idle (c.answer-answer.ensures.clean clean) h held none in
+          let was = before.idle (c.answer-answer.ensures.answer clean).0 h held none in
           idle_more g.S.HallStore.holds g.S.HallStore.leaves (site_of c.args.self.now) (site_of c.loop-arrival.self) before.site
           (store_of c.loop-arrival.self) (store_of c.answer-answer.new.self) h c.args.arrivals.now c.loop-arrival.arrival-index c.arrival-item.result c.answer-answer.result
-          here c.arrival-item.is (c.answer-answer.ensures.answer clean) was;
+          here c.arrival-item.is (c.answer-answer.ensures.answer clean).1 was;
       count = grind (arith, common_steps);
       room = omega (arith, before.room, c.push.ensures.capacity);
     }

@@ -6,4 +6,4 @@ pub returns-clause-history : goal.returns-clause-history
 returns-clause-history g c = λ clean.
     after_events (record { laws = c.histories_keep_the_laws.ensures }) g.S.HallStore.holds g.S.HallStore.leaves (store_of c.args.self.now) (store_of c.carry_out.new.self)
     (site_of c.args.self.now) c.args.event.now c.args.moment c.args.fresh c.carry_out.result c.event_is_typed.ensures
-    (λ h sound second. c.decisions_keep_the_rules.ensures (site_of c.args.self.now) h c.args.event.now c.args.moment c.args.fresh sound second) g.S.HallStore.second_schema (c.carry_out.ensures.step clean)
+    (λ h sound second. c.decisions_keep_the_rules.ensures (site_of c.args.self.now) h c.args.event.now c.args.moment c.args.fresh sound second) g.S.HallStore.second_schema (c.carry_out.ensures.step clean).1

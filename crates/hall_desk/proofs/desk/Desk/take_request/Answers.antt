@@ -3,7 +3,7 @@ use Rattle.hall_desk.proofs.desk.Desk.take_request.Goals as goal
 
 pub returns-in-Whole-clause-step : goal.returns-in-Whole-clause-step
 returns-in-Whole-clause-step g c = λ clean.
-    answered_input _ _ _ _ _ _ _ _ _ _ _ c.in-Whole.ensures.reads.0 c.in-Whole.ensures.reads.1 (c.answer.ensures.answer clean)
+    answered_input _ _ _ _ _ _ _ _ _ _ _ c.in-Whole.ensures.reads.0 c.in-Whole.ensures.reads.1 (c.answer.ensures.answer clean).1
 
 pub returns-in-NoMemory-clause-step : goal.returns-in-NoMemory-clause-step
 returns-in-NoMemory-clause-step g c = λ clean. unread _ _ g.S.HallStore.wider _ _ _ _ _
