@@ -1,16 +1,17 @@
 -- Each script that a machine is given is one within the limits, where it is made of what its types allow.
-use Rattle.std.specs.Prelude.{◌≡◌, ◌≤◌, ◌+◌, ◌++◌, ◌==◌, ℕ, Bool, true, false, List, [], ◌∷◌, length, Option, Some, None, Result, Ok, Err, IsTrue, codes, if◌then◌else◌}
+use Rattle.std.specs.Prelude.{◌≡◌, ◌≤◌, ◌+◌, ◌++◌, ◌==◌, ℕ, Bool, true, false, List, [], ◌∷◌, Option, Some, None, Result, Ok, Err, All, IsTrue, codes, if◌then◌else◌}
 use Rattle.std.specs.Fmt.{decimal}
-use Rattle.std.specs.List.{AllByRecursion}
 use Rattle.std.proofs.Common.{refl, ap, subst, arith}
 use Rattle.std.proofs.lemmas.Bool.Decides.{nat_tests}
-use Rattle.std.proofs.lemmas.List.Elements.{All-from_recursion, recursion_from_All}
+use Rattle.std.proofs.lemmas.List.{length-append}
+use Rattle.std.proofs.lemmas.List.Elements.{All-append, All-from_recursion, All-nil}
 use Rattle.hex.specs.Hex.{encode_lower}
 use Rattle.pxe_vendor.specs.Place.{is_host}
 use Rattle.ipxe_script.specs.Script.{IsScript}
 use Rattle.ipxe_script.specs.Word.{IsWord}
 use Rattle.ipxe_script.specs.declared.command.Command.{Command}
 use Rattle.hall_types.specs.Image.{BootImage, IsImage}
+use Rattle.hall_types.specs.Kinds.{erase_text, purpose_text}
 use Rattle.hall_types.specs.Number.{max_number, next_number}
 use Rattle.hall_types.specs.Octets.{AreOctets}
 use Rattle.hall_types.specs.declared.boot.Boot.{Boot}
@@ -27,7 +28,7 @@ use Rattle.boot_desk.specs.declared.class.ScriptClass.TheVariants.{Local, Hold, 
 use Rattle.boot_desk.specs.declared.views.BootView.{BootView}
 use Rattle.boot_desk.specs.Fetch.{Fetched, fetched, fetched_by, image_for, is_fourth, is_offered, issued, new_boot, offered_boot, worked, worked_if}
 use Rattle.boot_desk.specs.Following.{answering, followed}
-use Rattle.boot_desk.specs.TextLaws.{boot_is_script, boot_word, desk_word, erase_word, hold_is_script, local_is_script, purpose_word, token_word}
+use Rattle.boot_desk.specs.TextLaws.{boot_is_script, boot_word, desk_word, erase_word, few_erase_arguments, hold_is_script, local_is_script, purpose_word, token_word}
 use Rattle.boot_desk.specs.Texts.{desk_arguments, erase_argument, hold_script, local_script, work_script}
 
 -- a boot: a number, and a token of 16 octets
@@ -42,40 +43,26 @@ pub record IsWholeView (v : BootView) : Type 0 where
   pub boot : (b : Boot) → v.boot ≡ Some b → IsBoot b
   pub last : v.numbers.boot ≤ max_number
 
-erase_words : (p : Purpose) (e : Option Erase) → AllByRecursion IsWord (erase_argument p e)
-erase_words purpose.Commission e = tt
-erase_words purpose.Test e = tt
-erase_words purpose.Deploy e = tt
-erase_words purpose.Erase None = tt
-erase_words purpose.Erase (Some e) = (erase_word e, tt)
-erase_words purpose.Rescue e = tt
-
-few_erase : (p : Purpose) (e : Option Erase) (more : List (List ℕ)) → length (erase_argument p e ++ more) ≤ 1 + length more
-few_erase purpose.Commission e more = omega arith
-few_erase purpose.Test e more = omega arith
-few_erase purpose.Deploy e more = omega arith
-few_erase purpose.Erase None more = omega arith
-few_erase purpose.Erase (Some e) more = omega arith
-few_erase purpose.Rescue e more = omega arith
-
-all_append : (xs ys : List (List ℕ)) → AllByRecursion IsWord xs → AllByRecursion IsWord ys → AllByRecursion IsWord (xs ++ ys)
-all_append [] ys one other = other
-all_append (x ∷ xs) ys one other = (one.0, all_append xs ys one.1 other)
-
-long : (xs ys : List (List ℕ)) → length (xs ++ ys) ≡ length xs + length ys
-long [] ys = omega arith
-long (x ∷ xs) ys = let rest = long xs ys in omega (arith, rest)
+erase_words : (p : Purpose) (e : Option Erase) → All IsWord (erase_argument p e)
+erase_words purpose.Commission e = All-nil IsWord
+erase_words purpose.Test e = All-nil IsWord
+erase_words purpose.Deploy e = All-nil IsWord
+erase_words purpose.Erase None = All-nil IsWord
+erase_words purpose.Erase (Some e) = All-from_recursion IsWord ((codes "hall.erase=" ++ erase_text e) ∷ []) (erase_word e, tt)
+erase_words purpose.Rescue e = All-nil IsWord
 
 module _ (host : List ℕ) (is : IsTrue (is_host host)) where
   pub work_is_script : (p : Purpose) (e : Option Erase) (b : Boot) (i : BootImage) → IsBoot b → IsImage i → IsScript (work_script host p e b i)
   unfolding work_script
   work_is_script p e b i boot image =
       let own = desk_arguments host p e b in
-      let words : AllByRecursion IsWord own =
-      (purpose_word p, all_append (erase_argument p e) _ (erase_words p e) (boot_word b.number (omega (arith, boot.number)), (token_word b.token boot.token, (desk_word host is, tt)))) in
-      let few = few_erase p e ((codes "hall.boot=" ++ decimal b.number) ∷ (codes "hall.token=" ++ encode_lower b.token) ∷ (codes "hall.desk=http://" ++ host) ∷ []) in
-      boot_is_script i.kernel (i.args ++ own) i.initrd image.kernel (All-from_recursion IsWord (i.args ++ own) (all_append i.args own (recursion_from_All IsWord i.args image.words) words)) image.initrd
-      (omega (arith, long i.args own, few, image.few))
+      let last : List (List ℕ) = (codes "hall.boot=" ++ decimal b.number) ∷ (codes "hall.token=" ++ encode_lower b.token) ∷ (codes "hall.desk=http://" ++ host) ∷ [] in
+      let last_words = All-from_recursion IsWord last (boot_word b.number (omega (arith, boot.number)), (token_word b.token boot.token, (desk_word host is, tt))) in
+      let words : All IsWord own =
+      All-append IsWord ((codes "hall.purpose=" ++ purpose_text p) ∷ []) (erase_argument p e ++ last) (All-from_recursion IsWord ((codes "hall.purpose=" ++ purpose_text p) ∷ []) (purpose_word p, tt))
+      (All-append IsWord (erase_argument p e) last (erase_words p e) last_words) in
+      boot_is_script i.kernel (i.args ++ own) i.initrd image.kernel (All-append IsWord i.args own image.words words) image.initrd
+      (omega (arith, length-append i.args own, length-append (erase_argument p e) last, few_erase_arguments p e, image.few))
 
 abbrev script_in : Fetched → List Command
 script_in (Ok answer) = answer.1

@@ -1,10 +1,11 @@
 -- The promise to all who trust a hall. In words, for every list of what came to it since it was new:
 --
--- the tables and every octet that was answered are those of the model; a Deployed machine is told only to boot its own disk; a script
--- that erases is given only for a machine that its owner released for erasing, and one that writes an image only for a machine
--- that its owner deployed with it; a report counts at most once, and only for its machine's own boot; a command is accepted
--- once for its key, and repeats get the first answer; a machine stays, unless it is deleted by an accepted command; an order is
--- queued at an entry of its machine, and counts once; every refusal changes nothing.
+-- the tables and every octet that was answered are those of the model; a Deployed machine is told only to boot its own disk; a text
+-- is given only to a client that asked for its script, and is a whole script within its limits; a script that erases is given only
+-- for a machine that its owner released for erasing, and one that writes an image only for a machine that its owner deployed with
+-- it; a report counts at most once, and only for its machine's own boot; a command is accepted once for its key, and repeats get
+-- the first answer; a machine stays, unless it is deleted by an accepted command; an order is queued at an entry of its machine,
+-- and counts once; every refusal changes nothing.
 use Rattle.std.specs.Prelude.{◌≡◌, ◌<◌, ℕ, List, [], ◌∷◌, ◌++◌, take, length, Option, Some}
 use Rattle.pxe_vendor.specs.Place.{Site}
 use Rattle.hall_types.specs.Hall.{Hall, new_hall, second}

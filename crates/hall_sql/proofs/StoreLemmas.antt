@@ -8,7 +8,7 @@ use Rattle.sqlite_trees.specs.declared.store.Store as trees
 use Rattle.hall_types.specs.Hall.{Hall, applied}
 use Rattle.hall_types.specs.Lookup.{next_expired}
 use Rattle.hall_types.specs.declared.change.RowWrite.{RowWrite}
-use Rattle.sql_schema.specs.Holding.{IsHeld, Leaves, IsAsked}
+use Rattle.sql_schema.specs.Holding.{IsHeld, Leaves, IsTableRead}
 use Rattle.sql_schema.specs.HoldingLaws.{back_held, leaves_on}
 use Rattle.sql_schema.specs.Spelling.{SpellHall}
 use Rattle.std.specs.List.{AllByRecursion}
@@ -33,7 +33,7 @@ module _ {S : Type 0} (g : trees.Ghosts S) where
   -- ---- reads
 
   module _ (old : SqlStore S) (mid : Held S) (up : old.stopped ≡ false) {Y : Type 0} (Right : Hall → Y → Type 0) where
-    answered : (y : Y) → IsAsked (state g old.conn) (state g mid) {E = Error} (Ok y) Right → LeavesCommitted (state g mid)
+    answered : (y : Y) → IsTableRead (state g old.conn) (state g mid) {E = Error} (Ok y) Right → LeavesCommitted (state g mid)
         → IsRead (HasHall g) (StopLeaves g) old (record old { conn = mid }) {E = Unavailable} (Ok y) Right
     answered y a settled = record {
       answer = λ h has. a.answer h (has.held (has.running up));
@@ -42,7 +42,7 @@ module _ {S : Type 0} (g : trees.Ghosts S) where
       settled = λ h has. settles mid h settled (a.same h (has.held (has.running up)));
     }
 
-    refused : (e : Error) (u : Unavailable) (new : SqlStore S) → IsAsked (state g old.conn) (state g mid) {Y = Y} (Err e) Right → Passes g {Y = Y} (record old { conn = mid }) new (Err e) (Err u)
+    refused : (e : Error) (u : Unavailable) (new : SqlStore S) → IsTableRead (state g old.conn) (state g mid) {Y = Y} (Err e) Right → Passes g {Y = Y} (record old { conn = mid }) new (Err e) (Err u)
         → HasCleanDisk (state g new.conn) → IsRead (HasHall g) (StopLeaves g) old new {Y = Y} (Err u) Right
     refused e u new a passed clean = record {
       answer = tt;
@@ -57,7 +57,7 @@ module _ {S : Type 0} (g : trees.Ghosts S) where
     }
 
     -- what is passed on of a read is the read's answer
-    pub read_by : (r : Result Y Error) (new : SqlStore S) (out : Result Y Unavailable) → IsAsked (state g old.conn) (state g mid) r Right → Passes g (record old { conn = mid }) new r out
+    pub read_by : (r : Result Y Error) (new : SqlStore S) (out : Result Y Unavailable) → IsTableRead (state g old.conn) (state g mid) r Right → Passes g (record old { conn = mid }) new r out
         → HasCleanDisk (state g new.conn) → LeavesCommitted (state g new.conn) → IsRead (HasHall g) (StopLeaves g) old new out Right
     read_by (Ok y) new out a passed clean settled =
         subst (λ o. IsRead (HasHall g) (StopLeaves g) old new o Right) (sym passed.0)

@@ -31,7 +31,7 @@ nothing_told s e rows = record {
 }
 
 -- the hall as the transaction sees it, with the rows that are left to write, of all that lead from this hall
-pub record Leads (s : State) (left all : List RowWrite) (h : Hall) : Type 0 where
+pub record IsPartWritten (s : State) (left all : List RowWrite) (h : Hall) : Type 0 where
   pub now : Hall
   pub within : IsWithinHall s h now
   pub keep : AllKeep left now
@@ -42,7 +42,7 @@ pub record Going (s0 s : State) (left all : List RowWrite) : Type 0 where
   pub survives : Survives s0 s (λ _. ⊥)
   pub kept : HasCleanDisk s → KeepsCommit s0 s
   pub mode : HasCleanDisk s → s.in_transaction ≡ true
-  pub made : HasCleanDisk s → (h : Hall) → IsHeld s0 h → AllKeep all h → Leads s left all h
+  pub made : HasCleanDisk s → (h : Hall) → IsHeld s0 h → AllKeep all h → IsPartWritten s left all h
 
 spells_now : (s : State) (before h : Hall) → IsWithinHall s before h → SpellHall s.now.trees h
 spells_now s before h it = record { hall_rows = it.hall_rows; tables = it.within.spelt.tables; agrees = it.agrees }

@@ -4,7 +4,7 @@ ghost use Rattle.sqlite.specs.Held.{state};
 ghost use Rattle.sqlite.specs.State.{HasCleanDisk};
 ghost use Rattle.hall_types.specs.Lookup.{is_image_used};
 ghost use Rattle.hall_types.specs.Rows.{at};
-ghost use Rattle.sql_schema.specs.Holding.{IsAsked};
+ghost use Rattle.sql_schema.specs.Holding.{IsTableRead};
 ghost use Rattle.hall_sql.specs.Store.{LeavesCommitted, Passes};
 
 use crate::store::SqlStore;
@@ -39,7 +39,7 @@ pub(crate) fn machine_at<S: Alter>(
     mac: MacAddress,
 ) -> Result<Option<Number>, Error>
     ensures clean { HasCleanDisk (state S.Store conn.new) → HasCleanDisk (state S.Store conn.old) }
-    ensures asked { HasCleanDisk (state S.Store conn.new) → IsAsked (state S.Store conn.old) (state S.Store conn.new) result (λ h answer. answer ≡ option_map (λ i. i.machine) (at h.interfaces mac)) }
+    ensures asked { HasCleanDisk (state S.Store conn.new) → IsTableRead (state S.Store conn.old) (state S.Store conn.new) result (λ h answer. answer ≡ option_map (λ i. i.machine) (at h.interfaces mac)) }
 {
     match find_interface(conn, mac) {
         Ok(Some(interface)) => Ok(Some(interface.machine)),
@@ -51,7 +51,7 @@ pub(crate) fn machine_at<S: Alter>(
 /// Whether an image is an architecture's live image or a machine's image.
 pub(crate) fn is_image_used<S: Alter>(conn: &mut Connection<S>, name: &Name) -> Result<bool, Error>
     ensures clean { HasCleanDisk (state S.Store conn.new) → HasCleanDisk (state S.Store conn.old) }
-    ensures asked { HasCleanDisk (state S.Store conn.new) → IsAsked (state S.Store conn.old) (state S.Store conn.new) result (λ h answer. answer ≡ is_image_used h name.now) }
+    ensures asked { HasCleanDisk (state S.Store conn.new) → IsTableRead (state S.Store conn.old) (state S.Store conn.new) result (λ h answer. answer ≡ is_image_used h name.now) }
 {
     match is_live(conn, name) {
         Ok(true) => Ok(true),

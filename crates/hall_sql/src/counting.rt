@@ -4,7 +4,7 @@ ghost use Rattle.std.specs.List.{sum_by};
 ghost use Rattle.sqlite.specs.Held.{state};
 ghost use Rattle.sqlite.specs.State.{HasCleanDisk};
 ghost use Rattle.hall_types.specs.Rows.{size};
-ghost use Rattle.sql_schema.specs.Holding.{IsAsked};
+ghost use Rattle.sql_schema.specs.Holding.{IsTableRead};
 
 use hall_store::Count;
 use sql_counts::list_counts;
@@ -30,7 +30,7 @@ pub(crate) fn count_machines<S: Alter>(
     conn: &mut Connection<S>,
 ) -> Result<u64, Error>
     ensures clean { HasCleanDisk (state S.Store conn.new) → HasCleanDisk (state S.Store conn.old) }
-    ensures asked { HasCleanDisk (state S.Store conn.new) → IsAsked (state S.Store conn.old) (state S.Store conn.new) result (λ h machines. machines ≡ size h.machines) }
+    ensures asked { HasCleanDisk (state S.Store conn.new) → IsTableRead (state S.Store conn.old) (state S.Store conn.new) result (λ h machines. machines ≡ size h.machines) }
 {
     match list_counts(alloc, conn) {
         Ok(counts) => machines_in(&counts),

@@ -6,7 +6,7 @@ ghost use Rattle.hall_types.specs.Hall.{Hall, new_hall, second};
 ghost use Rattle.sql_schema.specs.Holding.{Holds, IsHeld};
 ghost use Rattle.sql_schema.specs.Spelling.{SpellHall};
 ghost use Rattle.sql_tables.specs.Creating.{KeepsTables, MayLeaveBesides, is_a_name_taken};
-ghost use Rattle.sql_tables.specs.Opening.{IsAnswered};
+ghost use Rattle.sql_tables.specs.Opening.{IsRightAnswer};
 ghost use Rattle.hall_sql.specs.Opening.{connection_of, outcome};
 ghost use Rattle.hall_sql.specs.Store.{connection};
 
@@ -72,7 +72,7 @@ impl<S: Alter> SqlStore<S> {
         ensures settled { IfOk result (λ store. ⟦<SqlStore<S> as HallStore>⟧.is_clean store → (h : Hall) → SpellHall (state S.Store conn).now.trees h → ⟦<SqlStore<S> as HallStore>⟧.leaves store (h ∷ [])) }
         ensures opened { IfOk result (λ store. HasCleanDisk (state S.Store (connection store)) → (h : Hall) → SpellHall (state S.Store conn).now.trees h → IsHeld (state S.Store (connection store)) h) }
         ensures refused { IfErr result (λ refused. HasCleanDisk (state S.Store refused.connection) → IsTrue (state S.Store conn).is_open → (h : Hall) → SpellHall (state S.Store conn).now.trees h → refused.fault ≡ OpenFault.Unavailable) }
-        ensures answered { HasCleanDisk (state S.Store (connection_of result)) → IsAnswered (state S.Store conn).now (outcome result) }
+        ensures answered { HasCleanDisk (state S.Store (connection_of result)) → IsRightAnswer (state S.Store conn).now (outcome result) }
         ensures kept { HasCleanDisk (state S.Store (connection_of result)) → KeepsTables (state S.Store conn) (state S.Store (connection_of result)) }
         ensures survives { Survives (state S.Store conn) (state S.Store (connection_of result)) (λ _. ⊥) }
     {

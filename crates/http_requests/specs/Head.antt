@@ -21,7 +21,7 @@ abbrev pub IsOpen : List ℕ → ℕ → Type 0
 IsOpen octets room = MayBecomeRequest octets ⊎ RequestExceeds room octets
 
 -- what a look finds
-abbrev pub IsLook : List ℕ → ℕ → List HeaderSpan → Look → Type 0
-IsLook octets room headers (Head spans) = IsRequestWithin octets headers spans × HasHead octets headers spans
-IsLook octets room headers Open = HasNoHead octets room × IsOpen octets room
-IsLook octets room headers Never = RequestOverflows room octets
+abbrev pub FindsHead : List ℕ → ℕ → List HeaderSpan → Look → Type 0
+FindsHead octets room headers (Head spans) = IsRequestWithin octets headers spans × HasHead octets headers spans
+FindsHead octets room headers Open = HasNoHead octets room × IsOpen octets room
+FindsHead octets room headers Never = RequestOverflows room octets

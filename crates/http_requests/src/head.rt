@@ -1,7 +1,7 @@
 //! The head of a request.
 ghost use Rattle.std.specs.Prelude.{◌≡◌, ◌≤◌, length, IfSome, IfNone};
 ghost use Rattle.httparse.specs.Spans.{IsRequestWithin};
-ghost use Rattle.http_requests.specs.Head.{HasHead, HasNoHead, IsLook};
+ghost use Rattle.http_requests.specs.Head.{HasHead, HasNoHead, FindsHead};
 
 use httparse::spans::{HeaderSpan, RequestSpans, parse_request};
 use httparse::{Error, Status};
@@ -25,7 +25,7 @@ pub(crate) enum Look {
 
 /// Looks for a head at the front of the octets, and puts its fields into `room`.
 pub(crate) fn look_for_head(octets: &[u8], room: &mut [HeaderSpan]) -> Look
-    ensures { IsLook octets.now (length room.old) room.new result }
+    ensures { FindsHead octets.now (length room.old) room.new result }
 {
     match parse_request(octets, room) {
         Ok(Status::Complete(spans)) => Look::Head(spans),

@@ -24,7 +24,7 @@ use Rattle.desk_command.specs.Effect.{added_machine}
 use Rattle.laws_model.specs.Decision.{Decided, decision_of}
 use Rattle.laws_model.specs.Step.{IsStep, Step}
 use Rattle.laws_steps.specs.HallLaws.{applied_entry, boots_first, entered_hall, last_queued, orders_first, queued}
-use Rattle.laws_steps.specs.Writes.{EditsInterfaces, IsAside, IsDeleting, IsEditing, IsEntering, IsIdled, IsIssuing, IsNoted, Makes, Writes, WritesAll, edits_machine, ends_waiting, enters_status, is_command, issues_boot, machine_goes, makes_machine, notes_report, with_receipt, withdrawn_at, without_receipt, writes_aside, writes_nothing}
+use Rattle.laws_steps.specs.Writes.{EditsInterfaces, IsOfNoMachine, IsDeleting, IsEditing, IsEntering, IsIdled, IsIssuing, IsNoted, AsksForMachine, Writes, WritesAll, edits_machine, ends_waiting, enters_status, is_command, issues_boot, machine_goes, makes_machine, notes_report, with_receipt, withdrawn_at, without_receipt, writes_aside, writes_nothing}
 use Rattle.laws_steps.specs.WritesLaws.{decision_writes}
 
 pub some_same : (a b : Content) → Some a ≡ Some b → a ≡ b
@@ -39,7 +39,7 @@ pub record Has (g : Hall) (of_machines : Rows numbers Machine) (of_boots : Rows 
 
 pub data Effect (h : Hall) (e : Event) (moment : ℕ) (fresh : List ℕ) (content : Content) (g : Hall) : Type 0 where
   leaves : (content ≡ counted → is_command e ≡ true) → Has g h.machines h.boots h.orders h.last → Effect h e moment fresh content g
-  makes : Makes e → (m : Machine) → m ≡ added_machine m.id m.arch m.pool m.uuid → next_number h.last.machine ≡ Some m.id
+  makes : AsksForMachine e → (m : Machine) → m ≡ added_machine m.id m.arch m.pool m.uuid → next_number h.last.machine ≡ Some m.id
       → Has g (put m.id m h.machines) h.boots h.orders (record h.last { machine = m.id }) → Effect h e moment fresh content g
   issues : (rows : List RowWrite) (x : IsIssuing h e fresh rows)
       → Has g (put x.machine.id (booted x.number x.machine) h.machines) (put x.number (new_boot x.number x.machine x.purpose fresh) h.boots) h.orders (record h.last { boot = x.number })
@@ -88,7 +88,7 @@ module _ (h : Hall) (e : Event) (moment : ℕ) (fresh : List ℕ) (content : Con
   rows_effect rows (writes_aside by x) =
       leaves (λ its. by) (has_by (applied rows h) _ _ _ _ _ (ap (λ ws. applied ws h) x.rows_are) (after x.row x.aside))
     where
-      after : (row : RowWrite) → IsAside row h e → Has (applied (row ∷ []) h) h.machines h.boots h.orders h.last
+      after : (row : RowWrite) → IsOfNoMachine row h e → Has (applied (row ∷ []) h) h.machines h.boots h.orders h.last
       after (write.PutOperator o) aside = record { machines = refl; boots = refl; orders = refl; last = refl }
       after (write.PutPool p) aside = record { machines = refl; boots = refl; orders = refl; last = refl }
       after (write.PutMember m) aside = record { machines = refl; boots = refl; orders = refl; last = refl }

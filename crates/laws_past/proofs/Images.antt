@@ -27,7 +27,7 @@ use Rattle.boot_desk.specs.Following.{machine_row}
 use Rattle.desk_command.specs.Command.{receipt_of}
 use Rattle.laws_model.specs.Decision.{Decided}
 use Rattle.laws_steps.specs.HallLaws.{applied_entry}
-use Rattle.laws_steps.specs.Writes.{EditsInterfaces, IsAside, Writes, WritesAll, edits_machine, ends_waiting, enters_status, issues_boot, machine_goes, makes_machine, notes_report, with_receipt, withdrawn_at, without_receipt, writes_aside, writes_nothing}
+use Rattle.laws_steps.specs.Writes.{EditsInterfaces, IsOfNoMachine, Writes, WritesAll, edits_machine, ends_waiting, enters_status, issues_boot, machine_goes, makes_machine, notes_report, with_receipt, withdrawn_at, without_receipt, writes_aside, writes_nothing}
 
 -- the images are as before, but for one that a command brings, or one that goes
 pub data ImagesMove (h : Hall) (e : Event) (g : Hall) : Type 0 where
@@ -47,7 +47,7 @@ module _ (h : Hall) (e : Event) (moment : ℕ) (fresh : List ℕ) where
       as_rows : (ws : List RowWrite) → rows ≡ ws → ImagesMove h e (applied ws h) → ImagesMove h e (applied rows h)
       as_rows ws is move = subst (λ x. ImagesMove h e (applied x h)) (sym is) move
 
-      by_aside : (row : RowWrite) → IsAside row h e → Keeps row h → ImagesMove h e (applied (row ∷ []) h)
+      by_aside : (row : RowWrite) → IsOfNoMachine row h e → Keeps row h → ImagesMove h e (applied (row ∷ []) h)
       by_aside (write.PutOperator o) aside keeps = same_images refl
       by_aside (write.PutPool p) aside keeps = same_images refl
       by_aside (write.PutMember m) aside keeps = same_images refl

@@ -15,7 +15,7 @@ use Rattle.boot_desk.specs.Sound.{IsSound}
 use Rattle.boot_desk.specs.SoundLaws.{some_is}
 use Rattle.desk_command.specs.Effect.{added_machine}
 use Rattle.laws_model.specs.Step.{Step}
-use Rattle.laws_steps.specs.Writes.{IsEntering, Makes}
+use Rattle.laws_steps.specs.Writes.{IsEntering, AsksForMachine}
 use Rattle.laws_past.specs.Past.{IsEntry}
 use Rattle.laws_past.proofs.Effects.{Effect, edits, enters, goes, idles, issues, leaves, makes, notes}
 use Rattle.laws_past.proofs.Enterings.{new_changes, new_id}
@@ -29,7 +29,7 @@ pub record IsSettled (k m : Machine) : Type 0 where
 
 pub data MachineWas (h : Hall) (e : Event) (moment : ℕ) (content : Content) (id : ℕ) (m : Machine) : Type 0 where
   was_settled : (k : Machine) → at h.machines id ≡ Some k → IsSettled k m → MachineWas h e moment content id m
-  was_made : Makes e → at h.machines id ≡ None → m ≡ added_machine m.id m.arch m.pool m.uuid → MachineWas h e moment content id m
+  was_made : AsksForMachine e → at h.machines id ≡ None → m ≡ added_machine m.id m.arch m.pool m.uuid → MachineWas h e moment content id m
   has_entered : (rows : List RowWrite) (x : IsEntering h e moment rows content) → id ≡ x.machine.id → m ≡ x.new.machine → MachineWas h e moment content id m
 
 pub settled_same : (k m : Machine) → m ≡ k → IsSettled k m

@@ -24,7 +24,7 @@ use Rattle.boot_desk.specs.Sound.{IsSound}
 use Rattle.boot_desk.specs.SoundLaws.{some_is}
 use Rattle.laws_model.specs.Step.{IsStep, Step}
 use Rattle.laws_steps.specs.HallLaws.{orders_first, queued}
-use Rattle.laws_steps.specs.Writes.{CauseOf, First, IsAnswered, IsEntering, boot_first, is_command, nothing_first, order_first, withdrawn_at}
+use Rattle.laws_steps.specs.Writes.{CauseOf, First, IsOrderAnswered, IsEntering, boot_first, is_command, nothing_first, order_first, withdrawn_at}
 use Rattle.laws_past.specs.Laws.{CountsAnswerOnce, CountsSome, IsQueuedAtEntry, QueuesAtEntries, WaitsForOne, WaitsNoMore, Withdraws}
 use Rattle.laws_past.specs.Past.{CountsAnswer, SomeOf}
 use Rattle.laws_past.proofs.Commanded.{RefusalsStay}
@@ -157,7 +157,7 @@ same_answer b c a n x y e = cc
 
 module _ (h : Hall) (s : IsSound h) (e : Event) (moment : ℕ) (fresh : List ℕ) (content : Content) (g : Hall) (bearer : Option (List ℕ)) (n : ℕ) (its : Outcome) (is : e ≡ event.OrderAnswer bearer n its) (counts : content ≡ counted) where
   -- the order that was answered, whose row was put
-  by_put : (m : Machine) (k : Order) (outcome : Outcome) → IsAnswered h e content m k outcome → at g.orders k.number ≡ Some (record k { stage = stage_for outcome }) → Answered h g n
+  by_put : (m : Machine) (k : Order) (outcome : Outcome) → IsOrderAnswered h e content m k outcome → at g.orders k.number ≡ Some (record k { stage = stage_for outcome }) → Answered h g n
   by_put m k outcome cause put_there =
       let number = same_answer cause.bearer bearer k.number n outcome its (sym cause.event_is ∙ is) in
       let there : at g.orders n ≡ Some (record k { stage = stage_for outcome }) = ap (at g.orders) (sym number) ∙ put_there in

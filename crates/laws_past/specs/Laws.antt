@@ -46,7 +46,7 @@ use Rattle.desk_command.specs.Causes.{action_of}
 use Rattle.desk_command.specs.Command.{sender}
 use Rattle.laws_model.specs.Refusing.{IsRefusal}
 use Rattle.laws_model.specs.Step.{IsTypedStep, Step}
-use Rattle.laws_steps.specs.Writes.{Makes}
+use Rattle.laws_steps.specs.Writes.{AsksForMachine}
 use Rattle.laws_past.specs.Past.{CountsAnswer, CountsReport, IsAccepted, IsEntry, IsOwnBoot, Last, NoneOf, SomeOf, WasAnswered}
 
 -- ---- scripts
@@ -187,7 +187,7 @@ pub record NumbersOnce (past : List Step) (s : Step) : Type 0 where
 
 -- there was no such machine, and a client is enlisted, or an operator adds a machine
 abbrev pub IsMade : ℕ → Step → Type 0
-IsMade id s = (at s.before.machines id ≡ None) × Makes s.arrival.event
+IsMade id s = (at s.before.machines id ≡ None) × AsksForMachine s.arrival.event
 
 -- Why a machine, which was this one before the step, was given a signal:
 

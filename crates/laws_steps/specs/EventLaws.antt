@@ -55,7 +55,7 @@ use Rattle.boot_desk.specs.Sound.{IsSound}
 use Rattle.boot_desk.specs.Texts.{hold_script}
 use Rattle.boot_desk.specs.Views.{interface_view, machine_view, order_view, order_view_of, order_view_with, report_view, report_view_of, report_view_with, row_at, view_at, view_of}
 use Rattle.laws_model.specs.Decision.{Decided, framed, given, given_if, judged as judgement}
-use Rattle.laws_steps.specs.Writes.{IsAnswered, IsReported, Writes, boot_first, enters_status, first_rows, issues_boot, makes_machine, ends_waiting, notes_report, nothing_first, order_first, writes_nothing}
+use Rattle.laws_steps.specs.Writes.{IsOrderAnswered, IsReported, Writes, boot_first, enters_status, first_rows, issues_boot, makes_machine, ends_waiting, notes_report, nothing_first, order_first, writes_nothing}
 
 abbrev pub Decides : Hall → Event → ℕ → List ℕ → Decided → Type 0
 Decides h e moment fresh d = Writes h e moment fresh d.rows d.content
@@ -326,7 +326,7 @@ module _ (h : Hall) (s : IsSound h) (moment : ℕ) (fresh : List ℕ) where
   unfolding answered
   answer_writes bearer number given = by_order (at h.orders number) refl
     where
-      by_waiting : (o : Order) (m : Machine) (outcome : Outcome) → at h.machines m.id ≡ Some m → IsAnswered h (event.OrderAnswer bearer number outcome) counted_answer m o outcome
+      by_waiting : (o : Order) (m : Machine) (outcome : Outcome) → at h.machines m.id ≡ Some m → IsOrderAnswered h (event.OrderAnswer bearer number outcome) counted_answer m o outcome
           → Answers bearer number outcome (answered_as orderstage.Waiting (record { asked = o; at = view_of h m }) outcome moment)
       by_waiting o m outcome was cause = by_step (step_of m (Answer outcome)) refl
         where

@@ -16,7 +16,7 @@ use Rattle.life_cycle.specs.declared.entering.Entered.{Entered}
 use Rattle.boot_desk.specs.EntryLaws.{cleared}
 use Rattle.boot_desk.specs.Following.{entry_rows, machine_row}
 use Rattle.boot_desk.specs.OrderAnswer.{stage_for}
-use Rattle.laws_steps.specs.Writes.{EditsInterfaces, First, IsAside, Writes, boot_first, edits_machine, ends_waiting, enters_status, first_rows, issues_boot, machine_goes, makes_machine, notes_report, nothing_first, order_first, withdrawn_at, writes_aside, writes_nothing}
+use Rattle.laws_steps.specs.Writes.{EditsInterfaces, First, IsOfNoMachine, Writes, boot_first, edits_machine, ends_waiting, enters_status, first_rows, issues_boot, machine_goes, makes_machine, notes_report, nothing_first, order_first, withdrawn_at, writes_aside, writes_nothing}
 
 -- the boots after what is written first
 abbrev pub boots_first : First → Rows numbers Boot → Rows numbers Boot
@@ -80,7 +80,7 @@ same_receipts h e moment fresh rows content w = after w
     by_edit m after (write.InterfaceGone mac ∷ []) edits = refl
     by_edit m after other edits = absurd edits
 
-    by_aside : (row : RowWrite) → IsAside row h e → At (row ∷ [])
+    by_aside : (row : RowWrite) → IsOfNoMachine row h e → At (row ∷ [])
     by_aside (write.PutOperator o) aside = refl
     by_aside (write.PutPool p) aside = refl
     by_aside (write.PutMember m) aside = refl

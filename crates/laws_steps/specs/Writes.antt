@@ -78,7 +78,7 @@ pub record IsReported (h : Hall) (e : Event) (content : Content) (m : Machine) (
   pub takes : Takes b.stage progress
 
 -- an answer to the order that it waits for counts
-pub record IsAnswered (h : Hall) (e : Event) (content : Content) (m : Machine) (o : Order) (outcome : Outcome) : Type 0 where
+pub record IsOrderAnswered (h : Hall) (e : Event) (content : Content) (m : Machine) (o : Order) (outcome : Outcome) : Type 0 where
   pub bearer : Option (List ℕ)
   pub event_is : e ≡ event.OrderAnswer bearer o.number outcome
   pub answer : content ≡ counted
@@ -128,7 +128,7 @@ CauseOf h e moment content m entering signal nothing_first =
 CauseOf h e moment content m entering signal (boot_first b progress) =
     (entering ≡ m) × (signal ≡ Report progress) × IsReported h e content m b progress
 CauseOf h e moment content m entering signal (order_first o outcome) =
-    (entering ≡ m) × (signal ≡ Answer outcome) × IsAnswered h e content m o outcome
+    (entering ≡ m) × (signal ≡ Answer outcome) × IsOrderAnswered h e content m o outcome
 
 -- ---- the ways
 
@@ -157,8 +157,8 @@ pub record IsMaking (h : Hall) (rows : List RowWrite) : Type 0 where
   pub rows_are : rows ≡ write.PutMachine machine None ∷ write.PutInterface interface ∷ write.PutNumbers (record h.last { machine = machine.id }) ∷ []
 
 -- the client of a frame is enlisted, or an operator adds a machine
-abbrev pub Makes : Event → Type 0
-Makes e =
+abbrev pub AsksForMachine : Event → Type 0
+AsksForMachine e =
     ((port : Port) × (client : Client) × (e ≡ event.Frame port client))
     ⊎ ((bearer : Option (List ℕ)) × (key mac : List ℕ) × (arch : Arch) × (pool : List ℕ) × (uuid : Option (List ℕ)) × (e ≡ event.Command bearer key (AddMachine mac arch pool uuid)))
 
@@ -203,7 +203,7 @@ pub record IsIdled (h : Hall) (e : Event) (rows : List RowWrite) (content : Cont
   pub order : Order
   pub outcome : Outcome
   pub found : at h.machines machine.id ≡ Some machine
-  pub cause : IsAnswered h e content machine order outcome
+  pub cause : IsOrderAnswered h e content machine order outcome
   pub stays : step_of machine (Answer outcome) ≡ None
   pub rows_are : rows ≡ write.PutOrder (record order { stage = stage_for outcome }) ∷ machine_row machine (idle machine) ∷ []
 
@@ -226,19 +226,19 @@ pub record IsEditing (h : Hall) (rows : List RowWrite) : Type 0 where
 
 -- a row of an operator, a pool, a member, an image or a live image; an operator keeps its digest, and an image is new by the
 -- command that brings it
-abbrev pub IsAside : RowWrite → Hall → Event → Type 0
-IsAside (write.PutOperator o) h e = (was : Operator) → at h.operators o.name ≡ Some was → was.digest ≡ o.digest
-IsAside (write.PutPool p) h e = ⊤
-IsAside (write.PutMember m) h e = ⊤
-IsAside (write.PutImage i) h e = (bearer : Option (List ℕ)) × (key : List ℕ) × (e ≡ event.Command bearer key (AddImage i))
-IsAside (write.ImageGone name) h e = ⊤
-IsAside (write.PutLive l) h e = ⊤
-IsAside other h e = ⊥
+abbrev pub IsOfNoMachine : RowWrite → Hall → Event → Type 0
+IsOfNoMachine (write.PutOperator o) h e = (was : Operator) → at h.operators o.name ≡ Some was → was.digest ≡ o.digest
+IsOfNoMachine (write.PutPool p) h e = ⊤
+IsOfNoMachine (write.PutMember m) h e = ⊤
+IsOfNoMachine (write.PutImage i) h e = (bearer : Option (List ℕ)) × (key : List ℕ) × (e ≡ event.Command bearer key (AddImage i))
+IsOfNoMachine (write.ImageGone name) h e = ⊤
+IsOfNoMachine (write.PutLive l) h e = ⊤
+IsOfNoMachine other h e = ⊥
 
 -- one row of these is written, by the tables' rules
-pub record IsAsideWrite (h : Hall) (e : Event) (rows : List RowWrite) : Type 0 where
+pub record IsWriteOfNoMachine (h : Hall) (e : Event) (rows : List RowWrite) : Type 0 where
   pub row : RowWrite
-  pub aside : IsAside row h e
+  pub aside : IsOfNoMachine row h e
   pub keeps : Keeps row h
   pub rows_are : rows ≡ row ∷ []
 
@@ -249,14 +249,14 @@ is_command other = false
 pub data Writes (h : Hall) (e : Event) (moment : ℕ) (fresh : List ℕ) (rows : List RowWrite) (content : Content) : Type 0 where
   -- no report and no answer counts by writing nothing
   writes_nothing : content ≢ counted → rows ≡ [] → Writes h e moment fresh rows content
-  makes_machine : Makes e → IsMaking h rows → Writes h e moment fresh rows content
+  makes_machine : AsksForMachine e → IsMaking h rows → Writes h e moment fresh rows content
   issues_boot : IsIssuing h e fresh rows → Writes h e moment fresh rows content
   enters_status : IsEntering h e moment rows content → Writes h e moment fresh rows content
   notes_report : IsNoted h e rows content → Writes h e moment fresh rows content
   ends_waiting : IsIdled h e rows content → Writes h e moment fresh rows content
   edits_machine : is_command e ≡ true → IsEditing h rows → Writes h e moment fresh rows content
   machine_goes : (id : ℕ) → IsDeleting h e id → rows ≡ write.MachineGone id ∷ [] → Writes h e moment fresh rows content
-  writes_aside : is_command e ≡ true → IsAsideWrite h e rows → Writes h e moment fresh rows content
+  writes_aside : is_command e ≡ true → IsWriteOfNoMachine h e rows → Writes h e moment fresh rows content
 
 -- what an operator's command that is carried out is answered
 abbrev pub is_done : Content → Bool

@@ -5,7 +5,7 @@ ghost use Rattle.sqlite.specs.State.{HasCleanDisk, Survives, CommitsShowing, Sho
 ghost use Rattle.sql_schema.specs.CountStatements.{list_counts_text};
 ghost use Rattle.hall_store.specs.Counts.{AreCounts};
 ghost use Rattle.sql_schema.specs.Columns.{count_columns};
-ghost use Rattle.sql_schema.specs.Holding.{IsAsked};
+ghost use Rattle.sql_schema.specs.Holding.{IsTableRead};
 ghost use Rattle.sql_counts.specs.Listing.{IsListing, count_row};
 
 use hall_store::Count;
@@ -25,7 +25,7 @@ fn all_rows<S: Alter>(conn: &mut Connection<S>) -> Result<Vec<Row>, Error>
 // The same, in the words of the hall.
 fn rows_of_counts<S: Alter>(conn: &mut Connection<S>) -> Result<Vec<Row>, Error>
     ensures clean { HasCleanDisk (state S.Store conn.new) → HasCleanDisk (state S.Store conn.old) }
-    ensures asked { HasCleanDisk (state S.Store conn.new) → IsAsked (state S.Store conn.old) (state S.Store conn.new) result (λ h rows. (listing : _) × IsListing h listing × (rows.items ≡ map count_columns listing)) }
+    ensures asked { HasCleanDisk (state S.Store conn.new) → IsTableRead (state S.Store conn.old) (state S.Store conn.new) result (λ h rows. (listing : _) × IsListing h listing × (rows.items ≡ map count_columns listing)) }
 {
     all_rows(conn)
 }
@@ -60,7 +60,7 @@ fn counts_of(alloc: Global, rows: &[Row]) -> Result<Vec<Count>, Error>
 /// which there are none. `alloc` is for the answer.
 pub fn list_counts<S: Alter>(alloc: Global, conn: &mut Connection<S>) -> Result<Vec<Count>, Error>
     ensures clean { HasCleanDisk (state S.Store conn.new) → HasCleanDisk (state S.Store conn.old) }
-    ensures asked { HasCleanDisk (state S.Store conn.new) → IsAsked (state S.Store conn.old) (state S.Store conn.new) result (λ h counts. AreCounts h counts.items) }
+    ensures asked { HasCleanDisk (state S.Store conn.new) → IsTableRead (state S.Store conn.old) (state S.Store conn.new) result (λ h counts. AreCounts h counts.items) }
 {
     match rows_of_counts(conn) {
         Ok(rows) => counts_of(alloc, &rows),

@@ -11,7 +11,7 @@ ghost use Rattle.hall_types.specs.Rows.{at};
 ghost use Rattle.hall_types.specs.Hall.{Hall};
 ghost use Rattle.sql_schema.specs.NameStatements.{add_image_text, find_image_text, remove_image_text};
 ghost use Rattle.sql_schema.specs.Columns.{number, image_columns, joined, words_in, HasWords};
-ghost use Rattle.sql_schema.specs.Holding.{IsAsked, IsWithin};
+ghost use Rattle.sql_schema.specs.Holding.{IsTableRead, IsWithin};
 ghost use Rattle.sql_schema.specs.Spelling.{HallRows};
 ghost use Rattle.sql_images.specs.Images.{with_image, without_image};
 
@@ -37,7 +37,7 @@ fn image_rows<S: Alter>(conn: &mut Connection<S>, name: &Name) -> Result<Vec<Row
 // The same, in the words of the hall.
 fn rows_of_image<S: Alter>(conn: &mut Connection<S>, name: &Name) -> Result<Vec<Row>, Error>
     ensures clean { HasCleanDisk (state S.Store conn.new) → HasCleanDisk (state S.Store conn.old) }
-    ensures asked { HasCleanDisk (state S.Store conn.new) → IsAsked (state S.Store conn.old) (state S.Store conn.new) result (λ h rows. (rows.items ≡ map image_columns (option_to_list (at h.images name.now))) × IfSome (at h.images name.now) HasWords) }
+    ensures asked { HasCleanDisk (state S.Store conn.new) → IsTableRead (state S.Store conn.old) (state S.Store conn.new) result (λ h rows. (rows.items ≡ map image_columns (option_to_list (at h.images name.now))) × IfSome (at h.images name.now) HasWords) }
 {
     image_rows(conn, name)
 }
@@ -109,7 +109,7 @@ pub fn find_image<S: Alter>(
     name: &Name,
 ) -> Result<Option<Image>, Error>
     ensures clean { HasCleanDisk (state S.Store conn.new) → HasCleanDisk (state S.Store conn.old) }
-    ensures asked { HasCleanDisk (state S.Store conn.new) → IsAsked (state S.Store conn.old) (state S.Store conn.new) result (λ h image. image ≡ at h.images name.now) }
+    ensures asked { HasCleanDisk (state S.Store conn.new) → IsTableRead (state S.Store conn.old) (state S.Store conn.new) result (λ h image. image ≡ at h.images name.now) }
 {
     match rows_of_image(conn, name) {
         Ok(rows) => first_image(alloc, &rows),

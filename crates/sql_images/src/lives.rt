@@ -11,7 +11,7 @@ ghost use Rattle.hall_types.specs.Rows.{at, listed};
 ghost use Rattle.hall_types.specs.Hall.{Hall};
 ghost use Rattle.sql_schema.specs.NameStatements.{add_live_text, find_live_text, find_live_with_image_text, set_live_text};
 ghost use Rattle.sql_schema.specs.Columns.{number, live_values};
-ghost use Rattle.sql_schema.specs.Holding.{IsAsked, IsWithin};
+ghost use Rattle.sql_schema.specs.Holding.{IsTableRead, IsWithin};
 ghost use Rattle.sql_schema.specs.Spelling.{HallRows};
 ghost use Rattle.sql_images.specs.Lives.{with_live};
 
@@ -34,7 +34,7 @@ fn live_rows<S: Alter>(conn: &mut Connection<S>, arch: Arch) -> Result<Vec<Row>,
 // The same, in the words of the hall.
 fn rows_of_live<S: Alter>(conn: &mut Connection<S>, arch: Arch) -> Result<Vec<Row>, Error>
     ensures clean { HasCleanDisk (state S.Store conn.new) → HasCleanDisk (state S.Store conn.old) }
-    ensures asked { HasCleanDisk (state S.Store conn.new) → IsAsked (state S.Store conn.old) (state S.Store conn.new) result (λ h rows. rows.items ≡ map live_values (option_to_list (at h.lives (arch_number arch)))) }
+    ensures asked { HasCleanDisk (state S.Store conn.new) → IsTableRead (state S.Store conn.old) (state S.Store conn.new) result (λ h rows. rows.items ≡ map live_values (option_to_list (at h.lives (arch_number arch)))) }
 {
     live_rows(conn, arch)
 }
@@ -62,7 +62,7 @@ fn first_live(rows: &Vec<Row>) -> Result<Option<Live>, Error>
 /// The live image of an architecture, if it has one.
 pub fn find_live<S: Alter>(conn: &mut Connection<S>, arch: Arch) -> Result<Option<Live>, Error>
     ensures clean { HasCleanDisk (state S.Store conn.new) → HasCleanDisk (state S.Store conn.old) }
-    ensures asked { HasCleanDisk (state S.Store conn.new) → IsAsked (state S.Store conn.old) (state S.Store conn.new) result (λ h live. live ≡ at h.lives (arch_number arch)) }
+    ensures asked { HasCleanDisk (state S.Store conn.new) → IsTableRead (state S.Store conn.old) (state S.Store conn.new) result (λ h live. live ≡ at h.lives (arch_number arch)) }
 {
     match rows_of_live(conn, arch) {
         Ok(rows) => first_live(&rows),
@@ -85,7 +85,7 @@ fn rows_of_live_with_image<S: Alter>(
     image: &Name,
 ) -> Result<Vec<Row>, Error>
     ensures clean { HasCleanDisk (state S.Store conn.new) → HasCleanDisk (state S.Store conn.old) }
-    ensures asked { HasCleanDisk (state S.Store conn.new) → IsAsked (state S.Store conn.old) (state S.Store conn.new) result (λ h rows. rows.items ≡ take 1 (map (λ l. number (arch_number l.arch) ∷ []) (filter (λ l. bytes_eq l.image image.now) (listed h.lives)))) }
+    ensures asked { HasCleanDisk (state S.Store conn.new) → IsTableRead (state S.Store conn.old) (state S.Store conn.new) result (λ h rows. rows.items ≡ take 1 (map (λ l. number (arch_number l.arch) ∷ []) (filter (λ l. bytes_eq l.image image.now) (listed h.lives)))) }
 {
     live_with_image_rows(conn, image)
 }
@@ -93,7 +93,7 @@ fn rows_of_live_with_image<S: Alter>(
 /// Whether an image is some architecture's live image.
 pub fn is_live<S: Alter>(conn: &mut Connection<S>, image: &Name) -> Result<bool, Error>
     ensures clean { HasCleanDisk (state S.Store conn.new) → HasCleanDisk (state S.Store conn.old) }
-    ensures asked { HasCleanDisk (state S.Store conn.new) → IsAsked (state S.Store conn.old) (state S.Store conn.new) result (λ h is. is ≡ list_any (λ l. bytes_eq l.image image.now) (listed h.lives)) }
+    ensures asked { HasCleanDisk (state S.Store conn.new) → IsTableRead (state S.Store conn.old) (state S.Store conn.new) result (λ h is. is ≡ list_any (λ l. bytes_eq l.image image.now) (listed h.lives)) }
 {
     match rows_of_live_with_image(conn, image) {
         Ok(rows) => Ok(!rows.is_empty()),

@@ -8,7 +8,7 @@ ghost use Rattle.hall_types.specs.Lookup.{next_expired};
 ghost use Rattle.hall_types.specs.declared.machine.Machine.{Machine};
 ghost use Rattle.sql_schema.specs.MachineStatements.{find_expired_text};
 ghost use Rattle.sql_schema.specs.Columns.{machine_values, number};
-ghost use Rattle.sql_schema.specs.Holding.{IsAsked};
+ghost use Rattle.sql_schema.specs.Holding.{IsTableRead};
 ghost use Rattle.sql_machine_parts.specs.MachineRows.{IsRowOf};
 
 use crate::finding::with_wipe;
@@ -29,7 +29,7 @@ fn expired_rows<S: Alter>(conn: &mut Connection<S>, moment: Moment) -> Result<Ve
 // The same, in the words of the hall.
 fn rows_of_expired<S: Alter>(conn: &mut Connection<S>, moment: Moment) -> Result<Vec<Row>, Error>
     ensures clean { HasCleanDisk (state S.Store conn.new) → HasCleanDisk (state S.Store conn.old) }
-    ensures asked { HasCleanDisk (state S.Store conn.new) → IsAsked (state S.Store conn.old) (state S.Store conn.new) result (λ h rows. (rows.items ≡ map machine_values (option_to_list (next_expired h moment))) × ((m : Machine) → next_expired h moment ≡ Some m → at h.machines m.id ≡ Some m)) }
+    ensures asked { HasCleanDisk (state S.Store conn.new) → IsTableRead (state S.Store conn.old) (state S.Store conn.new) result (λ h rows. (rows.items ≡ map machine_values (option_to_list (next_expired h moment))) × ((m : Machine) → next_expired h moment ≡ Some m → at h.machines m.id ≡ Some m)) }
 {
     expired_rows(conn, moment)
 }
@@ -39,7 +39,7 @@ fn row_of_expired<S: Alter>(
     moment: Moment,
 ) -> Result<Option<Machine>, Error>
     ensures clean { HasCleanDisk (state S.Store conn.new) → HasCleanDisk (state S.Store conn.old) }
-    ensures asked { HasCleanDisk (state S.Store conn.new) → IsAsked (state S.Store conn.old) (state S.Store conn.new) result (λ h found. IsRowOf h (next_expired h moment) found) }
+    ensures asked { HasCleanDisk (state S.Store conn.new) → IsTableRead (state S.Store conn.old) (state S.Store conn.new) result (λ h found. IsRowOf h (next_expired h moment) found) }
 {
     match rows_of_expired(conn, moment) {
         Ok(rows) => first_machine(&rows),
@@ -54,7 +54,7 @@ pub fn next_expired<S: Alter>(
     moment: Moment,
 ) -> Result<Option<Machine>, Error>
     ensures clean { HasCleanDisk (state S.Store conn.new) → HasCleanDisk (state S.Store conn.old) }
-    ensures asked { HasCleanDisk (state S.Store conn.new) → IsAsked (state S.Store conn.old) (state S.Store conn.new) result (λ h machine. machine ≡ next_expired h moment) }
+    ensures asked { HasCleanDisk (state S.Store conn.new) → IsTableRead (state S.Store conn.old) (state S.Store conn.new) result (λ h machine. machine ≡ next_expired h moment) }
 {
     match row_of_expired(conn, moment) {
         Ok(found) => with_wipe(conn, found),

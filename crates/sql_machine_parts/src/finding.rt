@@ -10,7 +10,7 @@ ghost use Rattle.hall_types.specs.Lookup.{has_uuid, is_named, machine_with_uuid}
 ghost use Rattle.hall_types.specs.declared.machine.Machine.{Machine};
 ghost use Rattle.sql_schema.specs.MachineStatements.{find_machine_text, find_machine_with_image_text, find_uuid_text};
 ghost use Rattle.sql_schema.specs.Columns.{machine_values, number};
-ghost use Rattle.sql_schema.specs.Holding.{IsAsked};
+ghost use Rattle.sql_schema.specs.Holding.{IsTableRead};
 ghost use Rattle.sql_machine_parts.specs.MachineRows.{IsRowOf, number_shown};
 
 use crate::rows::{first_machine, first_number};
@@ -35,14 +35,14 @@ fn machine_rows<S: Alter>(conn: &mut Connection<S>, id: Number) -> Result<Vec<Ro
 // The same, in the words of the hall.
 fn rows_of_machine<S: Alter>(conn: &mut Connection<S>, id: Number) -> Result<Vec<Row>, Error>
     ensures clean { HasCleanDisk (state S.Store conn.new) → HasCleanDisk (state S.Store conn.old) }
-    ensures asked { HasCleanDisk (state S.Store conn.new) → IsAsked (state S.Store conn.old) (state S.Store conn.new) result (λ h rows. (rows.items ≡ map machine_values (option_to_list (at h.machines id))) × ((m : Machine) → at h.machines id ≡ Some m → at h.machines m.id ≡ Some m)) }
+    ensures asked { HasCleanDisk (state S.Store conn.new) → IsTableRead (state S.Store conn.old) (state S.Store conn.new) result (λ h rows. (rows.items ≡ map machine_values (option_to_list (at h.machines id))) × ((m : Machine) → at h.machines id ≡ Some m → at h.machines m.id ≡ Some m)) }
 {
     machine_rows(conn, id)
 }
 
 fn row_of_machine<S: Alter>(conn: &mut Connection<S>, id: Number) -> Result<Option<Machine>, Error>
     ensures clean { HasCleanDisk (state S.Store conn.new) → HasCleanDisk (state S.Store conn.old) }
-    ensures asked { HasCleanDisk (state S.Store conn.new) → IsAsked (state S.Store conn.old) (state S.Store conn.new) result (λ h found. IsRowOf h (at h.machines id) found) }
+    ensures asked { HasCleanDisk (state S.Store conn.new) → IsTableRead (state S.Store conn.old) (state S.Store conn.new) result (λ h found. IsRowOf h (at h.machines id) found) }
 {
     match rows_of_machine(conn, id) {
         Ok(rows) => first_machine(&rows),
@@ -62,7 +62,7 @@ pub(crate) fn with_wipe<S: Alter>(
     found: Option<Machine>,
 ) -> Result<Option<Machine>, Error>
     ensures clean { HasCleanDisk (state S.Store conn.new) → HasCleanDisk (state S.Store conn.old) }
-    ensures asked { HasCleanDisk (state S.Store conn.new) → IsAsked (state S.Store conn.old) (state S.Store conn.new) result (λ h answer. (machine : Option Machine) → IsRowOf h machine found → answer ≡ machine) }
+    ensures asked { HasCleanDisk (state S.Store conn.new) → IsTableRead (state S.Store conn.old) (state S.Store conn.new) result (λ h answer. (machine : Option Machine) → IsRowOf h machine found → answer ≡ machine) }
 {
     match found {
         None => Ok(None),
@@ -79,7 +79,7 @@ pub fn find_machine<S: Alter>(
     id: Number,
 ) -> Result<Option<Machine>, Error>
     ensures clean { HasCleanDisk (state S.Store conn.new) → HasCleanDisk (state S.Store conn.old) }
-    ensures asked { HasCleanDisk (state S.Store conn.new) → IsAsked (state S.Store conn.old) (state S.Store conn.new) result (λ h machine. machine ≡ at h.machines id) }
+    ensures asked { HasCleanDisk (state S.Store conn.new) → IsTableRead (state S.Store conn.old) (state S.Store conn.new) result (λ h machine. machine ≡ at h.machines id) }
 {
     match row_of_machine(conn, id) {
         Ok(found) => with_wipe(conn, found),
@@ -102,7 +102,7 @@ fn uuid_rows<S: Alter>(conn: &mut Connection<S>, uuid: MachineUuid) -> Result<Ve
 // The same, in the words of the hall.
 fn rows_of_uuid<S: Alter>(conn: &mut Connection<S>, uuid: MachineUuid) -> Result<Vec<Row>, Error>
     ensures clean { HasCleanDisk (state S.Store conn.new) → HasCleanDisk (state S.Store conn.old) }
-    ensures asked { HasCleanDisk (state S.Store conn.new) → IsAsked (state S.Store conn.old) (state S.Store conn.new) result (λ h rows. rows.items ≡ map number_shown (filter (λ m. has_uuid m.uuid uuid) (listed h.machines))) }
+    ensures asked { HasCleanDisk (state S.Store conn.new) → IsTableRead (state S.Store conn.old) (state S.Store conn.new) result (λ h rows. rows.items ≡ map number_shown (filter (λ m. has_uuid m.uuid uuid) (listed h.machines))) }
 {
     uuid_rows(conn, uuid)
 }
@@ -113,7 +113,7 @@ pub fn find_uuid<S: Alter>(
     uuid: MachineUuid,
 ) -> Result<Option<Number>, Error>
     ensures clean { HasCleanDisk (state S.Store conn.new) → HasCleanDisk (state S.Store conn.old) }
-    ensures asked { HasCleanDisk (state S.Store conn.new) → IsAsked (state S.Store conn.old) (state S.Store conn.new) result (λ h number. number ≡ option_map (λ m. m.id) (machine_with_uuid h uuid)) }
+    ensures asked { HasCleanDisk (state S.Store conn.new) → IsTableRead (state S.Store conn.old) (state S.Store conn.new) result (λ h number. number ≡ option_map (λ m. m.id) (machine_with_uuid h uuid)) }
 {
     match rows_of_uuid(conn, uuid) {
         Ok(rows) => first_number(&rows),
@@ -135,7 +135,7 @@ fn image_rows<S: Alter>(conn: &mut Connection<S>, name: &Name) -> Result<Vec<Row
 // The same, in the words of the hall.
 fn rows_of_image<S: Alter>(conn: &mut Connection<S>, name: &Name) -> Result<Vec<Row>, Error>
     ensures clean { HasCleanDisk (state S.Store conn.new) → HasCleanDisk (state S.Store conn.old) }
-    ensures asked { HasCleanDisk (state S.Store conn.new) → IsAsked (state S.Store conn.old) (state S.Store conn.new) result (λ h rows. rows.items ≡ take 1 (map number_shown (filter (λ m. is_named m.image name.now) (listed h.machines)))) }
+    ensures asked { HasCleanDisk (state S.Store conn.new) → IsTableRead (state S.Store conn.old) (state S.Store conn.new) result (λ h rows. rows.items ≡ take 1 (map number_shown (filter (λ m. is_named m.image name.now) (listed h.machines)))) }
 {
     image_rows(conn, name)
 }
@@ -146,7 +146,7 @@ pub fn has_machine_with_image<S: Alter>(
     name: &Name,
 ) -> Result<bool, Error>
     ensures clean { HasCleanDisk (state S.Store conn.new) → HasCleanDisk (state S.Store conn.old) }
-    ensures asked { HasCleanDisk (state S.Store conn.new) → IsAsked (state S.Store conn.old) (state S.Store conn.new) result (λ h used. used ≡ list_any (λ m. is_named m.image name.now) (listed h.machines)) }
+    ensures asked { HasCleanDisk (state S.Store conn.new) → IsTableRead (state S.Store conn.old) (state S.Store conn.new) result (λ h used. used ≡ list_any (λ m. is_named m.image name.now) (listed h.machines)) }
 {
     match rows_of_image(conn, name) {
         Ok(rows) => Ok(!rows.is_empty()),

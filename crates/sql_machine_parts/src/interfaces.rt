@@ -9,7 +9,7 @@ ghost use Rattle.hall_types.specs.Hall.{Hall};
 ghost use Rattle.hall_types.specs.Lookup.{interfaces_of};
 ghost use Rattle.sql_schema.specs.MachineStatements.{add_interface_text, find_interface_text, find_interfaces_text, list_interfaces_text, remove_interface_text, remove_interfaces_text};
 ghost use Rattle.sql_schema.specs.Columns.{interface_columns, number};
-ghost use Rattle.sql_schema.specs.Holding.{IsAsked, IsWithin};
+ghost use Rattle.sql_schema.specs.Holding.{IsTableRead, IsWithin};
 ghost use Rattle.sql_schema.specs.Spelling.{HallRows};
 ghost use Rattle.sql_machine_parts.specs.Interfaces.{with_interface, without_interface, without_interfaces};
 
@@ -36,7 +36,7 @@ fn interface_rows<S: Alter>(conn: &mut Connection<S>, mac: MacAddress) -> Result
 // The same, in the words of the hall.
 fn rows_of_interface<S: Alter>(conn: &mut Connection<S>, mac: MacAddress) -> Result<Vec<Row>, Error>
     ensures clean { HasCleanDisk (state S.Store conn.new) → HasCleanDisk (state S.Store conn.old) }
-    ensures asked { HasCleanDisk (state S.Store conn.new) → IsAsked (state S.Store conn.old) (state S.Store conn.new) result (λ h rows. rows.items ≡ map interface_columns (option_to_list (at h.interfaces mac))) }
+    ensures asked { HasCleanDisk (state S.Store conn.new) → IsTableRead (state S.Store conn.old) (state S.Store conn.new) result (λ h rows. rows.items ≡ map interface_columns (option_to_list (at h.interfaces mac))) }
 {
     interface_rows(conn, mac)
 }
@@ -67,7 +67,7 @@ pub fn find_interface<S: Alter>(
     mac: MacAddress,
 ) -> Result<Option<Interface>, Error>
     ensures clean { HasCleanDisk (state S.Store conn.new) → HasCleanDisk (state S.Store conn.old) }
-    ensures asked { HasCleanDisk (state S.Store conn.new) → IsAsked (state S.Store conn.old) (state S.Store conn.new) result (λ h interface. interface ≡ at h.interfaces mac) }
+    ensures asked { HasCleanDisk (state S.Store conn.new) → IsTableRead (state S.Store conn.old) (state S.Store conn.new) result (λ h interface. interface ≡ at h.interfaces mac) }
 {
     match rows_of_interface(conn, mac) {
         Ok(rows) => first_interface(&rows),
@@ -99,7 +99,7 @@ fn machine_rows<S: Alter>(conn: &mut Connection<S>, id: Number) -> Result<Vec<Ro
 // The same, in the words of the hall.
 fn rows_of_machine<S: Alter>(conn: &mut Connection<S>, id: Number) -> Result<Vec<Row>, Error>
     ensures clean { HasCleanDisk (state S.Store conn.new) → HasCleanDisk (state S.Store conn.old) }
-    ensures asked { HasCleanDisk (state S.Store conn.new) → IsAsked (state S.Store conn.old) (state S.Store conn.new) result (λ h rows. rows.items ≡ map interface_columns (interfaces_of h id)) }
+    ensures asked { HasCleanDisk (state S.Store conn.new) → IsTableRead (state S.Store conn.old) (state S.Store conn.new) result (λ h rows. rows.items ≡ map interface_columns (interfaces_of h id)) }
 {
     machine_rows(conn, id)
 }
@@ -111,7 +111,7 @@ pub fn interfaces_of<S: Alter>(
     id: Number,
 ) -> Result<Vec<Interface>, Error>
     ensures clean { HasCleanDisk (state S.Store conn.new) → HasCleanDisk (state S.Store conn.old) }
-    ensures asked { HasCleanDisk (state S.Store conn.new) → IsAsked (state S.Store conn.old) (state S.Store conn.new) result (λ h interfaces. interfaces.items ≡ interfaces_of h id) }
+    ensures asked { HasCleanDisk (state S.Store conn.new) → IsTableRead (state S.Store conn.old) (state S.Store conn.new) result (λ h interfaces. interfaces.items ≡ interfaces_of h id) }
 {
     match rows_of_machine(conn, id) {
         Ok(rows) => all_interfaces(alloc, &rows),
@@ -131,7 +131,7 @@ fn list_rows<S: Alter>(conn: &mut Connection<S>) -> Result<Vec<Row>, Error>
 // The same, in the words of the hall.
 fn rows_of_all<S: Alter>(conn: &mut Connection<S>) -> Result<Vec<Row>, Error>
     ensures clean { HasCleanDisk (state S.Store conn.new) → HasCleanDisk (state S.Store conn.old) }
-    ensures asked { HasCleanDisk (state S.Store conn.new) → IsAsked (state S.Store conn.old) (state S.Store conn.new) result (λ h rows. rows.items ≡ map interface_columns (listed h.interfaces)) }
+    ensures asked { HasCleanDisk (state S.Store conn.new) → IsTableRead (state S.Store conn.old) (state S.Store conn.new) result (λ h rows. rows.items ≡ map interface_columns (listed h.interfaces)) }
 {
     list_rows(conn)
 }
@@ -142,7 +142,7 @@ pub fn list_interfaces<S: Alter>(
     alloc: Global,
 ) -> Result<Vec<Interface>, Error>
     ensures clean { HasCleanDisk (state S.Store conn.new) → HasCleanDisk (state S.Store conn.old) }
-    ensures asked { HasCleanDisk (state S.Store conn.new) → IsAsked (state S.Store conn.old) (state S.Store conn.new) result (λ h interfaces. interfaces.items ≡ listed h.interfaces) }
+    ensures asked { HasCleanDisk (state S.Store conn.new) → IsTableRead (state S.Store conn.old) (state S.Store conn.new) result (λ h interfaces. interfaces.items ≡ listed h.interfaces) }
 {
     match rows_of_all(conn) {
         Ok(rows) => all_interfaces(alloc, &rows),

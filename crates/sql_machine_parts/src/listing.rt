@@ -6,7 +6,7 @@ ghost use Rattle.hall_types.specs.Rows.{listed};
 ghost use Rattle.hall_types.specs.declared.kinds.Erase.{Erase};
 ghost use Rattle.sql_schema.specs.MachineStatements.{list_machines_text};
 ghost use Rattle.sql_schema.specs.Columns.{machine_values};
-ghost use Rattle.sql_schema.specs.Holding.{IsAsked};
+ghost use Rattle.sql_schema.specs.Holding.{IsTableRead};
 ghost use Rattle.sql_machine_parts.specs.MachineRows.{AreInNumberOrder, bare};
 ghost use Rattle.sql_machine_parts.specs.Joining.{erase_from, joined, kind_at};
 
@@ -29,7 +29,7 @@ fn list_rows<S: Alter>(conn: &mut Connection<S>) -> Result<Vec<Row>, Error>
 // The same, in the words of the hall.
 fn rows_of_all<S: Alter>(conn: &mut Connection<S>) -> Result<Vec<Row>, Error>
     ensures clean { HasCleanDisk (state S.Store conn.new) → HasCleanDisk (state S.Store conn.old) }
-    ensures asked { HasCleanDisk (state S.Store conn.new) → IsAsked (state S.Store conn.old) (state S.Store conn.new) result (λ h rows. (rows.items ≡ map machine_values (listed h.machines)) × AreInNumberOrder (listed h.machines)) }
+    ensures asked { HasCleanDisk (state S.Store conn.new) → IsTableRead (state S.Store conn.old) (state S.Store conn.new) result (λ h rows. (rows.items ≡ map machine_values (listed h.machines)) × AreInNumberOrder (listed h.machines)) }
 {
     list_rows(conn)
 }
@@ -39,7 +39,7 @@ fn rows_as_machines<S: Alter>(
     alloc: Global,
 ) -> Result<Vec<Machine>, Error>
     ensures clean { HasCleanDisk (state S.Store conn.new) → HasCleanDisk (state S.Store conn.old) }
-    ensures asked { HasCleanDisk (state S.Store conn.new) → IsAsked (state S.Store conn.old) (state S.Store conn.new) result (λ h machines. (machines.items ≡ map bare (listed h.machines)) × AreInNumberOrder (listed h.machines)) }
+    ensures asked { HasCleanDisk (state S.Store conn.new) → IsTableRead (state S.Store conn.old) (state S.Store conn.new) result (λ h machines. (machines.items ≡ map bare (listed h.machines)) × AreInNumberOrder (listed h.machines)) }
 {
     match rows_of_all(conn) {
         Ok(rows) => all_machines(alloc, &rows),
@@ -118,7 +118,7 @@ fn with_wipes<S: Alter>(
     machines: &Vec<Machine>,
 ) -> Result<Vec<Machine>, Error>
     ensures clean { HasCleanDisk (state S.Store conn.new) → HasCleanDisk (state S.Store conn.old) }
-    ensures asked { HasCleanDisk (state S.Store conn.new) → IsAsked (state S.Store conn.old) (state S.Store conn.new) result (λ h all. machines.now.items ≡ map bare (listed h.machines) → AreInNumberOrder (listed h.machines) → all.items ≡ listed h.machines) }
+    ensures asked { HasCleanDisk (state S.Store conn.new) → IsTableRead (state S.Store conn.old) (state S.Store conn.new) result (λ h all. machines.now.items ≡ map bare (listed h.machines) → AreInNumberOrder (listed h.machines) → all.items ≡ listed h.machines) }
 {
     match list_wipes(conn, alloc) {
         Ok(erasings) => joined(alloc, machines, &erasings),
@@ -132,7 +132,7 @@ pub fn list_machines<S: Alter>(
     alloc: Global,
 ) -> Result<Vec<Machine>, Error>
     ensures clean { HasCleanDisk (state S.Store conn.new) → HasCleanDisk (state S.Store conn.old) }
-    ensures asked { HasCleanDisk (state S.Store conn.new) → IsAsked (state S.Store conn.old) (state S.Store conn.new) result (λ h machines. machines.items ≡ listed h.machines) }
+    ensures asked { HasCleanDisk (state S.Store conn.new) → IsTableRead (state S.Store conn.old) (state S.Store conn.new) result (λ h machines. machines.items ≡ listed h.machines) }
 {
     match rows_as_machines(conn, alloc) {
         Ok(machines) => with_wipes(conn, alloc, &machines),

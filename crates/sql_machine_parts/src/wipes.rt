@@ -7,7 +7,7 @@ ghost use Rattle.hall_types.specs.Hall.{Hall};
 ghost use Rattle.hall_types.specs.Kinds.{erase_number};
 ghost use Rattle.sql_schema.specs.MachineStatements.{add_wipe_text, find_wipe_text, list_wipes_text, remove_wipe_text};
 ghost use Rattle.sql_schema.specs.Columns.{number};
-ghost use Rattle.sql_schema.specs.Holding.{IsAsked, IsWithin};
+ghost use Rattle.sql_schema.specs.Holding.{IsTableRead, IsWithin};
 ghost use Rattle.sql_schema.specs.Spelling.{HallRows};
 ghost use Rattle.sql_machine_parts.specs.Wipes.{erase_of, erasing_values, erasings, found_erasing, with_wipe};
 
@@ -39,7 +39,7 @@ fn wipe_rows<S: Alter>(conn: &mut Connection<S>, id: Number) -> Result<Vec<Row>,
 // The same, in the words of the hall.
 fn rows_of_wipe<S: Alter>(conn: &mut Connection<S>, id: Number) -> Result<Vec<Row>, Error>
     ensures clean { HasCleanDisk (state S.Store conn.new) → HasCleanDisk (state S.Store conn.old) }
-    ensures asked { HasCleanDisk (state S.Store conn.new) → IsAsked (state S.Store conn.old) (state S.Store conn.new) result (λ h rows. rows.items ≡ map erasing_values (option_to_list (found_erasing h id))) }
+    ensures asked { HasCleanDisk (state S.Store conn.new) → IsTableRead (state S.Store conn.old) (state S.Store conn.new) result (λ h rows. rows.items ≡ map erasing_values (option_to_list (found_erasing h id))) }
 {
     wipe_rows(conn, id)
 }
@@ -77,7 +77,7 @@ fn first_erase(rows: &Vec<Row>) -> Result<Option<Erase>, Error>
 /// How the disks of the machine with this number are erased, if they are to be.
 pub fn find_wipe<S: Alter>(conn: &mut Connection<S>, id: Number) -> Result<Option<Erase>, Error>
     ensures clean { HasCleanDisk (state S.Store conn.new) → HasCleanDisk (state S.Store conn.old) }
-    ensures asked { HasCleanDisk (state S.Store conn.new) → IsAsked (state S.Store conn.old) (state S.Store conn.new) result (λ h erase. erase ≡ erase_of h id) }
+    ensures asked { HasCleanDisk (state S.Store conn.new) → IsTableRead (state S.Store conn.old) (state S.Store conn.new) result (λ h erase. erase ≡ erase_of h id) }
 {
     match rows_of_wipe(conn, id) {
         Ok(rows) => first_erase(&rows),
@@ -109,7 +109,7 @@ fn list_rows<S: Alter>(conn: &mut Connection<S>) -> Result<Vec<Row>, Error>
 // The same, in the words of the hall.
 fn rows_of_all<S: Alter>(conn: &mut Connection<S>) -> Result<Vec<Row>, Error>
     ensures clean { HasCleanDisk (state S.Store conn.new) → HasCleanDisk (state S.Store conn.old) }
-    ensures asked { HasCleanDisk (state S.Store conn.new) → IsAsked (state S.Store conn.old) (state S.Store conn.new) result (λ h rows. rows.items ≡ map erasing_values (erasings h)) }
+    ensures asked { HasCleanDisk (state S.Store conn.new) → IsTableRead (state S.Store conn.old) (state S.Store conn.new) result (λ h rows. rows.items ≡ map erasing_values (erasings h)) }
 {
     list_rows(conn)
 }
@@ -117,7 +117,7 @@ fn rows_of_all<S: Alter>(conn: &mut Connection<S>) -> Result<Vec<Row>, Error>
 /// The machines whose disks are to be erased, by number, and how. `alloc` is for the answer.
 pub fn list_wipes<S: Alter>(conn: &mut Connection<S>, alloc: Global) -> Result<Vec<Erasing>, Error>
     ensures clean { HasCleanDisk (state S.Store conn.new) → HasCleanDisk (state S.Store conn.old) }
-    ensures asked { HasCleanDisk (state S.Store conn.new) → IsAsked (state S.Store conn.old) (state S.Store conn.new) result (λ h list. list.items ≡ erasings h) }
+    ensures asked { HasCleanDisk (state S.Store conn.new) → IsTableRead (state S.Store conn.old) (state S.Store conn.new) result (λ h list. list.items ≡ erasings h) }
 {
     match rows_of_all(conn) {
         Ok(rows) => all_erasings(alloc, &rows),

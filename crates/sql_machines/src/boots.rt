@@ -7,7 +7,7 @@ ghost use Rattle.hall_types.specs.Rows.{at};
 ghost use Rattle.hall_types.specs.Hall.{Hall};
 ghost use Rattle.sql_schema.specs.MachineStatements.{add_boot_text, find_boot_text, remove_boots_text, set_boot_text};
 ghost use Rattle.sql_schema.specs.Columns.{number, boot_values};
-ghost use Rattle.sql_schema.specs.Holding.{IsAsked, IsWithin};
+ghost use Rattle.sql_schema.specs.Holding.{IsTableRead, IsWithin};
 ghost use Rattle.sql_schema.specs.Spelling.{HallRows};
 ghost use Rattle.sql_machines.specs.Boots.{with_boot, without_boots};
 
@@ -30,7 +30,7 @@ fn boot_rows<S: Alter>(conn: &mut Connection<S>, id: Number) -> Result<Vec<Row>,
 // The same, in the words of the hall.
 fn rows_of_boot<S: Alter>(conn: &mut Connection<S>, id: Number) -> Result<Vec<Row>, Error>
     ensures clean { HasCleanDisk (state S.Store conn.new) → HasCleanDisk (state S.Store conn.old) }
-    ensures asked { HasCleanDisk (state S.Store conn.new) → IsAsked (state S.Store conn.old) (state S.Store conn.new) result (λ h rows. rows.items ≡ map boot_values (option_to_list (at h.boots id))) }
+    ensures asked { HasCleanDisk (state S.Store conn.new) → IsTableRead (state S.Store conn.old) (state S.Store conn.new) result (λ h rows. rows.items ≡ map boot_values (option_to_list (at h.boots id))) }
 {
     boot_rows(conn, id)
 }
@@ -67,7 +67,7 @@ fn first_boot(rows: &Vec<Row>) -> Result<Option<Boot>, Error>
 /// The boot with this number, if there is one.
 pub fn find_boot<S: Alter>(conn: &mut Connection<S>, id: Number) -> Result<Option<Boot>, Error>
     ensures clean { HasCleanDisk (state S.Store conn.new) → HasCleanDisk (state S.Store conn.old) }
-    ensures asked { HasCleanDisk (state S.Store conn.new) → IsAsked (state S.Store conn.old) (state S.Store conn.new) result (λ h boot. boot ≡ at h.boots id) }
+    ensures asked { HasCleanDisk (state S.Store conn.new) → IsTableRead (state S.Store conn.old) (state S.Store conn.new) result (λ h boot. boot ≡ at h.boots id) }
 {
     match rows_of_boot(conn, id) {
         Ok(rows) => first_boot(&rows),

@@ -8,7 +8,7 @@ ghost use Rattle.hall_types.specs.Hall.{Hall};
 ghost use Rattle.hall_types.specs.Lookup.{waiting};
 ghost use Rattle.sql_schema.specs.MachineStatements.{add_order_text, find_order_text, list_waiting_orders_text, remove_orders_text, set_order_text};
 ghost use Rattle.sql_schema.specs.Columns.{number, order_values};
-ghost use Rattle.sql_schema.specs.Holding.{IsAsked, IsWithin};
+ghost use Rattle.sql_schema.specs.Holding.{IsTableRead, IsWithin};
 ghost use Rattle.sql_schema.specs.Spelling.{HallRows};
 ghost use Rattle.sql_machines.specs.Orders.{with_order, without_orders};
 
@@ -32,7 +32,7 @@ fn order_rows<S: Alter>(conn: &mut Connection<S>, id: Number) -> Result<Vec<Row>
 // The same, in the words of the hall.
 fn rows_of_order<S: Alter>(conn: &mut Connection<S>, id: Number) -> Result<Vec<Row>, Error>
     ensures clean { HasCleanDisk (state S.Store conn.new) → HasCleanDisk (state S.Store conn.old) }
-    ensures asked { HasCleanDisk (state S.Store conn.new) → IsAsked (state S.Store conn.old) (state S.Store conn.new) result (λ h rows. rows.items ≡ map order_values (option_to_list (at h.orders id))) }
+    ensures asked { HasCleanDisk (state S.Store conn.new) → IsTableRead (state S.Store conn.old) (state S.Store conn.new) result (λ h rows. rows.items ≡ map order_values (option_to_list (at h.orders id))) }
 {
     order_rows(conn, id)
 }
@@ -67,7 +67,7 @@ fn first_order(rows: &Vec<Row>) -> Result<Option<Order>, Error>
 /// The order with this number, if there is one.
 pub fn find_order<S: Alter>(conn: &mut Connection<S>, id: Number) -> Result<Option<Order>, Error>
     ensures clean { HasCleanDisk (state S.Store conn.new) → HasCleanDisk (state S.Store conn.old) }
-    ensures asked { HasCleanDisk (state S.Store conn.new) → IsAsked (state S.Store conn.old) (state S.Store conn.new) result (λ h order. order ≡ at h.orders id) }
+    ensures asked { HasCleanDisk (state S.Store conn.new) → IsTableRead (state S.Store conn.old) (state S.Store conn.new) result (λ h order. order ≡ at h.orders id) }
 {
     match rows_of_order(conn, id) {
         Ok(rows) => first_order(&rows),
@@ -99,7 +99,7 @@ fn waiting_rows<S: Alter>(conn: &mut Connection<S>) -> Result<Vec<Row>, Error>
 // The same, in the words of the hall.
 fn rows_of_waiting<S: Alter>(conn: &mut Connection<S>) -> Result<Vec<Row>, Error>
     ensures clean { HasCleanDisk (state S.Store conn.new) → HasCleanDisk (state S.Store conn.old) }
-    ensures asked { HasCleanDisk (state S.Store conn.new) → IsAsked (state S.Store conn.old) (state S.Store conn.new) result (λ h rows. rows.items ≡ map order_values (waiting h)) }
+    ensures asked { HasCleanDisk (state S.Store conn.new) → IsTableRead (state S.Store conn.old) (state S.Store conn.new) result (λ h rows. rows.items ≡ map order_values (waiting h)) }
 {
     waiting_rows(conn)
 }
@@ -110,7 +110,7 @@ pub fn waiting_orders<S: Alter>(
     alloc: Global,
 ) -> Result<Vec<Order>, Error>
     ensures clean { HasCleanDisk (state S.Store conn.new) → HasCleanDisk (state S.Store conn.old) }
-    ensures asked { HasCleanDisk (state S.Store conn.new) → IsAsked (state S.Store conn.old) (state S.Store conn.new) result (λ h orders. orders.items ≡ waiting h) }
+    ensures asked { HasCleanDisk (state S.Store conn.new) → IsTableRead (state S.Store conn.old) (state S.Store conn.new) result (λ h orders. orders.items ≡ waiting h) }
 {
     match rows_of_waiting(conn) {
         Ok(rows) => all_orders(alloc, &rows),

@@ -8,7 +8,7 @@ ghost use Rattle.hall_types.specs.Rows.{at};
 ghost use Rattle.hall_types.specs.Hall.{Hall, pair};
 ghost use Rattle.sql_schema.specs.NameStatements.{add_member_text, find_member_text};
 ghost use Rattle.sql_schema.specs.Columns.{member_columns};
-ghost use Rattle.sql_schema.specs.Holding.{IsAsked, IsWithin};
+ghost use Rattle.sql_schema.specs.Holding.{IsTableRead, IsWithin};
 ghost use Rattle.sql_schema.specs.Spelling.{HallRows};
 ghost use Rattle.sql_operators.specs.Members.{with_member};
 
@@ -36,7 +36,7 @@ fn rows_of_member<S: Alter>(
     operator: &Name,
 ) -> Result<Vec<Row>, Error>
     ensures clean { HasCleanDisk (state S.Store conn.new) → HasCleanDisk (state S.Store conn.old) }
-    ensures asked { HasCleanDisk (state S.Store conn.new) → IsAsked (state S.Store conn.old) (state S.Store conn.new) result (λ h rows. rows.items ≡ map member_columns (option_to_list (at h.members (pair pool.now operator.now)))) }
+    ensures asked { HasCleanDisk (state S.Store conn.new) → IsTableRead (state S.Store conn.old) (state S.Store conn.new) result (λ h rows. rows.items ≡ map member_columns (option_to_list (at h.members (pair pool.now operator.now)))) }
 {
     member_rows(conn, pool, operator)
 }
@@ -68,7 +68,7 @@ pub fn find_member<S: Alter>(
     operator: &Name,
 ) -> Result<Option<Member>, Error>
     ensures clean { HasCleanDisk (state S.Store conn.new) → HasCleanDisk (state S.Store conn.old) }
-    ensures asked { HasCleanDisk (state S.Store conn.new) → IsAsked (state S.Store conn.old) (state S.Store conn.new) result (λ h member. member ≡ at h.members (pair pool.now operator.now)) }
+    ensures asked { HasCleanDisk (state S.Store conn.new) → IsTableRead (state S.Store conn.old) (state S.Store conn.new) result (λ h member. member ≡ at h.members (pair pool.now operator.now)) }
 {
     match rows_of_member(conn, pool, operator) {
         Ok(rows) => first_member(&rows),

@@ -7,7 +7,7 @@ ghost use Rattle.hall_types.specs.Hall.{Hall};
 ghost use Rattle.hall_types.specs.declared.number.Numbers.{Numbers as Last};
 ghost use Rattle.sql_schema.specs.NameStatements.{find_numbers_text, set_numbers_text};
 ghost use Rattle.sql_schema.specs.Columns.{number};
-ghost use Rattle.sql_schema.specs.Holding.{IsAsked, IsWithin};
+ghost use Rattle.sql_schema.specs.Holding.{IsTableRead, IsWithin};
 ghost use Rattle.sql_schema.specs.Spelling.{HallRows};
 ghost use Rattle.sql_operators.specs.Numbers.{last_values, schema_values, with_numbers};
 
@@ -27,7 +27,7 @@ fn numbers_rows<S: Alter>(conn: &mut Connection<S>) -> Result<Vec<Row>, Error>
 // The same, in the words of the hall.
 fn rows_of_numbers<S: Alter>(conn: &mut Connection<S>) -> Result<Vec<Row>, Error>
     ensures clean { HasCleanDisk (state S.Store conn.new) → HasCleanDisk (state S.Store conn.old) }
-    ensures asked { HasCleanDisk (state S.Store conn.new) → IsAsked (state S.Store conn.old) (state S.Store conn.new) result (λ h rows. rows.items ≡ schema_values h.last ∷ []) }
+    ensures asked { HasCleanDisk (state S.Store conn.new) → IsTableRead (state S.Store conn.old) (state S.Store conn.new) result (λ h rows. rows.items ≡ schema_values h.last ∷ []) }
 {
     numbers_rows(conn)
 }
@@ -78,7 +78,7 @@ fn only_numbers(rows: &Vec<Row>) -> Result<Numbers, Error>
 /// The last numbers that were issued. A table with no row, with a second one, or with another schema is refused.
 pub fn find_numbers<S: Alter>(conn: &mut Connection<S>) -> Result<Numbers, Error>
     ensures clean { HasCleanDisk (state S.Store conn.new) → HasCleanDisk (state S.Store conn.old) }
-    ensures asked { HasCleanDisk (state S.Store conn.new) → IsAsked (state S.Store conn.old) (state S.Store conn.new) result (λ h numbers. numbers ≡ h.last) }
+    ensures asked { HasCleanDisk (state S.Store conn.new) → IsTableRead (state S.Store conn.old) (state S.Store conn.new) result (λ h numbers. numbers ≡ h.last) }
 {
     match rows_of_numbers(conn) {
         Ok(rows) => only_numbers(&rows),

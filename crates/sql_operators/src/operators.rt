@@ -10,7 +10,7 @@ ghost use Rattle.hall_types.specs.Rows.{at, listed};
 ghost use Rattle.hall_types.specs.Hall.{Hall};
 ghost use Rattle.sql_schema.specs.NameStatements.{add_operator_text, find_digest_text, find_operator_text, set_operator_text};
 ghost use Rattle.sql_schema.specs.Columns.{operator_columns};
-ghost use Rattle.sql_schema.specs.Holding.{IsAsked, IsWithin};
+ghost use Rattle.sql_schema.specs.Holding.{IsTableRead, IsWithin};
 ghost use Rattle.sql_schema.specs.Spelling.{HallRows};
 ghost use Rattle.sql_operators.specs.Operators.{with_operator};
 
@@ -33,7 +33,7 @@ fn operator_rows<S: Alter>(conn: &mut Connection<S>, name: &str) -> Result<Vec<R
 // The same, in the words of the hall.
 fn rows_of_operator<S: Alter>(conn: &mut Connection<S>, name: &Name) -> Result<Vec<Row>, Error>
     ensures clean { HasCleanDisk (state S.Store conn.new) → HasCleanDisk (state S.Store conn.old) }
-    ensures asked { HasCleanDisk (state S.Store conn.new) → IsAsked (state S.Store conn.old) (state S.Store conn.new) result (λ h rows. rows.items ≡ map operator_columns (option_to_list (at h.operators name.now))) }
+    ensures asked { HasCleanDisk (state S.Store conn.new) → IsTableRead (state S.Store conn.old) (state S.Store conn.new) result (λ h rows. rows.items ≡ map operator_columns (option_to_list (at h.operators name.now))) }
 {
     operator_rows(conn, name.text())
 }
@@ -71,7 +71,7 @@ pub fn find_operator<S: Alter>(
     name: &Name,
 ) -> Result<Option<Operator>, Error>
     ensures clean { HasCleanDisk (state S.Store conn.new) → HasCleanDisk (state S.Store conn.old) }
-    ensures asked { HasCleanDisk (state S.Store conn.new) → IsAsked (state S.Store conn.old) (state S.Store conn.new) result (λ h operator. operator ≡ at h.operators name.now) }
+    ensures asked { HasCleanDisk (state S.Store conn.new) → IsTableRead (state S.Store conn.old) (state S.Store conn.new) result (λ h operator. operator ≡ at h.operators name.now) }
 {
     match rows_of_operator(conn, name) {
         Ok(rows) => first_operator(&rows),
@@ -92,7 +92,7 @@ fn digest_rows<S: Alter>(conn: &mut Connection<S>, digest: &Digest) -> Result<Ve
 // The same, in the words of the hall.
 fn rows_of_digest<S: Alter>(conn: &mut Connection<S>, digest: &Digest) -> Result<Vec<Row>, Error>
     ensures clean { HasCleanDisk (state S.Store conn.new) → HasCleanDisk (state S.Store conn.old) }
-    ensures asked { HasCleanDisk (state S.Store conn.new) → IsAsked (state S.Store conn.old) (state S.Store conn.new) result (λ h rows. rows.items ≡ map operator_columns (filter (λ o. bytes_eq o.digest digest.now) (listed h.operators))) }
+    ensures asked { HasCleanDisk (state S.Store conn.new) → IsTableRead (state S.Store conn.old) (state S.Store conn.new) result (λ h rows. rows.items ≡ map operator_columns (filter (λ o. bytes_eq o.digest digest.now) (listed h.operators))) }
 {
     digest_rows(conn, digest)
 }
@@ -103,7 +103,7 @@ pub fn find_operator_with_digest<S: Alter>(
     digest: &Digest,
 ) -> Result<Option<Operator>, Error>
     ensures clean { HasCleanDisk (state S.Store conn.new) → HasCleanDisk (state S.Store conn.old) }
-    ensures asked { HasCleanDisk (state S.Store conn.new) → IsAsked (state S.Store conn.old) (state S.Store conn.new) result (λ h operator. operator ≡ operator_with_digest h digest.now) }
+    ensures asked { HasCleanDisk (state S.Store conn.new) → IsTableRead (state S.Store conn.old) (state S.Store conn.new) result (λ h operator. operator ≡ operator_with_digest h digest.now) }
 {
     match rows_of_digest(conn, digest) {
         Ok(rows) => first_operator(&rows),

@@ -8,7 +8,7 @@ ghost use Rattle.hall_types.specs.Rows.{at, put};
 ghost use Rattle.hall_types.specs.Hall.{Hall};
 ghost use Rattle.sql_schema.specs.NameStatements.{find_pool_text};
 ghost use Rattle.sql_schema.specs.Columns.{pool_columns};
-ghost use Rattle.sql_schema.specs.Holding.{IsAsked, IsWithin};
+ghost use Rattle.sql_schema.specs.Holding.{IsTableRead, IsWithin};
 ghost use Rattle.sql_schema.specs.Spelling.{HallRows};
 
 use hall_types::{Name, Pool};
@@ -27,7 +27,7 @@ fn pool_rows<S: Alter>(conn: &mut Connection<S>, name: &str) -> Result<Vec<Row>,
 // The same, in the words of the hall.
 fn rows_of_pool<S: Alter>(conn: &mut Connection<S>, name: &Name) -> Result<Vec<Row>, Error>
     ensures clean { HasCleanDisk (state S.Store conn.new) → HasCleanDisk (state S.Store conn.old) }
-    ensures asked { HasCleanDisk (state S.Store conn.new) → IsAsked (state S.Store conn.old) (state S.Store conn.new) result (λ h rows. rows.items ≡ map pool_columns (option_to_list (at h.pools name.now))) }
+    ensures asked { HasCleanDisk (state S.Store conn.new) → IsTableRead (state S.Store conn.old) (state S.Store conn.new) result (λ h rows. rows.items ≡ map pool_columns (option_to_list (at h.pools name.now))) }
 {
     pool_rows(conn, name.text())
 }
@@ -57,7 +57,7 @@ fn first_pool(rows: &Vec<Row>) -> Result<Option<Pool>, Error>
 /// The pool with this name, if it is recorded.
 pub fn find_pool<S: Alter>(conn: &mut Connection<S>, name: &Name) -> Result<Option<Pool>, Error>
     ensures clean { HasCleanDisk (state S.Store conn.new) → HasCleanDisk (state S.Store conn.old) }
-    ensures asked { HasCleanDisk (state S.Store conn.new) → IsAsked (state S.Store conn.old) (state S.Store conn.new) result (λ h pool. pool ≡ at h.pools name.now) }
+    ensures asked { HasCleanDisk (state S.Store conn.new) → IsTableRead (state S.Store conn.old) (state S.Store conn.new) result (λ h pool. pool ≡ at h.pools name.now) }
 {
     match rows_of_pool(conn, name) {
         Ok(rows) => first_pool(&rows),

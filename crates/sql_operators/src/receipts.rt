@@ -9,7 +9,7 @@ ghost use Rattle.hall_types.specs.Rows.{at};
 ghost use Rattle.hall_types.specs.Hall.{Hall, pair};
 ghost use Rattle.sql_schema.specs.NameStatements.{add_receipt_text, find_receipt_text};
 ghost use Rattle.sql_schema.specs.Columns.{number, receipt_columns};
-ghost use Rattle.sql_schema.specs.Holding.{IsAsked, IsWithin};
+ghost use Rattle.sql_schema.specs.Holding.{IsTableRead, IsWithin};
 ghost use Rattle.sql_schema.specs.Spelling.{HallRows};
 ghost use Rattle.sql_operators.specs.Receipts.{with_receipt};
 
@@ -41,7 +41,7 @@ fn rows_of_receipt<S: Alter>(
     key: RequestKey,
 ) -> Result<Vec<Row>, Error>
     ensures clean { HasCleanDisk (state S.Store conn.new) → HasCleanDisk (state S.Store conn.old) }
-    ensures asked { HasCleanDisk (state S.Store conn.new) → IsAsked (state S.Store conn.old) (state S.Store conn.new) result (λ h rows. rows.items ≡ map receipt_columns (option_to_list (at h.receipts (pair operator.now key)))) }
+    ensures asked { HasCleanDisk (state S.Store conn.new) → IsTableRead (state S.Store conn.old) (state S.Store conn.new) result (λ h rows. rows.items ≡ map receipt_columns (option_to_list (at h.receipts (pair operator.now key)))) }
 {
     receipt_rows(conn, operator, key)
 }
@@ -93,7 +93,7 @@ pub fn find_receipt<S: Alter>(
     key: RequestKey,
 ) -> Result<Option<Receipt>, Error>
     ensures clean { HasCleanDisk (state S.Store conn.new) → HasCleanDisk (state S.Store conn.old) }
-    ensures asked { HasCleanDisk (state S.Store conn.new) → IsAsked (state S.Store conn.old) (state S.Store conn.new) result (λ h receipt. receipt ≡ at h.receipts (pair operator.now key)) }
+    ensures asked { HasCleanDisk (state S.Store conn.new) → IsTableRead (state S.Store conn.old) (state S.Store conn.new) result (λ h receipt. receipt ≡ at h.receipts (pair operator.now key)) }
 {
     match rows_of_receipt(conn, operator, key) {
         Ok(rows) => first_receipt(&rows),

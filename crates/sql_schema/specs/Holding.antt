@@ -31,7 +31,7 @@ pub record IsWithin (s : State) (before : Hall) (now : HallRows) : Type 0 where
   pub mode : s.in_transaction ≡ true
 
 -- what a read between calls promises: its answer is right for the hall that is held, and that hall stays
-pub record IsAsked (old new : State) {Y E : Type 0} (r : Result Y E) (Right : Hall → Y → Type 0) : Type 0 where
+pub record IsTableRead (old new : State) {Y E : Type 0} (r : Result Y E) (Right : Hall → Y → Type 0) : Type 0 where
   pub answer : IfOk r (λ y. (h : Hall) → IsHeld old h → Right h y)
   pub same : OnOk r ((h : Hall) → IsHeld old h → IsHeld new h)
   pub back : OnErr r ((h : Hall) → IsHeld old h → Holds new h)

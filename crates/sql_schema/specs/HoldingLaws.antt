@@ -15,7 +15,7 @@ use Rattle.sql_schema.specs.StatementLaws.{query_refused, shown_same, query_surv
 use Rattle.sql_schema.specs.QueryLaws.{shown_answer}
 use Rattle.sql_schema.specs.Tables.{hall_schema}
 use Rattle.sql_schema.specs.Spelling.{HallRows, Spells, SpellHall}
-use Rattle.sql_schema.specs.Holding.{Holds, Leaves, IsWithin, IsAsked}
+use Rattle.sql_schema.specs.Holding.{Holds, Leaves, IsWithin, IsTableRead}
 
 pub same_held : (old new : State) (h : Hall) → IsUnchanged old new → Holds old h → Holds new h
 same_held old new h same held live =
@@ -49,7 +49,7 @@ leaves_on old new hs s clean left db may = elim (s.crash clean db may) [ inl bef
 -- a query whose text is known, of which the tables say what it answers
 pub asked : {X : Type 0} (sql : List ℕ) (params : Row) (q : Query) (names : List (List ℕ)) → IsQueryText hall_schema sql q names → (old new : State) (rows_of : X → List Row) (Right : Hall → X → Type 0) (r : Result X Error)
     → IfOk r (λ x. Shown sql params old new (rows_of x)) → IfErr r (FailsToQuery sql params old new) → Survives old new (CommitsShowing sql params old) → HasCleanDisk new
-    → ((h : Hall) (x : X) → IsAnswer q (overlay old.now.trees []) params (rows_of x) → SpellHall old.now.trees h → Right h x) → IsAsked old new r Right
+    → ((h : Hall) (x : X) → IsAnswer q (overlay old.now.trees []) params (rows_of x) → SpellHall old.now.trees h → Right h x) → IsTableRead old new r Right
 asked sql params q names text old new rows_of Right (Ok x) ok err survives clean right = record {
   answer = λ h held. right h x (shown_answer hall_schema sql q names text params old new (rows_of x) held.schema ok) held.spelt;
   same = λ h held.
@@ -66,13 +66,13 @@ asked sql params q names text old new rows_of Right (Err e) ok err survives clea
 }
 
 -- an answer that is read from another one
-pub asked_then : {X Y : Type 0} (old new : State) (Right : Hall → X → Type 0) (Reads : Hall → Y → Type 0) (x : X) (r : Result Y Error) → IsAsked old new {E = Error} (Ok x) Right
-    → IfOk r (λ y. (h : Hall) → Right h x → Reads h y) → IsAsked old new r Reads
+pub asked_then : {X Y : Type 0} (old new : State) (Right : Hall → X → Type 0) (Reads : Hall → Y → Type 0) (x : X) (r : Result Y Error) → IsTableRead old new {E = Error} (Ok x) Right
+    → IfOk r (λ y. (h : Hall) → Right h x → Reads h y) → IsTableRead old new r Reads
 asked_then old new Right Reads x (Ok y) a gives = record { answer = λ h held. gives h (a.answer h held); same = a.same; back = tt; crash = a.crash }
 asked_then old new Right Reads x (Err e) a gives = record { answer = tt; same = tt; back = λ h held live. a.same h held; crash = a.crash }
 
 -- a refused read is refused whatever it was to read
-pub asked_failed : {X Y : Type 0} (old new : State) (Right : Hall → X → Type 0) (Reads : Hall → Y → Type 0) (e : Error) → IsAsked old new {Y = X} (Err e) Right → IsAsked old new {Y = Y} (Err e) Reads
+pub asked_failed : {X Y : Type 0} (old new : State) (Right : Hall → X → Type 0) (Reads : Hall → Y → Type 0) (e : Error) → IsTableRead old new {Y = X} (Err e) Right → IsTableRead old new {Y = Y} (Err e) Reads
 asked_failed old new Right Reads e a = record { answer = tt; same = tt; back = a.back; crash = a.crash }
 
 -- a write inside a transaction, of which the tables say what it makes

@@ -22,7 +22,7 @@ use Rattle.sqlite_catalog.specs.Listing.{IsSound}
 use Rattle.sqlite_resolve.specs.declared.compiled.Compiled.{Compiled}
 use Rattle.sqlite_schema.specs.declared.command.Returning.{Returning}
 use Rattle.sqlite_schema.specs.declared.schema.Index.{Index}
-use Rattle.sql_schema.specs.Statements.{IsBack, IsCommandText, IsKeptText, Makes}
+use Rattle.sql_schema.specs.Statements.{IsBack, IsCommandText, IsKeptText, MakesDatabase}
 
 -- ---- refusals
 
@@ -68,14 +68,14 @@ module _ (schema : Schema) (sql : List ℕ) (command : Command) (text : IsComman
   -- it makes the database that is seen afterwards, which lists its schema
   pub wrote : ((old new : State) (text : List ℕ) (count : ℕ) → Runs old new None command text params count → Wrote old new None command text params count)
       → (old new : State) (count : ℕ) → old.now.schema ≡ schema → Executes sql params old new (Ok count)
-      → Makes schema sql None command params old new.now × Shows old new new.now (cond old.in_transaction old.committed new.now) old.in_transaction × IsDatabase new.now
+      → MakesDatabase schema sql None command params old new.now × Shows old new new.now (cond old.in_transaction old.committed new.now) old.in_transaction × IsDatabase new.now
   wrote form old new count has h =
       let w = form old new _ count (runs_as sql params old new schema has command text.is text.plain count h) in
       ((w.tally, subst (λ s. Does old.step_limit (mode_of old) params (record old.now { schema = s }) (statement_of sql (understood schema sql)) None command (Ok (w.tally, new.now))) has w.changed), w.shown, w.sound)
 
   -- what it may commit outside a transaction
   pub may_write : (command ≡ Commit → ⊥) → ((name : List ℕ) → command ≡ Release name → ⊥) → (old : State) (db : Trees) → old.now.schema ≡ schema → CommitsBy sql params old db
-      → (old.in_transaction ≡ false) × ((after : Database) × Makes schema sql None command params old after × (db ≡ after.trees) × IsDatabase after)
+      → (old.in_transaction ≡ false) × ((after : Database) × MakesDatabase schema sql None command params old after × (db ≡ after.trees) × IsDatabase after)
   unfolding CommitsBy
   may_write no_commit no_release old db has h =
       let known = sym h.1.is ∙ ap (λ s. understood s sql) has in

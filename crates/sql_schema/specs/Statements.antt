@@ -59,8 +59,8 @@ abbrev pub IsBack : State → State → Type 0
 IsBack old new = IsUnchanged old new ⊎ IsRolledBack old new
 
 -- the command of the text makes the database this one
-abbrev pub Makes : Schema → List ℕ → Option Returning → Command → Row → State → Database → Type 0
-Makes schema sql returning command params old after =
+abbrev pub MakesDatabase : Schema → List ℕ → Option Returning → Command → Row → State → Database → Type 0
+MakesDatabase schema sql returning command params old after =
     (tally : _) × Does old.step_limit (mode_of old) params (record old.now { schema = schema }) (statement_of sql (understood schema sql)) returning command (Ok (tally, after))
 
 -- the table in this tree has these rows, every other table has what it had, and the trees still list the schema

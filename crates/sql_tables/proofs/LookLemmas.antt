@@ -23,7 +23,7 @@ use Rattle.sql_schema.specs.StatementLaws.{not_run_back, shown_same}
 use Rattle.sql_schema.specs.NameStatements.{find_numbers_text, find_numbers_query, find_numbers_columns}
 use Rattle.sql_tables.specs.declared.fault.OpenFault.{OpenFault}
 use Rattle.sql_tables.specs.declared.fault.OpenFault.TheVariants.{NotAHall, OtherVersion, Unavailable}
-use Rattle.sql_tables.specs.Opening.{AreLookedFor, AreUnderstood, IsStill, IsUnderstood, HasTables, IsAnswered, IsLook, IsSchemaRow, SaysSchema, TellsVersion, whole_rows}
+use Rattle.sql_tables.specs.Opening.{AreLookedFor, AreUnderstood, IsStill, IsUnderstood, HasTables, IsRightAnswer, IsLookAtTables, IsSchemaRow, SaysSchema, TellsVersion, whole_rows}
 
 -- an error in the text says that it isn't understood
 not_understood : (old new : State) (sql : List ℕ) (e : Error) (f : _) → e ≡ SqlInputError f → ((params : Row) → IsNotRun old new sql params e) → IsUnderstood old.now.schema sql → ⊥
@@ -187,11 +187,11 @@ says_on a b n still says = subst (λ (d : Database). SaysSchema d n) (sym still.
 has_on : (a b : State) → IsStill a b → HasTables a.now.schema → HasTables b.now.schema
 has_on a b still has = subst (λ (d : Database). HasTables d.schema) (sym still.now) has
 
-pub unavailable : (db : Database) → IsAnswered db (Err Unavailable)
+pub unavailable : (db : Database) → IsRightAnswer db (Err Unavailable)
 unavailable db = record { version = λ n says. tt; complete = λ n says. tt; whole = λ says has is. absurd (let e = is in cc) }
 
 -- `hall` isn't there, or it can't be said
-pub look_early : (a b : State) (e : OpenFault) → AreLookedFor (find_numbers_text ∷ []) a b (Err e) → IsLook a b (Err e)
+pub look_early : (a b : State) (e : OpenFault) → AreLookedFor (find_numbers_text ∷ []) a b (Err e) → IsLookAtTables a b (Err e)
 look_early a b NotAHall one = record {
   kept = one.kept;
   answered = record {
@@ -204,7 +204,7 @@ look_early a b OtherVersion one = absurd (one.never refl)
 look_early a b Unavailable one = record { kept = one.kept; answered = unavailable a.now }
 
 -- its schema isn't the second, or it can't be said
-pub look_stopped : (a b c : State) (e : OpenFault) → AreLookedFor (find_numbers_text ∷ []) a b (Ok tt) → KeepsCommit b c → ((n : ℤ) → SaysSchema b.now n → TellsVersion n (Err e)) → IsLook a c (Err e)
+pub look_stopped : (a b c : State) (e : OpenFault) → AreLookedFor (find_numbers_text ∷ []) a b (Ok tt) → KeepsCommit b c → ((n : ℤ) → SaysSchema b.now n → TellsVersion n (Err e)) → IsLookAtTables a c (Err e)
 look_stopped a b c NotAHall one kept told = record {
   kept = keeps_then a b c one.kept kept;
   answered = record {
@@ -225,7 +225,7 @@ look_stopped a b c Unavailable one kept told = record { kept = keeps_then a b c 
 
 -- then the other tables
 pub look_whole : (a b c d : State) (r : Result (Unit {0}) OpenFault) → AreLookedFor (find_numbers_text ∷ []) a b (Ok tt) → KeepsCommit b c → ((n : ℤ) → SaysSchema b.now n → TellsVersion n (Ok tt)) → ((n : ℤ) → SaysSchema b.now n → IsStill b c)
-    → AreLookedFor whole_rows c d r → IsLook a d r
+    → AreLookedFor whole_rows c d r → IsLookAtTables a d r
 look_whole a b c d (Ok done) one kept told same all = record {
   kept = keeps_then a c d (keeps_then a b c one.kept kept) all.kept;
   answered = record {

@@ -21,7 +21,7 @@ use Rattle.sql_schema.specs.Holding.{IsHeld}
 use Rattle.sql_tables.specs.declared.fault.OpenFault.{OpenFault}
 use Rattle.sql_tables.specs.declared.fault.OpenFault.TheVariants.{NotAHall, OtherVersion, Unavailable}
 use Rattle.sql_tables.specs.Creating.{IsFlat, KeepsTables}
-use Rattle.sql_tables.specs.Opening.{HasTables, IsAnswered, IsUnderstood, SaysSchema}
+use Rattle.sql_tables.specs.Opening.{HasTables, IsRightAnswer, IsUnderstood, SaysSchema}
 
 -- trees list one schema at most
 schema_of : (db : Database) (h : Hall) → IsSound db.schema db.trees → SpellHall db.trees h → db.schema ≡ hall_schema
@@ -42,7 +42,7 @@ says_second : (db : Database) (h : Hall) → db.schema ≡ hall_schema → Spell
 says_second db h is spelt = record { reads = subst (λ s. IsQueryText s find_numbers_text find_numbers_query find_numbers_columns) (sym is) find_numbers_is; last = (_, _, _, spelt.tables.last) }
 
 -- tables that spell a hall are refused as Unavailable alone
-pub refused_as : (old : State) (h : Hall) (r : Result (Unit {0}) OpenFault) → IsLive old → IsTrue old.is_open → SpellHall old.now.trees h → IsAnswered old.now r → IfErr r (λ e. e ≡ Unavailable)
+pub refused_as : (old : State) (h : Hall) (r : Result (Unit {0}) OpenFault) → IsLive old → IsTrue old.is_open → SpellHall old.now.trees h → IsRightAnswer old.now r → IfErr r (λ e. e ≡ Unavailable)
 refused_as old h (Ok done) live open_now spelt told = tt
 refused_as old h (Err NotAHall) live open_now spelt told =
     let is = schema_of old.now h (live open_now).0 spelt in

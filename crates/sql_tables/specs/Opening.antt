@@ -43,7 +43,7 @@ Tells n (Err OtherVersion) = n ≢ pos 2
 Tells n (Err Unavailable) = ⊤
 
 -- what the answer says of the tables of a file
-pub record IsAnswered (db : Database) (r : Result (Unit {0}) OpenFault) : Type 0 where
+pub record IsRightAnswer (db : Database) (r : Result (Unit {0}) OpenFault) : Type 0 where
   pub version : (n : ℤ) → SaysSchema db n → Tells n r
   -- none is missing
   pub complete : (n : ℤ) → SaysSchema db n → OnOk r (HasTables db.schema)
@@ -72,9 +72,9 @@ TellsVersion n (Err OtherVersion) = n ≢ pos 2
 TellsVersion n (Err Unavailable) = ⊤
 
 -- all was asked for
-pub record IsLook (old new : State) (r : Result (Unit {0}) OpenFault) : Type 0 where
+pub record IsLookAtTables (old new : State) (r : Result (Unit {0}) OpenFault) : Type 0 where
   pub kept : KeepsCommit old new
-  pub answered : IsAnswered old.now r
+  pub answered : IsRightAnswer old.now r
 
 -- the one row of `hall`, with the number of the schema first
 abbrev pub IsSchemaRow : ℤ → List Row → Type 0

@@ -2,7 +2,7 @@
 ghost use Rattle.std.specs.Prelude.{◌≡◌, ◌≢◌, ℤ, IfOk, IfErr, OnOk, IsTrue, Err, map, [], ◌∷◌};
 ghost use Rattle.sqlite.specs.Held.{state};
 ghost use Rattle.sqlite.specs.State.{HasCleanDisk, KeepsCommit, Survives};
-ghost use Rattle.sql_tables.specs.Opening.{AreLookedFor, IsLook, IsSchemaRow, IsStill, SaysSchema, TellsVersion, whole_rows};
+ghost use Rattle.sql_tables.specs.Opening.{AreLookedFor, IsLookAtTables, IsSchemaRow, IsStill, SaysSchema, TellsVersion, whole_rows};
 
 use crate::fault::OpenFault;
 use sql_schema::{
@@ -141,7 +141,7 @@ fn has_version<S: Alter>(tx: &mut Transaction<'_, S>) -> Result<(), OpenFault>
 /// Whether the tables are a hall's of the second schema: `hall` first, then the number of the schema, then the others.
 pub(crate) fn look<S: Alter>(tx: &mut Transaction<'_, S>) -> Result<(), OpenFault>
     ensures same_reference { tx.new.conn.ghost_name ≡ tx.old.conn.ghost_name }
-    ensures look { HasCleanDisk (state S.Store tx.new.conn.now) → IsTrue (state S.Store tx.old.conn.now).in_transaction → IsLook (state S.Store tx.old.conn.now) (state S.Store tx.new.conn.now) result }
+    ensures look { HasCleanDisk (state S.Store tx.new.conn.now) → IsTrue (state S.Store tx.old.conn.now).in_transaction → IsLookAtTables (state S.Store tx.old.conn.now) (state S.Store tx.new.conn.now) result }
     ensures survives { Survives (state S.Store tx.old.conn.now) (state S.Store tx.new.conn.now) (λ _. ⊥) }
 {
     if let Err(fault) = understands(tx, FIND_NUMBERS) {

@@ -6,7 +6,7 @@ ghost use Rattle.hall_types.specs.Hall.{Hall};
 ghost use Rattle.sql_schema.specs.Holding.{IsHeld, Leaves};
 ghost use Rattle.sql_schema.specs.Spelling.{SpellHall};
 ghost use Rattle.sql_tables.specs.Creating.{IsFlat, KeepsTables};
-ghost use Rattle.sql_tables.specs.Opening.{IsAnswered};
+ghost use Rattle.sql_tables.specs.Opening.{IsRightAnswer};
 
 use crate::fault::OpenFault;
 use crate::looking::look;
@@ -22,7 +22,7 @@ fn schema_is_live<S: Alter>(conn: &Connection<S>)
 
 // The look in a transaction that is undone.
 fn look_in<S: Alter>(conn: &mut Connection<S>) -> Result<(), OpenFault>
-    ensures answered { HasCleanDisk (state S.Store conn.new) → IsAnswered (state S.Store conn.old).now result }
+    ensures answered { HasCleanDisk (state S.Store conn.new) → IsRightAnswer (state S.Store conn.old).now result }
     ensures kept { HasCleanDisk (state S.Store conn.new) → KeepsTables (state S.Store conn.old) (state S.Store conn.new) }
     ensures flat { HasCleanDisk (state S.Store conn.new) → OnOk result (IsFlat (state S.Store conn.new)) }
     ensures autocommit { OnOk result ((state S.Store conn.new).in_transaction ≡ false) }
@@ -46,7 +46,7 @@ pub fn look_at_tables<S: Alter>(conn: &mut Connection<S>) -> Result<(), OpenFaul
     ensures running { HasCleanDisk (state S.Store conn.new) → OnOk result (IsTrue (state S.Store conn.new).is_open) }
     ensures settled { HasCleanDisk (state S.Store conn.new) → OnOk result ((h : Hall) → SpellHall (state S.Store conn.old).now.trees h → Leaves (state S.Store conn.new) (h ∷ [])) }
     ensures refused { HasCleanDisk (state S.Store conn.new) → IsTrue (state S.Store conn.old).is_open → (h : Hall) → SpellHall (state S.Store conn.old).now.trees h → IfErr result (λ e. e ≡ OpenFault.Unavailable) }
-    ensures answered { HasCleanDisk (state S.Store conn.new) → IsAnswered (state S.Store conn.old).now result }
+    ensures answered { HasCleanDisk (state S.Store conn.new) → IsRightAnswer (state S.Store conn.old).now result }
     ensures kept { HasCleanDisk (state S.Store conn.new) → KeepsTables (state S.Store conn.old) (state S.Store conn.new) }
     ensures survives { Survives (state S.Store conn.old) (state S.Store conn.new) (λ _. ⊥) }
 {
