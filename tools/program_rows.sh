@@ -205,6 +205,7 @@ fault Io import --db absent2.db --token abc --at 1000 absent.csv
 absent absent2.db
 fault BadHeader import --db hall.db --token abc --at 1000 header.csv
 fault BadRow import --db hall.db --token abc --at 1000 row.csv
+fault BadRow import --db hall.db --token abc --at 1000 /dev/zero
 want 1 '1 401 {"refusal":"UnknownToken"}' '' import --db hall.db --token nobody --at 1000 good.csv
 want 0 '1 200 {"id":2,"status":"New","version":1}' '' import --db hall.db --token abc --at 1000 good.csv
 want 0 '1 200 {"id":2,"status":"New","version":1}' '' import --db hall.db --token abc --at 2000 good.csv
@@ -280,6 +281,10 @@ serve BadInput $here4 $here4 127.0.0.1:65536 0
 serve BadInput $here4 $here4 $here4 -
 serve BadInput $here4 $here4 $here4 007
 serve BadInput $here4 $here4 $here4 0 --host _
+chmod 644 hall.db
+want 0 'hall desk ready' 'hallboot: others can use hall.db, which has the tokens of boots: chmod 600 it and its log' \
+    serve --db hall.db --discover $here4 --boot $here4 --http $here4 --turns 0
+chmod 600 hall.db
 want 0 'hall desk ready' '' serve --db hall.db --discover $here4 --boot $here4 --http $here4 --turns 0
 fault Bind serve --db hall.db --discover 192.0.2.77:0 --boot $here4 --http $here4 --turns 0
 fault Io serve --db hall.db --discover $here4 --boot $here4 --http $here4 --turns 0 --log nowhere/log

@@ -10,6 +10,7 @@ need() { has "$1" || { echo "real_peers: $1 is missing (Debian's package $2)" >&
 need curl curl; need python3 python3
 . "$here/program.sh"
 
+umask 077    # the hall's file is for its owner alone: the desk would say otherwise
 work=$(mktemp -d)
 started=()
 ended() {

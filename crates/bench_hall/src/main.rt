@@ -12,12 +12,10 @@ mod log;
 mod rounds;
 
 use fault::Fault;
-use hall_sql::SqlStore;
+use hall_store::HallStore;
 use log::{Log, read};
 use rounds::play;
-use sql_file::{close, create, open};
-use sqlite::{Alter, FileStore};
-use sqlite_disk::Disk;
+use sql_file::{StoreTask, create, over};
 use std::alloc::Global;
 use std::process::ExitCode;
 use std::{env, fs, io};
@@ -35,37 +33,35 @@ fn made(rt: &HostRuntime, file: &str, log: &Log) -> Result<bool, Fault> {
     }
 }
 
-// Plays the rounds over a hall's tables.
-fn over_tables<S: Alter>(
+// The rounds, over the store of a hall's file.
+#[derive(Drop)]
+struct Measuring<'a> {
     alloc: Global,
-    store: SqlStore<S>,
-    log: &Log,
+    log: &'a Log,
     is_new: bool,
     times: u64,
-) -> (Result<u64, Fault>, SqlStore<S>) {
-    play(alloc, store, log, is_new, times)
 }
 
-// Plays the rounds over a hall's tables on a disk, and closes them. A fault of the rounds comes before one of the closing.
-fn over_disk<D: Disk + Drop>(
-    alloc: Global,
-    store: SqlStore<FileStore<D>>,
-    log: &Log,
-    is_new: bool,
-    times: u64,
-) -> Result<u64, Fault> {
-    let (sum, store) = over_tables(alloc, store, log, is_new, times);
-    let closing = close(store);
-    let sum = sum?;
-    closing?;
-    Ok(sum)
+impl<'a> StoreTask for Measuring<'a> {
+    type Outcome = Result<u64, Fault>;
+
+    fn over<S: HallStore>(self, store: S) -> (Result<u64, Fault>, S) {
+        play(self.alloc, store, self.log, self.is_new, self.times)
+    }
 }
 
-// Plays the rounds over a hall's file. Each of these three takes one layer of the store's type.
+// Plays the rounds over a hall's file. A fault of the rounds comes before one of the closing.
 fn over_file(rt: &HostRuntime, file: &str, log: &Log, times: u64) -> Result<u64, Fault> {
-    let is_new = made(rt, file, log)?;
-    let store = open(rt, file)?;
-    over_disk(rt.alloc(), store, log, is_new, times)
+    let task = Measuring {
+        alloc: rt.alloc(),
+        log,
+        is_new: made(rt, file, log)?,
+        times,
+    };
+    let ended = over(rt, file, task)?;
+    let sum = ended.outcome?;
+    ended.closing?;
+    Ok(sum)
 }
 
 fn in_memory(alloc: Global, log: &Log, times: u64) -> Result<u64, Fault> {

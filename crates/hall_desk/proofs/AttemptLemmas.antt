@@ -74,6 +74,7 @@ module _ {S : Type 0} (holds : S → Hall → Type 0) (leaves : S → List Hall 
     idle = λ h held none.
         let no_rows = none (asks e say) means in
         subst (λ rows. holds new (applied rows h)) no_rows (c.made h held (subst (λ rows. AllKeep rows h) (sym no_rows) tt));
+    still = λ h held none. c.still h held (none (asks e say) means);
     crash = λ h held sound hs left. record {
       next = applied (decision_of site h e moment fresh).rows h;
       answer = say (decision_of site h e moment fresh).content;
@@ -86,6 +87,7 @@ module _ {S : Type 0} (holds : S → Hall → Type 0) (leaves : S → List Hall 
     missed = c.same;
     unavailable = tt;
     idle = λ h held none. c.same h held;
+    still = λ h held none. c.still h held (none (asks e say) means);
     crash = λ h held sound hs left. record {
       next = applied (decision_of site h e moment fresh).rows h;
       answer = say (decision_of site h e moment fresh).content;
@@ -109,6 +111,7 @@ module _ {S : Type 0} (holds : S → Hall → Type 0) (leaves : S → List Hall 
       missed = tt;
       unavailable = λ is h held. held;
       idle = λ h held none. held;
+      still = λ h held none hs left. left;
       crash = λ h held sound hs left. record {
         next = h;
         answer = a;
@@ -124,6 +127,7 @@ module _ {S : Type 0} (holds : S → Hall → Type 0) (leaves : S → List Hall 
       missed = λ h held. held;
       unavailable = tt;
       idle = λ h held none. held;
+      still = λ h held none hs left. left;
       crash = λ h held sound hs left. record {
         next = h;
         answer = missed_answer input;
@@ -169,13 +173,14 @@ no_client octets read cause only clients other message client is =
 
 module _ {S : Type 0} (holds : S → Hall → Type 0) (leaves : S → List Hall → Type 0) (old new : S) (site : Site) (input : Input) (moment : ℕ) (fresh : List ℕ) where
   pub answered_ok : (a : Answer) → IsAttempt holds leaves old new site input moment fresh {E = Refusing} (Ok a) → IsAnswered holds leaves old new site input moment fresh a
-  answered_ok a it = record { step = λ h held sound. inl (it.came h held sound); idle = it.idle; unavailable = it.unavailable; crash = it.crash }
+  answered_ok a it = record { step = λ h held sound. inl (it.came h held sound); idle = it.idle; still = it.still; unavailable = it.unavailable; crash = it.crash }
 
   pub answered_err : (e : Refusing) (a : Answer) → a ≡ missed_answer input → IsAttempt holds leaves old new site input moment fresh (Err e)
       → IsAnswered holds leaves old new site input moment fresh a
   answered_err e a is it = record {
     step = λ h held sound. inr (record { answer = is; same = refl }, it.missed h held);
     idle = it.idle;
+    still = it.still;
     unavailable = λ its. it.missed;
     crash = it.crash;
   }

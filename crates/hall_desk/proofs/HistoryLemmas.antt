@@ -24,7 +24,7 @@ use Rattle.hall_events.specs.declared.event.Event.{Event}
 use Rattle.hall_events.specs.declared.event.Event.TheVariants as event
 use Rattle.laws_past.specs.Laws.{AreTyped}
 use Rattle.hall_desk.specs.Headline.{HasHistory, HasServed, Headline}
-use Rattle.hall_desk.specs.History.{AllLead, AreStepsOf, Carried, Exchange, IsAside, IsCarried, IsStepOf, Item, ItemLeads, carried, carried_out, exchange, exchanged, exchanges}
+use Rattle.hall_desk.specs.History.{AllLead, AreStepsOf, Carried, Exchange, IsAside, IsCarried, IsStepOf, Item, ItemLeads, Unanswered, Unreplied, answered_by, carried, carried_out, exchange, exchanged, exchanges, replied_by, unanswered, unreplied}
 
 put_aside : (item : Item) (items : List Item) (steps : List Step) → IsAside item → AreStepsOf items steps → AreStepsOf (item ∷ items) steps
 put_aside item items [] aside are = (aside, are)
@@ -68,6 +68,36 @@ by_event h next end c items it rest =
       inl (record { arrived = refl; content = d.content; gave = refl; replied = it.reply; typed = it.typed }, rest.2),
     )
 
+by_unanswered : (h next end : Hall) (x : Unanswered) (items : List Item) (a : Answer) (m : Meaning) → Means x.site x.arrival.input m
+    → Leads x.site h x.arrival.moment x.arrival.fresh m a next → IsOfType x.site x.arrival.fresh m → Found next items end → Found h (unanswered x ∷ items) end
+by_unanswered h next end x items a (answered its) means leads typed rest = aside h next end (unanswered x) items (its, means) leads.1 rest
+by_unanswered h next end x items a (asks e say) means leads typed rest =
+    let d = decision_of x.site h e x.arrival.moment x.arrival.fresh in
+    let s : Step = record {
+      before = h;
+      arrival = record { site = x.site; event = e; moment = x.arrival.moment; fresh = x.arrival.fresh };
+      answer = Some d.content;
+      after = next;
+    } in (
+      s ∷ rest.0,
+      (inl refl, inl (record { answer = refl; after = leads.1 }), rest.1),
+      inl ((a, record { event = e; say = say; means = means; arrived = refl; content = d.content; gave = refl; sent = leads.0; typed = typed }), rest.2),
+    )
+
+by_unreplied : (h next end : Hall) (c : Unreplied) (items : List Item) (reply : Reply) → IsCarried h (replied_by c reply) next → Found next items end → Found h (unreplied c ∷ items) end
+by_unreplied h next end c items reply it rest =
+    let d = decision_of c.site h c.event c.moment c.fresh in
+    let s : Step = record {
+      before = h;
+      arrival = record { site = c.site; event = c.event; moment = c.moment; fresh = c.fresh };
+      answer = Some d.content;
+      after = next;
+    } in (
+      s ∷ rest.0,
+      (inl refl, inl (record { answer = refl; after = it.after }), rest.1),
+      inl ((reply, record { arrived = refl; content = d.content; gave = refl; replied = it.reply; typed = it.typed }), rest.2),
+    )
+
 pub steps_of : (h : Hall) (items : List Item) (end : Hall) → AllLead h items end → Found h items end
 steps_of h [] end led = ([], inl led, refl)
 steps_of h (exchange x ∷ items) end led = by led.1 (steps_of led.0 items end led.2)
@@ -76,14 +106,18 @@ steps_of h (exchange x ∷ items) end led = by led.1 (steps_of led.0 items end l
     by (inl come) rest = by_meaning h led.0 end x items come.meaning come.means come.leads come.typed rest
     by (inr missed) rest = aside h led.0 end (exchange x) items (inr missed.answer) missed.same rest
 steps_of h (carried c ∷ items) end led = by_event h led.0 end c items led.1 (steps_of led.0 items end led.2)
+steps_of h (unanswered x ∷ items) end led =
+    let come = led.1.1 in
+    by_unanswered h led.0 end x items led.1.0 come.meaning come.means come.leads come.typed (steps_of led.0 items end led.2)
+steps_of h (unreplied c ∷ items) end led = by_unreplied h led.0 end c items led.1.0 led.1.1 (steps_of led.0 items end led.2)
 
-of_run : (site : Site) (h : Hall) (arrivals : List Arrival) (answers : List Answer) (end : Hall) → IsArrivalRun site h arrivals answers end → AllLead h (exchanges site arrivals answers) end
+pub of_run : (site : Site) (h : Hall) (arrivals : List Arrival) (answers : List Answer) (end : Hall) → IsArrivalRun site h arrivals answers end → AllLead h (exchanges site arrivals answers) end
 of_run site h [] [] end run = run
 of_run site h [] (a ∷ answers) end run = absurd run
 of_run site h (x ∷ arrivals) [] end run = absurd run
 of_run site h (x ∷ arrivals) (a ∷ answers) end run = (run.0, run.1, of_run site run.0 arrivals answers end run.2)
 
-all_on : (h : Hall) (past : List Item) (now : Hall) → AllLead h past now → (items : List Item) (end : Hall) → AllLead now items end → AllLead h (past ++ items) end
+pub all_on : (h : Hall) (past : List Item) (now : Hall) → AllLead h past now → (items : List Item) (end : Hall) → AllLead now items end → AllLead h (past ++ items) end
 all_on h [] now led items end more = subst (λ from. AllLead from items end) led more
 all_on h (x ∷ past) now led items end more = (led.0, led.1, all_on led.0 past now led.2 items end more)
 
@@ -103,6 +137,8 @@ typed_arrival s a is typed = subst (λ (its : MachineArrival). IsTyped its.site 
 step_typed : (item : Item) (s : Step) → IsStepOf item s → IsTypedStep s
 step_typed (exchange x) s it = typed_arrival s _ it.arrived it.typed
 step_typed (carried c) s it = typed_arrival s _ it.arrived it.typed
+step_typed (unanswered x) s it = typed_arrival s _ it.1.arrived it.1.typed
+step_typed (unreplied c) s it = typed_arrival s _ it.1.arrived it.1.typed
 
 pub are_typed : (items : List Item) (steps : List Step) → AreStepsOf items steps → AreTyped steps
 are_typed [] steps are = subst AreTyped (sym are) tt

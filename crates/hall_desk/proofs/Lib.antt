@@ -5,4 +5,5 @@ pub mod ListingLemmas
 pub mod ReadingLemmas
 pub mod RunLemmas
 pub mod ServedLemmas
+pub mod StopLemmas
 pub mod PlanLemmas

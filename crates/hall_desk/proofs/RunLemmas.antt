@@ -1,11 +1,15 @@
 -- A run goes on by one arrival.
 use Rattle.std.proofs.Common.{◌≡◌, ◌<◌, ◌+◌, ◌∙◌, ℕ, List, [], ◌∷◌, ◌++◌, length, drop, drop-cons, get_or, suc, add-one, ap, refl, sym, subst, inl, inr}
-use Rattle.std.specs.Prelude.{◌⊎◌}
+use Rattle.std.specs.List.{AllByRecursion}
+use Rattle.std.specs.Prelude.{◌≢◌, ◌⊎◌}
 use Rattle.pxe_vendor.specs.Place.{Site}
 use Rattle.hall_types.specs.Hall.{Hall}
 use Rattle.boot_desk.specs.Sound.{IsSound}
-use Rattle.hall_desk.specs.Attempt.{ChangeNothing, IsAnswered, IsKept, IsRan}
-use Rattle.hall_desk.specs.Octets.{HasMissed, IsArrivalRun, IsArrivalStep}
+use Rattle.hall_desk.proofs.HistoryLemmas.{item_on, of_run}
+use Rattle.hall_desk.specs.Attempt.{ChangeNothing, IsAnswered, IsKept, IsTorn}
+use Rattle.hall_desk.specs.History.{AllLead, IsCutRun, Item, came_unanswered, exchanges}
+use Rattle.hall_desk.specs.Octets.{HasMissed, IsArrivalRun, IsArrivalStep, missed_answer}
+use Rattle.hall_desk.specs.Stops.{AreAnswered, HasRun, IsCutEnd}
 use Rattle.hall_desk.specs.declared.arrival.Answer.{Answer}
 use Rattle.hall_desk.specs.declared.arrival.Arrival.{Arrival}
 
@@ -19,36 +23,110 @@ run_push site (x ∷ arrivals) [] h mid next arrival a run step = absurd run
 run_push site (x ∷ arrivals) (b ∷ answers) h mid next arrival a run step =
     (run.0, run.1, run_push site arrivals answers run.0 mid next arrival a run.2 step)
 
+-- ---- what came of a run by a stop
+
+cut_more : (site : Site) (arrivals : List Arrival) (answers : List Answer) (arrival : Arrival) (a : Answer) (cut : List Item)
+    → IsCutRun site arrivals answers cut → IsCutRun site (arrivals ++ arrival ∷ []) (answers ++ a ∷ []) cut
+cut_more site arrivals answers arrival a [] is = tt
+cut_more site [] answers arrival a (item ∷ cut) is = absurd is
+cut_more site (x ∷ arrivals) [] arrival a (item ∷ cut) is = absurd is
+cut_more site (x ∷ arrivals) (b ∷ answers) arrival a (item ∷ cut) (inl is) = inl is
+cut_more site (x ∷ arrivals) (b ∷ answers) arrival a (item ∷ cut) (inr is) = inr (is.0, cut_more site arrivals answers arrival a cut is.1)
+
+cut_whole : (site : Site) (h : Hall) (arrivals : List Arrival) (answers : List Answer) (end : Hall) → IsArrivalRun site h arrivals answers end
+    → IsCutRun site arrivals answers (exchanges site arrivals answers)
+cut_whole site h [] [] end run = tt
+cut_whole site h [] (b ∷ answers) end run = absurd run
+cut_whole site h (x ∷ arrivals) [] end run = absurd run
+cut_whole site h (x ∷ arrivals) (b ∷ answers) end run = inr (refl, cut_whole site run.0 arrivals answers end run.2)
+
+cut_last : (site : Site) (h : Hall) (arrivals : List Arrival) (answers : List Answer) (end : Hall) (arrival : Arrival) (a : Answer) → IsArrivalRun site h arrivals answers end
+    → IsCutRun site (arrivals ++ arrival ∷ []) (answers ++ a ∷ []) (exchanges site arrivals answers ++ came_unanswered site arrival ∷ [])
+cut_last site h [] [] end arrival a run = inl (refl, refl)
+cut_last site h [] (b ∷ answers) end arrival a run = absurd run
+cut_last site h (x ∷ arrivals) [] end arrival a run = absurd run
+cut_last site h (x ∷ arrivals) (b ∷ answers) end arrival a run = inr (refl, cut_last site run.0 arrivals answers end arrival a run.2)
+
+split_answered : (site : Site) (h : Hall) (arrivals : List Arrival) (answers : List Answer) (end : Hall) (arrival : Arrival) (a : Answer) → IsArrivalRun site h arrivals answers end
+    → AreAnswered (arrivals ++ arrival ∷ []) (answers ++ a ∷ []) → AreAnswered arrivals answers × (a ≢ missed_answer arrival.input)
+split_answered site h [] [] end arrival a run all = (refl, all.0)
+split_answered site h [] (b ∷ answers) end arrival a run all = absurd run
+split_answered site h (x ∷ arrivals) [] end arrival a run all = absurd run
+split_answered site h (x ∷ arrivals) (b ∷ answers) end arrival a run all =
+    let rest = split_answered site run.0 arrivals answers end arrival a run.2 all.1 in ((all.0, rest.0), rest.1)
+
 next_arrival : (arrivals : List Arrival) (i : ℕ) (arrival : Arrival) → i < length arrivals → arrival ≡ get_or arrivals i arrival → drop i arrivals ≡ arrival ∷ drop (i + 1) arrivals
 next_arrival arrivals i arrival low is = drop-cons arrivals i arrival low ∙ ap (λ y. y ∷ drop (suc i) arrivals) (sym is) ∙ ap (λ j. arrival ∷ drop j arrivals) (sym (add-one i))
 
 module _ {S : Type 0} (holds : S → Hall → Type 0) (leaves : S → List Hall → Type 0) (site : Site) where
-  pub ran_none : (store : S) (h : Hall) → holds store h → IsSound h → IsRan holds store site h [] []
-  ran_none store h held sound = record { end = h; run = refl; held = held; sound = sound }
-
-  more : (old new : S) (h : Hall) (arrivals : List Arrival) (answers : List Answer) (arrival : Arrival) (a : Answer) (ran : IsRan holds old site h arrivals answers)
-      → IsKept holds leaves old new site arrival.input arrival.moment arrival.fresh ran.end a
-      ⊎ (HasMissed ran.end arrival.input a ran.end × holds new ran.end)
-      → IsRan holds new site h (arrivals ++ arrival ∷ []) (answers ++ a ∷ [])
-  more old new h arrivals answers arrival a ran (inl kept) = record {
-    end = kept.next;
-    run = run_push site arrivals answers h ran.end kept.next arrival a ran.run (inl kept.come);
-    held = kept.held;
-    sound = kept.sound;
-  }
-  more old new h arrivals answers arrival a ran (inr missed) = record {
-    end = ran.end;
-    run = run_push site arrivals answers h ran.end ran.end arrival a ran.run (inr missed.0);
-    held = missed.1;
-    sound = ran.sound;
+  pub ran_none : (store : S) (h : Hall) → holds store h → IsSound h → HasRun holds leaves store store site h [] []
+  ran_none store h held sound = record {
+    ran = record { end = h; run = refl; held = held; sound = sound };
+    settled = λ left all. left;
+    stop = λ hs left. ([], left, tt);
   }
 
-  pub ran_more : (from : Site) → from ≡ site → (old new : S) (h : Hall) (arrivals : List Arrival) (answers : List Answer) (arrival : Arrival) (a : Answer)
-      → IsRan holds old site h arrivals answers → IsAnswered holds leaves old new from arrival.input arrival.moment arrival.fresh a
-      → IsRan holds new site h (arrivals ++ arrival ∷ []) (answers ++ a ∷ [])
-  ran_more from same old new h arrivals answers arrival a ran it =
-      let here = subst (λ (at : Site). IsAnswered holds leaves old new at arrival.input arrival.moment arrival.fresh a) same it in
-      more old new h arrivals answers arrival a ran (here.step ran.end ran.held ran.sound)
+  module _ (old mid new : S) (h : Hall) (arrivals : List Arrival) (answers : List Answer) (arrival : Arrival) (a : Answer)
+      (before : HasRun holds leaves old mid site h arrivals answers) (it : IsAnswered holds leaves mid new site arrival.input arrival.moment arrival.fresh a) where
+    -- what a stop may leave, once one more arrival came
+    stop_more : (hs : List Hall) → leaves old hs
+        → (more : List Hall) × leaves new (more ++ hs) × AllByRecursion (IsCutEnd site h (arrivals ++ arrival ∷ []) (answers ++ a ∷ [])) more
+    stop_more hs left = (torn.next ∷ was.0, torn.left, (new_end torn.step, later was.0 was.2))
+      where
+        was : (more : List Hall) × leaves mid (more ++ hs) × AllByRecursion (IsCutEnd site h arrivals answers) more
+        was = before.stop hs left
+
+        torn : IsTorn holds leaves mid new site arrival.input arrival.moment arrival.fresh before.ran.end (was.0 ++ hs)
+        torn = it.crash before.ran.end before.ran.held before.ran.sound (was.0 ++ hs) was.1
+
+        new_end : IsArrivalStep site before.ran.end arrival.input arrival.moment arrival.fresh torn.answer torn.next
+            → IsCutEnd site h (arrivals ++ arrival ∷ []) (answers ++ a ∷ []) torn.next
+        new_end (inl come) = (
+          exchanges site arrivals answers ++ came_unanswered site arrival ∷ [],
+          cut_last site h arrivals answers before.ran.end arrival a before.ran.run,
+          item_on h (exchanges site arrivals answers) before.ran.end (of_run site h arrivals answers before.ran.end before.ran.run) (came_unanswered site arrival) torn.next (torn.answer, come),
+        )
+        new_end (inr missed) = (
+          exchanges site arrivals answers,
+          cut_more site arrivals answers arrival a (exchanges site arrivals answers) (cut_whole site h arrivals answers before.ran.end before.ran.run),
+          subst (AllLead h (exchanges site arrivals answers)) (sym missed.same) (of_run site h arrivals answers before.ran.end before.ran.run),
+        )
+
+        later : (halls : List Hall) → AllByRecursion (IsCutEnd site h arrivals answers) halls → AllByRecursion (IsCutEnd site h (arrivals ++ arrival ∷ []) (answers ++ a ∷ [])) halls
+        later [] all = tt
+        later (x ∷ halls) all = ((all.0.0, cut_more site arrivals answers arrival a all.0.0 all.0.1, all.0.2), later halls all.1)
+
+    run_more : HasRun holds leaves old new site h (arrivals ++ arrival ∷ []) (answers ++ a ∷ [])
+    run_more = by (it.step before.ran.end before.ran.held before.ran.sound)
+      where
+        by : IsKept holds leaves mid new site arrival.input arrival.moment arrival.fresh before.ran.end a ⊎ (HasMissed before.ran.end arrival.input a before.ran.end × holds new before.ran.end)
+            → HasRun holds leaves old new site h (arrivals ++ arrival ∷ []) (answers ++ a ∷ [])
+        by (inl kept) = record {
+          ran = record {
+            end = kept.next;
+            run = run_push site arrivals answers h before.ran.end kept.next arrival a before.ran.run (inl kept.come);
+            held = kept.held;
+            sound = kept.sound;
+          };
+          settled = λ left all. kept.settled (before.settled left (split_answered site h arrivals answers before.ran.end arrival a before.ran.run all).0);
+          stop = stop_more;
+        }
+        by (inr missed) = record {
+          ran = record {
+            end = before.ran.end;
+            run = run_push site arrivals answers h before.ran.end before.ran.end arrival a before.ran.run (inr missed.0);
+            held = missed.1;
+            sound = before.ran.sound;
+          };
+          settled = λ left all. absurd ((split_answered site h arrivals answers before.ran.end arrival a before.ran.run all).1 missed.0.answer);
+          stop = stop_more;
+        }
+
+  pub ran_more : (from : Site) → from ≡ site → (old mid new : S) (h : Hall) (arrivals : List Arrival) (answers : List Answer) (arrival : Arrival) (a : Answer)
+      → HasRun holds leaves old mid site h arrivals answers → IsAnswered holds leaves mid new from arrival.input arrival.moment arrival.fresh a
+      → HasRun holds leaves old new site h (arrivals ++ arrival ∷ []) (answers ++ a ∷ [])
+  ran_more from same old mid new h arrivals answers arrival a before it =
+      run_more old mid new h arrivals answers arrival a before (subst (λ (at : Site). IsAnswered holds leaves mid new at arrival.input arrival.moment arrival.fresh a) same it)
 
   -- one more arrival that changes nothing leaves the hall
   pub idle_more : (from : Site) → from ≡ site → (old new : S) (h : Hall) (arrivals : List Arrival) (index : ℕ) (arrival : Arrival) (a : Answer)

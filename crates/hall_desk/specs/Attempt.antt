@@ -4,7 +4,7 @@ use Rattle.std.specs.List.{AllByRecursion}
 use Rattle.pxe_vendor.specs.Place.{Site}
 use Rattle.hall_types.specs.Hall.{Hall}
 use Rattle.boot_desk.specs.Sound.{IsSound}
-use Rattle.hall_desk.specs.Octets.{ChangesNothing, HasCome, HasMissed, IsArrivalStep, IsArrivalRun, Meaning, Means}
+use Rattle.hall_desk.specs.Octets.{HasCome, HasMissed, IsArrivalStep, IsArrivalRun, IsIdle}
 use Rattle.hall_desk.specs.declared.arrival.Answer.{Answer}
 use Rattle.hall_desk.specs.declared.arrival.Answer.TheVariants.{Unavailable}
 use Rattle.hall_desk.specs.declared.arrival.Arrival.{Arrival}
@@ -32,14 +32,16 @@ module _ {S : Type 0} (holds : S → Hall → Type 0) (leaves : S → List Hall 
     pub came : IfOk r (λ a. (h : Hall) → holds old h → IsSound h → IsKept h a)
     pub missed : OnErr r ((h : Hall) → holds old h → holds new h)
     pub unavailable : IfOk r (λ a. a ≡ Unavailable → (h : Hall) → holds old h → holds new h)
-    pub idle : (h : Hall) → holds old h → ((m : Meaning) → Means site input m → ChangesNothing site h moment fresh m) → holds new h
+    pub idle : (h : Hall) → holds old h → IsIdle site h input moment fresh → holds new h
+    pub still : (h : Hall) → holds old h → IsIdle site h input moment fresh → (hs : List Hall) → leaves old hs → leaves new hs
     pub crash : (h : Hall) → holds old h → IsSound h → (hs : List Hall) → leaves old hs → IsTorn h hs
 
   -- An arrival is answered.
   pub record IsAnswered (a : Answer) : Type 0 where
     pub step : (h : Hall) → holds old h → IsSound h → IsKept h a ⊎ (HasMissed h input a h × holds new h)
-    -- a hall stays, sound or not, that what came doesn't change
-    pub idle : (h : Hall) → holds old h → ((m : Meaning) → Means site input m → ChangesNothing site h moment fresh m) → holds new h
+    -- a hall stays, sound or not, that what came doesn't change, and what a stop may leave stays too
+    pub idle : (h : Hall) → holds old h → IsIdle site h input moment fresh → holds new h
+    pub still : (h : Hall) → holds old h → IsIdle site h input moment fresh → (hs : List Hall) → leaves old hs → leaves new hs
     -- and each hall stays where the answer is Unavailable
     pub unavailable : a ≡ Unavailable → (h : Hall) → holds old h → holds new h
     pub crash : (h : Hall) → holds old h → IsSound h → (hs : List Hall) → leaves old hs → IsTorn h hs
@@ -54,7 +56,7 @@ module _ {S : Type 0} (clean : S → Type 0) (holds : S → Hall → Type 0) (le
 
 -- none of the arrivals changes this hall
 abbrev pub ChangeNothing : Site → Hall → List Arrival → Type 0
-ChangeNothing site h arrivals = AllByRecursion (λ arrival. (m : Meaning) → Means site arrival.input m → ChangesNothing site h arrival.moment arrival.fresh m) arrivals
+ChangeNothing site h arrivals = AllByRecursion (λ arrival. IsIdle site h arrival.input arrival.moment arrival.fresh) arrivals
 
 -- A run leads from this hall, each arrival with its answer, to a sound one that the store has.
 pub record IsRan {S : Type 0} (holds : S → Hall → Type 0) (store : S) (site : Site) (h : Hall) (arrivals : List Arrival) (answers : List Answer) : Type 0 where

@@ -16,6 +16,7 @@ pub missed_same : {S : Type 0} (holds : S → Hall → Type 0) (leaves : S → L
 missed_same holds leaves wider s site moment fresh what = record {
   step = λ h held sound. inr (record { answer = refl; same = refl }, held);
   idle = λ h held none. held;
+  still = λ h held none hs left. left;
   unavailable = λ is h held. held;
   crash = λ h held sound hs left. record {
     next = h;
@@ -52,6 +53,7 @@ module _ {S : Type 0} (holds : S → Hall → Type 0) (leaves : S → List Hall 
     answered_on a it = record {
       step = λ h held sound. elim (it.step h held sound) [ inl kept ↦ inl (kept_on h a kept) | inr missed ↦ inr (missed_on h h a missed.0, missed.1) ];
       idle = λ h held none. it.idle h held (λ m means. none m (means_on m means));
+      still = λ h held none. it.still h held (λ m means. none m (means_on m means));
       unavailable = it.unavailable;
       crash = λ h held sound hs left. torn_on h hs (it.crash h held sound hs left);
     }

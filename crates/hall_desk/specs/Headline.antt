@@ -5,13 +5,14 @@
 -- for a machine that its owner released for erasing, and one that writes an image only for a machine that its owner deployed with
 -- it; a report counts at most once, and only for its machine's own boot; a command is accepted once for its key, and repeats get
 -- the first answer; a machine stays, unless it is deleted by an accepted command; an order is queued at an entry of its machine,
--- and counts once; every refusal changes nothing.
+-- and counts once; every refusal changes nothing. All this holds over stops of the desk: what came when it stopped came to the hall
+-- or didn't, and a command that is answered by the status 200 was accepted, once, however often it was sent before.
 use Rattle.std.specs.Prelude.{◌≡◌, ◌<◌, ℕ, List, [], ◌∷◌, ◌++◌, take, length, Option, Some}
 use Rattle.pxe_vendor.specs.Place.{Site}
 use Rattle.hall_types.specs.Hall.{Hall, new_hall, second}
 use Rattle.boot_desk.specs.Sound.{IsSound}
 use Rattle.laws_model.specs.Step.{IsRun, Step}
-use Rattle.laws_past.specs.Laws.{AcceptsOnce, AcceptsWithOk, AlwaysWaitsForOne, BootsLocally, RefusesWithoutChange, CountsAnswerOnce, CountsOwnBoot, CountsStartedFirst, CountsVerdictOnce, DeploysRightly, EntersByTable, ErasesRightly, GivesScripts, KeepsMachines, NumbersOnce, QueuesAtEntries, RepeatsFirst, ScriptIsAsked, WaitsForOne, WaitsNoMore}
+use Rattle.laws_past.specs.Laws.{AcceptsOnce, AcceptsWithOk, AlwaysWaitsForOne, AnswersAccepted, BootsLocally, RefusesWithoutChange, CountsAnswerOnce, CountsOwnBoot, CountsStartedFirst, CountsVerdictOnce, DeploysRightly, EntersByTable, ErasesRightly, GivesScripts, KeepsMachines, NumbersOnce, QueuesAtEntries, RepeatsFirst, ScriptIsAsked, WaitsForOne, WaitsNoMore}
 use Rattle.laws_past.specs.Past.{AtEachStep}
 use Rattle.hall_desk.specs.History.{AllLead, AreStepsOf, Item, exchanged}
 use Rattle.hall_desk.specs.Octets.{octets_of}
@@ -46,6 +47,7 @@ pub record Headline (first : Hall) (items : List Item) (end : Hall) : Type 0 whe
   pub accepted_once : AtEachStep AcceptsOnce steps
   pub accepted_with_ok : AtEachStep AcceptsWithOk steps
   pub repeats_first : AtEachStep RepeatsFirst steps
+  pub answers_accepted : AtEachStep AnswersAccepted steps
   -- orders
   pub always_waits_for_one : AtEachStep AlwaysWaitsForOne steps
   pub waits_for_one : WaitsForOne end

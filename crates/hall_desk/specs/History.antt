@@ -1,5 +1,5 @@
 -- What came to a hall since it was new, and the steps of the model that it was.
-use Rattle.std.specs.Prelude.{◌≡◌, ◌⊎◌, ℕ, List, [], ◌∷◌, Some}
+use Rattle.std.specs.Prelude.{◌≡◌, ◌⊎◌, ⊤, ℕ, List, [], ◌∷◌, Some}
 use Rattle.pxe_vendor.specs.Place.{Site}
 use Rattle.hall_types.specs.Hall.{Hall, applied, second}
 use Rattle.hall_events.specs.Reply.{Content, reply_of}
@@ -7,7 +7,7 @@ use Rattle.hall_events.specs.declared.event.Event.{Event}
 use Rattle.hall_events.specs.declared.reply.Reply.{Reply}
 use Rattle.laws_model.specs.Decision.{decision_of}
 use Rattle.laws_model.specs.Step.{IsTyped, Step}
-use Rattle.hall_desk.specs.Octets.{IsArrivalStep, Means, answered, asks, missed_answer}
+use Rattle.hall_desk.specs.Octets.{HasCome, IsArrivalStep, Means, answered, asks, missed_answer}
 use Rattle.hall_desk.specs.declared.arrival.Answer.{Answer}
 use Rattle.hall_desk.specs.declared.arrival.Arrival.{Arrival}
 
@@ -27,10 +27,24 @@ pub record Carried : Type 0 where
   pub fresh : List ℕ
   pub reply : Reply
 
--- what came to a hall: octets, or an event of an operator's program
+-- an arrival that came to a hall at a desk that stopped before it gave the answer
+pub record Unanswered : Type 0 where
+  pub site : Site
+  pub arrival : Arrival
+
+-- an event that a desk of this place carried out, and that stopped before it gave the reply
+pub record Unreplied : Type 0 where
+  pub site : Site
+  pub event : Event
+  pub moment : ℕ
+  pub fresh : List ℕ
+
+-- what came to a hall: octets, or an event of an operator's program, with the answer or without, where the desk stopped
 pub data Item : Type 0 where
   exchange : Exchange → Item
   carried : Carried → Item
+  unanswered : Unanswered → Item
+  unreplied : Unreplied → Item
 
 -- an arrival and its answer
 abbrev pub exchanged : Site → Arrival → Answer → Item
@@ -40,10 +54,31 @@ exchanged site arrival a = exchange (record { site = site; arrival = arrival; an
 abbrev pub carried_out : Site → Event → ℕ → List ℕ → Reply → Item
 carried_out site e moment fresh reply = carried (record { site = site; event = e; moment = moment; fresh = fresh; reply = reply })
 
+-- the same without the answer, and without the reply
+abbrev pub came_unanswered : Site → Arrival → Item
+came_unanswered site arrival = unanswered (record { site = site; arrival = arrival })
+
+abbrev pub came_unreplied : Site → Event → ℕ → List ℕ → Item
+came_unreplied site e moment fresh = unreplied (record { site = site; event = e; moment = moment; fresh = fresh })
+
+-- with the answer, or with the reply, that wasn't given
+abbrev pub answered_by : Unanswered → Answer → Exchange
+answered_by x a = record { site = x.site; arrival = x.arrival; answer = a }
+
+abbrev pub replied_by : Unreplied → Reply → Carried
+replied_by c reply = record { site = c.site; event = c.event; moment = c.moment; fresh = c.fresh; reply = reply }
+
 -- the exchanges of a run
 abbrev pub exchanges : Site → List Arrival → List Answer → List Item
 exchanges site (arrival ∷ arrivals) (a ∷ answers) = exchanged site arrival a ∷ exchanges site arrivals answers
 exchanges site arrivals answers = []
+
+-- what came of a run at a desk that stopped: the first exchanges, and then nothing, or one arrival more without its answer
+abbrev pub IsCutRun : Site → List Arrival → List Answer → List Item → Type 0
+IsCutRun site arrivals answers [] = ⊤
+IsCutRun site (arrival ∷ arrivals) (a ∷ answers) (item ∷ items) =
+    ((item ≡ came_unanswered site arrival) × (items ≡ [])) ⊎ ((item ≡ exchanged site arrival a) × IsCutRun site arrivals answers items)
+IsCutRun site arrivals answers items = ⊥
 
 -- the event is carried out on this hall, and is of its type
 pub record IsCarried (h : Hall) (c : Carried) (next : Hall) : Type 0 where
@@ -55,6 +90,8 @@ pub record IsCarried (h : Hall) (c : Carried) (next : Hall) : Type 0 where
 abbrev pub ItemLeads : Hall → Item → Hall → Type 0
 ItemLeads h (exchange x) next = IsArrivalStep x.site h x.arrival.input x.arrival.moment x.arrival.fresh x.answer next
 ItemLeads h (carried c) next = IsCarried h c next
+ItemLeads h (unanswered x) next = (a : Answer) × HasCome x.site h x.arrival.input x.arrival.moment x.arrival.fresh a next
+ItemLeads h (unreplied c) next = (reply : Reply) × IsCarried h (replied_by c reply) next
 
 -- each item leads from the hall that the one before left
 abbrev pub AllLead : Hall → List Item → Hall → Type 0
@@ -86,11 +123,15 @@ pub record IsCarriedBy (c : Carried) (s : Step) : Type 0 where
 abbrev pub IsStepOf : Item → Step → Type 0
 IsStepOf (exchange x) s = IsAsked x s
 IsStepOf (carried c) s = IsCarriedBy c s
+IsStepOf (unanswered x) s = (a : Answer) × IsAsked (answered_by x a) s
+IsStepOf (unreplied c) s = (reply : Reply) × IsCarriedBy (replied_by c reply) s
 
 -- the item was no step: octets were answered without the hall, or the arrival counts as not having come
 abbrev pub IsAside : Item → Type 0
 IsAside (exchange x) = Means x.site x.arrival.input (answered x.answer) ⊎ (x.answer ≡ missed_answer x.arrival.input)
 IsAside (carried c) = ⊥
+IsAside (unanswered x) = (a : Answer) × Means x.site x.arrival.input (answered a)
+IsAside (unreplied c) = ⊥
 
 -- the steps of these items: one of each that asked the hall and came, in turn
 abbrev pub AreStepsOf : List Item → List Step → Type 0

@@ -6,3 +6,4 @@ pub mod History
 pub mod Octets
 pub mod Plan
 pub mod Served
+pub mod Stops

@@ -104,6 +104,17 @@ abbrev pub ChangesNothing : Site → Hall → ℕ → List ℕ → Meaning → T
 ChangesNothing site h moment fresh (asks e say) = (decision_of site h e moment fresh).rows ≡ []
 ChangesNothing site h moment fresh (answered a) = ⊤
 
+-- whatever octets mean, they lead to no change of this hall
+abbrev pub IsIdle : Site → Hall → Input → ℕ → List ℕ → Type 0
+IsIdle site h what moment fresh = (m : Meaning) → Means site what m → ChangesNothing site h moment fresh m
+
+-- a datagram that this hall answers by silence: it is no client's, or its client isn't served
+abbrev pub IsSilent : Site → Hall → Input → ℕ → List ℕ → Type 0
+IsSilent site h (input.Datagram port octets) moment fresh =
+    (m : Meaning) → Means site (input.Datagram port octets) m → (next : Hall) × Leads site h moment fresh m answer.Silence next
+IsSilent site h (input.Request octets) moment fresh = ⊥
+IsSilent site h input.Quiet moment fresh = ⊥
+
 -- what came is of its type: none can be made otherwise
 abbrev pub IsOfType : Site → List ℕ → Meaning → Type 0
 IsOfType site fresh (asks e say) = IsTyped site e fresh
@@ -121,6 +132,10 @@ abbrev pub missed_answer : Input → Answer
 missed_answer (input.Datagram port octets) = answer.Silence
 missed_answer (input.Request octets) = answer.Unavailable
 missed_answer input.Quiet = answer.Unavailable
+
+-- an arrival was answered: not by Unavailable, and by silence only where this hall answers a datagram so
+abbrev pub IsGiven : Site → Hall → Input → ℕ → List ℕ → Answer → Type 0
+IsGiven site h what moment fresh a = (a ≢ missed_answer what) ⊎ IsSilent site h what moment fresh
 
 -- the arrival counts as not having come
 pub record HasMissed (h : Hall) (what : Input) (a : Answer) (next : Hall) : Type 0 where

@@ -39,6 +39,8 @@ module _ {S : Type 0} (holds : S → Hall → Type 0) (leaves : S → List Hall 
     pub crash : (h : Hall) → holds old h → AllKeep (rows h) h → (hs : List Hall) → leaves old hs → leaves new (applied (rows h) h ∷ hs)
     -- once it is answered, a stop leaves the hall with all of the rows alone, if it left the hall before alone
     pub settled : OnOk r ((h : Hall) → holds old h → AllKeep (rows h) h → leaves old (h ∷ []) → leaves new (applied (rows h) h ∷ []))
+    -- where there is no row, a stop leaves what it left before
+    pub still : (h : Hall) → holds old h → rows h ≡ [] → (hs : List Hall) → leaves old hs → leaves new hs
 
 -- Where a store took no wrong answer of a disk for a right one (`clean`), it took none before, and this was carried out.
 module _ {S : Type 0} (clean : S → Type 0) (holds : S → Hall → Type 0) (leaves : S → List Hall → Type 0) (old new : S) {Y E : Type 0} (r : Result Y E) where

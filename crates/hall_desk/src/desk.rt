@@ -5,11 +5,13 @@ ghost use Rattle.laws_model.specs.Decision.{decision_of};
 ghost use Rattle.hall_types.specs.Hall.{Hall, new_hall, second};
 ghost use Rattle.desk_views.specs.Look.{Looks};
 ghost use Rattle.boot_desk.specs.Sound.{IsSound};
-ghost use Rattle.hall_desk.specs.Attempt.{ChangeNothing, GivesAnswer, IsRan};
+ghost use Rattle.hall_desk.specs.Attempt.{ChangeNothing, GivesAnswer};
 ghost use Rattle.hall_desk.specs.Desk.{site_of, store_of};
 ghost use Rattle.hall_desk.specs.Headline.{HasHistory};
 ghost use Rattle.hall_desk.specs.History.{Item, carried_out, exchanged, exchanges};
+ghost use Rattle.hall_desk.specs.Octets.{IsGiven};
 ghost use Rattle.hall_desk.specs.Plan.{CarriesOut, Plans};
+ghost use Rattle.hall_desk.specs.Stops.{AndCutRun, AreAnswered, HasRun, IsLeft, IsSettled, OrUnanswered, OrUnreplied};
 
 use crate::arrival::{Answer, Arrival};
 use crate::attempts::{attempt, missed};
@@ -66,7 +68,8 @@ impl<S: HallStore> Desk<S> {
 
     /// Carries an event out: its rows are written, and its answer is given. After `Unavailable` the hall is as it was
     /// before. All memory is taken before a row is written. With all that came to the hall since it was new, it is a history that
-    /// keeps all laws.
+    /// keeps all laws. A stop at any moment leaves the hall before it or the hall after it, of a store that was settled; once it was
+    /// answered, the hall after it alone.
     pub fn step(
         &mut self,
         alloc: Global,
@@ -81,6 +84,12 @@ impl<S: HallStore> Desk<S> {
         ensures history { S.HallStore.is_clean (store_of self.new) → IfOk result (λ reply. (admin digest : List ℕ) (past : List Item)
             → HasHistory S.HallStore.holds (store_of self.old) admin digest past
             → HasHistory S.HallStore.holds (store_of self.new) admin digest (past ++ carried_out (site_of self.old) event.now moment fresh reply ∷ [])) }
+        ensures settled { S.HallStore.is_clean (store_of self.new) → IfOk result (λ reply. (admin digest : List ℕ) (past : List Item)
+            → IsSettled S.HallStore.holds S.HallStore.leaves (store_of self.old) admin digest past
+            → IsSettled S.HallStore.holds S.HallStore.leaves (store_of self.new) admin digest (past ++ carried_out (site_of self.old) event.now moment fresh reply ∷ [])) }
+        ensures stop { S.HallStore.is_clean (store_of self.new) → (admin digest : List ℕ) (past : List Item)
+            → IsSettled S.HallStore.holds S.HallStore.leaves (store_of self.old) admin digest past
+            → IsLeft S.HallStore.leaves (store_of self.new) admin digest (OrUnreplied past (site_of self.old) event.now moment fresh) }
     {
         histories_keep_the_laws();
         decisions_keep_the_rules();
@@ -107,7 +116,8 @@ impl<S: HallStore> Desk<S> {
     }
 
     /// Answers what came. After `Unavailable`, and after a datagram's silence, the hall may be as it was before. With all that came to
-    /// the hall since it was new, at this place or others, it is a history that keeps all laws.
+    /// the hall since it was new, at this place or others, it is a history that keeps all laws. A stop at any moment leaves the hall
+    /// before it or the hall after it, of a store that was settled; once it was answered, the hall after it alone.
     pub fn answer(&mut self, alloc: Global, arrival: &Arrival) -> Answer
         ensures site { site_of self.new ≡ site_of self.old }
         ensures answer { GivesAnswer S.HallStore.is_clean S.HallStore.holds S.HallStore.leaves (store_of self.old) (store_of self.new)
@@ -115,6 +125,13 @@ impl<S: HallStore> Desk<S> {
         ensures history { S.HallStore.is_clean (store_of self.new) → (admin digest : List ℕ) (past : List Item)
             → HasHistory S.HallStore.holds (store_of self.old) admin digest past
             → HasHistory S.HallStore.holds (store_of self.new) admin digest (past ++ exchanged (site_of self.old) arrival.now result ∷ []) }
+        ensures settled { S.HallStore.is_clean (store_of self.new) → (admin digest : List ℕ) (past : List Item)
+            → (was : IsSettled S.HallStore.holds S.HallStore.leaves (store_of self.old) admin digest past)
+            → IsGiven (site_of self.old) was.history.end arrival.now.input arrival.now.moment arrival.now.fresh result
+            → IsSettled S.HallStore.holds S.HallStore.leaves (store_of self.new) admin digest (past ++ exchanged (site_of self.old) arrival.now result ∷ []) }
+        ensures stop { S.HallStore.is_clean (store_of self.new) → (admin digest : List ℕ) (past : List Item)
+            → IsSettled S.HallStore.holds S.HallStore.leaves (store_of self.old) admin digest past
+            → IsLeft S.HallStore.leaves (store_of self.new) admin digest (OrUnanswered past (site_of self.old) arrival.now) }
     {
         histories_keep_the_laws();
         self.take(alloc, arrival)
@@ -134,17 +151,24 @@ impl<S: HallStore> Desk<S> {
     }
 
     /// Answers what comes in turn, one answer each. A hall stays, sound or not, that none of it changes. With all that came to the hall
-    /// since it was new, at this place or others, it is a history that keeps all laws: `specs/Headline.antt` has them in one place.
+    /// since it was new, at this place or others, it is a history that keeps all laws: `specs/Headline.antt` has them in one place. A stop
+    /// leaves, of a store that was settled, the hall after some of the arrivals, or after one more whose answer wasn't given.
     /// The error is want of memory for the answers, before the first arrival, and the hall is then as it was.
     pub fn run(&mut self, alloc: Global, arrivals: &[Arrival]) -> Result<Vec<Answer>, AllocError>
         ensures clean { S.HallStore.is_clean (store_of self.new) → S.HallStore.is_clean (store_of self.old) }
         ensures site { site_of self.new ≡ site_of self.old }
         ensures run { S.HallStore.is_clean (store_of self.new) → IfOk result (λ answers. (h : Hall) → S.HallStore.holds (store_of self.old) h → IsSound h
-            → IsRan S.HallStore.holds (store_of self.new) (site_of self.old) h arrivals.now answers.items) }
+            → HasRun S.HallStore.holds S.HallStore.leaves (store_of self.old) (store_of self.new) (site_of self.old) h arrivals.now answers.items) }
         ensures one_each { IfOk result (λ answers. length answers.items ≡ length arrivals.now) }
         ensures history { S.HallStore.is_clean (store_of self.new) → IfOk result (λ answers. (admin digest : List ℕ) (past : List Item)
             → HasHistory S.HallStore.holds (store_of self.old) admin digest past
             → HasHistory S.HallStore.holds (store_of self.new) admin digest (past ++ exchanges (site_of self.old) arrivals.now answers.items)) }
+        ensures settled { S.HallStore.is_clean (store_of self.new) → IfOk result (λ answers. (admin digest : List ℕ) (past : List Item)
+            → IsSettled S.HallStore.holds S.HallStore.leaves (store_of self.old) admin digest past → AreAnswered arrivals.now answers.items
+            → IsSettled S.HallStore.holds S.HallStore.leaves (store_of self.new) admin digest (past ++ exchanges (site_of self.old) arrivals.now answers.items)) }
+        ensures stop { S.HallStore.is_clean (store_of self.new) → IfOk result (λ answers. (admin digest : List ℕ) (past : List Item)
+            → IsSettled S.HallStore.holds S.HallStore.leaves (store_of self.old) admin digest past
+            → IsLeft S.HallStore.leaves (store_of self.new) admin digest (AndCutRun past (site_of self.old) arrivals.now answers.items)) }
         ensures idle { S.HallStore.is_clean (store_of self.new) → (h : Hall) → S.HallStore.holds (store_of self.old) h
             → ChangeNothing (site_of self.old) h arrivals.now → S.HallStore.holds (store_of self.new) h }
         ensures err { OnErr result (self.new ≡ self.old) }

@@ -1,12 +1,15 @@
 //! What the words ask for is done. A hall's file is closed at the end, whatever became of the task.
 use desk_operations::{Exit, Fault, frame_run};
-use hall_sql::SqlStore;
+use hall_store::HallStore;
 use hall_types::{Digest, Name};
 use hallboot_tasks::{Asked, Task, asked_by, carried_out};
 use hallboot_words::Words;
-use sql_file::{FileFault, close, create, open};
-use sqlite::{Alter, FileStore};
-use sqlite_disk::Disk;
+use sql_file::{FileFault, StoreTask, create, over};
+use std::fs;
+use std::os::unix::fs::PermissionsExt;
+
+// The rights of others than a file's owner, in its mode.
+const OTHERS: u32 = 0o077;
 
 fn of_file(fault: FileFault) -> Fault {
     match fault {
@@ -23,37 +26,48 @@ fn init(rt: &HostRuntime, path: &str, admin: Name, digest: Digest) -> Result<Exi
     Ok(Exit::Done)
 }
 
-// How a task over a file ended: a fault of the task comes before one of the closing.
-fn ended(task: Result<Exit, Fault>, closing: Result<(), FileFault>) -> Result<Exit, Fault> {
-    let exit = task?;
-    closing.map_err(of_file)?;
-    Ok(exit)
+// A task over the store of a hall's file.
+#[derive(Drop)]
+struct FileTask<'a> {
+    rt: &'a HostRuntime,
+    task: Task<'a>,
 }
 
-// Carries a task out over a hall's tables.
-fn over_tables<S: Alter>(
-    rt: &HostRuntime,
-    store: SqlStore<S>,
-    task: Task<'_>,
-) -> (Result<Exit, Fault>, SqlStore<S>) {
-    carried_out(rt, store, task)
+impl<'a> StoreTask for FileTask<'a> {
+    type Outcome = Result<Exit, Fault>;
+
+    fn over<S: HallStore>(self, store: S) -> (Result<Exit, Fault>, S) {
+        carried_out(self.rt, store, self.task)
+    }
 }
 
-// Carries a task out over a hall's tables on a disk, and closes them.
-fn over_disk<D: Disk + Drop>(
-    rt: &HostRuntime,
-    store: SqlStore<FileStore<D>>,
-    task: Task<'_>,
-) -> Result<Exit, Fault> {
-    let (exit, store) = over_tables(rt, store, task);
-    ended(exit, close(store))
-}
-
-// Carries a task out over a hall's file. Each of these three takes one layer of the store's type: a function that has them all
-// takes a minute to prove.
+// Carries a task out over a hall's file. Where the file can't be closed, what the task answered stands, and the user is told.
 fn over_file(rt: &HostRuntime, path: &str, task: Task<'_>) -> Result<Exit, Fault> {
-    let store = open(rt, path).map_err(of_file)?;
-    over_disk(rt, store, task)
+    let ended = over(rt, path, FileTask { rt, task }).map_err(of_file)?;
+    if ended.closing.is_err() {
+        let _ = eprintln!(rt;
+            "hallboot: {path} wasn't closed: what was answered is in it and in its log together"
+        );
+    }
+    ended.outcome
+}
+
+// Tells where others than the owner can read or write a file that is to be served.
+fn tell_of_others(rt: &HostRuntime, path: &str) {
+    if let Ok(found) = fs::metadata(rt, path) {
+        if found.permissions().mode() & OTHERS != 0 {
+            let _ = eprintln!(rt;
+                "hallboot: others can use {path}, which has the tokens of boots: chmod 600 it and its log"
+            );
+        }
+    }
+}
+
+fn over_hall(rt: &HostRuntime, path: &str, task: Task<'_>) -> Result<Exit, Fault> {
+    if let Task::Serve { .. } = &task {
+        tell_of_others(rt, path);
+    }
+    over_file(rt, path, task)
 }
 
 fn carry_out(rt: &HostRuntime, asked: Asked<'_>) -> Result<Exit, Fault> {
@@ -70,7 +84,7 @@ fn carry_out(rt: &HostRuntime, asked: Asked<'_>) -> Result<Exit, Fault> {
             admin,
             digest,
         } => init(rt, path, admin, digest),
-        Asked::Over { path, task } => over_file(rt, path, task),
+        Asked::Over { path, task } => over_hall(rt, path, task),
     }
 }
 

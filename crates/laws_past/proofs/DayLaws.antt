@@ -10,7 +10,7 @@ use Rattle.ipxe_script.specs.ScriptLaws.{IsScript-boot}
 use Rattle.ipxe_script.specs.Word.{IsWord, is_first_octet, is_uri, is_word, is_word_octet}
 use Rattle.std.specs.Fmt.{digits}
 use Rattle.hex.specs.Hex.{encode_with}
-use Rattle.hall_types.specs.Hall.{Hall}
+use Rattle.hall_types.specs.Hall.{Hall, second}
 use Rattle.hall_types.specs.Image.{BootImage, IsImage}
 use Rattle.hall_types.specs.Kinds.{erase_text, purpose_text}
 use Rattle.hall_types.specs.Rows.{at, numbers, texts}
@@ -27,14 +27,14 @@ use Rattle.hall_types.specs.declared.status.Status.TheVariants.{Commissioning, N
 use Rattle.pxe_vendor.specs.Place.{is_host}
 use Rattle.pxe_vendor.specs.declared.arch.Arch.TheVariants.{Uefi64}
 use Rattle.hall_events.specs.Event.{BringsImage}
-use Rattle.hall_events.specs.Reply.{machine_is, nothing, refused, script}
+use Rattle.hall_events.specs.Reply.{machine_is, nothing, refused, reply_of, script}
 use Rattle.hall_events.specs.declared.command.HallCommand.TheVariants.{AddImage}
 use Rattle.hall_events.specs.declared.event.Event.{Event}
 use Rattle.hall_events.specs.declared.event.Event.TheVariants as event
 use Rattle.boot_desk.specs.Texts.{desk_arguments, local_script, work_script}
 use Rattle.laws_model.specs.Refusing.{IsRefusal}
 use Rattle.laws_model.specs.Step.{IsTyped}
-use Rattle.laws_past.specs.Laws.{AreTyped, CountsSome, CountsVerdict, FirstRequest, GivesText, IsDeployed, IsFrame, IsMachineAt, IsMade, IsWaiting, LaterRequest, MakesBoot, MakesMachine, MakesOrder}
+use Rattle.laws_past.specs.Laws.{AreTyped, CountsSome, CountsVerdict, FirstRequest, GivesText, HasStatus, IsDeployed, IsFrame, IsMachineAt, IsMade, IsWaiting, KeyedRequest, MakesBoot, MakesMachine, MakesOrder}
 use Rattle.laws_past.specs.Past.{CountsReport, IsAccepted, IsEntry, WasAnswered}
 use Rattle.laws_past.proofs.Computing.{computed}
 use Rattle.laws_past.proofs.Day.{ada, added_again, adds, boot, boot_started, booted_locally, client, client_enlisted, commission_booted, commission_done, commission_script, commissioned, commissioning, day, deploy_booted, deploy_script, deployed, erase_booted, erase_script, erasing_begun, frame_unanswered, host, live, mac, machine_added, new_machine, order, order_done, site, token, token_unknown, until_deployed}
@@ -241,7 +241,7 @@ accepts = record {
 accepted_before : FirstRequest ada.name (4 ∷ []) (until_deployed ++ booted_locally ∷ erasing_begun ∷ erase_booted ∷ client_enlisted ∷ frame_unanswered ∷ [])
 accepted_before = record { command = adds; content = machine_is 1 New 1; accepted = inr (inr (inr (inl accepts))) }
 
-comes_again : LaterRequest ada.name (4 ∷ []) added_again
+comes_again : KeyedRequest ada.name (4 ∷ []) added_again
 unfolding texts
 comes_again = record {
   bearer = Some ada.digest;
@@ -252,6 +252,10 @@ comes_again = record {
   named = refl;
   answered = record { event = refl; answer = refl };
 }
+
+again_is_ok : HasStatus 200 (reply_of second comes_again.content)
+unfolding comes_again reply_of
+again_is_ok = refl
 
 -- ---- orders and refusals
 

@@ -24,6 +24,15 @@ some_of_more P [] s (inr q) = inl q
 some_of_more P (x ∷ xs) s (inl p) = inl (inl p)
 some_of_more P (x ∷ xs) s (inr q) = elim (some_of_more P xs s q) [ inl w ↦ inl (inr w) | inr w ↦ inr w ]
 
+pub some_before : (P : Step → Type 0) (xs : List Step) (s : Step) → SomeOf P xs → SomeOf P (xs ++ (s ∷ []))
+some_before P [] s none = absurd none
+some_before P (x ∷ xs) s (inl p) = inl p
+some_before P (x ∷ xs) s (inr q) = inr (some_before P xs s q)
+
+pub some_now : (P : Step → Type 0) (xs : List Step) (s : Step) → P s → SomeOf P (xs ++ (s ∷ []))
+some_now P [] s p = inl p
+some_now P (x ∷ xs) s p = inr (some_now P xs s p)
+
 -- a step that is one is the last one
 abbrev pub last_new : (P : Step → Type 0) (past : List Step) (s : Step) → P s → Last P (past ++ (s ∷ []))
 last_new P past s is = record { earlier = past; step = s; later = []; are = refl; is = is; none_later = tt }

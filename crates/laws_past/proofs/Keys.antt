@@ -26,7 +26,7 @@ use Rattle.desk_command.specs.Effect.{Effect}
 use Rattle.laws_model.specs.Decision.{Decided, commanded, decision_of}
 use Rattle.laws_model.specs.Step.{IsStep, Step}
 use Rattle.laws_steps.specs.HallLaws.{same_receipts}
-use Rattle.laws_steps.specs.Writes.{LeavesReceipt, WritesAll, is_command, is_done, with_receipt, without_receipt}
+use Rattle.laws_steps.specs.Writes.{LeavesReceipt, Writes, WritesAll, is_command, is_done, with_receipt, without_receipt}
 use Rattle.laws_past.specs.Laws.{AcceptsKey, AcceptsOnce, IsAnsweredAgain, RepeatsFirst, disabled, first_again, reused}
 use Rattle.laws_past.specs.Past.{IsAccepted, SomeOf}
 use Rattle.laws_past.proofs.Answered.{came_so}
@@ -40,16 +40,19 @@ pub data ReceiptsMove (s : Step) (d : Decided) : Type 0 where
   same_keys : (is_command s.arrival.event ≡ true → s.after ≡ s.before) → s.after.receipts ≡ s.before.receipts → ReceiptsMove s d
   new_key : (own : List RowWrite) (x : LeavesReceipt s.before s.arrival.event own d) → s.after.receipts ≡ put (pair x.operator.name x.key) (receipt_of x.operator x.key x.command d.content) s.before.receipts → ReceiptsMove s d
 
-receipts_move : (s : Step) (d : Decided) → s.after ≡ applied d.rows s.before → WritesAll s.before s.arrival.event s.arrival.moment s.arrival.fresh d → ReceiptsMove s d
+-- a command leaves its receipt
+pub receipt_put : (s : Step) (d : Decided) → s.after ≡ applied d.rows s.before → (own : List RowWrite) → Writes s.before s.arrival.event s.arrival.moment s.arrival.fresh own d.content
+    → (x : LeavesReceipt s.before s.arrival.event own d) → s.after.receipts ≡ put (pair x.operator.name x.key) (receipt_of x.operator x.key x.command d.content) s.before.receipts
+receipt_put s d after own w x =
+    let r = receipt_of x.operator x.key x.command d.content in
+    ap (λ (h : Hall). h.receipts) (after ∙ (ap (λ ws. applied ws s.before) x.rows_are ∙ applied_append own (write.PutReceipt r ∷ []) s.before))
+    ∙ ap (put (pair x.operator.name x.key) r) (same_receipts s.before s.arrival.event s.arrival.moment s.arrival.fresh own d.content w)
+
+pub receipts_move : (s : Step) (d : Decided) → s.after ≡ applied d.rows s.before → WritesAll s.before s.arrival.event s.arrival.moment s.arrival.fresh d → ReceiptsMove s d
 receipts_move s d after (without_receipt none w) =
     same_keys (λ command. after ∙ ap (λ ws. applied ws s.before) (none command))
     (ap (λ (h : Hall). h.receipts) after ∙ same_receipts s.before s.arrival.event s.arrival.moment s.arrival.fresh d.rows d.content w)
-receipts_move s d after (with_receipt own w x) =
-    let r = receipt_of x.operator x.key x.command d.content in
-    new_key own x (
-    ap (λ (h : Hall). h.receipts) (after ∙ (ap (λ ws. applied ws s.before) x.rows_are ∙ applied_append own (write.PutReceipt r ∷ []) s.before))
-    ∙ ap (put (pair x.operator.name x.key) r) (same_receipts s.before s.arrival.event s.arrival.moment s.arrival.fresh own d.content w)
-    )
+receipts_move s d after (with_receipt own w x) = new_key own x (receipt_put s d after own w x)
 
 -- ---- an accepted command
 
@@ -102,7 +105,7 @@ receipt_stays s (did answer after writes effect) key r is = by (receipts_move s 
         ∙ (at-put-other s.before.receipts (pair x.operator.name x.key) (receipt_of x.operator x.key x.command (decided s).content) key (λ same. none-some r (sym x.new ∙ (ap (at s.before.receipts) (sym same) ∙ is))) ∙ is)
 
 -- the answer that a receipt keeps is the first one
-stored_same : (content : Content) → is_done content ≡ true → reply_of second (stored 200 (body_of (reply_of second content))) ≡ reply_of second content
+pub stored_same : (content : Content) → is_done content ≡ true → reply_of second (stored 200 (body_of (reply_of second content))) ≡ reply_of second content
 unfolding reply_of
 stored_same (machine_is id status version) is = refl
 stored_same (machine_gone id) is = refl
@@ -170,7 +173,7 @@ module _ (h : Hall) (bearer : Option (List ℕ)) (o : Operator) (key : List ℕ)
   decision_again known there = subst (λ x. Again (of_sender h x key command moment)) (sym known) (sender_again there)
 
 -- what the model makes of a command
-command_of : (site : Site) (h : Hall) (bearer : Option (List ℕ)) (key : List ℕ) (command : HallCommand) (moment : ℕ) (fresh : List ℕ) → decision_of site h (event.Command bearer key command) moment fresh ≡ commanded (command_decision h bearer key command moment)
+pub command_of : (site : Site) (h : Hall) (bearer : Option (List ℕ)) (key : List ℕ) (command : HallCommand) (moment : ℕ) (fresh : List ℕ) → decision_of site h (event.Command bearer key command) moment fresh ≡ commanded (command_decision h bearer key command moment)
 unfolding decision_of
 command_of site h bearer key command moment fresh = refl
 

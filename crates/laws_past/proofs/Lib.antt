@@ -22,6 +22,7 @@ pub mod NumbersOnceLemmas
 pub mod OrderRows
 pub mod OrderLemmas
 pub mod OwnBoots
+pub mod Receipts
 pub mod Refused
 pub mod Scripts
 mod WrongDays

@@ -18,17 +18,17 @@ use Rattle.hall_types.specs.declared.machine.Machine.{Machine}
 use Rattle.hall_types.specs.declared.operator.Pool.{Pool}
 use Rattle.hall_types.specs.declared.refusal.Refusal.TheVariants.{KeyReused, UnknownToken}
 use Rattle.hall_types.specs.declared.status.Status.TheVariants.{Commissioning, Deployed, Deploying, DiskErasing, New, Ready}
-use Rattle.hall_events.specs.Reply.{counted, machine_is, nothing, refused, reply_of, script, stored}
+use Rattle.hall_events.specs.Reply.{counted, done, machine_is, nothing, refused, reply_of, script, stored}
 use Rattle.hall_events.specs.declared.event.Event.TheVariants as event
 use Rattle.life_cycle.specs.declared.signal.Signal.{Signal}
 use Rattle.boot_desk.specs.Texts.{hold_script, local_script}
 use Rattle.desk_command.specs.Command.{sender}
 use Rattle.desk_command.specs.Effect.{added_machine}
 use Rattle.laws_model.specs.Step.{Step}
-use Rattle.laws_past.specs.Laws.{AcceptsOnce, AcceptsWithOk, AlwaysWaitsForOne, BootsLocally, CountsAnswerOnce, CountsOwnBoot, CountsStartedFirst, CountsVerdictOnce, DeploysRightly, EntersByTable, ErasesRightly, HasStatus, IsDeleted, IsMachineAt, IsSignalled, KeepsMachines, NumbersOnce, QueuesAtEntries, RefusesWithoutChange, RepeatsFirst, ScriptIsAsked, WaitsNoMore, by_answer, by_command, by_deadline, by_fourth_boot, by_report}
+use Rattle.laws_past.specs.Laws.{AcceptsOnce, AcceptsWithOk, AlwaysWaitsForOne, AnswersAccepted, BootsLocally, CountsAnswerOnce, CountsOwnBoot, CountsStartedFirst, CountsVerdictOnce, DeploysRightly, EntersByTable, ErasesRightly, HasStatus, IsDeleted, IsMachineAt, IsSignalled, KeepsMachines, NumbersOnce, QueuesAtEntries, RefusesWithoutChange, RepeatsFirst, ScriptIsAsked, WaitsNoMore, by_answer, by_command, by_deadline, by_fourth_boot, by_report}
 use Rattle.laws_past.specs.Past.{AtEachStep, IsAccepted}
 use Rattle.laws_past.proofs.Computing.{computed}
-use Rattle.laws_past.proofs.Day.{ada, adds, boot, boot_started, booted, booted_locally, came, command, commission_booted, commission_done, commissioned, deploy_script, deployed, erase_script, image_added, image_live, mac, machine_added, made, new_machine, order, order_done, pow, power_added, ready, step, token, until_deployed}
+use Rattle.laws_past.proofs.Day.{ada, adds, boot, boot_started, booted, booted_locally, came, command, commission_booted, commission_done, commissioned, deploy_script, deployed, erase_script, image_added, image_live, mac, machine_added, made, new_machine, order, order_done, pow, power_added, ready, start, step, token, until_deployed}
 use Rattle.laws_past.proofs.DayLaws.{accepts, gives_deploying, gives_erasing, makes_machine}
 
 some : {A : Type 0} (a b : A) → Some a ≡ Some b → a ≡ b
@@ -243,6 +243,24 @@ repeated_key_acts_again : AtEachStep RepeatsFirst (until_ready ++ (acts_again �
 repeated_key_acts_again law =
     changes (last RepeatsFirst until_ready acts_again law ada.name (4 ∷ []) (record { command = adds; content = machine_is 1 New 1; accepted = inr (inr (inr (inl accepts))) })
     (record { bearer = Some ada.digest; by = ada; command = adds; content = machine_is 2 New 1; known = known; named = refl; answered = record { event = refl; answer = refl } })).1
+
+-- a command is answered as if it were accepted, and nothing is written
+abbrev only_said : Step
+only_said = step start (command 9 adds) (made done [])
+
+known_first : sender start (Some ada.digest) ≡ Some ada
+unfolding texts
+known_first = simp (computed)
+
+says_ok : HasStatus 200 (reply_of second done)
+unfolding reply_of
+says_ok = refl
+
+answered_unaccepted : AtEachStep AnswersAccepted (only_said ∷ []) → ⊥
+answered_unaccepted law =
+    let its = last AnswersAccepted [] only_said law ada.name (9 ∷ [])
+    (record { bearer = Some ada.digest; by = ada; command = adds; content = done; known = known_first; named = refl; answered = record { event = refl; answer = refl } }) says_ok
+    in elim its.first.accepted [ inl accepted ↦ accepted.changes refl | inr none ↦ absurd none ]
 
 -- an accepted command is answered by another status
 abbrev created : Step

@@ -1,5 +1,5 @@
 -- The laws of the past, each for a step with the steps before it.
-use Rattle.std.specs.Prelude.{◌≡◌, ◌≢◌, ◌⊎◌, ℕ, false, true, List, Option, Some, None}
+use Rattle.std.specs.Prelude.{◌≡◌, ◌≢◌, ◌⊎◌, ℕ, false, true, List, [], ◌∷◌, ◌++◌, Option, Some, None}
 use Rattle.std.specs.List.{AllByRecursion}
 use Rattle.pxe_vendor.specs.declared.clients.Client.{Client}
 use Rattle.hall_types.specs.declared.port.Port.{Port}
@@ -291,8 +291,8 @@ pub record FirstRequest (operator key : List ℕ) (past : List Step) : Type 0 wh
   pub content : Content
   pub accepted : SomeOf (IsAccepted operator key command content) past
 
--- a later request of that operator with that key
-pub record LaterRequest (operator key : List ℕ) (s : Step) : Type 0 where
+-- a request of that operator with that key
+pub record KeyedRequest (operator key : List ℕ) (s : Step) : Type 0 where
   pub bearer : Option (List ℕ)
   pub by : Operator
   pub command : HallCommand
@@ -304,8 +304,18 @@ pub record LaterRequest (operator key : List ℕ) (s : Step) : Type 0 where
 -- a later request is answered so, and changes nothing
 abbrev pub RepeatsFirst : List Step → Step → Type 0
 RepeatsFirst past s =
-    (operator key : List ℕ) (first : FirstRequest operator key past) (later : LaterRequest operator key s)
+    (operator key : List ℕ) (first : FirstRequest operator key past) (later : KeyedRequest operator key s)
     → IsAnsweredAgain later.by first.command first.content later.command later.content × (s.after ≡ s.before)
+
+-- what is answered by the status 200 was accepted, by this step or one before, and is answered as it was then
+pub record WasAccepted (operator key : List ℕ) (past : List Step) (s : Step) (its : KeyedRequest operator key s) : Type 0 where
+  pub first : FirstRequest operator key (past ++ s ∷ [])
+  pub command : command_text its.command ≡ command_text first.command
+  pub answer : reply_of second its.content ≡ reply_of second first.content
+
+abbrev pub AnswersAccepted : List Step → Step → Type 0
+AnswersAccepted past s =
+    (operator key : List ℕ) (its : KeyedRequest operator key s) → HasStatus 200 (reply_of second its.content) → WasAccepted operator key past s its
 
 -- ---- orders
 

@@ -2,7 +2,7 @@
 ghost use Rattle.std.specs.Prelude.{ℕ, List};
 ghost use Rattle.hall_types.specs.Hall.{Hall, new_hall, second};
 ghost use Rattle.laws_model.specs.Step.{IsRun, Step};
-ghost use Rattle.laws_past.specs.Laws.{AcceptsOnce, AcceptsWithOk, AlwaysWaitsForOne, BootsLocally, AreTyped, CountsAnswerOnce, CountsOwnBoot, CountsStartedFirst, CountsVerdictOnce, DeploysRightly, EntersByTable, ErasesRightly, GivesScripts, KeepsMachines, NumbersOnce, QueuesAtEntries, RefusesWithoutChange, RepeatsFirst, ScriptIsAsked, WaitsForOne, WaitsNoMore};
+ghost use Rattle.laws_past.specs.Laws.{AcceptsOnce, AcceptsWithOk, AlwaysWaitsForOne, AnswersAccepted, BootsLocally, AreTyped, CountsAnswerOnce, CountsOwnBoot, CountsStartedFirst, CountsVerdictOnce, DeploysRightly, EntersByTable, ErasesRightly, GivesScripts, KeepsMachines, NumbersOnce, QueuesAtEntries, RefusesWithoutChange, RepeatsFirst, ScriptIsAsked, WaitsForOne, WaitsNoMore};
 ghost use Rattle.laws_past.specs.Past.{AtEachStep};
 
 use boot_desk::{deploying_texts, erasing_texts, new_halls_are_sound};
@@ -106,7 +106,8 @@ pub fn entries_by_table()
 
 /// Of an operator's requests with one key at most one command is accepted, with the status 200. Every later request with that key
 /// is answered as the first one was if it is the same command, and `KeyReused` if it is another (`UnknownToken` once the
-/// operator is disabled), and changes nothing.
+/// operator is disabled), and changes nothing. A request that is answered by the status 200 has had its command accepted: with what
+/// stands before, once, however often it came.
 pub fn request_keys()
     ensures once { (admin digest : List ℕ) (end : Hall) (steps : List Step)
         → IsRun (new_hall second admin digest) steps end → AtEachStep AcceptsOnce steps }
@@ -114,6 +115,8 @@ pub fn request_keys()
         → IsRun (new_hall second admin digest) steps end → AtEachStep AcceptsWithOk steps }
     ensures again { (admin digest : List ℕ) (end : Hall) (steps : List Step)
         → IsRun (new_hall second admin digest) steps end → AtEachStep RepeatsFirst steps }
+    ensures accepted { (admin digest : List ℕ) (end : Hall) (steps : List Step)
+        → IsRun (new_hall second admin digest) steps end → AtEachStep AnswersAccepted steps }
 {
     new_halls_are_sound();
     steps_keep_halls_sound();

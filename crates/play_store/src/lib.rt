@@ -12,7 +12,11 @@
 //! - `serve REQUEST` answers a request from a reader to a writer, as its arrival is answered, or by the fault's name;
 //! - `short ROOM LINE` plays an import or a request by a writer that takes so many octets and then fails. What was printed stands
 //!   before the fault's name, that of a request is left out;
-//! - `failing CALL LINE` plays a line, any of those above, over the store that fails at one of its calls, the first being 1.
+//! - `slow STEP CALL REQUEST` answers a request from a reader that gives so many octets a read at most, and fails at that read, the first
+//!   being 1, or at none where CALL is `-`;
+//! - `failing CALL LINE` plays a line, any of those above, over the store that fails at one of its calls, the first being 1;
+//! - `each LINE` plays it over the store that fails at its first call, then at its second and so on, until it isn't refused, and writes
+//!   at how many calls it was.
 #![tactic(auto)]
 
 mod arriving;

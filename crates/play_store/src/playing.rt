@@ -8,12 +8,15 @@ use crate::log::is_head;
 use crate::looking::look;
 use crate::reads::read;
 use crate::reports::print;
-use crate::serving::serve;
+use crate::serving::{Ends, serve};
 use crate::words::{count, first};
 use hall_store::{HallStore, Probe};
 use play_log::LogFault;
 use std::alloc::Global;
 use std::io::Write;
+
+// A line asks less of its store.
+const MAX_CALLS: u64 = 1_000;
 
 /// Whether a line is written as it is.
 pub fn is_comment(text: &str) -> bool {
@@ -81,8 +84,37 @@ fn short<S: HallStore>(
     };
     match text.strip_prefix("import ") {
         Some(words) => import(alloc, store, room, words, line),
-        None => serve(alloc, store, room, text, line),
+        None => serve(
+            alloc,
+            store,
+            Ends {
+                room,
+                ..Ends::NOWHERE
+            },
+            text,
+            line,
+        ),
     }
+}
+
+// A request, `STEP CALL REQUEST`, by a reader that gives so many octets a read at most, and fails at that read, or at none where CALL is `-`.
+fn slow<S: HallStore>(
+    alloc: Global,
+    store: S,
+    words: &str,
+    line: &mut String,
+) -> (Result<(), Fault>, S) {
+    let (step, words) = first(words);
+    let (call, text) = first(words);
+    let Ok(step) = step.parse::<usize>() else {
+        return (Err(Fault::Word), store);
+    };
+    let ends = Ends {
+        step,
+        fails_at: call.parse::<u64>().ok(),
+        ..Ends::NOWHERE
+    };
+    serve(alloc, store, ends, text, line)
 }
 
 // Plays a line that isn't one over a store that fails.
@@ -100,8 +132,9 @@ fn play_once<S: HallStore>(
     match kind {
         "log" => log(alloc, store, rest, line),
         "import" => import(alloc, store, usize::MAX, rest, line),
-        "serve" => serve(alloc, store, usize::MAX, rest, line),
+        "serve" => serve(alloc, store, Ends::NOWHERE, rest, line),
         "short" => short(alloc, store, rest, line),
+        "slow" => slow(alloc, store, rest, line),
         _ => {
             let mut store = store;
             let done = ask(alloc, &mut store, kind, rest, line);
@@ -129,6 +162,47 @@ fn play_failing<S: HallStore>(
     }
 }
 
+// Whether a line was answered as one that counts as not having come.
+fn is_refused(text: &str, answer: &str) -> bool {
+    let (kind, _) = first(text);
+    answer.starts_with("503 ")
+        || answer == "unavailable\n"
+        || (answer == "silence\n" && (kind == "discover" || kind == "boot"))
+}
+
+// Plays a line over the store that fails at its first call, at its second and so on, until the line isn't refused. Before the answer
+// stands at how many calls it was.
+fn play_each<S: HallStore>(
+    alloc: Global,
+    store: S,
+    text: &str,
+    line: &mut String,
+    asked: &mut Asked,
+) -> (Result<(), Fault>, S) {
+    let mut store = store;
+    for call in 1..MAX_CALLS {
+        let mut answer = String::new(alloc);
+        let probe = Probe::new(store, Some(call));
+        let (done, probe) = play_once(alloc, probe, text, &mut answer, asked);
+        store = probe.into_inner();
+        if done.is_err() {
+            return (done, store);
+        }
+        if !is_refused(text, answer.as_str()) {
+            let done = push_refused(alloc, line, call.saturating_sub(1), answer.as_str());
+            return (done, store);
+        }
+    }
+    (Err(Fault::Unavailable), store)
+}
+
+fn push_refused(alloc: Global, line: &mut String, calls: u64, answer: &str) -> Result<(), Fault> {
+    line.push_str(calls.to_string(alloc)?.as_str())?;
+    line.push_str(" refused, then ")?;
+    line.push_str(answer)?;
+    Ok(())
+}
+
 /// Plays a line over the store, which is given back, and writes its answer.
 pub fn play_line<S: HallStore>(
     alloc: Global,
@@ -140,9 +214,11 @@ pub fn play_line<S: HallStore>(
     if is_comment(text) {
         return (push_comment(line, text), store);
     }
-    match text.strip_prefix("failing ") {
-        Some(words) => play_failing(alloc, store, words, line, asked),
-        None => play_once(alloc, store, text, line, asked),
+    let (kind, rest) = first(text);
+    match kind {
+        "failing" => play_failing(alloc, store, rest, line, asked),
+        "each" => play_each(alloc, store, rest, line, asked),
+        _ => play_once(alloc, store, text, line, asked),
     }
 }
 

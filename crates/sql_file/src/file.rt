@@ -1,16 +1,102 @@
-//! The store of a hall in a file: made, opened and closed.
+//! The tables in a file: those of a new hall are made, or a task is done over the store of the hall that they are. One function goes from
+//! a file to its connection and closes it: a proof looks into its type for seconds, so all else holds for any connection or any store.
 use crate::fault::FileFault;
 use hall_sql::SqlStore;
+use hall_store::HallStore;
 use hall_types::{Digest, Name};
 use sql_tables::{CreateFault, OpenFault};
 use sqlite::{Alter, Connection, Error, FileFrom, FileStore, Unknown};
-use sqlite_disk::Disk;
 use std::alloc::Global;
 use std::fs;
 
-/// The store of a hall in a file. `close` it at the end: where it is dropped, what was kept is in the file and in the log beside
-/// it together.
-pub type Store = SqlStore<FileStore<FileFrom<Unknown>>>;
+/// A task over the store of a hall, whichever it is.
+pub trait StoreTask: Drop {
+    /// What comes of it.
+    type Outcome: Drop;
+
+    /// Does it over a store, which is given back.
+    fn over<S: HallStore>(self, store: S) -> (Self::Outcome, S);
+}
+
+/// How a task over a hall's file ended.
+#[derive(Drop)]
+pub struct Ended<O> {
+    /// What came of it.
+    pub outcome: O,
+    /// Whether the file was closed. If so, what was kept is in it, and nothing of it in the log beside it; if the disk failed, it is in
+    /// the file and in the log together.
+    pub closing: Result<(), FileFault>,
+}
+
+// What is done over the tables of a connection, which is given back.
+trait TablesTask: Drop {
+    type Outcome: Drop;
+
+    fn over<S: Alter + Drop>(
+        self,
+        alloc: Global,
+        connection: Connection<S>,
+    ) -> (Result<Self::Outcome, FileFault>, Connection<S>);
+}
+
+// The tables of a new hall are made, with its one operator, an enabled admin, and the digest of its token.
+#[derive(Clone, Copy)]
+struct Making {
+    admin: Name,
+    digest: Digest,
+}
+
+impl TablesTask for Making {
+    type Outcome = ();
+
+    fn over<S: Alter + Drop>(
+        self,
+        alloc: Global,
+        connection: Connection<S>,
+    ) -> (Result<(), FileFault>, Connection<S>) {
+        match SqlStore::create(alloc, connection, self.admin, self.digest) {
+            Ok(store) => (Ok(()), store.into_connection()),
+            Err(refused) => {
+                let fault = match refused.fault {
+                    CreateFault::NotEmpty => FileFault::NotEmpty,
+                    CreateFault::Unavailable => FileFault::Unavailable,
+                };
+                (Err(fault), refused.connection)
+            }
+        }
+    }
+}
+
+// A task is done over the store of the hall that is there.
+#[derive(Drop)]
+struct Opening<T> {
+    task: T,
+}
+
+impl<T: StoreTask> TablesTask for Opening<T> {
+    type Outcome = T::Outcome;
+
+    fn over<S: Alter + Drop>(
+        self,
+        alloc: Global,
+        connection: Connection<S>,
+    ) -> (Result<T::Outcome, FileFault>, Connection<S>) {
+        match SqlStore::open(alloc, connection) {
+            Ok(store) => {
+                let (outcome, store) = self.task.over(store);
+                (Ok(outcome), store.into_connection())
+            }
+            Err(refused) => {
+                let fault = match refused.fault {
+                    OpenFault::NotAHall => FileFault::NotAHall,
+                    OpenFault::OtherVersion => FileFault::OtherVersion,
+                    OpenFault::Unavailable => FileFault::Unavailable,
+                };
+                (Err(fault), refused.connection)
+            }
+        }
+    }
+}
 
 fn connect(
     rt: &HostRuntime,
@@ -29,80 +115,18 @@ fn closed(closing: Result<(), Error>) -> Result<(), FileFault> {
     }
 }
 
-/// Closes the file. What was kept is in it, and nothing of it in the log beside it.
-///
-/// # Errors
-///
-/// `Unavailable` where the disk failed: what was kept is in the file or in the log beside it.
-pub fn close<D: Disk + Drop>(store: SqlStore<FileStore<D>>) -> Result<(), FileFault> {
-    closed(store.into_connection().close())
-}
-
-// The one operator of a new hall, an enabled admin, and the digest of its token.
-#[derive(Clone, Copy)]
-struct FirstAdmin {
-    name: Name,
-    digest: Digest,
-}
-
-// The store of a new hall. Where its tables can't be made, the connection comes back with the fault.
-fn create_over<S: Alter + Drop>(
-    alloc: Global,
-    connection: Connection<S>,
-    admin: FirstAdmin,
-) -> Result<SqlStore<S>, (Connection<S>, FileFault)> {
-    match SqlStore::create(alloc, connection, admin.name, admin.digest) {
-        Ok(store) => Ok(store),
-        Err(refused) => {
-            let fault = match refused.fault {
-                CreateFault::NotEmpty => FileFault::NotEmpty,
-                CreateFault::Unavailable => FileFault::Unavailable,
-            };
-            Err((refused.connection, fault))
-        }
-    }
-}
-
-// The store of the hall that a connection's tables spell. Where there is none, the connection comes back with the fault.
-fn open_over<S: Alter + Drop>(
-    alloc: Global,
-    connection: Connection<S>,
-) -> Result<SqlStore<S>, (Connection<S>, FileFault)> {
-    match SqlStore::open(alloc, connection) {
-        Ok(store) => Ok(store),
-        Err(refused) => {
-            let fault = match refused.fault {
-                OpenFault::NotAHall => FileFault::NotAHall,
-                OpenFault::OtherVersion => FileFault::OtherVersion,
-                OpenFault::Unavailable => FileFault::Unavailable,
-            };
-            Err((refused.connection, fault))
-        }
-    }
-}
-
-// The store of a new hall with this admin, or of the hall that is there.
-fn store_over<S: Alter + Drop>(
-    alloc: Global,
-    connection: Connection<S>,
-    admin: Option<FirstAdmin>,
-) -> Result<SqlStore<S>, (Connection<S>, FileFault)> {
-    match admin {
-        Some(admin) => create_over(alloc, connection, admin),
-        None => open_over(alloc, connection),
-    }
-}
-
-// The same over a file, which is closed where there is no store. No other function goes from any store to a file's but `close`:
-// a proof looks into the file's for seconds.
-fn store_in(rt: &HostRuntime, path: &str, admin: Option<FirstAdmin>) -> Result<Store, FileFault> {
+// Opens a file for a task, and closes it.
+fn over_tables<T: TablesTask>(
+    rt: &HostRuntime,
+    path: &str,
+    task: T,
+) -> Result<Ended<T::Outcome>, FileFault> {
     let connection = connect(rt, path)?;
-    match store_over(rt.alloc(), connection, admin) {
-        Ok(store) => Ok(store),
-        Err((connection, fault)) => {
-            let _ = connection.close();
-            Err(fault)
-        }
+    let (done, connection) = task.over(rt.alloc(), connection);
+    let closing = closed(connection.close());
+    match done {
+        Ok(outcome) => Ok(Ended { outcome, closing }),
+        Err(fault) => Err(fault),
     }
 }
 
@@ -115,12 +139,7 @@ fn store_in(rt: &HostRuntime, path: &str, admin: Option<FirstAdmin>) -> Result<S
 /// has other tables, where another program has it open, and where memory or the disk failed. A refusal leaves the file's tables
 /// as they were.
 pub fn create(rt: &HostRuntime, path: &str, admin: Name, digest: Digest) -> Result<(), FileFault> {
-    let admin = FirstAdmin {
-        name: admin,
-        digest,
-    };
-    let store = store_in(rt, path, Some(admin))?;
-    close(store)
+    over_tables(rt, path, Making { admin, digest })?.closing
 }
 
 // A file that isn't there is no hall's: it isn't made.
@@ -132,14 +151,18 @@ fn look(rt: &HostRuntime, path: &str) -> Result<(), FileFault> {
     }
 }
 
-/// The store of the hall in a file. No table is written.
+/// Does a task over the store of the hall in a file, and closes the file, whatever comes of the task. The opening writes no table.
 ///
 /// # Errors
 ///
-/// `NotAHall` where there is no file, which isn't made, and where a hall's table is missing in it, or a column of one, or the
-/// one row that names its schema. `OtherVersion` where that row names another schema. `Unavailable` where another program has
-/// the file open, and where memory or the disk failed.
-pub fn open(rt: &HostRuntime, path: &str) -> Result<Store, FileFault> {
+/// The task isn't done: `NotAHall` where there is no file, which isn't made, and where a hall's table is missing in it, or a column
+/// of one, or the one row that names its schema. `OtherVersion` where that row names another schema. `Unavailable` where another
+/// program has the file open, and where memory or the disk failed.
+pub fn over<T: StoreTask>(
+    rt: &HostRuntime,
+    path: &str,
+    task: T,
+) -> Result<Ended<T::Outcome>, FileFault> {
     look(rt, path)?;
-    store_in(rt, path, None)
+    over_tables(rt, path, Opening { task })
 }

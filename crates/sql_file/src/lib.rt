@@ -1,8 +1,8 @@
-//! The file of a hall: its store is made, opened and closed.
+//! The file of a hall: it is made, and opened for a task over the hall's store.
 #![tactic(auto)]
 
 mod fault;
 mod file;
 
 pub use fault::FileFault;
-pub use file::{Store, close, create, open};
+pub use file::{Ended, StoreTask, create, over};

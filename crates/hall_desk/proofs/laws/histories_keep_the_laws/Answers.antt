@@ -28,6 +28,7 @@ returns c = λ admin digest items end led.
       accepted_once = c.request_keys.ensures.once admin digest end steps run;
       accepted_with_ok = c.request_keys.ensures.ok admin digest end steps run;
       repeats_first = c.request_keys.ensures.again admin digest end steps run;
+      answers_accepted = c.request_keys.ensures.accepted admin digest end steps run;
       always_waits_for_one = c.orders_and_answers.ensures.always admin digest end steps run;
       waits_for_one = c.orders_and_answers.ensures.waits admin digest end steps run;
       queues_at_entries = c.orders_and_answers.ensures.queued admin digest end steps run;

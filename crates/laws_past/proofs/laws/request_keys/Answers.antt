@@ -1,9 +1,12 @@
 use Rattle.std.proofs.Common.{refl}
 use Rattle.hall_types.specs.Hall.{new_hall, second}
-use Rattle.laws_past.specs.Laws.{AcceptsOnce, AcceptsWithOk, RepeatsFirst}
+use Rattle.hall_types.specs.RowLaws.{at-no_rows}
+use Rattle.hall_types.specs.Rows.{no_rows, pairs}
+use Rattle.laws_past.specs.Laws.{AcceptsOnce, AcceptsWithOk, AnswersAccepted, RepeatsFirst}
 use Rattle.laws_past.proofs.AcceptedLemmas.{accepts_with_ok}
 use Rattle.laws_past.proofs.Frame.{anything, at_each}
 use Rattle.laws_past.proofs.Keys.{KeepsReceipts, accepts_once, keys_step, new_keys, repeats_first}
+use Rattle.laws_past.proofs.Receipts.{AllOfAccepted, answers_accepted, no_receipts, receipts_step}
 use Rattle.laws_past.proofs.laws.request_keys.Goals as goal
 
 pub returns-clause-once : goal.returns-clause-once
@@ -21,3 +24,9 @@ returns-clause-ok c = λ admin digest end steps run.
     at_each c.steps_keep_halls_sound.ensures.step (λ s. Unit {0}) (λ past h. Unit {0}) (λ past s given is sound later old. tt)
     AcceptsWithOk (λ past s is sound old. accepts_with_ok past s is sound)
     steps (new_hall second admin digest) end (anything steps) (c.new_halls_are_sound.ensures second admin digest) refl tt run
+
+pub returns-clause-accepted : goal.returns-clause-accepted
+returns-clause-accepted c = λ admin digest end steps run.
+    at_each c.steps_keep_halls_sound.ensures.step (λ s. Unit {0}) AllOfAccepted (receipts_step) AnswersAccepted (answers_accepted)
+    steps (new_hall second admin digest) end (anything steps) (c.new_halls_are_sound.ensures second admin digest) refl
+    (no_receipts (new_hall second admin digest) (λ at_key. at-no_rows pairs at_key no_rows refl)) run

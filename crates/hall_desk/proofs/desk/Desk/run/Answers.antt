@@ -1,12 +1,13 @@
 use Rattle.std.proofs.Common.{rules, arith, ◌≡◌, ◌<◌, List, [], refl, sym, ◌∙◌, length, take, subst}
 use Rattle.std.proofs.lemmas.Grind.{common_steps}
 use Rattle.std.proofs.lemmas.List.{take_more}
-use Rattle.hall_desk.specs.Attempt.{IsRan}
 use Rattle.hall_desk.specs.Desk.{site_of, store_of}
+use Rattle.hall_desk.specs.Stops.{HasRun}
 use Rattle.hall_desk.specs.declared.arrival.Answer.{Answer}
 use Rattle.hall_desk.specs.declared.arrival.Arrival.{Arrival}
 use Rattle.hall_desk.proofs.HistoryLemmas.{after_run}
 use Rattle.hall_desk.proofs.RunLemmas.{idle_more, ran_more, ran_none}
+use Rattle.hall_desk.proofs.StopLemmas.{run_given, run_stop}
 use Rattle.hall_desk.proofs.desk.Desk.run.Goals as goal
 
 pub loop-arrival-init : goal.loop-arrival-init
@@ -14,7 +15,7 @@ loop-arrival-init g c = record {
   clean = λ clean. clean;
   site = refl;
   ran = λ clean h held sound.
-      subst (λ (answers : List Answer). IsRan g.S.HallStore.holds (store_of c.args.self.now) (site_of c.args.self.now) h [] answers) (sym c.in_ok-answers.ensures.items)
+      subst (λ (answers : List Answer). HasRun g.S.HallStore.holds g.S.HallStore.leaves (store_of c.args.self.now) (store_of c.args.self.now) (site_of c.args.self.now) h [] answers) (sym c.in_ok-answers.ensures.items)
       (ran_none g.S.HallStore.holds g.S.HallStore.leaves (site_of c.args.self.now) (store_of c.args.self.now) h held sound);
   idle = λ clean h held none. (held, none);
   count = search rules;
@@ -31,7 +32,7 @@ loop-arrival-preserved g c =
       ran = λ clean h held sound.
           rw (take_more c.args.arrivals.now c.loop-arrival.arrival-index c.arrival-item.result here, sym c.arrival-item.is, c.push.ensures.items, c.if-is_err.ensures.negation)
           (ran_more g.S.HallStore.holds g.S.HallStore.leaves (site_of c.args.self.now) (site_of c.loop-arrival.self) before.site
-          (store_of c.loop-arrival.self) (store_of c.answer-answer.new.self) h
+          (store_of c.args.self.now) (store_of c.loop-arrival.self) (store_of c.answer-answer.new.self) h
           (take c.loop-arrival.arrival-index c.args.arrivals.now) c.loop-arrival.answers.items c.arrival-item.result c.answer-answer.result
           (before.ran (c.answer-answer.ensures.answer clean).0 h held sound) (c.answer-answer.ensures.answer clean).1);
       idle = λ clean h held none.
@@ -46,10 +47,20 @@ loop-arrival-preserved g c =
 pub returns-clause-run : goal.returns-clause-run
 returns-clause-run g c = λ clean h held sound.
     let whole : take c.loop-arrival.arrival-index c.args.arrivals.now ≡ c.args.arrivals.now = grind (arith, common_steps) in
-    subst (λ (arrivals : List Arrival). IsRan g.S.HallStore.holds (store_of c.loop-arrival.self) (site_of c.args.self.now) h arrivals c.loop-arrival.answers.items) whole
+    subst (λ (arrivals : List Arrival). HasRun g.S.HallStore.holds g.S.HallStore.leaves (store_of c.args.self.now) (store_of c.loop-arrival.self) (site_of c.args.self.now) h arrivals c.loop-arrival.answers.items) whole
     (c.loop-arrival.invariant.ran clean h held sound)
 
 pub returns-clause-history : goal.returns-clause-history
 returns-clause-history g c = λ clean admin digest past was.
     after_run (record { laws = c.histories_keep_the_laws.ensures }) g.S.HallStore.holds g.S.HallStore.leaves (store_of c.args.self.now) (store_of c.loop-arrival.self)
+    (site_of c.args.self.now) admin digest past was c.args.arrivals.now c.loop-arrival.answers.items (λ h held sound. (returns-clause-run g c clean h held sound).ran)
+
+pub returns-clause-settled : goal.returns-clause-settled
+returns-clause-settled g c = λ clean admin digest past was.
+    run_given (record { laws = c.histories_keep_the_laws.ensures }) g.S.HallStore.holds g.S.HallStore.leaves (store_of c.args.self.now) (store_of c.loop-arrival.self)
+    (site_of c.args.self.now) admin digest past was c.args.arrivals.now c.loop-arrival.answers.items (returns-clause-run g c clean)
+
+pub returns-clause-stop : goal.returns-clause-stop
+returns-clause-stop g c = λ clean admin digest past was.
+    run_stop (record { laws = c.histories_keep_the_laws.ensures }) g.S.HallStore.holds g.S.HallStore.leaves (store_of c.args.self.now) (store_of c.loop-arrival.self)
     (site_of c.args.self.now) admin digest past was c.args.arrivals.now c.loop-arrival.answers.items (returns-clause-run g c clean)

@@ -1,0 +1,53 @@
+//! A hall in SQLite over a stop, and what comes to it once its tables are opened again.
+ghost use Rattle.std.specs.Prelude.{ℕ, List, IfOk};
+ghost use Rattle.sqlite.specs.Held.{state};
+ghost use Rattle.sqlite.specs.Tree.{Trees};
+ghost use Rattle.pxe_vendor.specs.Place.{Site};
+ghost use Rattle.hall_types.specs.Hall.{Hall, new_hall, second};
+ghost use Rattle.sql_schema.specs.Spelling.{SpellHall};
+ghost use Rattle.hall_desk.specs.Headline.{Headline};
+ghost use Rattle.hall_desk.specs.History.{Item};
+ghost use Rattle.hall_desk.specs.Stops.{AndCutRun, IsEnd, IsLeft, IsSettled, OrUnanswered, OrUnreplied};
+ghost use Rattle.hall_desk.specs.declared.arrival.Answer.{Answer};
+ghost use Rattle.hall_desk.specs.declared.arrival.Arrival.{Arrival};
+ghost use Rattle.hall_events.specs.declared.event.Event.{Event};
+ghost use Rattle.hall_sql.specs.Store.{connection};
+
+use hall_sql::{Refused, SqlStore};
+use hall_store::HallStore;
+use sql_tables::OpenFault;
+use sqlite::{Alter, Connection};
+use std::alloc::Global;
+
+/// All tables that a stop may leave of a desk's store, by the clause `stop` of the call, spell a hall to which one of that clause's
+/// histories leads.
+pub fn stops_leave_ends<S: Alter>(store: &SqlStore<S>)
+    ensures answer { (admin digest : List ℕ) (past : List Item) (site : Site) (arrival : Arrival)
+        → IsLeft ⟦<SqlStore<S> as HallStore>⟧.leaves store.now admin digest (OrUnanswered past site arrival)
+        → (db : Trees) → (state S.Store (connection store.now)).may_leave db → (h : Hall) × SpellHall db h × IsEnd admin digest (OrUnanswered past site arrival) h }
+    ensures run { (admin digest : List ℕ) (past : List Item) (site : Site) (arrivals : List Arrival) (answers : List Answer)
+        → IsLeft ⟦<SqlStore<S> as HallStore>⟧.leaves store.now admin digest (AndCutRun past site arrivals answers)
+        → (db : Trees) → (state S.Store (connection store.now)).may_leave db → (h : Hall) × SpellHall db h × IsEnd admin digest (AndCutRun past site arrivals answers) h }
+    ensures step { (admin digest : List ℕ) (past : List Item) (site : Site) (e : Event) (moment : ℕ) (fresh : List ℕ)
+        → IsLeft ⟦<SqlStore<S> as HallStore>⟧.leaves store.now admin digest (OrUnreplied past site e moment fresh)
+        → (db : Trees) → (state S.Store (connection store.now)).may_leave db → (h : Hall) × SpellHall db h × IsEnd admin digest (OrUnreplied past site e moment fresh) h }
+{
+    let _ = store;
+}
+
+/// Opens the tables of a hall to which a history leads, as a stop or a store that was closed left them: the store has that hall, a
+/// stop leaves it alone, and what comes next is added to that history.
+///
+/// # Errors
+///
+/// Those of `SqlStore::open`.
+pub fn open_again<S: Alter>(
+    alloc: Global,
+    conn: Connection<S>,
+) -> Result<SqlStore<S>, Refused<S, OpenFault>>
+    ensures { IfOk result (λ store. ⟦<SqlStore<S> as HallStore>⟧.is_clean store → (admin digest : List ℕ) (items : List Item) (h : Hall)
+        → Headline (new_hall second admin digest) items h → SpellHall (state S.Store conn).now.trees h
+        → IsSettled ⟦<SqlStore<S> as HallStore>⟧.holds ⟦<SqlStore<S> as HallStore>⟧.leaves store admin digest items) }
+{
+    SqlStore::open(alloc, conn)
+}
