@@ -189,6 +189,10 @@ usage report --db hall.db --db hall.db
 names=id,macs,arch,uuid,pool,status,owner,image,locked,version
 want 0 "$names"$'\n1,52:54:00:12:34:56,uefi64,,lab,New,,,no,1' '' export --db hall.db
 usage export
+want 0 already '' migrate --db hall.db
+fault NotAHall migrate --db none.db
+absent none.db
+usage migrate
 
 # Imports.
 cp hall.db before.db
@@ -290,7 +294,7 @@ fault Bind serve --db hall.db --discover 192.0.2.77:0 --boot $here4 --http $here
 fault Io serve --db hall.db --discover $here4 --boot $here4 --http $here4 --turns 0 --log nowhere/log
 
 # Help: each subcommand's has an example.
-for name in frame init request serve report import export; do
+for name in frame init migrate request serve report import export; do
     run $name --help
     [ "$status" = 0 ] && grep -q "Example: hallboot $name" out || bad "help of $name"
     count=$((count + 1))

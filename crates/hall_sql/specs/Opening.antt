@@ -2,6 +2,7 @@
 use Rattle.std.specs.Prelude.{Result, Ok, Err}
 use Rattle.sqlite.specs.Held.{Held}
 use Rattle.hall_sql.specs.Store.{connection}
+use Rattle.sql_tables.specs.declared.migrating.Migrated.{Migrated}
 use Rattle.hall_sql.specs.declared.opening.Refused.{Refused}
 use Rattle.hall_sql.specs.declared.store.SqlStore.{SqlStore}
 
@@ -14,3 +15,13 @@ connection_of (Err refused) = refused.connection
 abbrev pub outcome : {S F : Type 0} → Result (SqlStore S) (Refused S F) → Result (Unit {0}) F
 outcome (Ok store) = Ok tt
 outcome (Err refused) = Err refused.fault
+
+-- the connection after a migration
+abbrev pub connection_after : {S F : Type 0} → Result (SqlStore S × Migrated) (Refused S F) → Held S
+connection_after (Ok done) = connection done.0
+connection_after (Err refused) = refused.connection
+
+-- the answer of a migration without the connection
+abbrev pub migration_of : {S F : Type 0} → Result (SqlStore S × Migrated) (Refused S F) → Result Migrated F
+migration_of (Ok done) = Ok done.1
+migration_of (Err refused) = Err refused.fault

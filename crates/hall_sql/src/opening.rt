@@ -1,19 +1,20 @@
-//! A connection becomes a store: of a new hall, or of the hall that the file has.
-ghost use Rattle.std.specs.Prelude.{◌≡◌, ◌↔◌, IsTrue, IfOk, IfErr, Err, [], ◌∷◌};
+//! A connection becomes a store: of a new hall, or of the hall that the file has, which is carried over if it's of the first schema.
+ghost use Rattle.std.specs.Prelude.{◌≡◌, ◌≢◌, ◌↔◌, IsTrue, IfOk, IfErr, Ok, Err, [], ◌∷◌};
 ghost use Rattle.sqlite.specs.Held.{state};
 ghost use Rattle.sqlite.specs.State.{HasCleanDisk, Survives};
 ghost use Rattle.hall_types.specs.Hall.{Hall, new_hall, second};
 ghost use Rattle.sql_schema.specs.Holding.{Holds, IsHeld};
 ghost use Rattle.sql_schema.specs.Spelling.{SpellHall};
 ghost use Rattle.sql_tables.specs.Creating.{KeepsTables, MayLeaveBesides, is_a_name_taken};
+ghost use Rattle.sql_tables.specs.Migrating.{BecomeHall, IsRightMigration};
 ghost use Rattle.sql_tables.specs.Opening.{IsRightAnswer};
-ghost use Rattle.hall_sql.specs.Opening.{connection_of, outcome};
+ghost use Rattle.hall_sql.specs.Opening.{connection_after, connection_of, migration_of, outcome};
 ghost use Rattle.hall_sql.specs.Store.{connection};
 
 use crate::store::SqlStore;
 use hall_store::HallStore;
 use hall_types::{Digest, Name};
-use sql_tables::{CreateFault, OpenFault, create_tables, look_at_tables};
+use sql_tables::{CreateFault, Migrated, OpenFault, create_tables, look_at_tables, migrate_tables};
 use sqlite::{Alter, Connection};
 use std::alloc::Global;
 
@@ -83,5 +84,37 @@ impl<S: Alter> SqlStore<S> {
             });
         }
         Ok(SqlStore::over(alloc, conn))
+    }
+
+    /// The store of the hall that the connection's tables spell, which are carried over to the second schema, in one transaction, if
+    /// they are those of the first: each machine in Disk erasing or Failed disk erasing is erased in full, the one kind that the first
+    /// schema knows, and nothing else changes. Tables of the second schema stay as they are. `alloc` is for what the store reads for
+    /// itself.
+    ///
+    /// # Errors
+    ///
+    /// `NotAHall` where a table, a column or the one row that names the schema is missing, or the first schema has a table `wipes`,
+    /// which only the second has; `OtherVersion` where that row names neither the first schema nor the second; `Unavailable` where
+    /// memory or the disk failed. A refusal leaves the tables as they were.
+    pub fn migrate(
+        alloc: Global,
+        mut conn: Connection<S>,
+    ) -> Result<(SqlStore<S>, Migrated), Refused<S, OpenFault>>
+        ensures clean { HasCleanDisk (state S.Store (connection_after result)) → HasCleanDisk (state S.Store conn) }
+        ensures held { IfOk result (λ done. ⟦<SqlStore<S> as HallStore>⟧.is_clean done.0 → (h : Hall) → BecomeHall (state S.Store conn).now.trees h → ⟦<SqlStore<S> as HallStore>⟧.holds done.0 h) }
+        ensures settled { IfOk result (λ done. ⟦<SqlStore<S> as HallStore>⟧.is_clean done.0 → (h : Hall) → BecomeHall (state S.Store conn).now.trees h → ⟦<SqlStore<S> as HallStore>⟧.leaves done.0 (h ∷ [])) }
+        ensures opened { IfOk result (λ done. HasCleanDisk (state S.Store (connection done.0)) → (h : Hall) → BecomeHall (state S.Store conn).now.trees h → IsHeld (state S.Store (connection done.0)) h) }
+        ensures refused { IfErr result (λ refused. HasCleanDisk (state S.Store refused.connection) → IsTrue (state S.Store conn).is_open → (h : Hall) → BecomeHall (state S.Store conn).now.trees h → refused.fault ≡ OpenFault.Unavailable) }
+        ensures answered { HasCleanDisk (state S.Store (connection_after result)) → IsRightMigration (state S.Store conn).now (migration_of result) }
+        ensures kept { HasCleanDisk (state S.Store (connection_after result)) → migration_of result ≢ Ok Migrated.Now → KeepsTables (state S.Store conn) (state S.Store (connection_after result)) }
+        ensures crash { HasCleanDisk (state S.Store (connection_after result)) → (h : Hall) → BecomeHall (state S.Store conn).now.trees h → MayLeaveBesides h (state S.Store conn) (state S.Store (connection_after result)) }
+    {
+        match migrate_tables(&mut conn) {
+            Ok(migrated) => Ok((SqlStore::over(alloc, conn), migrated)),
+            Err(fault) => Err(Refused {
+                connection: conn,
+                fault,
+            }),
+        }
     }
 }

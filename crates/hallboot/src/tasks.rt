@@ -4,7 +4,8 @@ use hall_store::HallStore;
 use hall_types::{Digest, Name};
 use hallboot_tasks::{Asked, Task, asked_by, carried_out};
 use hallboot_words::Words;
-use sql_file::{FileFault, StoreTask, create, over};
+use sql_file::{FileFault, StoreTask, create, migrate, over};
+use sql_tables::Migrated;
 use std::fs;
 use std::os::unix::fs::PermissionsExt;
 
@@ -41,14 +42,30 @@ impl<'a> StoreTask for FileTask<'a> {
     }
 }
 
-// Carries a task out over a hall's file. Where the file can't be closed, what the task answered stands, and the user is told.
-fn over_file(rt: &HostRuntime, path: &str, task: Task<'_>) -> Result<Exit, Fault> {
-    let ended = over(rt, path, FileTask { rt, task }).map_err(of_file)?;
-    if ended.closing.is_err() {
+// Where a file couldn't be closed, what was answered stands, and the user is told.
+fn tell_of_closing(rt: &HostRuntime, path: &str, closing: Result<(), FileFault>) {
+    if closing.is_err() {
         let _ = eprintln!(rt;
             "hallboot: {path} wasn't closed: what was answered is in it and in its log together"
         );
     }
+}
+
+fn carry_over(rt: &HostRuntime, path: &str) -> Result<Exit, Fault> {
+    let ended = migrate(rt, path).map_err(of_file)?;
+    tell_of_closing(rt, path, ended.closing);
+    let text = match ended.outcome {
+        Migrated::Now => "migrated\n",
+        Migrated::Already => "already\n",
+    };
+    desk_operations::write_text(&mut rt.stdout(), text)?;
+    Ok(Exit::Done)
+}
+
+// Carries a task out over a hall's file.
+fn over_file(rt: &HostRuntime, path: &str, task: Task<'_>) -> Result<Exit, Fault> {
+    let ended = over(rt, path, FileTask { rt, task }).map_err(of_file)?;
+    tell_of_closing(rt, path, ended.closing);
     ended.outcome
 }
 
@@ -84,6 +101,7 @@ fn carry_out(rt: &HostRuntime, asked: Asked<'_>) -> Result<Exit, Fault> {
             admin,
             digest,
         } => init(rt, path, admin, digest),
+        Asked::Migrate { path } => carry_over(rt, path),
         Asked::Over { path, task } => over_hall(rt, path, task),
     }
 }

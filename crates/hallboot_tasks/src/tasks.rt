@@ -52,6 +52,10 @@ pub enum Asked<'a> {
         admin: Name,
         digest: Digest,
     },
+    /// The file of a hall is carried over from the first schema to the second.
+    Migrate {
+        path: &'a str,
+    },
     /// A task over the hall in a file.
     Over {
         path: &'a str,
@@ -73,6 +77,11 @@ fn init<'a>(words: &Words<'a>) -> Result<Asked<'a>, Fault> {
         admin,
         digest,
     })
+}
+
+fn migrate<'a>(words: &Words<'a>) -> Result<Asked<'a>, Fault> {
+    let path = values::db(words)?;
+    Ok(Asked::Migrate { path })
 }
 
 fn request<'a>(rt: &HostRuntime, words: &Words<'a>) -> Result<Asked<'a>, Fault> {
@@ -144,6 +153,7 @@ pub fn asked_by<'a>(rt: &HostRuntime, words: &Words<'a>) -> Result<Asked<'a>, Fa
     match words.subcommand {
         Subcommand::Frame => frame(rt, words),
         Subcommand::Init => init(words),
+        Subcommand::Migrate => migrate(words),
         Subcommand::Request => request(rt, words),
         Subcommand::Serve => serve(rt, words),
         Subcommand::Report => report(words),

@@ -8,6 +8,7 @@ use crate::options::{
 pub enum Subcommand {
     Frame,
     Init,
+    Migrate,
     Request,
     Serve,
     Report,
@@ -27,7 +28,7 @@ pub(crate) struct Entry {
 }
 
 /// All subcommands, in the order of the help.
-pub(crate) const ENTRIES: [Entry; 7] = [
+pub(crate) const ENTRIES: [Entry; 8] = [
     Entry {
         subcommand: Subcommand::Frame,
         name: "frame",
@@ -42,6 +43,14 @@ pub(crate) const ENTRIES: [Entry; 7] = [
         about: "Makes the file of a new hall",
         example: "Example: hallboot init --db hall.db --admin ada --digest \"$(printf %s \"$TOKEN\" | sha256sum | cut -c1-64)\"",
         words: &[DB, ADMIN, DIGEST],
+        has_place: false,
+    },
+    Entry {
+        subcommand: Subcommand::Migrate,
+        name: "migrate",
+        about: "Carries the file of a hall of the first version over to this one",
+        example: "Example: hallboot migrate --db hall.db\n\nPrints migrated, or already where there is nothing to do. Keep a copy of FILE and FILE-wal first.",
+        words: &[DB],
         has_place: false,
     },
     Entry {

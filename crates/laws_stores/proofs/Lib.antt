@@ -1,1 +1,2 @@
 pub mod StopLemmas
+mod MigratingLemmas

@@ -1,6 +1,7 @@
 //! Files of tables in memory: each part of the log begins with `new`, an empty file. `sql STATEMENT` carries a statement out,
 //! `done` or `refused`; `query STATEMENT` writes the number in the first column of the first row; `create ADMIN DIGEST` makes the
-//! tables of a hall, `created` or the fault's name; `open` looks at the tables, `opened` or the fault's name; `faults create` and
+//! tables of a hall, `created` or the fault's name; `open` looks at the tables, `opened` or the fault's name; `migrate` carries them over
+//! to the second schema, `migrated`, `already` or the fault's name; `faults create` and
 //! `faults open` write the numbers and the names of these faults. Each other line is
 //! played over the store of the file's hall, which is opened for it.
 use hall_sql::SqlStore;
@@ -9,7 +10,7 @@ use play_log::admin;
 use play_store::{
     Asked, Fault, PlayFault, first, is_comment, is_head, play_line, push_comment, write_answer,
 };
-use sql_tables::{CreateFault, OpenFault};
+use sql_tables::{CreateFault, Migrated, OpenFault};
 use sqlite::{Alter, Connection, Error};
 use std::alloc::Global;
 use std::io::Write;
@@ -106,6 +107,14 @@ fn open<S: Alter>(alloc: Global, conn: Connection<S>) -> (&'static str, Connecti
     }
 }
 
+fn migrate<S: Alter>(alloc: Global, conn: Connection<S>) -> (&'static str, Connection<S>) {
+    match SqlStore::migrate(alloc, conn) {
+        Ok((store, Migrated::Now)) => ("migrated\n", store.into_connection()),
+        Ok((store, Migrated::Already)) => ("already\n", store.into_connection()),
+        Err(refused) => (open_word(refused.fault), refused.connection),
+    }
+}
+
 fn answered(line: &mut String, word: &str) -> Result<(), Fault> {
     line.push_str(word)?;
     Ok(())
@@ -172,6 +181,10 @@ pub fn play_file_line<S: Alter>(
         "create" => make(alloc, conn, rest, line),
         "open" => {
             let (word, conn) = open(alloc, conn);
+            (answered(line, word), conn)
+        }
+        "migrate" => {
+            let (word, conn) = migrate(alloc, conn);
             (answered(line, word), conn)
         }
         _ => play_over(alloc, conn, text, line, asked),

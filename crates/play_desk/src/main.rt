@@ -8,7 +8,8 @@
 //!   answer of each LINE is written, and that of its repeat. Then the log stops after 0 calls, CALLS calls, twice as many, and so on,
 //!   until it doesn't stop any more, and after it the file. What that may leave is in `stops.rt`. After the last of them each LINE is
 //!   played once more over SQLite in memory and over the store in memory, whose hall the first line makes, where memory ends after 0
-//!   octets, OCTETS octets, twice as many, and so on, 32 times as many for SQLite, as `budgets.rt` says, and then the line `look ..`.
+//!   octets, OCTETS octets, twice as many, and so on, 32 times as many for SQLite, as `budgets.rt` says, and then the line `look ..`. Lines
+//!   that end with `migrate` aren't played over the store in memory.
 //!
 //! At the end of each half is written how much the desk read of its stores.
 #![tactic(auto)]

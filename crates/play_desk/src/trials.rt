@@ -120,6 +120,11 @@ fn end_memory<H: Hall>(
     Ok(hall)
 }
 
+// Whether lines end with a migration: the store in memory has no tables that could be carried over.
+fn is_migration(text: &str) -> bool {
+    text.ends_with(" migrate")
+}
+
 // Plays the lines from a place on over a hall, and then looks at it.
 fn play_over_hall<H: Hall, W: Write>(
     alloc: Global,
@@ -133,7 +138,7 @@ fn play_over_hall<H: Hall, W: Write>(
     let mut hall = hall;
     for (at, text) in lines.iter().enumerate().skip(from) {
         let text = text.as_str();
-        if is_comment(text) {
+        if is_comment(text) || (times == 1 && is_migration(text)) {
             continue;
         }
         let mut line = String::new(alloc);

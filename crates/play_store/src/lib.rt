@@ -12,6 +12,8 @@
 //! - `serve REQUEST` answers a request from a reader to a writer, as its arrival is answered, or by the fault's name;
 //! - `short ROOM LINE` plays an import or a request by a writer that takes so many octets and then fails. What was printed stands
 //!   before the fault's name, that of a request is left out;
+//! - `cuts ARRIVAL` answers the first octets of an arrival that comes as octets or as a request: none, one, two and so on, and writes each
+//!   answer that isn't that before it, after the number of octets;
 //! - `slow STEP CALL REQUEST` answers a request from a reader that gives so many octets a read at most, and fails at that read, the first
 //!   being 1, or at none where CALL is `-`;
 //! - `failing CALL LINE` plays a line, any of those above, over the store that fails at one of its calls, the first being 1;
@@ -22,6 +24,7 @@
 mod arriving;
 mod asking;
 mod changes;
+mod cutting;
 mod fault;
 mod finding;
 mod imports;

@@ -2,6 +2,7 @@
 use crate::arriving::{arrive, is_arrival, log};
 use crate::asking::Asked;
 use crate::changes::apply;
+use crate::cutting::cuts;
 use crate::fault::{Fault, PlayFault};
 use crate::imports::{import_of, import_over, parse_rows};
 use crate::log::is_head;
@@ -135,6 +136,7 @@ fn play_once<S: HallStore>(
         "serve" => serve(alloc, store, Ends::NOWHERE, rest, line),
         "short" => short(alloc, store, rest, line),
         "slow" => slow(alloc, store, rest, line),
+        "cuts" => cuts(alloc, store, rest, line),
         _ => {
             let mut store = store;
             let done = ask(alloc, &mut store, kind, rest, line);

@@ -1,10 +1,11 @@
-//! The tables in a file: those of a new hall are made, or a task is done over the store of the hall that they are. One function goes from
+//! The tables in a file: those of a new hall are made, those of the first schema are carried over, or a task is done over the store of the
+//! hall that they are. One function goes from
 //! a file to its connection and closes it: a proof looks into its type for seconds, so all else holds for any connection or any store.
 use crate::fault::FileFault;
 use hall_sql::SqlStore;
 use hall_store::HallStore;
 use hall_types::{Digest, Name};
-use sql_tables::{CreateFault, OpenFault};
+use sql_tables::{CreateFault, Migrated, OpenFault};
 use sqlite::{Alter, Connection, Error, FileFrom, FileStore, Unknown};
 use std::alloc::Global;
 use std::fs;
@@ -67,6 +68,33 @@ impl TablesTask for Making {
     }
 }
 
+fn of_opening(fault: OpenFault) -> FileFault {
+    match fault {
+        OpenFault::NotAHall => FileFault::NotAHall,
+        OpenFault::OtherVersion => FileFault::OtherVersion,
+        OpenFault::Unavailable => FileFault::Unavailable,
+    }
+}
+
+// The tables of the first schema are carried over to the second.
+#[derive(Clone, Copy)]
+struct Migrating;
+
+impl TablesTask for Migrating {
+    type Outcome = Migrated;
+
+    fn over<S: Alter + Drop>(
+        self,
+        alloc: Global,
+        connection: Connection<S>,
+    ) -> (Result<Migrated, FileFault>, Connection<S>) {
+        match SqlStore::migrate(alloc, connection) {
+            Ok((store, migrated)) => (Ok(migrated), store.into_connection()),
+            Err(refused) => (Err(of_opening(refused.fault)), refused.connection),
+        }
+    }
+}
+
 // A task is done over the store of the hall that is there.
 #[derive(Drop)]
 struct Opening<T> {
@@ -86,14 +114,7 @@ impl<T: StoreTask> TablesTask for Opening<T> {
                 let (outcome, store) = self.task.over(store);
                 (Ok(outcome), store.into_connection())
             }
-            Err(refused) => {
-                let fault = match refused.fault {
-                    OpenFault::NotAHall => FileFault::NotAHall,
-                    OpenFault::OtherVersion => FileFault::OtherVersion,
-                    OpenFault::Unavailable => FileFault::Unavailable,
-                };
-                (Err(fault), refused.connection)
-            }
+            Err(refused) => (Err(of_opening(refused.fault)), refused.connection),
         }
     }
 }
@@ -149,6 +170,20 @@ fn look(rt: &HostRuntime, path: &str) -> Result<(), FileFault> {
         Ok(false) => Err(FileFault::NotAHall),
         Err(_) => Err(FileFault::Unavailable),
     }
+}
+
+/// Carries the tables of a hall of the first schema in a file over to the second, in one transaction, and closes the file; what became
+/// of them. Tables of the second schema stay as they are.
+///
+/// # Errors
+///
+/// `NotAHall` where there is no file, which isn't made, where a hall's table is missing in it, or a column of one, or the one row that
+/// names its schema, and where a file of the first schema has a table `wipes`. `OtherVersion` where that row names neither schema.
+/// `Unavailable` where another program has the file open, and where memory or the disk failed. A refusal leaves the tables as they
+/// were.
+pub fn migrate(rt: &HostRuntime, path: &str) -> Result<Ended<Migrated>, FileFault> {
+    look(rt, path)?;
+    over_tables(rt, path, Migrating)
 }
 
 /// Does a task over the store of the hall in a file, and closes the file, whatever comes of the task. The opening writes no table.

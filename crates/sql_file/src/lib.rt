@@ -1,8 +1,8 @@
-//! The file of a hall: it is made, and opened for a task over the hall's store.
+//! The file of a hall: it is made, carried over from the first schema, and opened for a task over the hall's store.
 #![tactic(auto)]
 
 mod fault;
 mod file;
 
 pub use fault::FileFault;
-pub use file::{Ended, StoreTask, create, over};
+pub use file::{Ended, StoreTask, create, migrate, over};

@@ -23,7 +23,7 @@ use Rattle.sql_schema.specs.StatementLaws.{not_run_back, shown_same}
 use Rattle.sql_schema.specs.NameStatements.{find_numbers_text, find_numbers_query, find_numbers_columns}
 use Rattle.sql_tables.specs.declared.fault.OpenFault.{OpenFault}
 use Rattle.sql_tables.specs.declared.fault.OpenFault.TheVariants.{NotAHall, OtherVersion, Unavailable}
-use Rattle.sql_tables.specs.Opening.{AreLookedFor, AreUnderstood, IsStill, IsUnderstood, HasTables, IsRightAnswer, IsLookAtTables, IsSchemaRow, SaysSchema, TellsVersion, whole_rows}
+use Rattle.sql_tables.specs.Opening.{AreLookedFor, AreUnderstood, IsAnswerFor, IsStill, IsUnderstood, IsLookAtTables, IsSchemaRow, SaysSchema, TellsVersion}
 
 -- an error in the text says that it isn't understood
 not_understood : (old new : State) (sql : List ℕ) (e : Error) (f : _) → e ≡ SqlInputError f → ((params : Row) → IsNotRun old new sql params e) → IsUnderstood old.now.schema sql → ⊥
@@ -75,7 +75,7 @@ looked_failed sql old new e why not_run missing never = record {
 }
 
 -- texts and then more
-keeps_then : (a b c : State) → KeepsCommit a b → KeepsCommit b c → KeepsCommit a c
+pub keeps_then : (a b c : State) → KeepsCommit a b → KeepsCommit b c → KeepsCommit a c
 keeps_then a b c one two = record { was_open = λ live. one.was_open (two.was_open live); committed = λ live. two.committed live ∙ one.committed (two.was_open live) }
 
 still_then : (a b c : State) → IsStill a b → IsStill b c → IsStill a c
@@ -174,7 +174,7 @@ on_any Q (Err e) q = tt
 
 -- ---- all of a look
 
-compiled_of : (r : Result Compiled CompileError) → IsPlain r → (c : Compiled) × (r ≡ Ok c)
+pub compiled_of : (r : Result Compiled CompileError) → IsPlain r → (c : Compiled) × (r ≡ Ok c)
 compiled_of (Ok c) plain = (c, refl)
 compiled_of (Err e) plain = absurd plain
 
@@ -184,63 +184,64 @@ reads_hall db n says = (compiled_of _ says.reads.plain, tt)
 says_on : (a b : State) (n : ℤ) → IsStill a b → SaysSchema a.now n → SaysSchema b.now n
 says_on a b n still says = subst (λ (d : Database). SaysSchema d n) (sym still.now) says
 
-has_on : (a b : State) → IsStill a b → HasTables a.now.schema → HasTables b.now.schema
-has_on a b still has = subst (λ (d : Database). HasTables d.schema) (sym still.now) has
+has_on : (texts : List (List ℕ)) (a b : State) → IsStill a b → AreUnderstood a.now.schema texts → AreUnderstood b.now.schema texts
+has_on texts a b still has = subst (λ (d : Database). AreUnderstood d.schema texts) (sym still.now) has
 
-pub unavailable : (db : Database) → IsRightAnswer db (Err Unavailable)
-unavailable db = record { version = λ n says. tt; complete = λ n says. tt; whole = λ says has is. absurd (let e = is in cc) }
+module _ (wanted : ℤ) (texts : List (List ℕ)) where
+  pub unavailable : (db : Database) → IsAnswerFor wanted texts db (Err Unavailable)
+  unavailable db = record { version = λ n says. tt; complete = λ n says. tt; whole = λ says has is. absurd (let e = is in cc) }
 
--- `hall` isn't there, or it can't be said
-pub look_early : (a b : State) (e : OpenFault) → AreLookedFor (find_numbers_text ∷ []) a b (Err e) → IsLookAtTables a b (Err e)
-look_early a b NotAHall one = record {
-  kept = one.kept;
-  answered = record {
-    version = λ n says. absurd (one.missing refl (reads_hall a.now n says));
-    complete = λ n says. tt;
-    whole = λ says has is. one.missing refl (reads_hall a.now (pos 2) says);
-  };
-}
-look_early a b OtherVersion one = absurd (one.never refl)
-look_early a b Unavailable one = record { kept = one.kept; answered = unavailable a.now }
+  -- `hall` isn't there, or it can't be said
+  pub look_early : (a b : State) (e : OpenFault) → AreLookedFor (find_numbers_text ∷ []) a b (Err e) → IsLookAtTables wanted texts a b (Err e)
+  look_early a b NotAHall one = record {
+    kept = one.kept;
+    answered = record {
+      version = λ n says. absurd (one.missing refl (reads_hall a.now n says));
+      complete = λ n says. tt;
+      whole = λ says has is. one.missing refl (reads_hall a.now wanted says);
+    };
+  }
+  look_early a b OtherVersion one = absurd (one.never refl)
+  look_early a b Unavailable one = record { kept = one.kept; answered = unavailable a.now }
 
--- its schema isn't the second, or it can't be said
-pub look_stopped : (a b c : State) (e : OpenFault) → AreLookedFor (find_numbers_text ∷ []) a b (Ok tt) → KeepsCommit b c → ((n : ℤ) → SaysSchema b.now n → TellsVersion n (Err e)) → IsLookAtTables a c (Err e)
-look_stopped a b c NotAHall one kept told = record {
-  kept = keeps_then a b c one.kept kept;
-  answered = record {
-    version = λ n says. absurd (told n (says_on a b n one.found.0 says));
-    complete = λ n says. tt;
-    whole = λ says has is. told (pos 2) (says_on a b (pos 2) one.found.0 says);
-  };
-}
-look_stopped a b c OtherVersion one kept told = record {
-  kept = keeps_then a b c one.kept kept;
-  answered = record {
-    version = λ n says. told n (says_on a b n one.found.0 says);
-    complete = λ n says. tt;
-    whole = λ says has is. absurd (let e = is in cc);
-  };
-}
-look_stopped a b c Unavailable one kept told = record { kept = keeps_then a b c one.kept kept; answered = unavailable a.now }
+  -- its schema isn't the one that is wanted, or it can't be said
+  pub look_stopped : (a b c : State) (e : OpenFault) → AreLookedFor (find_numbers_text ∷ []) a b (Ok tt) → KeepsCommit b c → ((n : ℤ) → SaysSchema b.now n → TellsVersion wanted n (Err e)) → IsLookAtTables wanted texts a c (Err e)
+  look_stopped a b c NotAHall one kept told = record {
+    kept = keeps_then a b c one.kept kept;
+    answered = record {
+      version = λ n says. absurd (told n (says_on a b n one.found.0 says));
+      complete = λ n says. tt;
+      whole = λ says has is. told wanted (says_on a b wanted one.found.0 says);
+    };
+  }
+  look_stopped a b c OtherVersion one kept told = record {
+    kept = keeps_then a b c one.kept kept;
+    answered = record {
+      version = λ n says. told n (says_on a b n one.found.0 says);
+      complete = λ n says. tt;
+      whole = λ says has is. absurd (let e = is in cc);
+    };
+  }
+  look_stopped a b c Unavailable one kept told = record { kept = keeps_then a b c one.kept kept; answered = unavailable a.now }
 
--- then the other tables
-pub look_whole : (a b c d : State) (r : Result (Unit {0}) OpenFault) → AreLookedFor (find_numbers_text ∷ []) a b (Ok tt) → KeepsCommit b c → ((n : ℤ) → SaysSchema b.now n → TellsVersion n (Ok tt)) → ((n : ℤ) → SaysSchema b.now n → IsStill b c)
-    → AreLookedFor whole_rows c d r → IsLookAtTables a d r
-look_whole a b c d (Ok done) one kept told same all = record {
-  kept = keeps_then a c d (keeps_then a b c one.kept kept) all.kept;
-  answered = record {
-    version = λ n says. told n (says_on a b n one.found.0 says);
-    complete = λ n says. let still = still_then a b c one.found.0 (same n (says_on a b n one.found.0 says)) in subst (λ (d : Database). HasTables d.schema) still.now all.found.1;
-    whole = λ says has is. absurd (let e = is in cc);
-  };
-}
-look_whole a b c d (Err NotAHall) one kept told same all = record {
-  kept = keeps_then a c d (keeps_then a b c one.kept kept) all.kept;
-  answered = record {
-    version = λ n says. told n (says_on a b n one.found.0 says);
-    complete = λ n says. tt;
-    whole = λ says has is. all.missing refl (has_on a c (still_then a b c one.found.0 (same (pos 2) (says_on a b (pos 2) one.found.0 says))) has);
-  };
-}
-look_whole a b c d (Err OtherVersion) one kept told same all = absurd (all.never refl)
-look_whole a b c d (Err Unavailable) one kept told same all = record { kept = keeps_then a c d (keeps_then a b c one.kept kept) all.kept; answered = unavailable a.now }
+  -- then the other tables
+  pub look_whole : (a b c d : State) (r : Result (Unit {0}) OpenFault) → AreLookedFor (find_numbers_text ∷ []) a b (Ok tt) → KeepsCommit b c → ((n : ℤ) → SaysSchema b.now n → TellsVersion wanted n (Ok tt)) → ((n : ℤ) → SaysSchema b.now n → IsStill b c)
+      → AreLookedFor texts c d r → IsLookAtTables wanted texts a d r
+  look_whole a b c d (Ok done) one kept told same all = record {
+    kept = keeps_then a c d (keeps_then a b c one.kept kept) all.kept;
+    answered = record {
+      version = λ n says. told n (says_on a b n one.found.0 says);
+      complete = λ n says. let still = still_then a b c one.found.0 (same n (says_on a b n one.found.0 says)) in subst (λ (d : Database). AreUnderstood d.schema texts) still.now all.found.1;
+      whole = λ says has is. absurd (let e = is in cc);
+    };
+  }
+  look_whole a b c d (Err NotAHall) one kept told same all = record {
+    kept = keeps_then a c d (keeps_then a b c one.kept kept) all.kept;
+    answered = record {
+      version = λ n says. told n (says_on a b n one.found.0 says);
+      complete = λ n says. tt;
+      whole = λ says has is. all.missing refl (has_on texts a c (still_then a b c one.found.0 (same wanted (says_on a b wanted one.found.0 says))) has);
+    };
+  }
+  look_whole a b c d (Err OtherVersion) one kept told same all = absurd (all.never refl)
+  look_whole a b c d (Err Unavailable) one kept told same all = record { kept = keeps_then a c d (keeps_then a b c one.kept kept) all.kept; answered = unavailable a.now }

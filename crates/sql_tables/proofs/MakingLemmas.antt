@@ -85,7 +85,7 @@ no_named keys key_of columns stored none = record {
   under = none_stands keys key_of;
 }
 
-no_numbered : {X : Type 0} (number_of : X → ℕ) (columns : X → Row) (stored : List Row) → stored ≡ [] → IsNumbered number_of columns stored no_rows
+pub no_numbered : {X : Type 0} (number_of : X → ℕ) (columns : X → Row) (stored : List Row) → stored ≡ [] → IsNumbered number_of columns stored no_rows
 no_numbered number_of columns stored none = record { spelt = none ∙ sym (ap (map _) (nothing_listed numbers)); under = none_stands numbers number_of }
 
 -- ---- the rows of a new hall

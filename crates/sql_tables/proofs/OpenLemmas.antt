@@ -24,7 +24,7 @@ use Rattle.sql_tables.specs.Creating.{IsFlat, KeepsTables}
 use Rattle.sql_tables.specs.Opening.{HasTables, IsRightAnswer, IsUnderstood, SaysSchema}
 
 -- trees list one schema at most
-schema_of : (db : Database) (h : Hall) → IsSound db.schema db.trees → SpellHall db.trees h → db.schema ≡ hall_schema
+pub schema_of : (db : Database) (h : Hall) → IsSound db.schema db.trees → SpellHall db.trees h → db.schema ≡ hall_schema
 schema_of db h sound spelt = lists_once _ db.schema hall_schema sound.lists spelt.tables.sound.lists
 
 -- a query whose text is known is understood
@@ -38,7 +38,7 @@ known {schema = schema} {sql = sql} text = by (understood schema sql) refl text.
 has_all : HasTables hall_schema
 has_all = (known find_operator_is, (known find_pool_is, (known find_member_is, (known find_image_is, (known find_live_is, (known find_machine_is, (known find_interface_is, (known find_boot_is, (known find_order_is, (known find_receipt_is, (known list_counts_is, (known find_wipe_is, tt))))))))))))
 
-says_second : (db : Database) (h : Hall) → db.schema ≡ hall_schema → SpellHall db.trees h → SaysSchema db (pos 2)
+pub says_second : (db : Database) (h : Hall) → db.schema ≡ hall_schema → SpellHall db.trees h → SaysSchema db (pos 2)
 says_second db h is spelt = record { reads = subst (λ s. IsQueryText s find_numbers_text find_numbers_query find_numbers_columns) (sym is) find_numbers_is; last = (_, _, _, spelt.tables.last) }
 
 -- tables that spell a hall are refused as Unavailable alone

@@ -1,2 +1,3 @@
 pub mod Creating
+pub mod Migrating
 pub mod Opening

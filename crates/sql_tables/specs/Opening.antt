@@ -14,6 +14,8 @@ use Rattle.sql_schema.specs.MachineStatements.{find_machine_text, find_interface
 use Rattle.sql_schema.specs.CountStatements.{list_counts_text}
 use Rattle.sql_tables.specs.declared.fault.OpenFault.{OpenFault}
 use Rattle.sql_tables.specs.declared.fault.OpenFault.TheVariants.{NotAHall, OtherVersion, Unavailable}
+use Rattle.sql_tables.specs.declared.looking.Wanted.{Wanted}
+use Rattle.sql_tables.specs.declared.looking.Wanted.TheVariants.{First, Second}
 
 -- queries that name all columns of each table but `hall`
 abbrev pub whole_rows : List (List ℕ)
@@ -35,20 +37,24 @@ pub record SaysSchema (db : Database) (n : ℤ) : Type 0 where
   pub reads : IsQueryText db.schema find_numbers_text find_numbers_query find_numbers_columns
   pub last : (machine : ℤ) × (boot : ℤ) × (order : ℤ) × (db.trees 0 ≡ (Int (pos 1) ∷ Null ∷ Int n ∷ Int machine ∷ Int boot ∷ Int order ∷ []) ∷ [])
 
--- what is answered of tables whose schema has this number: a want of memory or of the disk can be answered of any
-abbrev pub Tells : ℤ → Result (Unit {0}) OpenFault → Type 0
-Tells n (Ok done) = n ≡ pos 2
-Tells n (Err NotAHall) = n ≡ pos 2
-Tells n (Err OtherVersion) = n ≢ pos 2
-Tells n (Err Unavailable) = ⊤
+-- what is answered of tables whose schema has a number, where this one is wanted: a want of memory or of the disk can be answered of any
+abbrev pub Tells : ℤ → ℤ → Result (Unit {0}) OpenFault → Type 0
+Tells wanted n (Ok done) = n ≡ wanted
+Tells wanted n (Err NotAHall) = n ≡ wanted
+Tells wanted n (Err OtherVersion) = n ≢ wanted
+Tells wanted n (Err Unavailable) = ⊤
 
--- what the answer says of the tables of a file
-pub record IsRightAnswer (db : Database) (r : Result (Unit {0}) OpenFault) : Type 0 where
-  pub version : (n : ℤ) → SaysSchema db n → Tells n r
+-- what the answer says of the tables of a file, where this schema and these queries are asked for
+pub record IsAnswerFor (wanted : ℤ) (texts : List (List ℕ)) (db : Database) (r : Result (Unit {0}) OpenFault) : Type 0 where
+  pub version : (n : ℤ) → SaysSchema db n → Tells wanted n r
   -- none is missing
-  pub complete : (n : ℤ) → SaysSchema db n → OnOk r (HasTables db.schema)
+  pub complete : (n : ℤ) → SaysSchema db n → OnOk r (AreUnderstood db.schema texts)
   -- where all are there, NotAHall isn't answered
-  pub whole : SaysSchema db (pos 2) → HasTables db.schema → r ≢ Err NotAHall
+  pub whole : SaysSchema db wanted → AreUnderstood db.schema texts → r ≢ Err NotAHall
+
+-- what the answer says of a hall of the second schema
+abbrev pub IsRightAnswer : Database → Result (Unit {0}) OpenFault → Type 0
+IsRightAnswer db r = IsAnswerFor (pos 2) whole_rows db r
 
 -- ---- steps within a transaction
 
@@ -64,17 +70,22 @@ pub record AreLookedFor (texts : List (List ℕ)) (old new : State) (r : Result 
   pub missing : r ≡ Err NotAHall → AreUnderstood old.now.schema texts → ⊥
   pub never : r ≢ Err OtherVersion
 
--- what is answered of the number of the schema, where it can be read
-abbrev pub TellsVersion : ℤ → Result (Unit {0}) OpenFault → Type 0
-TellsVersion n (Ok done) = n ≡ pos 2
-TellsVersion n (Err NotAHall) = ⊥
-TellsVersion n (Err OtherVersion) = n ≢ pos 2
-TellsVersion n (Err Unavailable) = ⊤
+-- the number of the schema that is looked for
+abbrev pub wanted_number : Wanted → ℤ
+wanted_number First = pos 1
+wanted_number Second = pos 2
 
--- all was asked for
-pub record IsLookAtTables (old new : State) (r : Result (Unit {0}) OpenFault) : Type 0 where
+-- what is answered of the number of the schema, where it can be read and this one is wanted
+abbrev pub TellsVersion : ℤ → ℤ → Result (Unit {0}) OpenFault → Type 0
+TellsVersion wanted n (Ok done) = n ≡ wanted
+TellsVersion wanted n (Err NotAHall) = ⊥
+TellsVersion wanted n (Err OtherVersion) = n ≢ wanted
+TellsVersion wanted n (Err Unavailable) = ⊤
+
+-- all was asked for: this schema, and these queries
+pub record IsLookAtTables (wanted : ℤ) (texts : List (List ℕ)) (old new : State) (r : Result (Unit {0}) OpenFault) : Type 0 where
   pub kept : KeepsCommit old new
-  pub answered : IsRightAnswer old.now r
+  pub answered : IsAnswerFor wanted texts old.now r
 
 -- the one row of `hall`, with the number of the schema first
 abbrev pub IsSchemaRow : ℤ → List Row → Type 0

@@ -15,8 +15,8 @@ use hall_types::{Digest, Name};
 use sqlite::{Alter, Connection};
 use sqlite_schema::schema::Schema;
 
-// Whether a table, an index or a view has this name.
-fn is_used(schema: &Schema, name: &str) -> bool
+/// Whether a table, an index or a view has this name.
+pub(crate) fn is_used(schema: &Schema, name: &str) -> bool
     ensures { result ≡ is_used schema.now name.now }
 {
     let name = name.as_bytes();

@@ -5,8 +5,10 @@ mod creating;
 mod fault;
 mod looking;
 mod making;
+mod migrating;
 mod opening;
 
 pub use creating::create_tables;
 pub use fault::{CreateFault, OpenFault};
+pub use migrating::{Migrated, migrate_tables};
 pub use opening::look_at_tables;

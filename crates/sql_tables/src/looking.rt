@@ -1,8 +1,9 @@
 //! What is asked of a file's tables, inside a transaction that writes nothing.
-ghost use Rattle.std.specs.Prelude.{◌≡◌, ◌≢◌, ℤ, IfOk, IfErr, OnOk, IsTrue, Err, map, [], ◌∷◌};
+ghost use Rattle.std.specs.Prelude.{◌≡◌, ◌≢◌, ℤ, pos, IfOk, IfErr, OnOk, IsTrue, Err, map, [], ◌∷◌};
 ghost use Rattle.sqlite.specs.Held.{state};
 ghost use Rattle.sqlite.specs.State.{HasCleanDisk, KeepsCommit, Survives};
-ghost use Rattle.sql_tables.specs.Opening.{AreLookedFor, IsLookAtTables, IsSchemaRow, IsStill, SaysSchema, TellsVersion, whole_rows};
+ghost use Rattle.sql_tables.specs.Opening.{AreLookedFor, IsLookAtTables, IsSchemaRow, IsStill, SaysSchema, TellsVersion, wanted_number, whole_rows};
+ghost use Rattle.sql_tables.specs.Migrating.{first_rows};
 
 use crate::fault::OpenFault;
 use sql_schema::{
@@ -48,7 +49,7 @@ fn understands_all<S: Alter>(tx: &mut Transaction<'_, S>, texts: &[&str]) -> Res
     Ok(())
 }
 
-// Every table but `hall`, with its columns.
+// Every table of the second schema but `hall`, with its columns.
 fn has_tables<S: Alter>(tx: &mut Transaction<'_, S>) -> Result<(), OpenFault>
     ensures same_reference { tx.new.conn.ghost_name ≡ tx.old.conn.ghost_name }
     ensures looked { HasCleanDisk (state S.Store tx.new.conn.now) → AreLookedFor whole_rows (state S.Store tx.old.conn.now) (state S.Store tx.new.conn.now) result }
@@ -69,6 +70,30 @@ fn has_tables<S: Alter>(tx: &mut Transaction<'_, S>) -> Result<(), OpenFault>
             FIND_RECEIPT,
             LIST_COUNTS,
             FIND_WIPE,
+        ],
+    )
+}
+
+// Every table of the first schema but `hall`, with its columns.
+fn has_first_tables<S: Alter>(tx: &mut Transaction<'_, S>) -> Result<(), OpenFault>
+    ensures same_reference { tx.new.conn.ghost_name ≡ tx.old.conn.ghost_name }
+    ensures looked { HasCleanDisk (state S.Store tx.new.conn.now) → AreLookedFor first_rows (state S.Store tx.old.conn.now) (state S.Store tx.new.conn.now) result }
+    ensures survives { Survives (state S.Store tx.old.conn.now) (state S.Store tx.new.conn.now) (λ _. ⊥) }
+{
+    understands_all(
+        tx,
+        &[
+            FIND_OPERATOR,
+            FIND_POOL,
+            FIND_MEMBER,
+            FIND_IMAGE,
+            FIND_LIVE,
+            FIND_MACHINE,
+            FIND_INTERFACE,
+            FIND_BOOT,
+            FIND_ORDER,
+            FIND_RECEIPT,
+            LIST_COUNTS,
         ],
     )
 }
@@ -108,32 +133,38 @@ fn schema_in(rows: &Vec<Row>) -> Result<i64, OpenFault>
     }
 }
 
-// Whether the schema in the one row is the second.
-fn version_in(rows: &Vec<Row>) -> Result<(), OpenFault>
-    ensures { (n : ℤ) → IsSchemaRow n rows.now.items → TellsVersion n result }
+/// Which schema is looked for.
+#[derive(Clone, Copy)]
+pub(crate) enum Wanted {
+    First,
+    Second,
+}
+
+// Whether the schema in the one row is the one that is wanted.
+fn version_in(rows: &Vec<Row>, wanted: Wanted) -> Result<(), OpenFault>
+    ensures { (n : ℤ) → IsSchemaRow n rows.now.items → TellsVersion (wanted_number wanted) n result }
 {
-    match schema_in(rows) {
-        Ok(schema) => {
-            if schema == 2 {
-                Ok(())
-            } else {
-                Err(OpenFault::OtherVersion)
-            }
-        }
-        Err(fault) => Err(fault),
+    let schema = match schema_in(rows) {
+        Ok(schema) => schema,
+        Err(fault) => return Err(fault),
+    };
+    match wanted {
+        Wanted::First if schema == 1 => Ok(()),
+        Wanted::Second if schema == 2 => Ok(()),
+        _ => Err(OpenFault::OtherVersion),
     }
 }
 
-// Whether the schema is the second.
-fn has_version<S: Alter>(tx: &mut Transaction<'_, S>) -> Result<(), OpenFault>
+// Whether the schema is the one that is wanted.
+fn has_version<S: Alter>(tx: &mut Transaction<'_, S>, wanted: Wanted) -> Result<(), OpenFault>
     ensures same_reference { tx.new.conn.ghost_name ≡ tx.old.conn.ghost_name }
-    ensures told { HasCleanDisk (state S.Store tx.new.conn.now) → (n : ℤ) → SaysSchema (state S.Store tx.old.conn.now).now n → TellsVersion n result }
+    ensures told { HasCleanDisk (state S.Store tx.new.conn.now) → (n : ℤ) → SaysSchema (state S.Store tx.old.conn.now).now n → TellsVersion (wanted_number wanted) n result }
     ensures still { HasCleanDisk (state S.Store tx.new.conn.now) → OnOk result ((n : ℤ) → SaysSchema (state S.Store tx.old.conn.now).now n → IsStill (state S.Store tx.old.conn.now) (state S.Store tx.new.conn.now)) }
     ensures kept { HasCleanDisk (state S.Store tx.new.conn.now) → IsTrue (state S.Store tx.old.conn.now).in_transaction → KeepsCommit (state S.Store tx.old.conn.now) (state S.Store tx.new.conn.now) }
     ensures survives { Survives (state S.Store tx.old.conn.now) (state S.Store tx.new.conn.now) (λ _. ⊥) }
 {
     match rows_of_numbers(tx) {
-        Ok(rows) => version_in(&rows),
+        Ok(rows) => version_in(&rows, wanted),
         Err(_) => Err(OpenFault::Unavailable),
     }
 }
@@ -141,14 +172,29 @@ fn has_version<S: Alter>(tx: &mut Transaction<'_, S>) -> Result<(), OpenFault>
 /// Whether the tables are a hall's of the second schema: `hall` first, then the number of the schema, then the others.
 pub(crate) fn look<S: Alter>(tx: &mut Transaction<'_, S>) -> Result<(), OpenFault>
     ensures same_reference { tx.new.conn.ghost_name ≡ tx.old.conn.ghost_name }
-    ensures look { HasCleanDisk (state S.Store tx.new.conn.now) → IsTrue (state S.Store tx.old.conn.now).in_transaction → IsLookAtTables (state S.Store tx.old.conn.now) (state S.Store tx.new.conn.now) result }
+    ensures look { HasCleanDisk (state S.Store tx.new.conn.now) → IsTrue (state S.Store tx.old.conn.now).in_transaction → IsLookAtTables (pos 2) whole_rows (state S.Store tx.old.conn.now) (state S.Store tx.new.conn.now) result }
     ensures survives { Survives (state S.Store tx.old.conn.now) (state S.Store tx.new.conn.now) (λ _. ⊥) }
 {
     if let Err(fault) = understands(tx, FIND_NUMBERS) {
         return Err(fault);
     }
-    if let Err(fault) = has_version(tx) {
+    if let Err(fault) = has_version(tx, Wanted::Second) {
         return Err(fault);
     }
     has_tables(tx)
+}
+
+/// Whether the tables are a hall's of the first schema: `hall` first, then the number of the schema, then the others.
+pub(crate) fn look_at_first<S: Alter>(tx: &mut Transaction<'_, S>) -> Result<(), OpenFault>
+    ensures same_reference { tx.new.conn.ghost_name ≡ tx.old.conn.ghost_name }
+    ensures look { HasCleanDisk (state S.Store tx.new.conn.now) → IsTrue (state S.Store tx.old.conn.now).in_transaction → IsLookAtTables (pos 1) first_rows (state S.Store tx.old.conn.now) (state S.Store tx.new.conn.now) result }
+    ensures survives { Survives (state S.Store tx.old.conn.now) (state S.Store tx.new.conn.now) (λ _. ⊥) }
+{
+    if let Err(fault) = understands(tx, FIND_NUMBERS) {
+        return Err(fault);
+    }
+    if let Err(fault) = has_version(tx, Wanted::First) {
+        return Err(fault);
+    }
+    has_first_tables(tx)
 }

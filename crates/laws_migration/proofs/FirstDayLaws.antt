@@ -1,0 +1,120 @@
+-- The laws of erasing aren't empty: their premises hold of the day in the first schema, and of what comes after.
+use Rattle.std.proofs.Common.{◌≡◌, ◌<◌, ℕ, zero, suc, List, [], ◌∷◌, Option, slice_index, refl, subst, All, arith}
+use Rattle.std.specs.Prelude.{None, Some, codes}
+use Rattle.std.specs.Fmt.{digits}
+use Rattle.std.specs.List.{AllByRecursion}
+use Rattle.std.proofs.lemmas.List.Elements.{All-from_recursion}
+use Rattle.hex.specs.Hex.{encode_with}
+use Rattle.pxe_vendor.specs.Place.{is_host}
+use Rattle.ipxe_script.specs.Purpose.{IsErasing}
+use Rattle.ipxe_script.specs.PurposeLaws.{HasKernelWord-boot, IsArgument-hall}
+use Rattle.ipxe_script.specs.Script.{IsScript, spelling}
+use Rattle.ipxe_script.specs.ScriptLaws.{IsScript-boot}
+use Rattle.ipxe_script.specs.Word.{IsWord, is_first_octet, is_uri, is_word, is_word_octet}
+use Rattle.hall_types.specs.Image.{BootImage, IsImage}
+use Rattle.hall_types.specs.Kinds.{erase_text, purpose_text}
+use Rattle.hall_types.specs.declared.kinds.Erase.TheVariants.{Full}
+use Rattle.hall_types.specs.declared.kinds.Purpose.TheVariants as purpose
+use Rattle.hall_types.specs.declared.kinds.Stage.TheVariants as stage
+use Rattle.hall_events.specs.Event.{BringsImage}
+use Rattle.hall_events.specs.declared.command.HallCommand.TheVariants.{AddImage}
+use Rattle.hall_events.specs.declared.event.Event.{Event}
+use Rattle.hall_events.specs.declared.event.Event.TheVariants as event
+use Rattle.boot_desk.specs.Texts.{desk_arguments, work_script}
+use Rattle.laws_model.specs.Step.{IsTyped}
+use Rattle.laws_past.specs.Laws.{AreTyped, GivesText}
+use Rattle.laws_migration.specs.FirstSchema.{plain}
+use Rattle.laws_migration.proofs.FirstDay.{first_day, first_erase_booted}
+use Rattle.laws_migration.proofs.WholeDay.{boot, erase_given, erase_script, host, live, mac, site, token}
+
+-- ---- types
+
+all_octets : (its : List ℕ) → AllByRecursion (λ octet. octet < 256) its → (i : ℕ) → slice_index its i < 256
+all_octets [] are i = omega arith
+all_octets (octet ∷ its) are zero = are.0
+all_octets (octet ∷ its) are (suc i) = all_octets its are.1 i
+
+typed : (e : Event) → BringsImage e → IsTyped site e token
+unfolding is_host
+typed e image = record { host = refl; octets = (refl, all_octets token all_small); image = image }
+  where
+    small : 9 < 256
+    small = omega arith
+
+    all_small : AllByRecursion (λ octet. octet < 256) token
+    all_small = (small, (small, (small, (small, (small, (small, (small, (small, (small, (small, (small, (small, (small, (small, (small, (small, tt))))))))))))))))
+
+the_image : (bearer : Option (List ℕ)) (key : List ℕ) → BringsImage (event.Command bearer key (AddImage live))
+unfolding is_word is_first_octet is_word_octet is_uri
+the_image bearer key its its_key image is = subst IsImage (same live image is) (record { kernel = refl; initrd = refl; words = All-from_recursion IsWord [] tt; few = omega arith; free = refl })
+  where
+    same : (a b : BootImage) → event.Command bearer key (AddImage a) ≡ event.Command its its_key (AddImage b) → a ≡ b
+    same a b e = cc
+
+-- what the day's arrivals bring is of its type
+first_day_is_typed : AreTyped first_day
+first_day_is_typed = (
+  typed _ (the_image _ _),
+  (
+    typed _ (λ bearer key image is. cc),
+    (
+      typed _ (λ bearer key image is. cc),
+      (
+        typed _ (λ bearer key image is. cc),
+        (
+          typed _ (λ bearer key image is. cc),
+          (
+            typed _ (λ bearer key image is. cc),
+            (
+              typed _ (λ bearer key image is. cc),
+              (typed _ (λ bearer key image is. cc), (typed _ (λ bearer key image is. cc), tt)),
+            ),
+          ),
+        ),
+      ),
+    ),
+  ),
+)
+
+later_is_typed : AreTyped (erase_given ∷ [])
+later_is_typed = (typed _ (λ bearer key image is. cc), tt)
+
+-- ---- scripts that erase
+
+abbrev first_arguments : List (List ℕ)
+first_arguments = desk_arguments host purpose.Erase None (boot 2 purpose.Erase stage.Offered)
+
+first_words : All IsWord first_arguments
+unfolding is_word is_first_octet is_word_octet purpose_text digits encode_with
+first_words = All-from_recursion IsWord first_arguments (refl, (refl, (refl, (refl, tt))))
+
+is_first_script : IsScript (plain erase_script)
+unfolding is_word is_first_octet is_word_octet is_uri work_script
+is_first_script = IsScript-boot live.kernel first_arguments live.initrd refl first_words refl (omega arith)
+
+-- in the first schema
+erases_in_first : GivesText mac (plain erase_script) first_erase_booted × IsErasing (spelling (plain erase_script))
+unfolding work_script purpose_text
+erases_in_first = (
+  record { event = refl; answer = refl },
+  (HasKernelWord-boot (codes "hall.purpose=erase") live.kernel first_arguments live.initrd (IsArgument-hall (codes "purpose=erase")) is_first_script).1 (0, omega arith, refl),
+)
+
+abbrev later_arguments : List (List ℕ)
+later_arguments = desk_arguments host purpose.Erase (Some Full) (boot 2 purpose.Erase stage.Offered)
+
+later_words : All IsWord later_arguments
+unfolding is_word is_first_octet is_word_octet purpose_text erase_text digits encode_with
+later_words = All-from_recursion IsWord later_arguments (refl, (refl, (refl, (refl, (refl, tt)))))
+
+is_later_script : IsScript erase_script
+unfolding is_word is_first_octet is_word_octet is_uri work_script
+is_later_script = IsScript-boot live.kernel later_arguments live.initrd refl later_words refl (omega arith)
+
+-- and once the hall was carried over, where the release was made in the first schema
+erases_later : GivesText mac erase_script erase_given × IsErasing (spelling erase_script)
+unfolding work_script purpose_text
+erases_later = (
+  record { event = refl; answer = refl },
+  (HasKernelWord-boot (codes "hall.purpose=erase") live.kernel later_arguments live.initrd (IsArgument-hall (codes "purpose=erase")) is_later_script).1 (0, omega arith, refl),
+)

@@ -1,0 +1,283 @@
+-- A day in the second schema, by computation: a machine is added, commissioned, allocated, and released for erasing its disks in full.
+use Rattle.std.proofs.Common.{◌≡◌, ℕ, true, false, List, [], ◌∷◌, Some, None, sym, ap, inl}
+use Rattle.std.specs.Prelude.{codes}
+use Rattle.pxe_vendor.specs.Place.{Site}
+use Rattle.pxe_vendor.specs.declared.arch.Arch.TheVariants.{Uefi64}
+use Rattle.ipxe_script.specs.declared.command.Command.{Command as Line}
+use Rattle.hall_types.specs.Hall.{Hall, applied, new_hall, second}
+use Rattle.hall_types.specs.Image.{BootImage}
+use Rattle.hall_types.specs.Kinds.{arch_number}
+use Rattle.hall_types.specs.Rows.{numbers, pairs, texts}
+use Rattle.hall_types.specs.Status.{status_number}
+use Rattle.hall_types.specs.declared.boot.Boot.{Boot}
+use Rattle.hall_types.specs.declared.change.RowWrite.{RowWrite}
+use Rattle.hall_types.specs.declared.change.RowWrite.TheVariants.{PutBoot, PutImage, PutInterface, PutLive, PutMachine, PutNumbers, PutOrder, PutReceipt}
+use Rattle.hall_types.specs.declared.kinds.Erase.TheVariants.{Full}
+use Rattle.hall_types.specs.declared.kinds.OrderKind.TheVariants.{Cycle}
+use Rattle.hall_types.specs.declared.kinds.OrderStage.{OrderStage}
+use Rattle.hall_types.specs.declared.kinds.OrderStage.TheVariants.{Waiting, Withdrawn}
+use Rattle.hall_types.specs.declared.kinds.Progress.TheVariants as report
+use Rattle.hall_types.specs.declared.kinds.Purpose.{Purpose}
+use Rattle.hall_types.specs.declared.kinds.Purpose.TheVariants as purpose
+use Rattle.hall_types.specs.declared.kinds.Role.TheVariants.{Admin}
+use Rattle.hall_types.specs.declared.kinds.Stage.{Stage}
+use Rattle.hall_types.specs.declared.kinds.Stage.TheVariants as stage
+use Rattle.hall_types.specs.declared.machine.Machine.{Machine}
+use Rattle.hall_types.specs.declared.operator.Operator.{Operator}
+use Rattle.hall_types.specs.declared.order.Order.{Order}
+use Rattle.hall_types.specs.declared.status.Status.TheVariants.{Allocated, Commissioning, DiskErasing, New, Ready}
+use Rattle.hall_events.specs.Reply.{Content, counted, done, machine_is, script}
+use Rattle.hall_events.specs.declared.command.HallCommand.{HallCommand}
+use Rattle.hall_events.specs.declared.command.HallCommand.TheVariants.{AddImage, AddMachine, OnMachine, SetLive}
+use Rattle.hall_events.specs.declared.command.MachineCommand.TheVariants as on
+use Rattle.hall_events.specs.declared.event.Event.{Event}
+use Rattle.hall_events.specs.declared.event.Event.TheVariants.{Command, Report, Script}
+use Rattle.life_cycle.specs.Entering.{back_after, boot_after, is_origin, is_rescue, keeps_erase, keeps_owner, limit_of}
+use Rattle.life_cycle.specs.Table.{step_of, who_gives}
+use Rattle.boot_desk.specs.Class.{class_in}
+use Rattle.boot_desk.specs.Fetch.{fetched}
+use Rattle.boot_desk.specs.Following.{followed}
+use Rattle.boot_desk.specs.Report.{reported}
+use Rattle.boot_desk.specs.Texts.{work_script}
+use Rattle.desk_command.specs.Causes.{causes}
+use Rattle.desk_command.specs.Command.{command_decision, commanded, receipt_of}
+use Rattle.desk_command.specs.Effect.{added_machine, effect}
+use Rattle.desk_command.specs.View.{command_view}
+use Rattle.laws_model.specs.Decision.{Decided, decision_of}
+use Rattle.laws_model.specs.Step.{Arrival, IsStep, Step}
+use Rattle.laws_migration.proofs.Computing.{computed}
+use Rattle.laws_migration.proofs.FirstSteps.{whole_step}
+
+-- ---- who and what there is
+
+abbrev pub host : List ℕ
+host = codes "hall.example"
+
+abbrev pub site : Site
+site = record { server = 192 ∷ 0 ∷ 2 ∷ 1 ∷ []; next = 192 ∷ 0 ∷ 2 ∷ 2 ∷ []; host = host }
+
+abbrev pub ada : Operator
+ada = record { name = codes "ada"; role = Admin; digest = 1 ∷ []; enabled = true }
+
+abbrev pub live : BootImage
+live = record { name = codes "live"; arch = Uefi64; kernel = codes "http://files.example/k"; initrd = codes "http://files.example/i"; args = [] }
+
+abbrev pub mac : List ℕ
+mac = 82 ∷ 84 ∷ 0 ∷ 18 ∷ 52 ∷ 86 ∷ []
+
+abbrev pub token : List ℕ
+token = 9 ∷ 9 ∷ 9 ∷ 9 ∷ 9 ∷ 9 ∷ 9 ∷ 9 ∷ 9 ∷ 9 ∷ 9 ∷ 9 ∷ 9 ∷ 9 ∷ 9 ∷ 9 ∷ []
+
+abbrev pub boot : ℕ → Purpose → Stage → Boot
+boot number its at = record { number = number; machine = 1; purpose = its; token = token; stage = at }
+
+abbrev order : ℕ → OrderStage → Order
+order number its = record { number = number; machine = 1; kind = Cycle; stage = its }
+
+-- ---- what comes, and what it writes
+
+abbrev came : Event → Arrival
+came e = record { site = site; event = e; moment = 1000; fresh = token }
+
+-- a command of ada's
+abbrev command : ℕ → HallCommand → Arrival
+command key c = came (Command (Some ada.digest) (key ∷ []) c)
+
+abbrev receipt : ℕ → HallCommand → Content → RowWrite
+receipt key c content = PutReceipt (receipt_of ada (key ∷ []) c content)
+
+-- the last numbers of machines, boots and orders
+abbrev lasts : ℕ → ℕ → ℕ → RowWrite
+lasts machine boot order = PutNumbers (record { machine = machine; boot = boot; order = order })
+
+model : (h : Hall) (a : Arrival) (its : Decided) → decision_of a.site h a.event a.moment a.fresh ≡ its → IsStep (whole_step h a its)
+model h a its is = inl (record { answer = ap (λ (d : Decided). Some d.content) (sym is); after = ap (λ (d : Decided). applied d.rows h) (sym is) })
+
+abbrev pub start : Hall
+start = new_hall second ada.name ada.digest
+
+-- ---- an image and a machine
+
+abbrev pub image_added-arrival : Arrival
+image_added-arrival = command 1 (AddImage live)
+
+abbrev pub image_added-decision : Decided
+image_added-decision = record { rows = PutImage live ∷ receipt 1 (AddImage live) done ∷ []; content = done }
+
+abbrev pub image_added : Step
+image_added = whole_step start image_added-arrival image_added-decision
+
+pub image_added-is : IsStep image_added
+unfolding texts pairs decision_of command_decision commanded causes effect command_view
+image_added-is = model start image_added-arrival image_added-decision (simp (computed))
+
+abbrev pub image_live-arrival : Arrival
+image_live-arrival = command 2 (SetLive live.name)
+
+abbrev pub image_live-decision : Decided
+image_live-decision = record { rows = PutLive (record { arch = Uefi64; image = live.name }) ∷ receipt 2 (SetLive live.name) done ∷ []; content = done }
+
+abbrev pub image_live : Step
+image_live = whole_step image_added.after image_live-arrival image_live-decision
+
+pub image_live-is : IsStep image_live
+unfolding texts pairs decision_of command_decision commanded causes effect command_view
+image_live-is = model image_added.after image_live-arrival image_live-decision (simp (computed))
+
+abbrev adds : HallCommand
+adds = AddMachine mac Uefi64 (codes "default") None
+
+abbrev new_machine : Machine
+new_machine = added_machine 1 Uefi64 (codes "default") None
+
+abbrev pub machine_added-arrival : Arrival
+machine_added-arrival = command 3 adds
+
+abbrev pub machine_added-decision : Decided
+machine_added-decision = record {
+  rows = PutMachine new_machine None ∷ PutInterface (record { mac = mac; machine = 1 }) ∷ lasts 1 0 0 ∷ receipt 3 adds (machine_is 1 New 1) ∷ [];
+  content = machine_is 1 New 1;
+}
+
+abbrev pub machine_added : Step
+machine_added = whole_step image_live.after machine_added-arrival machine_added-decision
+
+pub machine_added-is : IsStep machine_added
+unfolding texts pairs numbers decision_of command_decision commanded causes effect command_view
+machine_added-is = model image_live.after machine_added-arrival machine_added-decision (simp (computed))
+
+-- ---- it is commissioned
+
+abbrev commissions : HallCommand
+commissions = OnMachine 1 None (on.Commission false)
+
+abbrev commissioning : Machine
+commissioning = record new_machine { status = Commissioning; version = 2; deadline = Some 2800; waiting = Some 1 }
+
+abbrev pub commissioned-arrival : Arrival
+commissioned-arrival = command 4 commissions
+
+abbrev pub commissioned-decision : Decided
+commissioned-decision = record {
+  rows = PutMachine commissioning (Some 1) ∷ PutOrder (order 1 Waiting) ∷ lasts 1 0 1 ∷ receipt 4 commissions (machine_is 1 Commissioning 2) ∷ [];
+  content = machine_is 1 Commissioning 2;
+}
+
+abbrev pub commissioned : Step
+commissioned = whole_step machine_added.after commissioned-arrival commissioned-decision
+
+pub commissioned-is : IsStep commissioned
+unfolding texts pairs numbers arch_number status_number step_of who_gives limit_of keeps_owner boot_after is_rescue is_origin back_after keeps_erase followed decision_of command_decision commanded causes effect command_view
+commissioned-is = model machine_added.after commissioned-arrival commissioned-decision (simp (computed))
+
+abbrev pub asks_script : Arrival
+asks_script = came (Script mac)
+
+abbrev pub commission_booted-decision : Decided
+commission_booted-decision = record {
+  rows = PutMachine (record commissioning { boot = Some 1; boots = 1; version = 3 }) (Some 2) ∷ PutBoot (boot 1 purpose.Commission stage.Offered) ∷ lasts 1 1 1 ∷ [];
+  content = script (work_script host purpose.Commission None (boot 1 purpose.Commission stage.Offered) live);
+}
+
+abbrev pub commission_booted : Step
+commission_booted = whole_step commissioned.after asks_script commission_booted-decision
+
+pub commission_booted-is : IsStep commission_booted
+unfolding texts numbers arch_number class_in followed fetched decision_of
+commission_booted-is = model commissioned.after asks_script commission_booted-decision (simp (computed))
+
+abbrev ready : Machine
+ready = record new_machine { status = Ready; version = 4 }
+
+abbrev pub commission_done-arrival : Arrival
+commission_done-arrival = came (Report 1 token report.Done)
+
+abbrev pub commission_done-decision : Decided
+commission_done-decision = record {
+  rows = PutBoot (boot 1 purpose.Commission stage.Done) ∷ PutMachine ready (Some 3) ∷ PutOrder (order 1 Withdrawn) ∷ [];
+  content = counted;
+}
+
+abbrev pub commission_done : Step
+commission_done = whole_step commission_booted.after commission_done-arrival commission_done-decision
+
+pub commission_done-is : IsStep commission_done
+unfolding numbers status_number step_of who_gives limit_of keeps_owner boot_after is_rescue is_origin back_after keeps_erase followed reported decision_of
+commission_done-is = model commission_booted.after commission_done-arrival commission_done-decision (simp (computed))
+
+-- ---- its owner releases it for erasing its disks
+
+abbrev allocates : HallCommand
+allocates = OnMachine 1 None on.Allocate
+
+abbrev allocated : Machine
+allocated = record ready { status = Allocated; owner = Some ada.name; version = 5 }
+
+abbrev pub machine_allocated-arrival : Arrival
+machine_allocated-arrival = command 5 allocates
+
+abbrev pub machine_allocated-decision : Decided
+machine_allocated-decision = record {
+  rows = PutMachine allocated (Some 4) ∷ receipt 5 allocates (machine_is 1 Allocated 5) ∷ [];
+  content = machine_is 1 Allocated 5;
+}
+
+abbrev pub machine_allocated : Step
+machine_allocated = whole_step commission_done.after machine_allocated-arrival machine_allocated-decision
+
+pub machine_allocated-is : IsStep machine_allocated
+unfolding texts pairs numbers arch_number status_number step_of who_gives limit_of keeps_owner boot_after is_rescue is_origin back_after keeps_erase followed decision_of command_decision commanded causes effect command_view
+machine_allocated-is = model commission_done.after machine_allocated-arrival machine_allocated-decision (simp (computed))
+
+abbrev releases : HallCommand
+releases = OnMachine 1 None (on.Release (Some Full))
+
+abbrev erasing : Machine
+erasing = record allocated { status = DiskErasing; erase = Some Full; version = 6; deadline = Some 8200; waiting = Some 2 }
+
+abbrev pub erasing_begun-arrival : Arrival
+erasing_begun-arrival = command 6 releases
+
+abbrev pub erasing_begun-decision : Decided
+erasing_begun-decision = record {
+  rows = PutMachine erasing (Some 5) ∷ PutOrder (order 2 Waiting) ∷ lasts 1 1 2 ∷ receipt 6 releases (machine_is 1 DiskErasing 6) ∷ [];
+  content = machine_is 1 DiskErasing 6;
+}
+
+abbrev pub erasing_begun : Step
+erasing_begun = whole_step machine_allocated.after erasing_begun-arrival erasing_begun-decision
+
+pub erasing_begun-is : IsStep erasing_begun
+unfolding texts pairs numbers arch_number status_number step_of who_gives limit_of keeps_owner boot_after is_rescue is_origin back_after keeps_erase followed decision_of command_decision commanded causes effect command_view
+erasing_begun-is = model machine_allocated.after erasing_begun-arrival erasing_begun-decision (simp (computed))
+
+abbrev pub erase_script : List Line
+erase_script = work_script host purpose.Erase (Some Full) (boot 2 purpose.Erase stage.Offered) live
+
+abbrev pub erasing_booted : Machine
+erasing_booted = record erasing { boot = Some 2; boots = 1; version = 7 }
+
+abbrev pub erase_booted-decision : Decided
+erase_booted-decision = record {
+  rows = PutMachine erasing_booted (Some 6) ∷ PutBoot (boot 2 purpose.Erase stage.Offered) ∷ lasts 1 2 2 ∷ [];
+  content = script erase_script;
+}
+
+abbrev pub erase_booted : Step
+erase_booted = whole_step erasing_begun.after asks_script erase_booted-decision
+
+pub erase_booted-is : IsStep erase_booted
+unfolding texts numbers arch_number class_in followed fetched decision_of
+erase_booted-is = model erasing_begun.after asks_script erase_booted-decision (simp (computed))
+
+-- ---- the machine asks again, and is given the boot that is offered
+
+abbrev pub erase_given-decision : Decided
+erase_given-decision = record { rows = []; content = script erase_script }
+
+abbrev pub erase_given : Step
+erase_given = whole_step erase_booted.after asks_script erase_given-decision
+
+pub erase_given-is : IsStep erase_given
+unfolding texts numbers arch_number class_in followed fetched decision_of
+erase_given-is = model erase_booted.after asks_script erase_given-decision (simp (computed))

@@ -1,0 +1,3 @@
+pub mod FirstErasing
+pub mod FirstSchema
+pub mod Later
