@@ -116,12 +116,12 @@ def silent():
 
 
 def many():
-    held = [connected() for _ in range(64)]
-    if b" 404 " not in timed("the 65th connection", limit, lambda: asked("/ipxe/00:00:00:00:00:01")):
-        sys.exit("no answer at the 65th connection")
+    held = [connected() for _ in range(1024)]
+    if b" 404 " not in timed("the 1,025th connection", limit, lambda: asked("/ipxe/00:00:00:00:00:01")):
+        sys.exit("no answer at the 1,025th connection")
     closed = [is_closed(s) for s in held]
     if not closed[0] or any(closed[1:]):
-        sys.exit(f"closed for the 65th: {[at for at, it in enumerate(closed) if it]}")
+        sys.exit(f"closed for the 1,025th: {[at for at, it in enumerate(closed) if it]}")
 
 
 def slow():

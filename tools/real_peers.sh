@@ -11,6 +11,7 @@ need curl curl; need python3 python3
 . "$here/program.sh"
 
 umask 077    # the hall's file is for its owner alone: the desk would say otherwise
+ulimit -n 4096    # for 1,024 connections
 work=$(mktemp -d)
 started=()
 ended() {
@@ -78,8 +79,8 @@ esac
 
 peer silent || bad 'silent connections'
 good 'python3: with 20 silent connections everybody else is answered at once, and the silent ones are closed after two seconds'
-peer many || bad 'the 65th connection'
-good 'python3: the 65th connection is answered, and the first of the 64 silent ones is closed for it'
+peer many || bad 'the 1,025th connection'
+good 'python3: the 1,025th connection is answered, and the first of the 1,024 silent ones is closed for it'
 peer slow || bad 'slow connections'
 good 'python3: a request octet by octet, and a client that takes its answer slowly, are answered'
 
@@ -110,7 +111,7 @@ said = rf"silence(, ({causes}|unavailable))?|unavailable|[^\s;]+|\d\d\d (\{{.*\}
 status = "[A-Z][a-z]+( [a-z]+)*"
 moved = rf"; machine \d+: (new, {status}|{status} to {status}|{status}, gone)"
 line = re.compile(rf"{moment} ({source} ({came}): ({said})({moved})?(, unsent)?"
-                  rf"|{source} accepted instead of (-|{source})|{source} closed (answered|late|failed)|- failed)")
+                  rf"|{source} accepted instead of (-|{source})|{source} closed (answered|late|failed|crowded)|- failed)")
 text = open("desk.log").read()
 lines = text.split("\n")
 assert lines.pop() == "", "the last line ends"

@@ -27,6 +27,6 @@ pub use frames::{Exit, frame_run};
 pub use imports::{Imported, import};
 pub use reports::{What, report};
 pub use requests::request;
-pub use turn_lines::turn_line;
+pub use turn_lines::{UNSTAMPED_LINE, turn_line};
 pub use values::{count_of, digest_of, fresh_of, is_bearer_token, moment_of, what_of};
 pub use writing::write_text;

@@ -4,6 +4,9 @@ use serve_sockets::{Close, Handover, Kind, Said, Turn};
 use std::alloc::{AllocError, Global};
 use std::net::SocketAddr;
 
+/// The line of a log where the service's clock or its source of random octets begins to fail. It has no moment.
+pub const UNSTAMPED_LINE: &str = "- the clock or the random source failed\n";
+
 fn source_text(alloc: Global, from: Option<SocketAddr>) -> Result<String, AllocError> {
     match from {
         Some(from) => from.to_string(alloc),
@@ -16,6 +19,7 @@ fn close_word(cause: Close) -> &'static str {
         Close::Answered => "answered",
         Close::Late => "late",
         Close::Failed => "failed",
+        Close::Crowded => "crowded",
     }
 }
 

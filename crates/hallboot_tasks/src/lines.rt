@@ -1,5 +1,5 @@
 //! The log of a service's turns.
-use desk_operations::{arrival_text, is_of_note, turn_line};
+use desk_operations::{UNSTAMPED_LINE, arrival_text, is_of_note, turn_line};
 use hall_desk::{Answer, Arrival};
 use hall_types::Moment;
 use serve_sockets::{Turn, TurnLog};
@@ -46,12 +46,16 @@ fn take_sight(sight: &RefCell<Sight>) -> Sight {
     }
 }
 
-// The line that says how many are missing before it. What was written of the last of them ends before it.
-fn lost_line(alloc: Global, moment: Moment, lost: u64) -> Result<String, AllocError> {
+// The line that says how many are missing before it, with the moment, if there is one. What was written of the last of them ends
+// before it.
+fn lost_line(alloc: Global, moment: Option<Moment>, lost: u64) -> Result<String, AllocError> {
     let mut text = String::new(alloc);
     text.push('\n')?;
-    text.push_str(moment.get().to_string(alloc)?.as_str())?;
-    text.push_str(" - lost ")?;
+    if let Some(moment) = moment {
+        text.push_str(moment.get().to_string(alloc)?.as_str())?;
+        text.push(' ')?;
+    }
+    text.push_str("- lost ")?;
     text.push_str(lost.to_string(alloc)?.as_str())?;
     text.push('\n')?;
     Ok(text)
@@ -68,7 +72,7 @@ fn is_written<W: Write>(writer: &mut W, line: Result<String, AllocError>) -> boo
 fn write_line<W: Write>(
     alloc: Global,
     writer: &mut W,
-    moment: Moment,
+    moment: Option<Moment>,
     line: Result<String, AllocError>,
     lost: u64,
 ) -> u64 {
@@ -114,6 +118,13 @@ impl<'a, W: Write> TurnLog for Lines<'a, W> {
             Ok(Some(line)) => Ok(line),
             Err(AllocError) => Err(AllocError),
         };
-        self.lost = write_line(self.alloc, writer, moment, line, self.lost);
+        self.lost = write_line(self.alloc, writer, Some(moment), line, self.lost);
+    }
+
+    fn unstamped(&mut self) {
+        if let Some(writer) = &mut self.writer {
+            let line = String::from_str(self.alloc, UNSTAMPED_LINE);
+            self.lost = write_line(self.alloc, writer, None, line, self.lost);
+        }
     }
 }

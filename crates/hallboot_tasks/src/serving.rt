@@ -6,7 +6,7 @@ use desk_operations::Fault;
 use hall_desk::Desk;
 use hall_store::HallStore;
 use pxe_vendor::Place;
-use serve_sockets::{Addresses, BindFault, Service, Sockets};
+use serve_sockets::{Addresses, BindFault, MAX_CONNECTIONS, Service, Sockets};
 use std::cell::RefCell;
 use std::io;
 use std::io::Write;
@@ -94,7 +94,7 @@ pub(crate) fn serve<S: HallStore>(
     log: Option<&str>,
     turns: u64,
 ) -> (Result<(), Fault>, S) {
-    let sockets = match Sockets::bind(rt, rt.alloc(), addresses) {
+    let sockets = match Sockets::bind(rt, rt.alloc(), addresses, MAX_CONNECTIONS) {
         Ok(sockets) => sockets,
         Err(fault) => return (Err(bind_fault(fault)), store),
     };

@@ -36,6 +36,10 @@ fn turn_of(word: &str) -> Result<Turn, Cause> {
             from,
             cause: Close::Late,
         }),
+        "crowded" => Ok(Turn::Closed {
+            from,
+            cause: Close::Crowded,
+        }),
         "quiet" => Ok(Turn::Handed(Handover {
             kind: Kind::Quiet,
             from: None,

@@ -2,7 +2,7 @@
 use crate::fault::Fault;
 use std::alloc::Global;
 use std::io::{ErrorKind, Read, Write};
-use std::net::{SocketAddr, TcpStream};
+use std::net::{Shutdown, SocketAddr, TcpStream};
 
 /// A client, whose calls don't wait. One that left, and one that sends datagrams, has no stream.
 #[derive(Drop)]
@@ -27,6 +27,14 @@ impl Client {
     pub fn send(&mut self, octets: &[u8]) -> Result<(), Fault> {
         match &mut self.stream {
             Some(stream) => Ok(stream.write_all(octets)?),
+            None => Err(Fault::Line),
+        }
+    }
+
+    /// Sends nothing more.
+    pub fn end(&self) -> Result<(), Fault> {
+        match &self.stream {
+            Some(stream) => Ok(stream.shutdown(Shutdown::Write)?),
             None => Err(Fault::Line),
         }
     }

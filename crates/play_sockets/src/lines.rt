@@ -45,10 +45,36 @@ fn ask<S: HallStore + Drop>(stage: &mut Stage<S>, name: &str, text: &str) -> Res
     named(stage.clients.as_mut_slice(), name)?.send(octets.as_slice())
 }
 
+// Each client of a name sends a request.
+fn ask_all<S: HallStore + Drop>(stage: &mut Stage<S>, name: &str, text: &str) -> Result<(), Fault> {
+    let octets = request(stage, text)?;
+    for client in stage.clients.iter_mut() {
+        if client.name.as_str() == name {
+            client.send(octets.as_slice())?;
+        }
+    }
+    Ok(())
+}
+
 // A client sends a text.
 fn send<S: HallStore + Drop>(stage: &mut Stage<S>, name: &str, text: &str) -> Result<(), Fault> {
     let text = unescaped(stage.alloc, text)?;
     named(stage.clients.as_mut_slice(), name)?.send(text.as_bytes())
+}
+
+// Each client of a name sends a text.
+fn send_all<S: HallStore + Drop>(
+    stage: &mut Stage<S>,
+    name: &str,
+    text: &str,
+) -> Result<(), Fault> {
+    let text = unescaped(stage.alloc, text)?;
+    for client in stage.clients.iter_mut() {
+        if client.name.as_str() == name {
+            client.send(text.as_bytes())?;
+        }
+    }
+    Ok(())
 }
 
 // A client sends a request octet by octet, and looks before each whether something came back.
@@ -143,6 +169,39 @@ fn push_settled<S: HallStore + Drop>(stage: &mut Stage<S>, line: &mut String) ->
     Ok(())
 }
 
+// The clock fails or goes.
+fn set_clock<S: HallStore + Drop>(stage: &mut Stage<S>, word: &str) -> Result<(), Fault> {
+    stage.clock.fails = match word {
+        "fails" => true,
+        "goes" => false,
+        _ => return Err(Fault::Line),
+    };
+    Ok(())
+}
+
+// Time goes by.
+fn pass<S: HallStore + Drop>(stage: &mut Stage<S>, millis: &str) -> Result<(), Fault> {
+    stage.pass(number(millis)?);
+    Ok(())
+}
+
+fn push_open<S: HallStore + Drop>(stage: &Stage<S>, line: &mut String) -> Result<(), Fault> {
+    let count = stage.service.sockets().connections();
+    write!(line, "{count} open")?;
+    Ok(())
+}
+
+fn push_handed<S: HallStore + Drop>(stage: &mut Stage<S>, line: &mut String) -> Result<(), Fault> {
+    stage.log.push_handed(line, stage.clients.as_slice())?;
+    Ok(())
+}
+
+fn push_failures<S: HallStore + Drop>(stage: &Stage<S>, line: &mut String) -> Result<(), Fault> {
+    let count = stage.log.failures;
+    write!(line, "{count} failures")?;
+    Ok(())
+}
+
 // A line of one client, by its kind, the client's name and the rest of the line.
 fn play_client<S: HallStore + Drop>(
     rt: &HostRuntime,
@@ -154,7 +213,10 @@ fn play_client<S: HallStore + Drop>(
     match kind {
         "connect" => connect(rt, stage, name, rest),
         "send" => send(stage, name, rest),
+        "send_all" => send_all(stage, name, rest),
         "ask" => ask(stage, name, rest),
+        "ask_all" => ask_all(stage, name, rest),
+        "end" => named(stage.clients.as_mut_slice(), name)?.end(),
         "trickle" => trickle(stage, name, rest, line),
         "got" => push_what_came(stage, name, line),
         "drain" => push_drained(stage, name, line),
@@ -185,11 +247,11 @@ pub fn play_line<S: HallStore + Drop>(
             stage.clock.stamp.millis = number(rest)?;
             Ok(())
         }
-        "open" => {
-            let count = stage.service.sockets().connections();
-            write!(line, "{count} open")?;
-            Ok(())
-        }
+        "pass" => pass(stage, rest),
+        "clock" => set_clock(stage, rest),
+        "open" => push_open(stage, line),
+        "failures" => push_failures(stage, line),
+        "handed" => push_handed(stage, line),
         _ => {
             let (name, rest) = rest.split_once(' ').unwrap_or((rest, ""));
             play_client(rt, stage, (kind, name, rest), line)

@@ -17,10 +17,14 @@ pub struct Log<'a> {
     // The text of the last arrival, if it's of note and its turn wasn't noted yet.
     arrival: Option<String>,
     lines: Vec<String>,
+    // The addresses from which something was handed over, one after another.
+    handed: Vec<String>,
     /// How many turns there were.
     pub turns: u64,
     /// How many turns in a row moved nothing.
     pub still: u64,
+    /// How many times stamps began to fail.
+    pub failures: u64,
 }
 
 impl<'a> Log<'a> {
@@ -30,9 +34,34 @@ impl<'a> Log<'a> {
             sight,
             arrival: None,
             lines: Vec::new(alloc),
+            handed: Vec::new(alloc),
             turns: 0,
             still: 0,
+            failures: 0,
         }
+    }
+
+    /// Writes the names of the clients from whom something was handed over since the last call, one after another.
+    pub fn push_handed(&mut self, line: &mut String, clients: &[Client]) -> Result<(), AllocError> {
+        for address in &self.handed {
+            if !line.is_empty() {
+                line.push(' ')?;
+            }
+            line.push_str(name_of(address.as_str(), clients))?;
+        }
+        self.handed.clear();
+        Ok(())
+    }
+
+    // Keeps where it came from what was handed over.
+    fn keep_handed(&mut self, turn: &Turn) -> Result<(), AllocError> {
+        let (Turn::Handed(handover) | Turn::Unsent(handover)) = turn else {
+            return Ok(());
+        };
+        if let Some(from) = handover.from {
+            self.handed.push(from.to_string(self.alloc)?)?;
+        }
+        Ok(())
     }
 
     /// Writes the lines about the client with an address, without their line feeds, with clients' names in place of addresses.
@@ -154,9 +183,14 @@ impl<'a> TurnLog for Log<'a> {
         } else {
             0
         };
+        let _ = self.keep_handed(turn);
         let arrival = self.arrival.take();
         if let Ok(Some(line)) = line_of(self.alloc, moment, turn, &arrival) {
             let _ = self.lines.push(line);
         }
+    }
+
+    fn unstamped(&mut self) {
+        self.failures = self.failures.saturating_add(1);
     }
 }

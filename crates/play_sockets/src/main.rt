@@ -1,4 +1,4 @@
-//! Plays a script of clients over a service on loopback, with a hall in memory and a clock that stands until a line moves it. The hall's
+//! Plays a script of clients over a service of 64 places on loopback, with a hall in memory and a clock that stands until a line moves it. The hall's
 //! admin is ada with the token `abc`. Standard input has a line each, and line n of standard output answers it: what the clients got.
 //!
 //! - `#` and a comment, or nothing: written as it is;
@@ -6,18 +6,25 @@
 //! - `connect NAME COUNT`: so many clients of this name connect by HTTP. A later line that names them means the last one;
 //! - `leave NAME`: each client of this name closes its connection;
 //! - `send NAME TEXT`: a client sends the text, in which `\r` and `\n` are these octets;
+//! - `send_all NAME TEXT`: likewise each client of this name;
 //! - `ask NAME ARRIVAL`: a client sends the octets of a request, as play_log parses it. The turns that follow have its moment and its
 //!   fresh octets, where it has some;
+//! - `ask_all NAME ARRIVAL`: likewise each client of this name;
 //! - `trickle NAME ARRIVAL`: likewise octet by octet, with two turns after each: how many octets, and how many came back before the last;
 //! - `datagrams COUNT ARRIVAL`: the client `asker` sends a datagram to the socket of its port so many times;
+//! - `end NAME`: a client sends nothing more;
 //! - `turns COUNT`: so many turns are served: how many the log was told of;
 //! - `settle`: turns are served until 16 in a row moved nothing;
-//! - `at MILLIS`: the time that connections have is counted from here;
+//! - `at MILLIS`: the clock jumps to here, as where a turn takes long;
+//! - `pass MILLIS`: so many milliseconds go by, with a turn after each 100 of them and after the last;
+//! - `clock fails`, `clock goes`: there are no stamps from here on, or there are again;
+//! - `failures`: how many times the log was told that stamps began to fail;
 //! - `got NAME`: what came to a client since, and whether its connection is open, ended or broken;
 //! - `drain NAME`: likewise, while turns are served until it has ended or 100 in a row moved nothing;
 //! - `another ARRIVAL`: a client `another` connects, asks and drains;
 //! - `reply`: the next datagram that came back, in hexadecimal;
 //! - `log NAME`: what the log says of a client, with the client's name in place of its address;
+//! - `handed`: the names of those from whom something was handed to the desk since the last such line, in order;
 //! - `open`: how many connections are open.
 //!
 //! Of 2,000 octets and more it writes how many there are and their sum, FNV-1a with 64 bits.

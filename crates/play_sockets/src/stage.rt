@@ -13,15 +13,30 @@ use std::cell::RefCell;
 use std::net::{IpAddr, Ipv4Addr, SocketAddr, UdpSocket};
 use store_watched::Sight;
 
+// How long, in milliseconds, a turn waits where nothing is known to be there.
+const PAUSE: u64 = 10;
+
+// How many places for connections a service has.
+const PLACES: usize = 64;
+
+// The maximum of milliseconds that go by before a turn is served.
+const STEP: u64 = 100;
+
 /// A clock that stands until it is moved.
 #[derive(Clone, Copy)]
 pub struct Clock {
     pub stamp: Stamp,
+    /// Whether it gives no stamps.
+    pub fails: bool,
 }
 
 impl Source for Clock {
     fn stamp(&mut self) -> Option<Stamp> {
-        Some(self.stamp)
+        if self.fails { None } else { Some(self.stamp) }
+    }
+
+    fn pause(&mut self) -> u64 {
+        PAUSE
     }
 }
 
@@ -52,7 +67,7 @@ fn service<S: HallStore + Drop>(rt: &HostRuntime, store: S) -> Result<Service<S>
     let Ok(place) = Place::new(rt.alloc(), [192, 0, 2, 1], [192, 0, 2, 2], "hall.example") else {
         return Err(Fault::Memory);
     };
-    match Sockets::bind(rt, rt.alloc(), &addresses) {
+    match Sockets::bind(rt, rt.alloc(), &addresses, PLACES) {
         Ok(sockets) => Ok(Service::new(rt.alloc(), Desk::new(store, place), sockets)),
         Err(_) => Err(Fault::Io),
     }
@@ -65,7 +80,10 @@ fn standing_clock() -> Result<Clock, Fault> {
         fresh: Token::from([0; 16]),
         millis: 0,
     };
-    Ok(Clock { stamp })
+    Ok(Clock {
+        stamp,
+        fails: false,
+    })
 }
 
 // The client that sends datagrams.
@@ -116,6 +134,16 @@ impl<'a, S: HallStore + Drop> Stage<'a, S> {
     pub fn turns(&mut self, count: u64) {
         self.service
             .serve_turns(&mut self.clock, &mut self.log, count);
+    }
+
+    /// So many milliseconds go by, with a turn after each 100 of them and after the last.
+    pub fn pass(&mut self, millis: u64) {
+        for step in 0..millis.div_ceil(STEP) {
+            let left = millis.saturating_sub(step.saturating_mul(STEP));
+            let stamp = &mut self.clock.stamp;
+            stamp.millis = stamp.millis.saturating_add(left.min(STEP));
+            self.turns(1);
+        }
     }
 
     /// Serves turns until 16 in a row moved nothing, and says whether it came to that.

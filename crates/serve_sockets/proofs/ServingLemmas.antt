@@ -12,8 +12,10 @@ use Rattle.hall_desk.specs.declared.arrival.Answer.{Answer}
 use Rattle.hall_desk.specs.declared.arrival.Answer.TheVariants.{Unavailable}
 use Rattle.hall_desk.specs.declared.arrival.Input.TheVariants.{Request}
 use Rattle.serve_sockets.specs.Connection.{Moves}
-use Rattle.serve_sockets.specs.Serving.{IsRequest, IsWaiting}
+use Rattle.serve_sockets.specs.Serving.{IfRequest, IsRequest, IsWaiting}
 use Rattle.serve_sockets.specs.Turn.{Tells}
+use Rattle.serve_sockets.specs.declared.serving.Step.{Step}
+use Rattle.serve_sockets.specs.declared.serving.Step.TheVariants as step
 use Rattle.serve_sockets.specs.declared.turn.Handover.{Handover}
 
 module _ {S : Type 0} (holds : S → Hall → Type 0) (leaves : S → List Hall → Type 0) (old new : S) (site : Site) (moment : ℕ) (fresh : List ℕ) where
@@ -31,7 +33,7 @@ module _ {S : Type 0} (holds : S → Hall → Type 0) (leaves : S → List Hall 
       subst (λ (o : List ℕ). IsAnswered holds leaves old new site (Request o) moment fresh a) same (answered_on holds leaves old new site moment fresh all left d a it)
 
   -- the answer that waits for a decided request is that to all that the client sends
-  pub whole_request : (read all left : List ℕ) (rest after : Option (List ℕ)) (handover : Handover) → Moves rest after read all → (IsAtEnd after ⊎ IsDecided all)
+  whole_request : (read all left : List ℕ) (rest after : Option (List ℕ)) (handover : Handover) → Moves rest after read all → (IsAtEnd after ⊎ IsDecided all)
       → IsWaiting holds leaves old new site moment fresh all left handover → IsRequest holds leaves old new site moment fresh read rest left handover
   whole_request read all left rest after handover moves ends it = record {
     octets = all;
@@ -41,6 +43,16 @@ module _ {S : Type 0} (holds : S → Hall → Type 0) (leaves : S → List Hall 
     whole = answered_whole read moves.octets all rest after it.said moves.consumed moves.kept ends it.answered;
     waits = it.waits;
   }
+
+  -- likewise of a step
+  pub whole_step : (s : Step) (read all left : List ℕ) (rest after : Option (List ℕ)) → Moves rest after read all → (IsAtEnd after ⊎ IsDecided all)
+      → IfRequest s (IsWaiting holds leaves old new site moment fresh all left) → IfRequest s (IsRequest holds leaves old new site moment fresh read rest left)
+  whole_step (step.Handed handover) read all left rest after moves ends it = whole_request read all left rest after handover moves ends it
+  whole_step step.Waits read all left rest after moves ends it = tt
+  whole_step step.Moved read all left rest after moves ends it = tt
+  whole_step step.PutOff read all left rest after moves ends it = tt
+  whole_step step.Done read all left rest after moves ends it = tt
+  whole_step step.Failed read all left rest after moves ends it = tt
 
 -- a request that is refused for want of memory counts as not having come
 pub refused_request : {S : Type 0} (holds : S → Hall → Type 0) (leaves : S → List Hall → Type 0) → ((s : S) (h : Hall) (hs : List Hall) → leaves s hs → leaves s (h ∷ hs))

@@ -1,5 +1,5 @@
 -- The numbers of the connections that slots hold.
-use Rattle.std.proofs.Common.{◌≡◌, ◌<◌, ◌≤◌, ◌+◌, ℕ, true, false, List, Option, Some, None, nat_lt, length, slice_index_or, refl, sym, ap, arith}
+use Rattle.std.proofs.Common.{◌≡◌, ℕ, true, false, List, Option, Some, None, nat_lt, length, slice_index_or, refl, sym, ap}
 use Rattle.std.proofs.lemmas.Bool.{ltb-true, ltb-false}
 use Rattle.std.proofs.lemmas.Option.{slice_get_past, slice_get_read}
 use Rattle.serve_sockets.specs.Table.{number_at, number_in}
@@ -14,12 +14,3 @@ module _ {T : Type 0} (slots : List (Option (Connection T))) where
   -- there is no slot
   pub number_past : (slot : ℕ) → false ≡ nat_lt slot (length slots) → number_at slots slot ≡ number_in {T = T} None
   number_past slot past = ap number_in (slice_get_past slots slot (ltb-false slot (length slots) (sym past)))
-
--- the least of the values before a place and of that at it
-pub least_to : (f : ℕ → ℕ) (best new place : ℕ) → ((k : ℕ) → k < place → f best ≤ f k) → f new ≤ f best → f new ≤ f place
-    → (k : ℕ) → k < place + 1 → f new ≤ f k
-least_to f best new place before better last k below =
-    elim (nat_lt k place) as (λ b. nat_lt k place ≡ b → f new ≤ f k) [
-      | true ↦ λ e. omega (arith, better, before k (ltb-true k place e))
-      | false ↦ λ e. let here : k ≡ place = omega (arith, below, ltb-false k place e) in rw here last
-    ] refl

@@ -27,6 +27,7 @@ pub turn_handed : (s : Step) (t : Turn) (P Q : Handover → Type 0) → ((handov
 turn_handed (step.Handed handover) t P Q then same moved it = subst (λ (made : Turn). IfHanded made Q) (sym same) (then handover it)
 turn_handed step.Waits t P Q then same moved it = no_handover t Q (moved tt)
 turn_handed step.Moved t P Q then same moved it = no_handover t Q (moved tt)
+turn_handed step.PutOff t P Q then same moved it = no_handover t Q (moved tt)
 turn_handed step.Done t P Q then same moved it = no_handover t Q (moved tt)
 turn_handed step.Failed t P Q then same moved it = no_handover t Q (moved tt)
 
@@ -35,6 +36,7 @@ pub step_moved : (s : Step) (t : Turn) → IfRequest s (λ handover. t ≡ turn.
 step_moved (step.Handed handover) t same nothing = subst (λ (made : Turn). HandsNothing made) same nothing
 step_moved step.Waits t same nothing = tt
 step_moved step.Moved t same nothing = tt
+step_moved step.PutOff t same nothing = tt
 step_moved step.Done t same nothing = tt
 step_moved step.Failed t same nothing = tt
 

@@ -1,8 +1,9 @@
 -- What a connection sent, and what of its answer it has taken.
-use Rattle.std.specs.Prelude.{◌≡◌, ◌⊎◌, ℕ, List, [], ◌++◌, Bool, Option, None, Some, drop, is_some}
+use Rattle.std.specs.Prelude.{◌≡◌, ◌⊎◌, ℕ, List, [], ◌++◌, Bool, Option, None, Some, drop, is_some, length, not, ◌&&◌, ◌==◌, if◌then◌else◌}
 use Rattle.std.specs.Io.KnownBytes.{Consumes, IsAtEnd, Keeps}
 use Rattle.http_requests.specs.Decided.{IsDecided}
 use Rattle.hall_desk.specs.Octets.{octets_of}
+use Rattle.serve_sockets.specs.Group.{group_of}
 use Rattle.serve_sockets.specs.declared.connection.Connection.{Connection}
 use Rattle.serve_sockets.specs.declared.connection.Sending.{Sending}
 use Rattle.serve_sockets.specs.declared.connection.Taken.{Taken}
@@ -22,7 +23,7 @@ module _ {T : Type 0} where
   abbrev pub number_of : Connection T → ℕ
   number_of connection = connection.number
 
-  -- when it was accepted or answered, or last took something of its answer
+  -- when, in served time, it was accepted or answered, or last took something of its answer
   abbrev pub since_of : Connection T → ℕ
   since_of connection = connection.since
 
@@ -33,6 +34,22 @@ module _ {T : Type 0} where
   -- whether it has an answer
   abbrev pub is_answered : Connection T → Bool
   is_answered connection = is_some connection.sending
+
+  -- whether its request for a list waits
+  abbrev pub is_put_off : Connection T → Bool
+  is_put_off connection = connection.is_put_off
+
+  -- whether its request has waited, and waits no more
+  abbrev pub is_due : Connection T → Bool
+  is_due connection = connection.is_due
+
+  -- whether it has sent nothing yet, and has no answer
+  abbrev pub is_silent : Connection T → Bool
+  is_silent connection = (length (input_of connection) == 0) && not (is_answered connection)
+
+  -- the group of the client's address, if the connection is silent
+  abbrev pub silent_group : Connection T → Option ℕ
+  silent_group connection = if is_silent connection then Some (group_of connection.from) else None
 
   -- the octets of its answer that are to be written yet
   abbrev pub left_of : Connection T → List ℕ

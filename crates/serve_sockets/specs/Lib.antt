@@ -1,6 +1,12 @@
 pub mod Connection
+pub mod Group
+pub mod Listing
+pub mod PutOff
 pub mod Ring
+pub mod ServedTime
 pub mod Service
 pub mod Serving
+pub mod Sockets
 pub mod Table
 pub mod Turn
+pub mod Yielding

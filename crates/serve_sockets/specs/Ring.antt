@@ -5,18 +5,24 @@ use Rattle.serve_sockets.specs.declared.ring.Origin.{Origin}
 use Rattle.serve_sockets.specs.declared.ring.Origin.TheVariants.{Connection, Listener, Port}
 use Rattle.serve_sockets.specs.declared.ring.Ring.{Ring}
 
--- the seat of the discover socket, of the boot socket, of the listener, or of one of 64 connections
+-- the seat of the discover socket, of the boot socket, of the listener, or of a connection
 abbrev pub IsAt : ℕ → Origin → Type 0
 IsAt seat (Port Discover) = seat ≡ 0
 IsAt seat (Port Boot) = seat ≡ 1
 IsAt seat Listener = seat ≡ 2
-IsAt seat (Connection slot) = (seat ≡ slot + 3) × (slot < 64)
+IsAt seat (Connection slot) = (seat ≡ slot + 3) × (slot < 1024)
 
--- there are 64 slots
+-- there are 1,024 slots at most
 abbrev pub IsOpenable : Origin → Type 0
 IsOpenable (Port port) = Unit {0}
 IsOpenable Listener = Unit {0}
-IsOpenable (Connection slot) = slot < 64
+IsOpenable (Connection slot) = slot < 1024
+
+-- there are so many slots
+abbrev pub IsPlace : ℕ → Origin → Type 0
+IsPlace places (Port port) = Unit {0}
+IsPlace places Listener = Unit {0}
+IsPlace places (Connection slot) = slot < places
 
 -- the seat is ready, and no other between `from` and it, up and round, is
 pub record IsNext (ready : List Bool) (from seat : ℕ) : Type 0 where
@@ -27,12 +33,16 @@ pub record IsNext (ready : List Bool) (from seat : ℕ) : Type 0 where
 
 -- which seats may have something
 abbrev pub ready_of : Ring → List Bool
-ready_of ring = ring.ready
+ready_of ring = ring.ready.items
 
 -- the seat that is asked first
 abbrev pub next_of : Ring → ℕ
 next_of ring = ring.next
 
+-- the socket for datagrams that is asked first
+abbrev pub port_of : Ring → ℕ
+port_of ring = ring.port
+
 -- a seat's mark is changed, if there is such a seat
 abbrev pub with_seat : List Bool → ℕ → Bool → List Bool
-with_seat ready seat is = if nat_lt seat 67 then slice_set ready seat is else ready
+with_seat ready seat is = if nat_lt seat (length ready) then slice_set ready seat is else ready

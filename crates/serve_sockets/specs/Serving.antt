@@ -35,6 +35,7 @@ abbrev pub IfRequest : Step → (Handover → Type 0) → Type 0
 IfRequest (step.Handed handover) P = P handover
 IfRequest step.Waits P = Unit {0}
 IfRequest step.Moved P = Unit {0}
+IfRequest step.PutOff P = Unit {0}
 IfRequest step.Done P = Unit {0}
 IfRequest step.Failed P = Unit {0}
 
@@ -43,5 +44,6 @@ abbrev pub IsOnlyMoved : Step → Type 0
 IsOnlyMoved (step.Handed handover) = ⊥
 IsOnlyMoved step.Waits = Unit {0}
 IsOnlyMoved step.Moved = Unit {0}
+IsOnlyMoved step.PutOff = Unit {0}
 IsOnlyMoved step.Done = Unit {0}
 IsOnlyMoved step.Failed = Unit {0}

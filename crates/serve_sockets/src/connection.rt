@@ -1,8 +1,10 @@
 //! One connection: what it sent, and what of its answer it has taken.
-ghost use Rattle.std.specs.Prelude.{◌≡◌, ◌≤◌, ◌-◌, ◌<◌, [], IsTrue, length, nat_le, vec_len};
+ghost use Rattle.std.specs.Prelude.{◌≡◌, ◌≤◌, ◌-◌, ◌<◌, [], IfSome, IsTrue, length, nat_le, not, ◌&&◌, vec_len, true, false};
 ghost use Rattle.std.specs.Io.KnownBytes.{Keeps, append_known};
 ghost use Rattle.hall_desk.specs.Octets.{octets_of};
 
+use crate::group::group;
+use crate::listing::asks_for_list;
 use hall_desk::Answer;
 use hall_http::is_decided;
 use pxe_vendor::Octets;
@@ -14,7 +16,7 @@ use std::net::SocketAddr;
 /// The maximum of a request's octets: a head of 8,192 and a body of 16,384. So many always decide a request.
 const MAX_INPUT: usize = 8_192 + 16_384;
 
-/// How long, in milliseconds, a connection may be undecided, and its answer stand still.
+/// How long, in milliseconds of served time, a connection may be undecided, and its answer stand still.
 const PATIENCE: u64 = 2_000;
 
 // An answer, and how many of its octets are written.
@@ -31,10 +33,14 @@ pub(crate) struct Connection<T> {
     stream: T,
     from: SocketAddr,
     number: u64,
-    // When it was accepted or answered, or last took something of its answer.
+    // When it was accepted or answered, or last took something of its answer, in served time.
     since: u64,
     input: Vec<u8>,
     sending: Option<Sending>,
+    // Its request for a list waits.
+    is_put_off: bool,
+    // Its request has waited, and waits no more.
+    is_due: bool,
     ghost bounded: { vec_len input ≤ 24576 },
 }
 
@@ -64,9 +70,10 @@ pub(crate) enum Put {
 }
 
 impl<T> Connection<T> {
-    ghost use Rattle.serve_sockets.specs.Connection.{input_of, is_answered, left_of, number_of, since_of, stream_of};
+    ghost use Rattle.serve_sockets.specs.Connection.{input_of, is_answered, is_due, is_put_off, left_of, number_of, silent_group, since_of, stream_of};
+    ghost use Rattle.serve_sockets.specs.Listing.{asks_for_list};
 
-    /// The connection that was accepted as the so-manieth, at a time in milliseconds.
+    /// The connection that was accepted as the so-manieth, at a served time.
     pub(crate) fn new(
         alloc: Global,
         stream: T,
@@ -87,6 +94,8 @@ impl<T> Connection<T> {
             since: now,
             input: Vec::new(alloc),
             sending: None,
+            is_put_off: false,
+            is_due: false,
         }
     }
 
@@ -107,17 +116,58 @@ impl<T> Connection<T> {
         self.number
     }
 
-    /// Whether it was undecided, or its answer stood still, for two seconds.
+    /// Whether it was undecided, or its answer stood still, for two seconds of served time, and its request isn't put off.
     pub(crate) fn is_late(&self, now: u64) -> bool
-        ensures { result ≡ nat_le 2000 (now - since_of self.now) }
+        ensures { result ≡ not (is_put_off self.now) && nat_le 2000 (now - since_of self.now) }
     {
-        now.saturating_sub(self.since) >= PATIENCE
+        !self.is_put_off && now.saturating_sub(self.since) >= PATIENCE
+    }
+
+    /// Whether its request waits.
+    pub(crate) fn is_put_off(&self) -> bool
+        ensures { result ≡ is_put_off self.now }
+    {
+        self.is_put_off
+    }
+
+    /// Whether its request asks for a list, and hasn't waited yet.
+    pub(crate) fn may_wait(&self) -> bool
+        ensures { result ≡ not (is_due self.now) && asks_for_list (input_of self.now) }
+    {
+        !self.is_due && asks_for_list(self.input.as_slice())
+    }
+
+    /// Has its request wait.
+    pub(crate) fn put_off(&mut self)
+        ensures { self.new ≡ record self.old { is_put_off = true } }
+    {
+        self.is_put_off = true;
+    }
+
+    /// Its request waits no more.
+    pub(crate) fn call(&mut self)
+        ensures { self.new ≡ record self.old { is_put_off = false; is_due = true } }
+    {
+        self.is_put_off = false;
+        self.is_due = true;
     }
 
     pub(crate) fn is_answered(&self) -> bool
         ensures { result ≡ is_answered self.now }
     {
         self.sending.is_some()
+    }
+
+    /// The group of the client's address, if the client has sent nothing yet and has no answer.
+    pub(crate) fn silent_group(&self) -> Option<usize>
+        ensures group { result ≡ silent_group self.now }
+        ensures within { IfSome result (λ group. group < 1024) }
+    {
+        if self.input.is_empty() && self.sending.is_none() {
+            Some(group(&self.from))
+        } else {
+            None
+        }
     }
 
     /// The request. The connection has no input then.
@@ -146,8 +196,24 @@ impl<T> Connection<T> {
 impl<T: Read> Connection<T> {
     ghost use Rattle.serve_sockets.specs.Connection.{IsTaken, input_of, number_of, since_of, stream_of};
 
-    /// Reads once, into a buffer that isn't empty. The time that the connection has isn't prolonged.
+    /// Reads once. A request that has waited is looked at first, so that nothing is read if it's decided.
     pub(crate) fn take(&mut self, alloc: Global, buffer: &mut [u8]) -> Taken
+        ensures taken { IsTaken result (T.remaining (stream_of self.old)) (T.remaining (stream_of self.new)) (input_of self.old) (input_of self.new) }
+        ensures since { since_of self.new ≡ since_of self.old }
+        ensures number { number_of self.new ≡ number_of self.old }
+    {
+        if !self.is_due {
+            return self.read(alloc, buffer);
+        }
+        match is_decided(alloc, self.input.as_slice()) {
+            Ok(true) => Taken::Whole,
+            Ok(false) => self.read(alloc, buffer),
+            Err(AllocError) => Taken::NoMemory,
+        }
+    }
+
+    // Reads once, into a buffer that isn't empty. The time that the connection has isn't prolonged.
+    fn read(&mut self, alloc: Global, buffer: &mut [u8]) -> Taken
         ensures taken { IsTaken result (T.remaining (stream_of self.old)) (T.remaining (stream_of self.new)) (input_of self.old) (input_of self.new) }
         ensures since { since_of self.new ≡ since_of self.old }
         ensures number { number_of self.new ≡ number_of self.old }

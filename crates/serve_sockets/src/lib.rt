@@ -2,17 +2,26 @@
 #![tactic(auto)]
 
 mod connection;
+mod group;
 mod handing;
 mod handover;
-mod oldest;
+mod listing;
+mod next_ready;
+mod number;
+mod ports;
+mod put_off;
 mod ring;
+mod room;
+mod served_time;
 mod service;
 mod serving;
 mod sockets;
 mod table;
 mod turn;
+mod yielding;
 
+pub use ports::{Addresses, BindFault};
 pub use service::Service;
-pub use sockets::{Addresses, BindFault, Sockets};
+pub use sockets::Sockets;
 pub use table::MAX_CONNECTIONS;
 pub use turn::{Close, Handover, Kind, Said, Source, Stamp, Turn, TurnLog};

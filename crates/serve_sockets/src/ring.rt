@@ -1,11 +1,15 @@
 //! Whose turn it is.
-ghost use Rattle.std.specs.Prelude.{◌≡◌, ◌<◌, ◌+◌, ◌↔◌, All, false, IfNone, IfSome, IsTrue, length, true};
-ghost use Rattle.serve_sockets.specs.Ring.{IsAt, IsNext, IsOpenable, next_of, ready_of, with_seat};
+ghost use Rattle.std.specs.Prelude.{◌≡◌, ◌<◌, ◌≤◌, ◌+◌, ◌↔◌, All, drop, false, IfNone, IfOk, IfSome, IsTrue, length, replicate, take, true, vec_len};
 
+use crate::next_ready::next_ready;
 use hall_types::Port;
+use std::alloc::{AllocError, Global};
 
-/// The seats: two sockets for datagrams, the listener, and 64 connections.
-pub(crate) const SEATS: usize = 67;
+/// The seats of the sockets for datagrams, which are the first ones.
+const PORTS: usize = 2;
+
+/// The seats before those of connections: two sockets for datagrams, and the listener.
+const OTHERS: usize = 3;
 
 /// What a seat stands for.
 #[derive(Clone, Copy)]
@@ -16,16 +20,18 @@ pub(crate) enum Origin {
 }
 
 impl Origin {
+    ghost use Rattle.serve_sockets.specs.Ring.{IsAt, IsOpenable};
+
     /// What a seat stands for.
     pub(crate) fn at(seat: usize) -> Origin
-        requires { seat < 67 }
+        requires { seat < 1027 }
         ensures { IsAt seat result }
     {
         match seat {
             0 => Origin::Port(Port::Discover),
             1 => Origin::Port(Port::Boot),
             2 => Origin::Listener,
-            _ => Origin::Connection(seat - 3),
+            _ => Origin::Connection(seat - OTHERS),
         }
     }
 
@@ -33,82 +39,112 @@ impl Origin {
     pub(crate) fn seat(self) -> usize
         requires { IsOpenable self }
         ensures seat { IsAt result self }
-        ensures within { result < 67 }
+        ensures within { result < 1027 }
     {
         match self {
             Origin::Port(Port::Discover) => 0,
             Origin::Port(Port::Boot) => 1,
             Origin::Listener => 2,
-            Origin::Connection(slot) => slot + 3,
+            Origin::Connection(slot) => slot + OTHERS,
         }
     }
 }
 
-// The first ready seat from `from` on, up and round.
-fn next_ready(ready: &[bool], from: usize) -> Option<usize>
-    ensures next { IfSome result (IsNext ready.now from) }
-    ensures within { IfSome result (λ seat. seat < length ready.now) }
-    ensures none { IfNone result (All (λ is. is ≡ false) ready.now) }
-{
-    for seat in from..ready.len() {
-        if ready[seat] {
-            return Some(seat);
-        }
-    }
-    ready.iter().position(|is| *is)
-}
-
-/// Which seats may have something, and the one from which the next ready seat is looked for.
+/// Which seats may have something, and from which one the next ready seat is looked for, of all and of the sockets for datagrams
+/// alone. Contracts see all three.
 #[derive(Drop)]
 pub(crate) struct Ring {
-    ready: [bool; SEATS],
+    ready: Vec<bool>,
     next: usize,
+    port: usize,
+    ghost some: { 3 ≤ vec_len ready },
+    ghost few: { vec_len ready ≤ 1027 },
 }
 
 impl Ring {
-    pub(crate) fn new() -> Ring {
-        Ring {
-            ready: [false; SEATS],
+    ghost use Rattle.serve_sockets.specs.Ring.{IsNext, next_of, port_of, ready_of, with_seat};
+
+    /// The seats for so many connections. None is marked.
+    pub(crate) fn new(alloc: Global, places: usize) -> Result<Ring, AllocError>
+        requires { places ≤ 1024 }
+        ensures { IfOk result (λ ring. ready_of ring ≡ replicate (places + 3) false) }
+    {
+        let ready = Vec::from_elem(alloc, false, places + OTHERS)?;
+        Ok(Ring {
+            ready,
             next: 0,
+            port: 0,
+        })
+    }
+
+    // Sets the mark of a seat, if there is such a seat.
+    fn set(&mut self, seat: usize, is: bool)
+        ensures ready { ready_of self.new ≡ with_seat (ready_of self.old) seat is }
+        ensures size { length (ready_of self.new) ≡ length (ready_of self.old) }
+        ensures next { next_of self.new ≡ next_of self.old }
+    {
+        if seat < self.ready.len() {
+            self.ready[seat] = is;
         }
     }
 
-    /// A seat may have something. There is none from `SEATS` on.
+    /// A seat may have something, if there is such a seat.
     pub(crate) fn mark(&mut self, seat: usize)
         ensures ready { ready_of self.new ≡ with_seat (ready_of self.old) seat true }
+        ensures size { length (ready_of self.new) ≡ length (ready_of self.old) }
         ensures next { next_of self.new ≡ next_of self.old }
     {
-        if seat < SEATS {
-            self.ready[seat] = true;
-        }
+        self.set(seat, true);
     }
 
     /// A seat has nothing.
     pub(crate) fn clear(&mut self, seat: usize)
         ensures ready { ready_of self.new ≡ with_seat (ready_of self.old) seat false }
+        ensures size { length (ready_of self.new) ≡ length (ready_of self.old) }
         ensures next { next_of self.new ≡ next_of self.old }
     {
-        if seat < SEATS {
-            self.ready[seat] = false;
-        }
+        self.set(seat, false);
+    }
+
+    /// The marks of the connections' seats.
+    pub(crate) fn connections(&self) -> &[bool]
+        ensures { result.now ≡ drop 3 (ready_of self.now) }
+    {
+        let (_, connections) = self.ready.as_slice().split_at(OTHERS);
+        connections
     }
 
     /// Whether no seat may have something.
     pub(crate) fn is_idle(&self) -> bool
         ensures { IsTrue result → All (λ is. is ≡ false) (ready_of self.now) }
     {
-        next_ready(&self.ready, 0).is_none()
+        next_ready(self.ready.as_slice(), 0).is_none()
+    }
+
+    /// The next ready socket for datagrams. The one after it is asked first at the next call, and all seats go on where they were.
+    pub(crate) fn pick_port(&mut self) -> Option<usize>
+        ensures next { IfSome result (IsNext (take 2 (ready_of self.old)) (port_of self.old)) }
+        ensures within { IfSome result (λ seat. seat < 2) }
+        ensures after { IfSome result (λ seat. port_of self.new ≡ seat + 1) }
+        ensures none { IfNone result (All (λ is. is ≡ false) (take 2 (ready_of self.old))) }
+        ensures same { ready_of self.new ≡ ready_of self.old }
+        ensures goes_on { next_of self.new ≡ next_of self.old }
+    {
+        let (ports, _) = self.ready.as_slice().split_at(PORTS);
+        let seat = next_ready(ports, self.port)?;
+        self.port = seat + 1;
+        Some(seat)
     }
 
     /// The next ready seat. The one after it is asked first at the next call.
     pub(crate) fn pick(&mut self) -> Option<usize>
         ensures next { IfSome result (IsNext (ready_of self.old) (next_of self.old)) }
-        ensures within { IfSome result (λ seat. seat < SEATS) }
+        ensures within { IfSome result (λ seat. seat < length (ready_of self.old)) }
         ensures after { IfSome result (λ seat. next_of self.new ≡ seat + 1) }
         ensures none { IfNone result (All (λ is. is ≡ false) (ready_of self.old)) }
         ensures same { ready_of self.new ≡ ready_of self.old }
     {
-        let seat = next_ready(&self.ready, self.next)?;
+        let seat = next_ready(self.ready.as_slice(), self.next)?;
         self.next = seat + 1;
         Some(seat)
     }

@@ -21,13 +21,16 @@ pub struct Service<S> {
     desk: Desk<S>,
     sockets: Sockets,
     turns: u8,
+    // The log was told that there are no stamps, and none came since.
+    is_unstamped: bool,
     ghost few: { turns < 8 },
 }
 
 impl<S: HallStore> Service<S> {
     ghost use Rattle.std.specs.Prelude.{◌≡◌, ◌+◌, ◌%◌};
     ghost use Rattle.hall_desk.specs.Desk.{site_of, store_of};
-    ghost use Rattle.serve_sockets.specs.Service.{desk_of, turns_of};
+    ghost use Rattle.serve_sockets.specs.Service.{desk_of, sockets_of, turns_of};
+    ghost use Rattle.serve_sockets.specs.Sockets.{places_of};
     ghost use Rattle.serve_sockets.specs.Turn.{HandsNothing, IfHanded, IsHanded, IsQuiet, WentOn};
 
     /// The service of a desk.
@@ -40,6 +43,7 @@ impl<S: HallStore> Service<S> {
             desk,
             sockets,
             turns: 0,
+            is_unstamped: false,
         }
     }
 
@@ -55,12 +59,12 @@ impl<S: HallStore> Service<S> {
         self.desk
     }
 
-    /// Waits a little for something to come, if nothing is known to be there.
-    pub fn wait(&mut self)
+    /// Waits for something to come, if nothing is known to be there: for the source's pause at most.
+    pub fn wait<C: Source>(&mut self, source: &mut C)
         ensures desk { desk_of self.new ≡ desk_of self.old }
         ensures turns { turns_of self.new ≡ turns_of self.old }
     {
-        self.sockets.wait();
+        self.sockets.wait(source);
     }
 
     /// Serves the next seat that may have something: a socket for datagrams, the listener or a connection, from the last
@@ -79,17 +83,18 @@ impl<S: HallStore> Service<S> {
         ensures turns { turns_of self.new ≡ (turns_of self.old + 1) % 8 }
         ensures eighth { turns_of self.old ≡ 7 → IsQuiet result }
     {
+        self.sockets.pass(stamp.millis);
         self.turns = (self.turns + 1) % 8;
         if self.turns == 0 {
             return Turn::Handed(self.quiet(stamp, log));
         }
-        if let Some(turn) = self.sockets.close_late(stamp.millis) {
+        if let Some(turn) = self.sockets.close_late() {
             return turn;
         }
         match self.sockets.pick() {
             None => Turn::Handed(self.quiet(stamp, log)),
             Some(Origin::Port(port)) => self.datagram(port, stamp, log),
-            Some(Origin::Listener) => self.sockets.accept(self.alloc, stamp.millis),
+            Some(Origin::Listener) => self.sockets.accept(self.alloc),
             Some(Origin::Connection(slot)) => self.connection(slot, stamp, log),
         }
     }
@@ -141,7 +146,7 @@ impl<S: HallStore> Service<S> {
 
     // Has a connection go on by one step.
     fn connection<L: TurnLog>(&mut self, slot: usize, stamp: Stamp, log: &mut L) -> Turn
-        requires { slot < 64 }
+        requires { slot < places_of (sockets_of self.old) }
         ensures clean { S.HallStore.is_clean (store_of (desk_of self.new)) → S.HallStore.is_clean (store_of (desk_of self.old)) }
         ensures site { site_of (desk_of self.new) ≡ site_of (desk_of self.old) }
         ensures handed { S.HallStore.is_clean (store_of (desk_of self.new)) → IfHanded result (IsHanded S.HallStore.holds S.HallStore.leaves
@@ -153,6 +158,7 @@ impl<S: HallStore> Service<S> {
             self.sockets.rest(Origin::Connection(slot));
             return Turn::Nothing;
         };
+        let now = self.sockets.now();
         let buffer = self.sockets.buffer.as_mut_slice();
         let step = advance(
             &mut connection,
@@ -160,9 +166,22 @@ impl<S: HallStore> Service<S> {
             &mut self.desk,
             log,
             stamp,
+            now,
             buffer,
         );
         self.sockets.settle(slot, connection, step)
+    }
+
+    // There is no stamp: nothing is done for a while. The log is told when that begins.
+    fn miss<L: TurnLog>(&mut self, log: &mut L)
+        ensures desk { desk_of self.new ≡ desk_of self.old }
+        ensures turns { turns_of self.new ≡ turns_of self.old }
+    {
+        if !self.is_unstamped {
+            self.is_unstamped = true;
+            log.unstamped();
+        }
+        self.sockets.stand_still();
     }
 
     // Serves one turn with a stamp of the source, if it has one.
@@ -172,17 +191,19 @@ impl<S: HallStore> Service<S> {
         ensures went_on { S.HallStore.is_clean (store_of (desk_of self.new)) → WentOn S.HallStore.holds
             (store_of (desk_of self.old)) (store_of (desk_of self.new)) (site_of (desk_of self.old)) 1 }
     {
-        self.wait();
+        self.wait(source);
         let Some(stamp) = source.stamp() else {
+            self.miss(log);
             return;
         };
+        self.is_unstamped = false;
         let moment = stamp.moment;
         let turn = self.turn(stamp, log);
         log.note(moment, &turn);
     }
 
     /// Serves so many turns, each with a stamp of the source, and tells each to the log. A turn without a stamp does
-    /// nothing.
+    /// nothing for 100 milliseconds, and the log is told when such turns begin.
     pub fn serve_turns<C: Source, L: TurnLog>(&mut self, source: &mut C, log: &mut L, turns: u64)
         ensures clean { S.HallStore.is_clean (store_of (desk_of self.new)) → S.HallStore.is_clean (store_of (desk_of self.old)) }
         ensures site { site_of (desk_of self.new) ≡ site_of (desk_of self.old) }

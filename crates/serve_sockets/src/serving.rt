@@ -23,6 +23,8 @@ pub(crate) enum Step {
     Waits,
     /// Octets were read or written, and nothing was handed over.
     Moved,
+    /// The request asks for a list, and is put off.
+    PutOff,
     /// The request was handed over, and its answer waits.
     Handed(Handover),
     /// The client has taken all of its answer.
@@ -37,13 +39,13 @@ fn hand_request<T, S: HallStore, L: TurnLog>(
     desk: &mut Desk<S>,
     log: &mut L,
     stamp: Stamp,
+    now: u64,
 ) -> Handover
     ensures clean { S.HallStore.is_clean (store_of desk.new) → S.HallStore.is_clean (store_of desk.old) }
     ensures site { site_of desk.new ≡ site_of desk.old }
     ensures waits { S.HallStore.is_clean (store_of desk.new) → IsWaiting S.HallStore.holds S.HallStore.leaves (store_of desk.old) (store_of desk.new) (site_of desk.old)
         stamp.moment stamp.fresh (input_of connection.old) (left_of connection.new) result }
 {
-    let now = stamp.millis;
     let from = connection.from();
     let octets = connection.request(alloc);
     let len = octets.as_slice().len();
@@ -67,13 +69,36 @@ fn refuse<T>(connection: &mut Connection<T>, alloc: Global, now: u64) -> Handove
     handover
 }
 
-// Reads once, and hands the request over once it is decided.
+// Hands a whole request over, or puts it off if it asks for a list and hasn't waited yet.
+fn decide<T, S: HallStore, L: TurnLog>(
+    connection: &mut Connection<T>,
+    alloc: Global,
+    desk: &mut Desk<S>,
+    log: &mut L,
+    stamp: Stamp,
+    now: u64,
+) -> Step
+    ensures clean { S.HallStore.is_clean (store_of desk.new) → S.HallStore.is_clean (store_of desk.old) }
+    ensures site { site_of desk.new ≡ site_of desk.old }
+    ensures waits { S.HallStore.is_clean (store_of desk.new) → IfRequest result (IsWaiting S.HallStore.holds S.HallStore.leaves (store_of desk.old) (store_of desk.new) (site_of desk.old)
+        stamp.moment stamp.fresh (input_of connection.old) (left_of connection.new)) }
+    ensures same { IsOnlyMoved result → desk.new ≡ desk.old }
+{
+    if connection.may_wait() {
+        connection.put_off();
+        return Step::PutOff;
+    }
+    Step::Handed(hand_request(connection, alloc, desk, log, stamp, now))
+}
+
+// Reads once, and hands the request over once it is decided, or puts it off if it asks for a list and hasn't waited yet.
 fn take<T: Read, S: HallStore, L: TurnLog>(
     connection: &mut Connection<T>,
     alloc: Global,
     desk: &mut Desk<S>,
     log: &mut L,
     stamp: Stamp,
+    now: u64,
     buffer: &mut [u8],
 ) -> Step
     ensures clean { S.HallStore.is_clean (store_of desk.new) → S.HallStore.is_clean (store_of desk.old) }
@@ -82,11 +107,10 @@ fn take<T: Read, S: HallStore, L: TurnLog>(
         stamp.moment stamp.fresh (input_of connection.old) (T.remaining (stream_of connection.old)) (left_of connection.new)) }
     ensures same { IsOnlyMoved result → desk.new ≡ desk.old }
 {
-    let now = stamp.millis;
     match connection.take(alloc, buffer) {
         Taken::Waits => Step::Waits,
         Taken::More => Step::Moved,
-        Taken::Whole => Step::Handed(hand_request(connection, alloc, desk, log, stamp)),
+        Taken::Whole => decide(connection, alloc, desk, log, stamp, now),
         Taken::NoMemory => Step::Handed(refuse(connection, alloc, now)),
         Taken::Failed => Step::Failed,
     }
@@ -105,13 +129,14 @@ fn put<T: Write>(connection: &mut Connection<T>, now: u64) -> Step
 }
 
 /// Reads or writes once. A request that is decided is handed to the desk, and its answer waits then until the client takes
-/// it.
+/// it; one that asks for a list waits first until the connection is called. The connection's time goes by the served time.
 pub(crate) fn advance<T: Read + Write, S: HallStore, L: TurnLog>(
     connection: &mut Connection<T>,
     alloc: Global,
     desk: &mut Desk<S>,
     log: &mut L,
     stamp: Stamp,
+    now: u64,
     buffer: &mut [u8],
 ) -> Step
     ensures clean { S.HallStore.is_clean (store_of desk.new) → S.HallStore.is_clean (store_of desk.old) }
@@ -120,10 +145,11 @@ pub(crate) fn advance<T: Read + Write, S: HallStore, L: TurnLog>(
         stamp.moment stamp.fresh (input_of connection.old) (T.remaining (stream_of connection.old)) (left_of connection.new)) }
     ensures same { IsOnlyMoved result → desk.new ≡ desk.old }
 {
-    let now = stamp.millis;
     if connection.is_answered() {
         put(connection, now)
+    } else if connection.is_put_off() {
+        Step::Waits
     } else {
-        take(connection, alloc, desk, log, stamp, buffer)
+        take(connection, alloc, desk, log, stamp, now, buffer)
     }
 }

@@ -1,178 +1,103 @@
 //! The sockets of a service, and its open connections.
-ghost use Rattle.std.specs.Prelude.{◌≡◌, ◌<◌, ◌≤◌, IfErr, IfOk, IfSome, length, vec_len};
-ghost use Rattle.serve_sockets.specs.Ring.{IsOpenable};
+ghost use Rattle.std.specs.Prelude.{◌≡◌, ◌<◌, ◌≤◌, ◌+◌, IfErr, IfOk, IfSome, length, vec_len};
+ghost use Rattle.serve_sockets.specs.Ring.{IsPlace, ready_of};
+ghost use Rattle.serve_sockets.specs.ServedTime.{served_of};
 ghost use Rattle.serve_sockets.specs.Serving.{IfRequest, IsOnlyMoved};
+ghost use Rattle.serve_sockets.specs.Table.{slots_of};
 ghost use Rattle.serve_sockets.specs.Turn.{HandsNothing};
 
 use crate::connection::Connection;
+use crate::ports::{Addresses, BindFault, Ports, is_without_descriptors};
 use crate::ring::{Origin, Ring};
+use crate::room::{Room, mark};
+use crate::served_time::ServedTime;
 use crate::serving::Step;
-use crate::table::Table;
-use crate::turn::{Close, Turn};
+use crate::table::{MAX_CONNECTIONS, Table};
+use crate::turn::{Close, Source, Turn};
 use hall_types::Port;
 use mio::event::Events;
-use mio::net::{TcpListener, TcpStream, UdpSocket};
-use mio::{Interest, Poll, Registry, Token};
-use std::alloc::{AllocError, Global};
+use mio::net::TcpStream;
+use mio::{Interest, Poll, Token};
+use std::alloc::Global;
 use std::io;
 use std::io::ErrorKind;
 use std::net::{Net, Shutdown, SocketAddr};
 use std::time::Duration;
-use thiserror::Error;
 
-/// How long, in milliseconds, a turn waits for something to come.
-const PAUSE: u64 = 10;
+/// How long, in milliseconds, a turn waits at most while a connection is open, and always where it has no stamp.
+const SHORT_PAUSE: u64 = 100;
 
-/// The maximum of a datagram's octets (RFC 768).
-const MAX_DATAGRAM: usize = 65_535;
+/// How long, in milliseconds, a turn waits at most before a socket of which a call failed is tried again.
+const RETRY_PAUSE: u64 = 10;
 
-/// The maximum of events that one wait gives.
-const MAX_EVENTS: usize = 128;
+/// How long, in milliseconds of served time, it is from one look at all connections for late ones to the next.
+const LOOK_PAUSE: u64 = 100;
 
-/// Where a service is to be reached.
-#[derive(Clone, Copy)]
-pub struct Addresses {
-    /// For datagrams to the DHCP server, port 67 (RFC 2131 section 4.1).
-    pub discover: SocketAddr,
-    /// For datagrams to the boot server, port 4011 (PXE 2.1).
-    pub boot: SocketAddr,
-    pub http: SocketAddr,
-}
+/// After how many turns without one a request for a list is handed over, though something else may be there.
+const LIST_TURNS: u16 = 1_024;
 
-/// Why a service has no sockets.
-#[derive(Clone, Copy, Debug, PartialEq, Eq, Error)]
-pub enum BindFault {
-    #[error("Bind")]
-    Bind,
-    #[error("Memory")]
-    Memory,
-}
-
-impl From<AllocError> for BindFault {
-    ghost use Rattle.std.specs.Prelude.{◌≡◌};
-    ghost use Rattle.serve_sockets.specs.declared.sockets.BindFault.TheVariants as fault;
-
-    ghost from_gives = { λ refused given. given ≡ fault.Memory };
-
-    fn from(_: AllocError) -> BindFault {
-        BindFault::Memory
-    }
-}
-
-impl From<io::Error> for BindFault {
-    ghost use Rattle.std.specs.Prelude.{◌≡◌};
-    ghost use Rattle.serve_sockets.specs.declared.sockets.BindFault.TheVariants as fault;
-
-    ghost from_gives = { λ refused given. given ≡ fault.Bind };
-
-    fn from(_: io::Error) -> BindFault {
-        BindFault::Bind
-    }
-}
-
-// The three sockets that are bound.
-#[derive(Drop)]
-struct Ports {
-    discover: UdpSocket,
-    boot: UdpSocket,
-    listener: TcpListener,
-}
-
-impl Ports {
-    fn bind(net: &impl Net, addresses: &Addresses) -> Result<Ports, BindFault> {
-        let discover = UdpSocket::bind(net, addresses.discover)?;
-        let boot = UdpSocket::bind(net, addresses.boot)?;
-        let listener = TcpListener::bind(net, addresses.http)?;
-        Ok(Ports {
-            discover,
-            boot,
-            listener,
-        })
-    }
-
-    // Has the seats of the sockets marked where something comes.
-    fn register(&mut self, registry: &Registry) -> Result<(), BindFault> {
-        let discover = Token(Origin::Port(Port::Discover).seat());
-        let boot = Token(Origin::Port(Port::Boot).seat());
-        let listener = Token(Origin::Listener.seat());
-        registry.register(&mut self.discover, discover, Interest::READABLE)?;
-        registry.register(&mut self.boot, boot, Interest::READABLE)?;
-        registry.register(&mut self.listener, listener, Interest::READABLE)?;
-        Ok(())
-    }
-
-    fn receive(&self, port: Port, buffer: &mut [u8]) -> io::Result<(usize, SocketAddr)>
-        ensures { IfOk result (λ received. received.0 ≤ length buffer.new) }
-    {
-        match port {
-            Port::Discover => self.discover.recv_from(buffer),
-            Port::Boot => self.boot.recv_from(buffer),
-        }
-    }
-
-    fn send(&self, port: Port, octets: &[u8], target: SocketAddr) -> io::Result<usize> {
-        match port {
-            Port::Discover => self.discover.send_to(octets, target),
-            Port::Boot => self.boot.send_to(octets, target),
-        }
-    }
-}
-
-// What sockets need of memory.
-#[derive(Drop)]
-struct Room {
-    events: Events,
-    table: Table<TcpStream>,
-    buffer: Vec<u8>,
-}
-
-impl Room {
-    fn new(alloc: Global) -> Result<Room, AllocError> {
-        Ok(Room {
-            events: Events::with_capacity(alloc, MAX_EVENTS)?,
-            table: Table::new(alloc)?,
-            buffer: Vec::from_elem(alloc, 0u8, MAX_DATAGRAM)?,
-        })
-    }
-}
-
-/// Two sockets for datagrams, a listener, and up to 64 connections, none of which is waited for.
+/// Two sockets for datagrams, a listener, and places for connections, none of which is waited for.
 #[derive(Drop)]
 pub struct Sockets {
     poll: Poll,
+    // Has nothing registered, so that nothing ends a wait for it early.
+    still: Poll,
     events: Events,
     ports: Ports,
     table: Table<TcpStream>,
     accepted: u64,
+    time: ServedTime,
+    // When late connections are looked for, and from which slot on.
+    look_at: u64,
+    look_from: usize,
     ring: Ring,
+    // A request was handed over, and no other seat was picked since.
+    has_handed: bool,
+    // A request for a list may be put off.
+    has_put_off: bool,
+    // How many turns there were since such a request was called, up to `LIST_TURNS`.
+    turns: u16,
     // A receive or an accept failed that may fail again at once.
     is_lame: bool,
     /// What was received last.
     pub(crate) buffer: Vec<u8>,
+    ghost agree: { length (ready_of ring) ≡ length (slots_of table) + 3 },
 }
 
 impl Sockets {
-    /// Binds the three sockets. Port 0 is one that the system picks.
+    ghost use Rattle.serve_sockets.specs.Sockets.{places_of};
+
+    /// Binds the three sockets. Port 0 is one that the system picks. There are so many places for connections, 1 at least and 1,024
+    /// at most.
     pub fn bind(
         net: &impl Net,
         alloc: Global,
         addresses: &Addresses,
+        places: usize,
     ) -> Result<Sockets, BindFault> {
         let poll = Poll::new(net)?;
+        let still = Poll::new(net)?;
         let mut ports = Ports::bind(net, addresses)?;
         ports.register(poll.registry())?;
-        let room = Room::new(alloc)?;
-        Ok(Sockets::over(poll, ports, room))
+        let room = Room::new(alloc, places.clamp(1, MAX_CONNECTIONS))?;
+        Ok(Sockets::over(poll, still, ports, room))
     }
 
-    fn over(poll: Poll, ports: Ports, room: Room) -> Sockets {
+    fn over(poll: Poll, still: Poll, ports: Ports, room: Room) -> Sockets {
         Sockets {
             poll,
+            still,
             events: room.events,
             ports,
             table: room.table,
             accepted: 0,
-            ring: Ring::new(),
+            time: ServedTime::new(),
+            look_at: 0,
+            look_from: 0,
+            ring: room.ring,
+            has_handed: false,
+            has_put_off: false,
+            turns: 0,
             is_lame: false,
             buffer: room.buffer,
         }
@@ -198,31 +123,103 @@ impl Sockets {
         self.table.count()
     }
 
-    /// Marks where something is. Waits a little for something to come if nothing is known to be there.
-    pub(crate) fn wait(&mut self) {
-        let time = if self.ring.is_idle() {
-            Duration::from_millis(PAUSE)
+    // For how many milliseconds at most something is waited for where nothing is known to be there.
+    fn pause<C: Source>(&self, source: &mut C) -> u64 {
+        let pause = source.pause();
+        if self.is_lame {
+            pause.min(RETRY_PAUSE)
+        } else if self.table.count() == 0 {
+            pause
         } else {
-            Duration::ZERO
-        };
-        if self.poll.poll(&mut self.events, Some(time)).is_ok() {
-            for event in &self.events {
-                self.ring.mark(event.token().0);
-            }
+            pause.min(SHORT_PAUSE)
         }
     }
 
-    /// The next seat that may have something.
-    pub(crate) fn pick(&mut self) -> Option<Origin>
-        ensures { IfSome result IsOpenable }
+    /// Marks where something is. Waits for something to come if nothing is known to be there: for the source's pause at most, less
+    /// while a connection is open, so that a late one is closed in time.
+    pub(crate) fn wait<C: Source>(&mut self, source: &mut C) {
+        let millis = if self.ring.is_idle() && !self.has_put_off {
+            self.pause(source)
+        } else {
+            0
+        };
+        let time = Duration::from_millis(millis);
+        if self.poll.poll(&mut self.events, Some(time)).is_ok() {
+            mark(&mut self.ring, &self.events);
+        }
+    }
+
+    /// Waits a while, whatever comes.
+    pub(crate) fn stand_still(&mut self) {
+        let time = Duration::from_millis(SHORT_PAUSE);
+        let _ = self.still.poll(&mut self.events, Some(time));
+    }
+
+    /// A turn has a stamp of so many milliseconds.
+    pub(crate) fn pass(&mut self, millis: u64) {
+        self.time.pass(millis);
+        self.turns = self.turns.saturating_add(1).min(LIST_TURNS);
+    }
+
+    /// The served time.
+    pub(crate) fn now(&self) -> u64
+        ensures { result ≡ served_of self.now.time }
     {
+        self.time.now()
+    }
+
+    // After a request that was handed over, the next socket for datagrams that may have something.
+    fn pick_port(&mut self) -> Option<Origin>
+        ensures place { IfSome result (IsPlace (places_of self.new)) }
+        ensures places { places_of self.new ≡ places_of self.old }
+    {
+        if !self.has_handed {
+            return None;
+        }
+        self.has_handed = false;
+        let seat = self.ring.pick_port()?;
+        Some(Origin::at(seat))
+    }
+
+    // The connection whose request for a list has waited longest, where nothing else may be there or there was none for long. Its
+    // request waits no more.
+    fn pick_list(&mut self) -> Option<Origin>
+        ensures place { IfSome result (IsPlace (places_of self.new)) }
+        ensures places { places_of self.new ≡ places_of self.old }
+    {
+        if !self.has_put_off || self.turns < LIST_TURNS && !self.ring.is_idle() {
+            return None;
+        }
+        let Some(slot) = self.table.longest_put_off() else {
+            self.has_put_off = false;
+            return None;
+        };
+        let mut connection = self.table.take(slot)?;
+        connection.call();
+        self.keep(slot, connection);
+        self.turns = 0;
+        Some(Origin::Connection(slot))
+    }
+
+    /// The next seat that may have something: a socket for datagrams after a request that was handed over, a connection whose request
+    /// for a list has waited, or the next one of all seats.
+    pub(crate) fn pick(&mut self) -> Option<Origin>
+        ensures { IfSome result (IsPlace (places_of self.new)) }
+    {
+        if let Some(port) = self.pick_port() {
+            return Some(port);
+        }
+        if let Some(list) = self.pick_list() {
+            return Some(list);
+        }
         let seat = self.ring.pick()?;
         Some(Origin::at(seat))
     }
 
     /// A seat has nothing more now.
     pub(crate) fn rest(&mut self, origin: Origin)
-        requires { IsOpenable origin }
+        requires { IsPlace (places_of self.old) origin }
+        ensures { places_of self.new ≡ places_of self.old }
     {
         self.ring.clear(origin.seat());
     }
@@ -239,7 +236,7 @@ impl Sockets {
 
     // A seat gave nothing.
     fn missed(&mut self, origin: Origin, error: &io::Error) -> Turn
-        requires { IsOpenable origin }
+        requires { IsPlace (places_of self.old) origin }
         ensures { HandsNothing result }
     {
         self.rest(origin);
@@ -267,16 +264,17 @@ impl Sockets {
     }
 
     /// Accepts a connection.
-    pub(crate) fn accept(&mut self, alloc: Global, now: u64) -> Turn
+    pub(crate) fn accept(&mut self, alloc: Global) -> Turn
         ensures { HandsNothing result }
     {
         match self.ports.listener.accept() {
-            Ok((stream, from)) => self.admit(alloc, stream, from, now),
+            Ok((stream, from)) => self.admit(alloc, stream, from),
+            Err(error) if is_without_descriptors(&error) => self.make_room(&error),
             Err(error) => self.missed(Origin::Listener, &error),
         }
     }
 
-    fn admit(&mut self, alloc: Global, mut stream: TcpStream, from: SocketAddr, now: u64) -> Turn
+    fn admit(&mut self, alloc: Global, mut stream: TcpStream, from: SocketAddr) -> Turn
         ensures { HandsNothing result }
     {
         let slot = self.table.slot_for_new();
@@ -287,17 +285,41 @@ impl Sockets {
             return Turn::Failed;
         }
         self.accepted = self.accepted.saturating_add(1);
-        let connection = Connection::new(alloc, stream, from, self.accepted, now);
+        let connection = Connection::new(alloc, stream, from, self.accepted, self.time.now());
         let instead_of = self.table.open(slot, connection);
         self.ring.mark(seat);
         Turn::Accepted { from, instead_of }
     }
 
-    /// Closes the first connection that is late, if there is one.
-    pub(crate) fn close_late(&mut self, now: u64) -> Option<Turn>
+    // Closes the connection that goes where there is no descriptor for another one, which is tried again at the next turn.
+    fn make_room(&mut self, error: &io::Error) -> Turn
+        ensures { HandsNothing result }
+    {
+        let slot = self.table.yielding();
+        match self.table.take(slot) {
+            Some(connection) => self.close(slot, connection, Close::Crowded),
+            None => self.missed(Origin::Listener, error),
+        }
+    }
+
+    /// Closes the next connection that is late, if there is one. One whose seat is marked is asked before. All are looked at once
+    /// in 100 milliseconds of served time.
+    pub(crate) fn close_late(&mut self) -> Option<Turn>
         ensures { IfSome result HandsNothing }
     {
-        let slot = self.table.late(now)?;
+        let now = self.time.now();
+        if now < self.look_at {
+            return None;
+        }
+        let late = self
+            .table
+            .late(self.ring.connections(), now, self.look_from);
+        let Some(slot) = late else {
+            self.look_at = now.saturating_add(LOOK_PAUSE);
+            self.look_from = 0;
+            return None;
+        };
+        self.look_from = slot + 1;
         let connection = self.take(slot)?;
         Some(Turn::Closed {
             from: connection.from(),
@@ -307,31 +329,57 @@ impl Sockets {
 
     /// The connection of a slot, which is free then.
     pub(crate) fn take(&mut self, slot: usize) -> Option<Connection<TcpStream>>
-        requires { slot < 64 }
+        requires { slot < places_of self.old }
+        ensures { places_of self.new ≡ places_of self.old }
     {
         self.table.take(slot)
     }
 
-    /// The turn of a step of a connection, which is kept if the step neither was the last one nor failed.
+    // Closes a connection that was taken out of its slot.
+    fn close(&mut self, slot: usize, connection: Connection<TcpStream>, cause: Close) -> Turn
+        requires { slot < places_of self.old }
+        ensures { HandsNothing result }
+    {
+        self.rest(Origin::Connection(slot));
+        Turn::Closed {
+            from: connection.from(),
+            cause,
+        }
+    }
+
+    /// The turn of a step of a connection, which is kept if the step neither was the last one nor failed, unless it gave nothing
+    /// and is late.
     pub(crate) fn settle(
         &mut self,
         slot: usize,
         connection: Connection<TcpStream>,
         step: Step,
     ) -> Turn
-        requires { slot < 64 }
+        requires { slot < places_of self.old }
         ensures handed { IfRequest step (λ handover. result ≡ Turn.Handed handover) }
         ensures moved { IsOnlyMoved step → HandsNothing result }
     {
-        let from = connection.from();
         match step {
             Step::Handed(handover) => {
                 self.keep(slot, connection);
+                self.ring.mark(Origin::Connection(slot).seat());
+                self.has_handed = true;
                 Turn::Handed(handover)
             }
+            Step::PutOff => {
+                let from = connection.from();
+                self.keep(slot, connection);
+                self.rest(Origin::Connection(slot));
+                self.has_put_off = true;
+                Turn::Moved(from)
+            }
             Step::Moved => {
+                let from = connection.from();
                 self.keep(slot, connection);
                 Turn::Moved(from)
+            }
+            Step::Waits if connection.is_late(self.time.now()) => {
+                self.close(slot, connection, Close::Late)
             }
             Step::Waits => {
                 self.keep(slot, connection);
@@ -340,25 +388,16 @@ impl Sockets {
             }
             Step::Done => {
                 let _ = connection.stream().shutdown(Shutdown::Write);
-                self.rest(Origin::Connection(slot));
-                Turn::Closed {
-                    from,
-                    cause: Close::Answered,
-                }
+                self.close(slot, connection, Close::Answered)
             }
-            Step::Failed => {
-                self.rest(Origin::Connection(slot));
-                Turn::Closed {
-                    from,
-                    cause: Close::Failed,
-                }
-            }
+            Step::Failed => self.close(slot, connection, Close::Failed),
         }
     }
 
     /// Puts a connection back into its slot.
     pub(crate) fn keep(&mut self, slot: usize, connection: Connection<TcpStream>)
-        requires { slot < 64 }
+        requires { slot < places_of self.old }
+        ensures { places_of self.new ≡ places_of self.old }
     {
         let _ = self.table.open(slot, connection);
     }

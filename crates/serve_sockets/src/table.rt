@@ -1,46 +1,68 @@
 //! The open connections.
-ghost use Rattle.std.specs.Prelude.{◌≡◌, vec_len};
+ghost use Rattle.std.specs.Prelude.{◌≡◌, ◌<◌, ◌≤◌, count_by, is_some, vec_len};
 
 use crate::connection::Connection;
-use crate::oldest::oldest;
+use crate::put_off::longest_put_off;
+use crate::yielding::yielding;
 use std::alloc::{AllocError, Global};
 use std::mem;
 use std::net::SocketAddr;
 
-/// The maximum of open connections.
-pub const MAX_CONNECTIONS: usize = 64;
+/// The maximum of places for connections.
+pub const MAX_CONNECTIONS: usize = 1_024;
 
 /// A slot for each open connection that there may be.
 #[derive(Drop)]
 pub(crate) struct Table<T> {
     slots: Vec<Option<Connection<T>>>,
-    ghost size: { vec_len slots ≡ 64 },
+    taken: usize,
+    ghost some: { 0 < vec_len slots },
+    ghost few: { vec_len slots ≤ 1024 },
+    ghost counted: { taken ≡ count_by is_some slots.items },
 }
 
 impl<T: Drop> Table<T> {
-    ghost use Rattle.std.specs.Prelude.{◌<◌, IfOk, MatchOption, None, Some, count_by, is_none, is_some, replicate, slice_get, slice_set};
-    ghost use Rattle.std.specs.List.{position};
-    ghost use Rattle.serve_sockets.specs.Table.{IsOldest, is_late_in, slots_of};
+    ghost use Rattle.std.specs.Prelude.{IfNone, IfOk, IfSome, MatchOption, None, Some, ◌==◌, is_none, length, position, replicate, slice_get, slice_set};
+    ghost use Rattle.serve_sockets.specs.Table.{IsNextLate, NoneLate, late_at, slots_of};
+    ghost use Rattle.serve_sockets.specs.PutOff.{HasWaitedLongest, waits_in};
+    ghost use Rattle.serve_sockets.specs.Yielding.{Goes};
 
-    /// All slots are free.
-    pub(crate) fn new(alloc: Global) -> Result<Table<T>, AllocError>
-        ensures { IfOk result (λ table. slots_of table ≡ replicate 64 None) }
+    /// So many slots, all of which are free.
+    pub(crate) fn new(alloc: Global, places: usize) -> Result<Table<T>, AllocError>
+        requires some { 0 < places }
+        requires few { places ≤ 1024 }
+        ensures { IfOk result (λ table. slots_of table ≡ replicate places None) }
     {
-        let mut slots = Vec::with_capacity(alloc, MAX_CONNECTIONS)?;
-        for _ in 0..MAX_CONNECTIONS {
+        let mut slots = Vec::with_capacity(alloc, places)?;
+        for _ in 0..places {
             slots.push(None)?;
         }
-        Ok(Table { slots })
+        Ok(Table { slots, taken: 0 })
     }
 
-    /// The first slot whose connection was undecided, or its answer stood still, for two seconds.
-    pub(crate) fn late(&self, now: u64) -> Option<usize>
-        ensures late { result ≡ position (is_late_in now) (slots_of self.now) }
+    // Whether a slot's seat isn't marked and its connection was undecided, or its answer stood still, for two seconds of served
+    // time.
+    fn is_late(&self, marks: &[bool], now: u64, slot: usize) -> bool
+        ensures { result ≡ late_at (slots_of self.now) marks.now now slot }
     {
-        self.slots.iter().position(|slot| match slot {
-            Some(connection) => connection.is_late(now),
-            None => false,
-        })
+        let is_marked = marks.get(slot).copied().unwrap_or(false);
+        match self.slots.get(slot) {
+            Some(Some(connection)) => !is_marked && connection.is_late(now),
+            _ => false,
+        }
+    }
+
+    /// The first slot from this one on whose connection is late, where its seat isn't marked.
+    pub(crate) fn late(&self, marks: &[bool], now: u64, from: usize) -> Option<usize>
+        ensures next { IfSome result (IsNextLate (slots_of self.now) marks.now now from) }
+        ensures none { IfNone result (NoneLate (slots_of self.now) marks.now now from) }
+    {
+        for slot in from..self.slots.len() {
+            if self.is_late(marks, now, slot) {
+                return Some(slot);
+            }
+        }
+        None
     }
 
     // The first free slot.
@@ -53,39 +75,69 @@ impl<T: Drop> Table<T> {
         })
     }
 
-    /// The first free slot, or else that of the connection which was accepted first.
+    /// The slot of the connection that goes where there is no room for another one.
+    pub(crate) fn yielding(&self) -> usize
+        ensures within { result < length (slots_of self.now) }
+        ensures goes { Goes (slots_of self.now) result }
+    {
+        yielding(self.slots.as_slice())
+    }
+
+    /// The first free slot, or else that of the connection that goes.
     pub(crate) fn slot_for_new(&self) -> usize
-        ensures within { result < 64 }
-        ensures slot { MatchOption (position is_none (slots_of self.now)) (IsOldest (slots_of self.now) result) (λ slot. result ≡ slot) }
+        ensures within { result < length (slots_of self.now) }
+        ensures slot { MatchOption (position is_none (slots_of self.now)) (Goes (slots_of self.now) result) (λ slot. result ≡ slot) }
     {
         match self.free() {
             Some(slot) => slot,
-            None => oldest(self.slots.as_slice()),
+            None => self.yielding(),
         }
+    }
+
+    /// The slot whose connection was accepted before the others of those whose requests are put off.
+    pub(crate) fn longest_put_off(&self) -> Option<usize>
+        ensures longest { IfSome result (HasWaitedLongest (slots_of self.now)) }
+        ensures none { IfNone result (position waits_in (slots_of self.now) ≡ None) }
+    {
+        longest_put_off(self.slots.as_slice())
     }
 
     /// Puts a connection into a slot, and closes the one that is there. Says where that one's client is.
     pub(crate) fn open(&mut self, slot: usize, connection: Connection<T>) -> Option<SocketAddr>
-        requires { slot < 64 }
+        requires { slot < length (slots_of self.old) }
         ensures { slots_of self.new ≡ slice_set (slots_of self.old) slot (Some connection) }
     {
         let before = mem::replace(&mut self.slots[slot], Some(connection));
+        if before.is_none() {
+            self.taken += 1;
+        }
         before.map(|connection| connection.from())
     }
 
     /// The connection of a slot, which is free then.
     pub(crate) fn take(&mut self, slot: usize) -> Option<Connection<T>>
-        requires { slot < 64 }
+        requires { slot < length (slots_of self.old) }
         ensures taken { slice_get (slots_of self.old) slot ≡ Some result }
         ensures free { slots_of self.new ≡ slice_set (slots_of self.old) slot None }
     {
-        self.slots[slot].take()
+        let taken = self.slots[slot].take();
+        if taken.is_some() {
+            self.taken -= 1;
+        }
+        taken
+    }
+
+    /// How many slots there are.
+    pub(crate) fn places(&self) -> usize
+        ensures { result ≡ length (slots_of self.now) }
+    {
+        self.slots.len()
     }
 
     /// How many connections are open.
     pub(crate) fn count(&self) -> usize
         ensures { result ≡ count_by is_some (slots_of self.now) }
     {
-        self.slots.iter().filter(|slot| slot.is_some()).count()
+        self.taken
     }
 }

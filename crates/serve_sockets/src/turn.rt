@@ -10,7 +10,7 @@ pub struct Stamp {
     pub moment: Moment,
     /// 16 fresh octets, the token of a boot that is issued.
     pub fresh: Token,
-    /// Milliseconds on a clock that never goes back, for the time that a connection has.
+    /// Milliseconds on a clock that never goes back, for the time that a connection has. Between two turns 100 count at most.
     pub millis: u64,
 }
 
@@ -18,6 +18,9 @@ pub struct Stamp {
 pub trait Source {
     /// The stamp of the next turn, and nothing where a clock or the random octets failed.
     fn stamp(&mut self) -> Option<Stamp>;
+
+    /// For how many milliseconds at most a turn waits where nothing is known to be there.
+    fn pause(&mut self) -> u64;
 }
 
 /// What was handed to the desk.
@@ -55,10 +58,12 @@ pub struct Handover {
 pub enum Close {
     /// The client has taken all of its answer.
     Answered,
-    /// The request was undecided, or the answer stood still, for two seconds.
+    /// It was asked and gave nothing: the request was undecided, or the answer stood still, for two seconds of the service's time.
     Late,
     /// A read or a write failed.
     Failed,
+    /// It went for another one, for which the system had no descriptor.
+    Crowded,
 }
 
 /// What a turn did.
@@ -68,7 +73,7 @@ pub enum Turn {
     Handed(Handover),
     /// So too, and the answer to a datagram couldn't be sent.
     Unsent(Handover),
-    /// A connection was accepted, and the oldest closed for it if there were too many.
+    /// A connection was accepted, and another one closed for it if there was no place.
     Accepted {
         from: SocketAddr,
         instead_of: Option<SocketAddr>,
@@ -94,4 +99,7 @@ pub trait TurnLog {
 
     /// What a turn did, at the moment of its stamp.
     fn note(&mut self, moment: Moment, turn: &Turn);
+
+    /// The source gives no stamps from now on, so that nothing is done, until a turn is noted again.
+    fn unstamped(&mut self) {}
 }

@@ -4,7 +4,7 @@ use Rattle.serve_sockets.proofs.WentOnLemmas.{went_nowhere, went_one}
 use Rattle.serve_sockets.proofs.service.Service.serve_turn.Goals as goal
 
 pub returns-in_default-clause-went_on : goal.returns-in_default-clause-went_on
-returns-in_default-clause-went_on g c = λ clean. rw c.wait.ensures.desk (went_nowhere g.S.HallStore.holds _ _ _)
+returns-in_default-clause-went_on g c = λ clean. rw c.miss.ensures.desk (rw c.wait.ensures.desk (went_nowhere g.S.HallStore.holds _ _ _))
 
 pub returns-clause-went_on : goal.returns-clause-went_on
 returns-clause-went_on g c = λ clean.

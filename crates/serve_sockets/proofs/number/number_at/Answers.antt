@@ -1,6 +1,6 @@
 use Rattle.std.proofs.Common.{sym, ◌∙◌}
 use Rattle.serve_sockets.proofs.TableLemmas.{number_held, number_past}
-use Rattle.serve_sockets.proofs.oldest.number_at.Goals as goal
+use Rattle.serve_sockets.proofs.number.number_at.Goals as goal
 
 pub returns-in-Some : goal.returns-in-Some
 returns-in-Some g c =

@@ -1,0 +1,48 @@
+-- Which connection goes for another one where there is no room.
+use Rattle.std.specs.Prelude.{◌≡◌, ◌<◌, ◌≤◌, ℕ, List, Bool, false, ◌==◌, Option, None, Some, count_by, length, slice_get, slice_index}
+use Rattle.serve_sockets.specs.Connection.{silent_group}
+use Rattle.serve_sockets.specs.Table.{number_at}
+use Rattle.serve_sockets.specs.declared.connection.Connection.{Connection}
+
+-- whether a group is this one
+abbrev pub is_group : ℕ → Option ℕ → Bool
+is_group group None = false
+is_group group (Some other) = other == group
+
+module _ {T : Type 0} where
+  -- the group of a slot's connection, if that is silent
+  abbrev pub group_in : Option (Connection T) → Option ℕ
+  group_in None = None
+  group_in (Some connection) = silent_group connection
+
+  -- how many silent connections a group has
+  abbrev pub crowd_of : List (Option (Connection T)) → ℕ → ℕ
+  crowd_of slots group = count_by (λ held. is_group group (group_in held)) slots
+
+  -- likewise, and 0 where there is no group
+  abbrev pub crowd_by : List (Option (Connection T)) → Option ℕ → ℕ
+  crowd_by slots None = 0
+  crowd_by slots (Some group) = crowd_of slots group
+
+  -- how many silent connections the group of what a slot holds has, if that is silent itself, and else 0
+  abbrev pub crowd_in : List (Option (Connection T)) → Option (Option (Connection T)) → ℕ
+  crowd_in slots None = 0
+  crowd_in slots (Some held) = crowd_by slots (group_in held)
+
+  -- likewise of a slot
+  abbrev pub crowd_at : List (Option (Connection T)) → ℕ → ℕ
+  crowd_at slots slot = crowd_in slots (slice_get slots slot)
+
+  -- the connection of a slot goes no later than that of another one: its crowd is greater, or as great and it was accepted before
+  abbrev pub IsAhead : List (Option (Connection T)) → ℕ → ℕ → Type 0
+  IsAhead slots slot other = (crowd_at slots other ≤ crowd_at slots slot)
+      × (crowd_at slots slot ≡ crowd_at slots other → number_at slots slot ≤ number_at slots other)
+
+  -- The connection of the slot goes: a silent one, if there is one, of the group with the most of them, and of these the one that was
+  -- accepted before the others. Where none is silent, it is the one that was accepted before all others.
+  abbrev pub Goes : List (Option (Connection T)) → ℕ → Type 0
+  Goes slots slot = (k : ℕ) → k < length slots → IsAhead slots slot k
+
+  -- how many silent connections each group has
+  abbrev pub IsTally : List ℕ → List (Option (Connection T)) → Type 0
+  IsTally crowds slots = (group : ℕ) → group < 1024 → slice_index crowds group ≡ crowd_of slots group

@@ -1,0 +1,107 @@
+//! The sockets at which a service is reached.
+ghost use Rattle.std.specs.Prelude.{◌≤◌, IfOk, length};
+
+use crate::ring::Origin;
+use hall_types::Port;
+use mio::net::{TcpListener, UdpSocket};
+use mio::{Interest, Registry, Token};
+use std::alloc::AllocError;
+use std::io;
+use std::net::{Net, SocketAddr};
+use thiserror::Error;
+
+/// Where a service is to be reached.
+#[derive(Clone, Copy)]
+pub struct Addresses {
+    /// For datagrams to the DHCP server, port 67 (RFC 2131 section 4.1).
+    pub discover: SocketAddr,
+    /// For datagrams to the boot server, port 4011 (PXE 2.1).
+    pub boot: SocketAddr,
+    pub http: SocketAddr,
+}
+
+/// Why a service has no sockets.
+#[derive(Clone, Copy, Debug, PartialEq, Eq, Error)]
+pub enum BindFault {
+    #[error("Bind")]
+    Bind,
+    #[error("Memory")]
+    Memory,
+}
+
+impl From<AllocError> for BindFault {
+    ghost use Rattle.std.specs.Prelude.{◌≡◌};
+    ghost use Rattle.serve_sockets.specs.declared.ports.BindFault.TheVariants as fault;
+
+    ghost from_gives = { λ refused given. given ≡ fault.Memory };
+
+    fn from(_: AllocError) -> BindFault {
+        BindFault::Memory
+    }
+}
+
+impl From<io::Error> for BindFault {
+    ghost use Rattle.std.specs.Prelude.{◌≡◌};
+    ghost use Rattle.serve_sockets.specs.declared.ports.BindFault.TheVariants as fault;
+
+    ghost from_gives = { λ refused given. given ≡ fault.Bind };
+
+    fn from(_: io::Error) -> BindFault {
+        BindFault::Bind
+    }
+}
+
+/// The three sockets that are bound.
+#[derive(Drop)]
+pub(crate) struct Ports {
+    pub discover: UdpSocket,
+    pub boot: UdpSocket,
+    pub listener: TcpListener,
+}
+
+impl Ports {
+    pub fn bind(net: &impl Net, addresses: &Addresses) -> Result<Ports, BindFault> {
+        let discover = UdpSocket::bind(net, addresses.discover)?;
+        let boot = UdpSocket::bind(net, addresses.boot)?;
+        let listener = TcpListener::bind(net, addresses.http)?;
+        Ok(Ports {
+            discover,
+            boot,
+            listener,
+        })
+    }
+
+    /// Has the seats of the sockets marked where something comes.
+    pub fn register(&mut self, registry: &Registry) -> Result<(), BindFault> {
+        let discover = Token(Origin::Port(Port::Discover).seat());
+        let boot = Token(Origin::Port(Port::Boot).seat());
+        let listener = Token(Origin::Listener.seat());
+        registry.register(&mut self.discover, discover, Interest::READABLE)?;
+        registry.register(&mut self.boot, boot, Interest::READABLE)?;
+        registry.register(&mut self.listener, listener, Interest::READABLE)?;
+        Ok(())
+    }
+
+    /// Receives a datagram.
+    pub fn receive(&self, port: Port, buffer: &mut [u8]) -> io::Result<(usize, SocketAddr)>
+        ensures { IfOk result (λ received. received.0 ≤ length buffer.new) }
+    {
+        match port {
+            Port::Discover => self.discover.recv_from(buffer),
+            Port::Boot => self.boot.recv_from(buffer),
+        }
+    }
+
+    /// Sends a datagram.
+    pub fn send(&self, port: Port, octets: &[u8], target: SocketAddr) -> io::Result<usize> {
+        match port {
+            Port::Discover => self.discover.send_to(octets, target),
+            Port::Boot => self.boot.send_to(octets, target),
+        }
+    }
+}
+
+/// Whether an error is what the system answers where the process has no more descriptors (EMFILE), and where the system hasn't (ENFILE).
+pub(crate) fn is_without_descriptors(error: &io::Error) -> bool {
+    matches!(error.raw_os_error(), Some(23 | 24))
+}

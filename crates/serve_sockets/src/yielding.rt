@@ -1,0 +1,80 @@
+//! Which connection goes for another one where there is no room.
+ghost use Rattle.std.specs.Prelude.{◌≡◌, ◌<◌, ◌≤◌, IfSome, false, length, true};
+ghost use Rattle.serve_sockets.specs.Yielding.{Goes, IsAhead, IsTally, crowd_at, crowd_by, group_in};
+
+use crate::connection::Connection;
+use crate::group::GROUPS;
+use crate::number::number_at;
+
+// The group of the connection that is held, if that is silent.
+fn group_in<T>(held: &Option<Connection<T>>) -> Option<usize>
+    ensures group { result ≡ group_in held.now }
+    ensures within { IfSome result (λ group. group < 1024) }
+{
+    match held {
+        Some(connection) => connection.silent_group(),
+        None => None,
+    }
+}
+
+// How many silent connections each group has.
+fn tally<T>(slots: &[Option<Connection<T>>]) -> [u16; GROUPS]
+    requires { length slots.now ≤ 1024 }
+    ensures { IsTally result slots.now }
+{
+    let mut crowds = [0u16; GROUPS];
+    for slot in 0..slots.len() {
+        if let Some(group) = group_in(&slots[slot]) {
+            crowds[group] += 1;
+        }
+    }
+    crowds
+}
+
+// How many silent connections a slot's group has, if its own connection is silent.
+fn crowd_at<T>(slots: &[Option<Connection<T>>], crowds: &[u16; GROUPS], slot: usize) -> u16
+    requires { IsTally crowds.now slots.now }
+    ensures { result ≡ crowd_at slots.now slot }
+{
+    match slots.get(slot) {
+        Some(held) => group_in(held).map_or(0, |group| crowds[group]),
+        None => 0,
+    }
+}
+
+// Whether a slot's connection goes before that of another one.
+fn is_ahead<T>(
+    slots: &[Option<Connection<T>>],
+    crowds: &[u16; GROUPS],
+    slot: usize,
+    other: usize,
+) -> bool
+    requires { IsTally crowds.now slots.now }
+    ensures yes { result ≡ true → IsAhead slots.now slot other }
+    ensures no { result ≡ false → IsAhead slots.now other slot }
+{
+    let crowd = crowd_at(slots, crowds, slot);
+    let rival = crowd_at(slots, crowds, other);
+    if crowd == rival {
+        number_at(slots, slot) < number_at(slots, other)
+    } else {
+        crowd > rival
+    }
+}
+
+/// The slot whose connection goes.
+pub(crate) fn yielding<T>(slots: &[Option<Connection<T>>]) -> usize
+    requires some { 0 < length slots.now }
+    requires few { length slots.now ≤ 1024 }
+    ensures within { result < length slots.now }
+    ensures goes { Goes slots.now result }
+{
+    let crowds = tally(slots);
+    let mut first = 0;
+    for slot in 1..slots.len() {
+        if is_ahead(slots, &crowds, slot, first) {
+            first = slot;
+        }
+    }
+    first
+}
