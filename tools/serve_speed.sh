@@ -47,12 +47,12 @@ offers() {   # offers COUNT FLIGHT GAP: OFFERs a second, the median and the time
     for run in 1 2 3 4 5; do outside ./peer offers 10.9.0.2 10.9.0.1 67 "$@"; done > offers.log
     sort "$column" offers.log | head -n 1
 }
-share() {   # share PROCESS: of one processor, in percent, over ten seconds
+share() {   # share PROCESS: of one processor, in percent, over twenty seconds
     local before after
     before=$(awk '{ sub(/.*\) /, ""); print $12 + $13 }' "/proc/$1/stat")
-    sleep 10
+    sleep 20
     after=$(awk '{ sub(/.*\) /, ""); print $12 + $13 }' "/proc/$1/stat")
-    awk -v t=$((after - before)) -v h="$(getconf CLK_TCK)" 'BEGIN { printf "%.2f\n", t / h * 10 }'
+    awk -v t=$((after - before)) -v h="$(getconf CLK_TCK)" 'BEGIN { printf "%.2f\n", t / h * 5 }'
 }
 
 ./peer echo 10.9.0.1 67 & server=$!
@@ -135,7 +135,7 @@ want() {   # want VALUE <= BOUND TEXT
 limit=$(awk -v r="$desk_rest" -v c="$commit" 'BEGIN { print 1.2 * r + c }')
 want "$dns_one" "$desk_one" 'one by one, at least as many as dnsmasq'
 want "$dns_many" "$desk_many" '32 in flight, at least as many as dnsmasq'
-want "$desk_share" 1 'at rest under 1 percent of a processor'
+want "$desk_share" 0.05 'at rest at most 0.05 percent of a processor'
 want "$desk_rest" 150 'at rest under 150 microseconds at the median'
 want "$held_rest" "$limit" 'with 50 silent connections, 1.2 times that and one commit'
 want "$flood_rest" "$limit" 'in a flood of commands, 1.2 times that and one commit'
