@@ -13,11 +13,18 @@ const MAX_TURNS: usize = 2_000;
 pub trait Hall: Drop {
     /// Plays a line, and whether it could be; the hall is given back.
     fn play(self, alloc: Global, text: &str, line: &mut String) -> (bool, Self);
+
+    /// Whether it has tables, which a migration could carry over.
+    fn has_tables() -> bool;
 }
 
 impl<S: Alter + Drop> Hall for Connection<S> {
     fn play(self, alloc: Global, text: &str, line: &mut String) -> (bool, Connection<S>) {
         play_line(alloc, self, text, line)
+    }
+
+    fn has_tables() -> bool {
+        true
     }
 }
 
@@ -32,6 +39,10 @@ impl<S: HallStore + Drop> Hall for Stored<S> {
         let mut asked = Asked::NONE;
         let (done, store) = play_store::play_line(alloc, self.store, text, line, &mut asked);
         (done.is_ok(), Stored { store })
+    }
+
+    fn has_tables() -> bool {
+        false
     }
 }
 

@@ -120,7 +120,7 @@ fn end_memory<H: Hall>(
     Ok(hall)
 }
 
-// Whether lines end with a migration: the store in memory has no tables that could be carried over.
+// Whether lines end with a migration, which is played over tables only.
 fn is_migration(text: &str) -> bool {
     text.ends_with(" migrate")
 }
@@ -138,7 +138,7 @@ fn play_over_hall<H: Hall, W: Write>(
     let mut hall = hall;
     for (at, text) in lines.iter().enumerate().skip(from) {
         let text = text.as_str();
-        if is_comment(text) || (times == 1 && is_migration(text)) {
+        if is_comment(text) || (is_migration(text) && !H::has_tables()) {
             continue;
         }
         let mut line = String::new(alloc);

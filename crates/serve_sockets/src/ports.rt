@@ -101,7 +101,13 @@ impl Ports {
     }
 }
 
-/// Whether an error is what the system answers where the process has no more descriptors (EMFILE), and where the system hasn't (ENFILE).
+// What Linux answers where the system has no more descriptors.
+const ENFILE: i32 = 23;
+
+// What it answers where the process has none.
+const EMFILE: i32 = 24;
+
+/// Whether an error is for want of descriptors.
 pub(crate) fn is_without_descriptors(error: &io::Error) -> bool {
-    matches!(error.raw_os_error(), Some(23 | 24))
+    matches!(error.raw_os_error(), Some(ENFILE | EMFILE))
 }

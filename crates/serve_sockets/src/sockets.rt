@@ -135,10 +135,15 @@ impl Sockets {
         }
     }
 
+    // Whether nothing is known to be there, no request for a list waits, and no late connection was closed by the last look.
+    fn is_idle(&self) -> bool {
+        self.ring.is_idle() && !self.has_put_off && self.look_from == 0
+    }
+
     /// Marks where something is. Waits for something to come if nothing is known to be there: for the source's pause at most, less
-    /// while a connection is open, so that a late one is closed in time.
+    /// while a connection is open, so that a late one is closed in time. Between two late ones nothing is waited for.
     pub(crate) fn wait<C: Source>(&mut self, source: &mut C) {
-        let millis = if self.ring.is_idle() && !self.has_put_off {
+        let millis = if self.is_idle() {
             self.pause(source)
         } else {
             0

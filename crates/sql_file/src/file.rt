@@ -1,6 +1,6 @@
 //! The tables in a file: those of a new hall are made, those of the first schema are carried over, or a task is done over the store of the
-//! hall that they are. One function goes from
-//! a file to its connection and closes it: a proof looks into its type for seconds, so all else holds for any connection or any store.
+//! hall that they are. One function goes from a file to its connection and closes it: a proof looks into its type for seconds, so all
+//! else holds for any connection or any store.
 use crate::fault::FileFault;
 use hall_sql::SqlStore;
 use hall_store::HallStore;
