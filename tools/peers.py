@@ -1,4 +1,4 @@
-"""Talks to a desk: peers.py WHAT ADDRESS DISCOVER-PORT BOOT-PORT HTTP-PORT [TOKEN]. Run by real_peers.sh, whose desk has the
+"""Talks to a desk: peers.py WHAT ADDRESS DISCOVER-PORT BOOT-PORT HTTP-PORT [TOKEN or COUNT]. Run by real_peers.sh, whose desk has the
 server 10.8.0.1, the TFTP server 10.8.0.2 and the host ADDRESS:HTTP-PORT.
 peers.py compare ANSWERED EXPORT REPORT: each machine that was answered is in the export, and as many are in the report.
 peers.py relayed CARD CAPTURE: a client without an address, behind a relay agent."""
@@ -141,6 +141,13 @@ def slow():
             sys.exit("an answer octet by octet")
 
 
+def scripts(count):
+    """Asks for a machine's script so many times, each of which the log has a line for."""
+    for _ in range(int(count)):
+        if b" 200 " not in timed("a script", limit, lambda: asked("/ipxe/52:54:00:12:34:56")):
+            sys.exit("no script")
+
+
 def commands(token):
     """Adds machines until the desk is gone, and prints the address of each that was answered."""
     for number in range(1, 60000):
@@ -212,4 +219,4 @@ if what in ("compare", "relayed"):
     {"compare": compare, "relayed": relayed}[what](*words)
 else:
     address, (discover, boot, http) = words[0], map(int, words[1:4])
-    {"frames": frames, "silent": silent, "many": many, "slow": slow, "commands": commands}[what](*words[4:])
+    {"frames": frames, "silent": silent, "many": many, "slow": slow, "scripts": scripts, "commands": commands}[what](*words[4:])

@@ -33,10 +33,13 @@ for s in kept: s.bind(("127.0.0.1", 0))
 print(*(s.getsockname()[1] for s in kept))')
 desk=http://127.0.0.1:$http
 
+# Serves with this log and this standard error, by a command that runs the program.
 serve() {
+    local log=$1 errors=$2
+    shift 2
     : > ready
-    "$HALLBOOT" serve --db hall.db --discover 127.0.0.1:$discover --boot 127.0.0.1:$boot --http 127.0.0.1:$http \
-        --turns 1000000000000 --server 10.8.0.1 --next 10.8.0.2 --host 127.0.0.1:$http --log desk.log > ready 2> err & server=$!
+    "$@" "$HALLBOOT" serve --db hall.db --discover 127.0.0.1:$discover --boot 127.0.0.1:$boot --http 127.0.0.1:$http \
+        --turns 1000000000000 --server 10.8.0.1 --next 10.8.0.2 --host 127.0.0.1:$http --log "$log" > ready 2> "$errors" & server=$!
     started+=($server)
     for ((i = 0; i < 600; i++)); do
         if grep -q 'hall desk ready' ready; then return; fi
@@ -47,10 +50,14 @@ serve() {
 asked() { curl --silent --show-error --max-time 5 --write-out ' %{http_code}' "$@"; }
 post() { asked -H "Authorization: Bearer $token" --data "{\"key\":\"$key$1\",$2}" "$desk/commands"; }
 is() { [ "$2" = "$3" ] || bad "$1: $2"; }
-peer() { python3 "$here/peers.py" "$@" 127.0.0.1 $discover $boot $http; }
+peer() { python3 "$here/peers.py" "$1" 127.0.0.1 $discover $boot $http "${@:2}"; }
+stopped() {
+    kill -TERM $server
+    wait $server 2> ended.log || true
+}
 
 "$HALLBOOT" init --db hall.db --admin ada --digest "$digest" > init.log
-serve
+serve desk.log err
 
 for attempt in first second; do
     is "curl, the $attempt time" "$(post 01 '"command":"add_pool","pool":"lab"')" '{} 200'
@@ -86,7 +93,7 @@ good 'python3: a request octet by octet, and a client that takes its answer slow
 
 # What was answered before SIGTERM is in the file.
 : > answered
-python3 "$here/peers.py" commands 127.0.0.1 $discover $boot $http $token > answered & sender=$!
+peer commands $token > answered & sender=$!
 started+=($sender)
 for ((i = 0; i < 300; i++)); do
     if [ "$(wc -l < answered)" -ge 20 ]; then break; fi
@@ -127,17 +134,63 @@ assert any(re.search(r" closed late$", l) for l in lines) and any(re.search(r" a
 PYTHON
 good 'the log: each line has its form, and no token, key or digest is in it'
 
-serve
+serve desk.log err
 is 'the same command after a new start' "$(post 01 '"command":"add_pool","pool":"lab"')" '{} 200'
 run=0
 "$HALLBOOT" report --db hall.db > report.txt 2> second || run=$?
 [ $run = 1 ] && [ "$(cat second)" = 'hallboot: Unavailable' ] || bad 'a second program on the file is refused'
-kill -TERM $server
-wait $server 2> ended.log || true
+stopped
 good 'a new start goes on with the same file, which no second program may open'
 
+# A pipe that nobody reads, though it is open.
+mkfifo stalled
+exec 9<> stalled
+unread() { timeout 1 cat <&9 || true; }
+serve - stalled
+peer scripts 1000 || bad 'scripts while nobody reads the log'
+unread > stalled.log
+[ "$(wc -l < stalled.log)" -lt 1000 ] || bad 'the pipe takes no more'
+peer scripts 1 || bad 'a script once the log is read'
+unread > read.log
+grep -qE '^[0-9]+ - lost [0-9]+$' read.log || bad "the number of lost lines: $(cat read.log)"
+stopped
+exec 9>&-
+good 'a log that nobody reads delays no answer, and says later how many lines it lost'
+
+if has strace; then
+    serve desk.log err strace -D -qq -o calls -e trace=fdatasync -e inject=fdatasync:error=EIO:when=2
+    refused=0
+    for number in 21 22 23 24 25; do
+        for ((i = 0; i < 100; i++)); do
+            answered=$(post $number "\"command\":\"add_pool\",\"pool\":\"pool$number\"")
+            if [ "$answered" = '{} 200' ]; then break; fi
+            is 'a command while the store is shut' "$answered" '{"refusal":"Unavailable"} 503'
+            refused=$((refused + 1))
+            sleep 0.02
+        done
+        is 'the command again' "$answered" '{} 200'
+    done
+    [ $refused -gt 0 ] || bad 'a failing fdatasync'
+    is 'messages of the desk' "$(cat err)" 'hallboot: a fault has shut hall.db, which is opened again'
+    stopped
+    good "strace: after a failing fdatasync the same program opens the file again, and answers what it refused $refused times"
+else
+    echo 'not tried: strace is missing'
+fi
+
+serve desk.log err
+mv hall.db moved.db
+peer scripts 10 2> gone.log || true
+run=0
+wait $server || run=$?
+is 'the status of a desk whose file was moved' $run 1
+is 'messages of the desk' "$(cat err)" $'hallboot: hall.db isn\'t the hall\'s file any more\nhallboot: Unavailable'
+mv moved.db hall.db
+"$HALLBOOT" report --db hall.db > report.txt || bad 'the report of the file that was moved'
+good 'a desk whose file is moved ends'
+
 if has sqlite3; then
-    tables=$(sqlite3 hall.db 'PRAGMA integrity_check; SELECT name FROM pools ORDER BY name; SELECT operator, status, body FROM receipts ORDER BY rowid LIMIT 1')
+    tables=$(sqlite3 hall.db 'PRAGMA integrity_check; SELECT name FROM pools WHERE name < '"'pool'"' ORDER BY name; SELECT operator, status, body FROM receipts ORDER BY rowid LIMIT 1')
     is 'sqlite3 reads the tables' "$tables" $'ok\ndefault\nlab\nada|200|{}'
     good 'sqlite3: whole file, pools, receipt'
 else

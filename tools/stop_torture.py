@@ -4,6 +4,7 @@ import hashlib, json, os, random, shutil, signal, socket, sqlite3, subprocess, s
 program, rounds, seed = sys.argv[1], int(sys.argv[2]), int(sys.argv[3])
 TOKEN = "operators-secret-1"
 CLIENTS = 8
+PATIENCE = 10.0  # for how many seconds a command is sent again to a service that met a fault
 CALLS = ["pwrite64", "fdatasync", "ftruncate", "openat"]
 chance = random.Random(seed)
 
@@ -84,10 +85,14 @@ class Client(threading.Thread):
         self.open = json.dumps({"key": key, **wish}, separators=(",", ":")).encode()
         return self.open
 
-    def send(self, desk):
-        """Sends a command until an answer comes; whether one came."""
+    def send(self, desk, patience=0.0):
+        """Sends a command, and again for so many seconds until an answer comes; whether one came."""
         body = self.next_command()
+        end = time.monotonic() + patience
         answer = desk.post(body)
+        while (answer is None or answer[0] == 503) and time.monotonic() < end:
+            time.sleep(0.02)
+            answer = desk.post(body)
         if answer is None or answer[0] == 503:
             return False
         if answer[0] != 200:
@@ -99,14 +104,14 @@ class Client(threading.Thread):
         return True
 
     def run(self):
-        while self.goes_on and self.send(self.desk):
+        while self.goes_on and self.send(self.desk, self.patience):
             pass
 
-    def begin(self, desk):
-        """The same client with a thread of its own, which sends to this service until an answer stays out."""
+    def begin(self, desk, patience):
+        """The same client with a thread of its own, which sends to this service until an answer stays out for so many seconds."""
         again = Client(self.number)
         again.made, again.answers, again.open, again.machine = self.made, self.answers, self.open, self.machine
-        again.desk, again.goes_on = desk, True
+        again.desk, again.patience, again.goes_on = desk, patience, True
         again.start()
         return again
 
@@ -177,20 +182,22 @@ def repeat(clients, what):
     desk.kill()
 
 
-def play(clients, desk, seconds, what, snapshots=0):
-    """The clients send for so long, or until no answer comes any more; then the service is killed."""
-    begun = [client.begin(desk) for client in clients]
+def play(clients, desk, seconds, what, snapshots=0, patience=0.0):
+    """The clients send for so long, or until no answer comes any more; then the service is killed, at once unless they are patient."""
+    begun = [client.begin(desk, patience) for client in clients]
     for _ in range(snapshots):
         time.sleep(chance.uniform(0.01, 0.1))
         snapshot(desk, begun, what)
     end = time.monotonic() + seconds
     while time.monotonic() < end and any(client.is_alive() for client in begun):
         time.sleep(0.002)
-    desk.kill()
+    if not patience:
+        desk.kill()
     for client in begun:
         client.goes_on = False
     for client in begun:
-        client.join(20)
+        client.join(patience + 20)
+    desk.kill()
     return begun
 
 
@@ -220,7 +227,10 @@ with tempfile.TemporaryDirectory() as work:
         fault = (CALLS[turn % len(CALLS)], chance.choice(["EIO", "ENOSPC"]), chance.randint(1, 40))
         what = f"seed {seed}, fault {turn}: {fault}"
         desk = Desk(fault)
-        clients = play(clients, desk, 1.0, what) if desk.is_ready else clients
+        if desk.is_ready:
+            clients = play(clients, desk, 1.0, what, patience=PATIENCE)
+            unanswered = [client.open for client in clients if client.open]
+            assert not unanswered, (what, "the service doesn't answer again", unanswered)
         desk.kill()
         seen["met"] += "INJECTED" in open("calls", errors="replace").read()
         seen["faults"] += 1

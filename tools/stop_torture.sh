@@ -1,7 +1,7 @@
 #!/usr/bin/env bash
 # A hall's file under stops and faults: ROUNDS times hallboot serve is killed (SIGKILL) at a random moment while 8 clients send commands,
 # after its files were copied twice at one moment; and as often one of its system calls on the hall's files fails, by strace, with EIO
-# or ENOSPC. After each, the file is whole (PRAGMA integrity_check of a copy), every command that was answered is there once, and each
+# or ENOSPC, after which the same program answers each client again. After each, the file is whole (PRAGMA integrity_check of a copy), every command that was answered is there once, and each
 # one that wasn't is sent again, octet for octet, until it is answered: it is done once, and every command that is sent again has its
 # first answer. The copies are whole, and have what was answered before.
 # Usage: tools/stop_torture.sh [ROUNDS [SEED]]     HALLBOOT=PROGRAM names a program that is built already.

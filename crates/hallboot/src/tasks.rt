@@ -2,7 +2,7 @@
 use desk_operations::{Exit, Fault, frame_run};
 use hall_store::HallStore;
 use hall_types::{Digest, Name};
-use hallboot_tasks::{Asked, Task, asked_by, carried_out};
+use hallboot_tasks::{Asked, Serving, Suspended, Task, asked_by, carried_out, tell};
 use hallboot_words::Words;
 use sql_file::{FileFault, StoreTask, create, migrate, over};
 use sql_tables::Migrated;
@@ -80,11 +80,30 @@ fn tell_of_others(rt: &HostRuntime, path: &str) {
     }
 }
 
-fn over_hall(rt: &HostRuntime, path: &str, task: Task<'_>) -> Result<Exit, Fault> {
-    if let Task::Serve { .. } = &task {
-        tell_of_others(rt, path);
+// Serves a hall's file. Where a fault has shut the store, the file is opened again, at once and then after ever longer pauses, for a
+// minute.
+fn serve(rt: &HostRuntime, serving: &Serving) -> Result<Exit, Fault> {
+    let path = serving.path.as_str();
+    tell_of_others(rt, path);
+    let mut suspended = Suspended::new(serving.turns);
+    for _ in 0..u64::MAX {
+        let task = Task::Serve {
+            serving: &*serving,
+            suspended: &mut suspended,
+        };
+        let ended = over_file(rt, path, task);
+        if !suspended.is_shut() {
+            return ended;
+        }
+        if !suspended.wait() {
+            break;
+        }
     }
-    over_file(rt, path, task)
+    tell(
+        rt,
+        format!(in rt.alloc(); "hallboot: {path} couldn't be opened again for a minute\n"),
+    );
+    Err(Fault::Unavailable)
 }
 
 fn carry_out(rt: &HostRuntime, asked: Asked<'_>) -> Result<Exit, Fault> {
@@ -102,7 +121,8 @@ fn carry_out(rt: &HostRuntime, asked: Asked<'_>) -> Result<Exit, Fault> {
             digest,
         } => init(rt, path, admin, digest),
         Asked::Migrate { path } => carry_over(rt, path),
-        Asked::Over { path, task } => over_hall(rt, path, task),
+        Asked::Serve(serving) => serve(rt, &serving),
+        Asked::Over { path, task } => over_file(rt, path, task),
     }
 }
 

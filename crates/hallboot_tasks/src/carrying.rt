@@ -92,13 +92,8 @@ pub fn carried_out<S: HallStore>(
             bearer,
             moment,
         } => import(rt, store, place, octets.as_slice(), bearer, moment),
-        Task::Serve {
-            place,
-            addresses,
-            log,
-            turns,
-        } => {
-            let (task, store) = serve(rt, store, place, &addresses, log, turns);
+        Task::Serve { serving, suspended } => {
+            let (task, store) = serve(rt, store, serving, suspended);
             (done(task), store)
         }
     }

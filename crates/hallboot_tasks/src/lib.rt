@@ -3,13 +3,18 @@
 
 mod carrying;
 mod lines;
+mod outlet;
 mod random_block;
 mod reading;
+mod served_file;
 mod serving;
 mod stamps;
+mod suspended;
 mod tasks;
 mod values;
 
 pub use carrying::carried_out;
+pub use outlet::tell;
 pub use reading::fault_of;
-pub use tasks::{Asked, Task, asked_by};
+pub use suspended::Suspended;
+pub use tasks::{Asked, Serving, Task, asked_by};

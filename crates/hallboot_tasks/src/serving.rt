@@ -1,73 +1,91 @@
 //! The service over an open store.
 use crate::lines::Lines;
-use crate::reading::{fault_of, log_file};
+use crate::outlet::tell;
+use crate::served_file::ServedFile;
 use crate::stamps::Stamps;
+use crate::suspended::{Bound, Suspended};
+use crate::tasks::Serving;
 use desk_operations::Fault;
 use hall_desk::Desk;
 use hall_store::HallStore;
-use pxe_vendor::Place;
-use serve_sockets::{Addresses, BindFault, MAX_CONNECTIONS, Service, Sockets};
+use pxe_vendor::{Place, PlaceFault};
+use serve_sockets::{Service, Source, TurnLog};
+use std::alloc::Global;
 use std::cell::RefCell;
-use std::io;
-use std::io::Write;
+use std::time::Instant;
 use store_cached::Cached;
 use store_watched::{Sight, Watched};
 
-fn bind_fault(fault: BindFault) -> Fault {
-    match fault {
-        BindFault::Bind => Fault::Bind,
-        BindFault::Memory => Fault::Memory,
-    }
+/// After how many turns it is looked whether the hall's file is still there.
+const LOOK: u64 = 8;
+
+/// How a service ended.
+#[derive(Clone, Copy, PartialEq, Eq)]
+enum Ended {
+    /// All turns were served.
+    Served,
+    /// A fault has shut the store.
+    Shut,
+    /// The file that is served isn't at its path any more.
+    Gone,
 }
 
-// Serves the turns, with a line for each that is of note, and tells how many lines were lost.
-fn serve_turns<S: HallStore, W: Write + Drop>(
+/// A file, and how many turns are to be served over its hall.
+#[derive(Drop)]
+struct Part<'a> {
+    path: &'a str,
+    file: ServedFile,
+    turns: u64,
+}
+
+// Serves a part's turns, and says how that ended and how many turns are left.
+fn serve_part<S: HallStore, C: Source, L: TurnLog>(
     rt: &HostRuntime,
     service: &mut Service<S>,
-    sight: &RefCell<Sight>,
-    log: Option<W>,
-    turns: u64,
-) -> Result<(), Fault> {
-    let mut stamps = match Stamps::new(rt) {
-        Ok(stamps) => stamps,
-        Err(error) => return Err(fault_of(&error)),
-    };
-    let mut lines = Lines::new(rt.alloc(), log, sight);
-    desk_operations::write_text(&mut rt.stdout(), "hall desk ready\n")?;
-    service.serve_turns(&mut stamps, &mut lines, turns);
-    if lines.lost() > 0 {
-        let _ = eprintln!(rt; "hallboot: {} lines of the log were lost", lines.lost());
+    stamps: &mut C,
+    lines: &mut L,
+    part: &Part<'_>,
+) -> (Ended, u64) {
+    let mut left = part.turns;
+    for _ in 0..part.turns.div_ceil(LOOK) {
+        let turns = left.min(LOOK);
+        let unserved = service.serve_turns(stamps, lines, turns);
+        left -= turns - unserved;
+        if unserved > 0 {
+            return (Ended::Shut, left);
+        }
+        if part.file.is_gone(rt, part.path) {
+            return (Ended::Gone, left);
+        }
     }
-    Ok(())
+    (Ended::Served, left)
 }
 
-fn serve_with_log<S: HallStore>(
-    rt: &HostRuntime,
-    service: &mut Service<S>,
-    sight: &RefCell<Sight>,
-    log: Option<&str>,
-    turns: u64,
-) -> Result<(), Fault> {
-    match log {
-        Some("-") => serve_turns(rt, service, sight, Some(rt.stderr()), turns),
-        Some(path) => serve_turns(rt, service, sight, Some(log_file(rt, path)?), turns),
-        None => serve_turns(rt, service, sight, None::<io::Stderr>, turns),
-    }
-}
-
-// Serves over a store that notes in the cell what it is asked. The sockets are closed at the end.
+// Serves over a store that notes in the cell what it is asked.
 fn serve_noted<S: HallStore>(
     rt: &HostRuntime,
     store: S,
     sight: &RefCell<Sight>,
     place: Place,
-    sockets: Sockets,
-    log: Option<&str>,
-    turns: u64,
-) -> (Result<(), Fault>, S) {
+    bound: Bound,
+    part: &Part<'_>,
+) -> ((Ended, u64), S, Bound) {
+    let Bound {
+        sockets,
+        log,
+        start,
+    } = bound;
     let mut service = Service::new(rt.alloc(), Desk::new(store, place), sockets);
-    let task = serve_with_log(rt, &mut service, sight, log, turns);
-    (task, service.into_desk().into_store())
+    let mut stamps = Stamps::since(rt, start);
+    let mut lines = Lines::new(rt.alloc(), log, sight);
+    let ended = serve_part(rt, &mut service, &mut stamps, &mut lines, part);
+    let (desk, sockets) = service.into_parts();
+    let bound = Bound {
+        sockets,
+        log: lines.into_outlet(),
+        start,
+    };
+    (ended, desk.into_store(), bound)
 }
 
 // Serves over a store, noting what it is asked.
@@ -75,33 +93,97 @@ fn serve_watched<S: HallStore>(
     rt: &HostRuntime,
     store: S,
     place: Place,
-    sockets: Sockets,
-    log: Option<&str>,
-    turns: u64,
-) -> (Result<(), Fault>, S) {
+    bound: Bound,
+    part: &Part<'_>,
+) -> ((Ended, u64), S, Bound) {
     let sight = RefCell::new(Sight::default());
     let watched = Watched::new(store, &sight);
-    let (task, watched) = serve_noted(rt, watched, &sight, place, sockets, log, turns);
-    (task, watched.into_inner())
+    let (ended, watched, bound) = serve_noted(rt, watched, &sight, place, bound, part);
+    (ended, watched.into_inner(), bound)
 }
 
-/// Serves so many turns at the addresses.
+// A place of its own for a desk.
+fn copied(alloc: Global, place: &Place) -> Result<Place, Fault> {
+    match Place::new(alloc, place.server(), place.next(), place.host()) {
+        Ok(place) => Ok(place),
+        Err(PlaceFault::BadHost) => Err(Fault::BadInput),
+        Err(PlaceFault::Memory) => Err(Fault::Memory),
+    }
+}
+
+// Says how many lines of the log are missing at its end.
+fn tell_of_lost(rt: &HostRuntime, bound: &Bound) {
+    if let Some(log) = &bound.log {
+        if log.lost() > 0 {
+            let lost = log.lost();
+            tell(
+                rt,
+                format!(in rt.alloc(); "hallboot: {lost} lines of the log were lost\n"),
+            );
+        }
+    }
+}
+
+// How a service ended, of which one is told that has to end before its time.
+fn told(rt: &HostRuntime, path: &str, ended: Ended, bound: &Bound) -> Result<(), Fault> {
+    match ended {
+        Ended::Served => tell_of_lost(rt, bound),
+        Ended::Shut => {
+            tell(
+                rt,
+                format!(in rt.alloc();
+                    "hallboot: a fault has shut {path}, which is opened again\n"
+                ),
+            );
+        }
+        Ended::Gone => {
+            tell_of_lost(rt, bound);
+            tell(
+                rt,
+                format!(in rt.alloc(); "hallboot: {path} isn't the hall's file any more\n"),
+            );
+            return Err(Fault::Unavailable);
+        }
+    }
+    Ok(())
+}
+
+// What is served, over which desk, and what the service holds.
+fn prepared(
+    rt: &HostRuntime,
+    serving: &Serving,
+    suspended: &mut Suspended,
+) -> Result<(ServedFile, Place, Bound), Fault> {
+    let Ok(file) = ServedFile::at(rt, serving.path.as_str()) else {
+        return Err(Fault::Unavailable);
+    };
+    let place = copied(rt.alloc(), &serving.place)?;
+    let bound = suspended.take(rt, serving)?;
+    Ok((file, place, bound))
+}
+
+/// Serves the turns that are left over a store, or until a fault shuts it, or its file goes.
 pub(crate) fn serve<S: HallStore>(
     rt: &HostRuntime,
     store: S,
-    place: Place,
-    addresses: &Addresses,
-    log: Option<&str>,
-    turns: u64,
+    serving: &Serving,
+    suspended: &mut Suspended,
 ) -> (Result<(), Fault>, S) {
-    let sockets = match Sockets::bind(rt, rt.alloc(), addresses, MAX_CONNECTIONS) {
-        Ok(sockets) => sockets,
-        Err(fault) => return (Err(bind_fault(fault)), store),
-    };
     let cached = match Cached::new(rt.alloc(), store) {
         Ok(cached) => cached,
         Err(store) => return (Err(Fault::Memory), store),
     };
-    let (task, cached) = serve_watched(rt, cached, place, sockets, log, turns);
-    (task, cached.into_inner())
+    let (file, place, bound) = match prepared(rt, serving, suspended) {
+        Ok(prepared) => prepared,
+        Err(fault) => return (Err(fault), cached.into_inner()),
+    };
+    let part = Part {
+        path: serving.path.as_str(),
+        file,
+        turns: suspended.left(),
+    };
+    let ((ended, left), cached, bound) = serve_watched(rt, cached, place, bound, &part);
+    let outcome = told(rt, serving.path.as_str(), ended, &bound);
+    suspended.keep(bound, left, ended == Ended::Shut);
+    (outcome, cached.into_inner())
 }

@@ -4,7 +4,6 @@ ghost use Rattle.std.specs.Prelude.{◌≤◌};
 use crate::random_block::RandomBlock;
 use hall_types::Moment;
 use serve_sockets::{Source, Stamp};
-use std::io;
 use std::random::RandomSource;
 use std::time::{Clock, Duration, Instant, SystemTime, UNIX_EPOCH};
 
@@ -39,12 +38,13 @@ pub(crate) struct Stamps<'a, R> {
 }
 
 impl<'a, R: Clock> Stamps<'a, R> {
-    pub(crate) fn new(rt: &'a R) -> io::Result<Stamps<'a, R>> {
-        Ok(Stamps {
+    /// Stamps that count milliseconds from a start on.
+    pub(crate) fn since(rt: &'a R, start: Instant) -> Stamps<'a, R> {
+        Stamps {
             rt,
-            start: Instant::now(rt)?,
+            start,
             block: RandomBlock::new(),
-        })
+        }
     }
 
     // Milliseconds since the start.

@@ -1,6 +1,7 @@
 //! What the words of a command line ask for. Options are checked in the order in which they stand here, the place last, before
 //! anything is opened.
 use crate::reading::octets_of;
+use crate::suspended::Suspended;
 use crate::values;
 use desk_operations::{Fault, What};
 use hall_types::{Digest, Moment, Name, Port, Token};
@@ -8,6 +9,7 @@ use hallboot_words::{Subcommand, Words};
 use pxe_vendor::Place;
 use serve_sockets::Addresses;
 use sha2::{Digest as _, Sha256};
+use std::alloc::{AllocError, Global};
 
 /// A task over an open store, with what it needs besides.
 #[derive(Drop)]
@@ -29,13 +31,21 @@ pub enum Task<'a> {
         bearer: Digest,
         moment: Moment,
     },
-    /// So many turns are served at the addresses, with a log at a path, or at standard error where it is `-`.
+    /// The turns that are left of a service are served.
     Serve {
-        place: Place,
-        addresses: Addresses,
-        log: Option<&'a str>,
-        turns: u64,
+        serving: &'a Serving,
+        suspended: &'a mut Suspended,
     },
+}
+
+/// A service of so many turns at the addresses, over the hall in a file, with a log at a path, or at standard error where it is `-`.
+#[derive(Drop)]
+pub struct Serving {
+    pub path: String,
+    pub place: Place,
+    pub addresses: Addresses,
+    pub log: Option<String>,
+    pub turns: u64,
 }
 
 /// What a command line asks for.
@@ -56,6 +66,8 @@ pub enum Asked<'a> {
     Migrate {
         path: &'a str,
     },
+    /// The hall in a file is served.
+    Serve(Serving),
     /// A task over the hall in a file.
     Over {
         path: &'a str,
@@ -97,18 +109,26 @@ fn request<'a>(rt: &HostRuntime, words: &Words<'a>) -> Result<Asked<'a>, Fault> 
     Ok(Asked::Over { path, task })
 }
 
+fn copied(alloc: Global, text: Option<&str>) -> Result<Option<String>, AllocError> {
+    match text {
+        Some(text) => Ok(Some(String::from_str(alloc, text)?)),
+        None => Ok(None),
+    }
+}
+
 fn serve<'a>(rt: &HostRuntime, words: &Words<'a>) -> Result<Asked<'a>, Fault> {
     let path = values::db(words)?;
     let addresses = values::addresses(words)?;
     let turns = values::turns(words)?;
     let place = values::place(rt.alloc(), words)?;
-    let task = Task::Serve {
+    let log = copied(rt.alloc(), words.log)?;
+    Ok(Asked::Serve(Serving {
+        path: String::from_str(rt.alloc(), path)?,
         place,
         addresses,
-        log: words.log,
+        log,
         turns,
-    };
-    Ok(Asked::Over { path, task })
+    }))
 }
 
 fn report<'a>(words: &Words<'a>) -> Result<Asked<'a>, Fault> {

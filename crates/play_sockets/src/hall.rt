@@ -2,8 +2,8 @@
 use crate::fault::Fault;
 use crate::filling::fill;
 use crate::playing::play;
+use hall_store::Probe;
 use hall_types::{Digest, Name};
-use std::alloc::Global;
 use std::cell::RefCell;
 use std::io::{BufRead, BufReader};
 use store_memory::MemoryStore;
@@ -15,17 +15,27 @@ const DIGEST: [u8; 32] = [
     0xb0, 0x03, 0x61, 0xa3, 0x96, 0x17, 0x7a, 0x9c, 0xb4, 0x10, 0xff, 0x61, 0xf2, 0x00, 0x15, 0xad,
 ];
 
-// The only function that has the store's type: plays the lines of one hall, which has so many machines.
+/// A hall that a line begins.
+#[derive(Clone, Copy)]
+pub struct Begun {
+    /// How many machines it has.
+    pub machines: u64,
+    /// The call of its store that fails, the first being 1.
+    pub fails_at: Option<u64>,
+}
+
+// The only function that has the store's type: plays the lines of one hall.
 fn play_hall<R: BufRead>(
     rt: &HostRuntime,
     reader: &mut R,
-    machines: u64,
-) -> Result<Option<u64>, Fault> {
+    hall: Begun,
+) -> Result<Option<Begun>, Fault> {
     let Ok(admin) = Name::new("ada") else {
         return Err(Fault::Line);
     };
     let mut store = MemoryStore::create(rt.alloc(), admin, Digest::from(DIGEST))?;
-    fill(rt.alloc(), &mut store, machines)?;
+    fill(rt.alloc(), &mut store, hall.machines)?;
+    let store = Probe::new(store, hall.fails_at);
     let sight = RefCell::new(Sight::default());
     play(rt, Watched::new(store, &sight), &sight, reader)
 }
@@ -33,10 +43,13 @@ fn play_hall<R: BufRead>(
 /// Plays a script. What stands before its first hall is played over one without machines.
 pub fn run(rt: &HostRuntime) -> Result<(), Fault> {
     let mut reader = BufReader::new(rt.alloc(), rt.stdin())?;
-    let mut machines = 0;
+    let mut hall = Begun {
+        machines: 0,
+        fails_at: None,
+    };
     for _ in 0..u64::MAX {
-        match play_hall(rt, &mut reader, machines)? {
-            Some(next) => machines = next,
+        match play_hall(rt, &mut reader, hall)? {
+            Some(next) => hall = next,
             None => return Ok(()),
         }
     }

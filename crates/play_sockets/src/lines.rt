@@ -90,7 +90,7 @@ fn trickle<S: HallStore + Drop>(
         let client = named(stage.clients.as_mut_slice(), name)?;
         client.take(&mut early)?;
         client.send(&[*octet])?;
-        stage.turns(2);
+        let _ = stage.turns(2);
     }
     let (count, early) = (octets.as_slice().len(), early.len());
     write!(line, "{count} octets, {early} came back before the last")?;
@@ -153,9 +153,12 @@ fn push_turns<S: HallStore + Drop>(
     line: &mut String,
 ) -> Result<(), Fault> {
     let before = stage.log.turns;
-    stage.turns(number(count)?);
+    let left = stage.turns(number(count)?);
     let told = stage.log.turns.saturating_sub(before);
     write!(line, "{told} turns")?;
+    if left > 0 {
+        write!(line, ", {left} left")?;
+    }
     Ok(())
 }
 

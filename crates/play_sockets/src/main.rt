@@ -2,7 +2,8 @@
 //! admin is ada with the token `abc`. Standard input has a line each, and line n of standard output answers it: what the clients got.
 //!
 //! - `#` and a comment, or nothing: written as it is;
-//! - `new MACHINES`: another hall, with so many machines of eight interfaces, and another service;
+//! - `new MACHINES`, `new MACHINES CALL`: another hall, with so many machines of eight interfaces, and another service; this call of its
+//!   store, the first being 1, finds it unavailable;
 //! - `connect NAME COUNT`: so many clients of this name connect by HTTP. A later line that names them means the last one;
 //! - `leave NAME`: each client of this name closes its connection;
 //! - `send NAME TEXT`: a client sends the text, in which `\r` and `\n` are these octets;
@@ -13,7 +14,7 @@
 //! - `trickle NAME ARRIVAL`: likewise octet by octet, with two turns after each: how many octets, and how many came back before the last;
 //! - `datagrams COUNT ARRIVAL`: the client `asker` sends a datagram to the socket of its port so many times;
 //! - `end NAME`: a client sends nothing more;
-//! - `turns COUNT`: so many turns are served: how many the log was told of;
+//! - `turns COUNT`: so many turns are served: how many the log was told of, and how many are left, if any are;
 //! - `settle`: turns are served until 16 in a row moved nothing;
 //! - `at MILLIS`: the clock jumps to here, as where a turn takes long;
 //! - `pass MILLIS`: so many milliseconds go by, with a turn after each 100 of them and after the last;

@@ -1,5 +1,6 @@
 //! Playing a script over one service.
 use crate::fault::Fault;
+use crate::hall::Begun;
 use crate::lines::play_line;
 use crate::stage::Stage;
 use crate::texts::number;
@@ -27,8 +28,22 @@ fn answer<S: HallStore + Drop>(
 #[derive(Clone, Copy)]
 enum Next {
     Line,
-    Hall(u64),
+    Hall(Begun),
     End,
+}
+
+// The hall that a line begins.
+fn hall_of(words: &str) -> Result<Begun, Fault> {
+    match words.split_once(' ') {
+        Some((machines, call)) => Ok(Begun {
+            machines: number(machines)?,
+            fails_at: Some(number(call)?),
+        }),
+        None => Ok(Begun {
+            machines: number(words)?,
+            fails_at: None,
+        }),
+    }
 }
 
 // Plays the next line, if there is one.
@@ -42,26 +57,26 @@ fn step<S: HallStore + Drop, R: BufRead>(
         Ok(None) => return Ok(Next::End),
         Err(_) => return Err(Fault::Io),
     };
-    if let Some(machines) = text.as_str().strip_prefix("new ") {
+    if let Some(words) = text.as_str().strip_prefix("new ") {
         println!(rt; "")?;
-        return Ok(Next::Hall(number(machines)?));
+        return Ok(Next::Hall(hall_of(words)?));
     }
     answer(rt, stage, text.as_str())?;
     Ok(Next::Line)
 }
 
-/// Plays the lines up to one that begins another hall: how many machines that one has.
+/// Plays the lines up to one that begins another hall, which it gives.
 pub fn play<S: HallStore + Drop, R: BufRead>(
     rt: &HostRuntime,
     store: S,
     sight: &RefCell<Sight>,
     reader: &mut R,
-) -> Result<Option<u64>, Fault> {
+) -> Result<Option<Begun>, Fault> {
     let mut stage = Stage::new(rt, store, sight)?;
     for _ in 0..u64::MAX {
         match step(rt, &mut stage, reader)? {
             Next::Line => {}
-            Next::Hall(machines) => return Ok(Some(machines)),
+            Next::Hall(hall) => return Ok(Some(hall)),
             Next::End => return Ok(None),
         }
     }

@@ -130,10 +130,10 @@ impl<'a, S: HallStore + Drop> Stage<'a, S> {
         }
     }
 
-    /// Serves so many turns.
-    pub fn turns(&mut self, count: u64) {
+    /// Serves so many turns, or until the store is found shut. How many are left.
+    pub fn turns(&mut self, count: u64) -> u64 {
         self.service
-            .serve_turns(&mut self.clock, &mut self.log, count);
+            .serve_turns(&mut self.clock, &mut self.log, count)
     }
 
     /// So many milliseconds go by, with a turn after each 100 of them and after the last.
@@ -142,7 +142,7 @@ impl<'a, S: HallStore + Drop> Stage<'a, S> {
             let left = millis.saturating_sub(step.saturating_mul(STEP));
             let stamp = &mut self.clock.stamp;
             stamp.millis = stamp.millis.saturating_add(left.min(STEP));
-            self.turns(1);
+            let _ = self.turns(1);
         }
     }
 
@@ -150,7 +150,7 @@ impl<'a, S: HallStore + Drop> Stage<'a, S> {
     pub fn settle(&mut self) -> bool {
         self.log.still = 0;
         for _ in 0..10_000 {
-            self.turns(1);
+            let _ = self.turns(1);
             if self.log.still >= 16 {
                 return true;
             }
@@ -168,7 +168,7 @@ impl<'a, S: HallStore + Drop> Stage<'a, S> {
             if state != "open" || self.log.still >= 100 {
                 return Ok((octets, state));
             }
-            self.turns(1);
+            let _ = self.turns(1);
         }
         Err(Fault::Io)
     }

@@ -1,5 +1,5 @@
 -- How the hall goes on by turns.
-use Rattle.std.proofs.Common.{◌≡◌, ◌+◌, ℕ, List, [], ◌∷◌, ◌++◌, arith, inl, inr, length-append, refl, subst, sym}
+use Rattle.std.proofs.Common.{◌≡◌, ◌≤◌, ◌+◌, ℕ, List, [], ◌∷◌, ◌++◌, arith, inl, inr, length-append, refl, subst, sym}
 use Rattle.std.specs.Prelude.{◌⊎◌}
 use Rattle.pxe_vendor.specs.Place.{Site}
 use Rattle.hall_types.specs.Hall.{Hall}
@@ -39,6 +39,15 @@ module _ {S : Type 0} (holds : S → Hall → Type 0) where
     answers = [];
     few = omega arith;
     ran = λ h held sound. record { end = h; run = refl; held = held; sound = sound };
+  }
+
+  -- what took so many turns at most took no more than any larger number of them
+  pub went_within : (old new : S) (site : Site) (m n : ℕ) → m ≤ n → WentOn holds old new site m → WentOn holds old new site n
+  went_within old new site m n within went = record {
+    arrivals = went.arrivals;
+    answers = went.answers;
+    few = omega (arith, went.few, within);
+    ran = went.ran;
   }
 
   -- some turns, and then some more

@@ -5,7 +5,7 @@ use crate::handing::{hand, hand_datagram};
 use crate::handover::handover;
 use crate::ring::Origin;
 use crate::serving::advance;
-use crate::sockets::Sockets;
+use crate::sockets::{SHORT_PAUSE, Sockets};
 use crate::turn::{Handover, Kind, Source, Stamp, Turn, TurnLog};
 use hall_desk::{Answer, Desk, Input};
 use hall_store::HallStore;
@@ -27,7 +27,7 @@ pub struct Service<S> {
 }
 
 impl<S: HallStore> Service<S> {
-    ghost use Rattle.std.specs.Prelude.{◌≡◌, ◌+◌, ◌%◌};
+    ghost use Rattle.std.specs.Prelude.{◌≡◌, ◌≤◌, ◌+◌, ◌-◌, ◌%◌};
     ghost use Rattle.hall_desk.specs.Desk.{site_of, store_of};
     ghost use Rattle.serve_sockets.specs.Service.{desk_of, sockets_of, turns_of};
     ghost use Rattle.serve_sockets.specs.Sockets.{places_of};
@@ -52,11 +52,12 @@ impl<S: HallStore> Service<S> {
         &self.sockets
     }
 
-    /// The desk. The sockets are closed.
-    pub fn into_desk(self) -> Desk<S>
-        ensures { result ≡ desk_of self }
+    /// The desk, and the sockets with the connections that are open.
+    pub fn into_parts(self) -> (Desk<S>, Sockets)
+        ensures desk { result.0 ≡ desk_of self }
+        ensures sockets { result.1 ≡ sockets_of self }
     {
-        self.desk
+        (self.desk, self.sockets)
     }
 
     /// Waits for something to come, if nothing is known to be there: for the source's pause at most.
@@ -181,11 +182,11 @@ impl<S: HallStore> Service<S> {
             self.is_unstamped = true;
             log.unstamped();
         }
-        self.sockets.stand_still();
+        self.sockets.stand_still(SHORT_PAUSE);
     }
 
-    // Serves one turn with a stamp of the source, if it has one.
-    fn serve_turn<C: Source, L: TurnLog>(&mut self, source: &mut C, log: &mut L)
+    // Serves one turn with a stamp of the source, if it has one, and says whether it found the store shut.
+    fn serve_turn<C: Source, L: TurnLog>(&mut self, source: &mut C, log: &mut L) -> bool
         ensures clean { S.HallStore.is_clean (store_of (desk_of self.new)) → S.HallStore.is_clean (store_of (desk_of self.old)) }
         ensures site { site_of (desk_of self.new) ≡ site_of (desk_of self.old) }
         ensures went_on { S.HallStore.is_clean (store_of (desk_of self.new)) → WentOn S.HallStore.holds
@@ -194,24 +195,35 @@ impl<S: HallStore> Service<S> {
         self.wait(source);
         let Some(stamp) = source.stamp() else {
             self.miss(log);
-            return;
+            return false;
         };
         self.is_unstamped = false;
         let moment = stamp.moment;
         let turn = self.turn(stamp, log);
         log.note(moment, &turn);
+        turn.finds_shut()
     }
 
-    /// Serves so many turns, each with a stamp of the source, and tells each to the log. A turn without a stamp does
+    /// Serves so many turns, each with a stamp of the source, and tells each to the log; or ends after the first quiet moment for
+    /// which the store is unavailable, as one is that a fault has shut. How many turns are left. A turn without a stamp does
     /// nothing for 100 milliseconds, and the log is told when such turns begin.
-    pub fn serve_turns<C: Source, L: TurnLog>(&mut self, source: &mut C, log: &mut L, turns: u64)
+    pub fn serve_turns<C: Source, L: TurnLog>(
+        &mut self,
+        source: &mut C,
+        log: &mut L,
+        turns: u64,
+    ) -> u64
+        ensures left { result ≤ turns }
         ensures clean { S.HallStore.is_clean (store_of (desk_of self.new)) → S.HallStore.is_clean (store_of (desk_of self.old)) }
         ensures site { site_of (desk_of self.new) ≡ site_of (desk_of self.old) }
         ensures went_on { S.HallStore.is_clean (store_of (desk_of self.new)) → WentOn S.HallStore.holds
-            (store_of (desk_of self.old)) (store_of (desk_of self.new)) (site_of (desk_of self.old)) turns }
+            (store_of (desk_of self.old)) (store_of (desk_of self.new)) (site_of (desk_of self.old)) (turns - result) }
     {
-        for _ in 0..turns {
-            self.serve_turn(source, log);
+        for served in 0..turns {
+            if self.serve_turn(source, log) {
+                return turns - served - 1;
+            }
         }
+        0
     }
 }

@@ -25,7 +25,7 @@ use std::net::{Net, Shutdown, SocketAddr};
 use std::time::Duration;
 
 /// How long, in milliseconds, a turn waits at most while a connection is open, and always where it has no stamp.
-const SHORT_PAUSE: u64 = 100;
+pub(crate) const SHORT_PAUSE: u64 = 100;
 
 /// How long, in milliseconds, a turn waits at most before a socket of which a call failed is tried again.
 const RETRY_PAUSE: u64 = 10;
@@ -154,9 +154,9 @@ impl Sockets {
         }
     }
 
-    /// Waits a while, whatever comes.
-    pub(crate) fn stand_still(&mut self) {
-        let time = Duration::from_millis(SHORT_PAUSE);
+    /// Waits so many milliseconds, whatever comes.
+    pub fn stand_still(&mut self, millis: u64) {
+        let time = Duration::from_millis(millis);
         let _ = self.still.poll(&mut self.events, Some(time));
     }
 

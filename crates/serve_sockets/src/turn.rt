@@ -91,6 +91,18 @@ pub enum Turn {
     Failed,
 }
 
+impl Turn {
+    /// Whether it was a quiet moment for which the store was unavailable, as it is for each after a fault has shut it.
+    pub(crate) fn finds_shut(&self) -> bool {
+        match self {
+            Turn::Handed(handover) => {
+                handover.kind == Kind::Quiet && handover.said == Said::Unavailable
+            }
+            _ => false,
+        }
+    }
+}
+
 /// What the turns of a service are told to.
 pub trait TurnLog {
     /// What was handed to the desk, and its answer; nothing is kept of it. The turn that they belong to is noted next. The

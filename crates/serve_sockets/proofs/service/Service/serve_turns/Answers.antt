@@ -1,20 +1,41 @@
-use Rattle.std.proofs.Common.{◌∙◌, refl}
-use Rattle.serve_sockets.proofs.WentOnLemmas.{went_nowhere, went_then}
+use Rattle.std.proofs.Common.{◌∙◌, arith, refl}
+use Rattle.serve_sockets.proofs.WentOnLemmas.{went_nowhere, went_then, went_within}
 use Rattle.serve_sockets.proofs.service.Service.serve_turns.Goals as goal
 
-pub loop-init : goal.loop-init
-loop-init g c = record {
+pub loop-served-init : goal.loop-served-init
+loop-served-init g c = record {
   clean = λ clean. clean;
   site = refl;
   went = λ clean. went_nowhere g.S.HallStore.holds _ _ _;
 }
 
-pub loop-preserved : goal.loop-preserved
-loop-preserved g c =
-    let before = c.loop.invariant in
+pub loop-served-preserved : goal.loop-served-preserved
+loop-served-preserved g c =
+    let before = c.loop-served.invariant in
     record {
       clean = λ clean. before.clean (c.serve_turn.ensures.clean clean);
       site = c.serve_turn.ensures.site ∙ before.site;
       went = λ clean.
           went_then g.S.HallStore.holds _ _ _ _ _ _ _ before.site (before.went (c.serve_turn.ensures.clean clean)) (c.serve_turn.ensures.went_on clean);
     }
+
+pub returns-then-serve_turn-clause-clean : goal.returns-then-serve_turn-clause-clean
+returns-then-serve_turn-clause-clean g c = λ clean. c.loop-served.invariant.clean (c.serve_turn.ensures.clean clean)
+
+pub returns-then-serve_turn-clause-site : goal.returns-then-serve_turn-clause-site
+returns-then-serve_turn-clause-site g c = c.serve_turn.ensures.site ∙ c.loop-served.invariant.site
+
+pub returns-then-serve_turn-clause-went_on : goal.returns-then-serve_turn-clause-went_on
+returns-then-serve_turn-clause-went_on g c = λ clean.
+    let before = c.loop-served.invariant in
+    went_within g.S.HallStore.holds _ _ _ _ _ (omega arith)
+    (went_then g.S.HallStore.holds _ _ _ _ _ _ _ before.site (before.went (c.serve_turn.ensures.clean clean)) (c.serve_turn.ensures.went_on clean))
+
+pub returns-clause-clean : goal.returns-clause-clean
+returns-clause-clean g c = λ clean. c.loop-served.invariant.clean clean
+
+pub returns-clause-site : goal.returns-clause-site
+returns-clause-site g c = c.loop-served.invariant.site
+
+pub returns-clause-went_on : goal.returns-clause-went_on
+returns-clause-went_on g c = λ clean. went_within g.S.HallStore.holds _ _ _ _ _ (omega arith) (c.loop-served.invariant.went clean)

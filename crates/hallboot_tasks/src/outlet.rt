@@ -1,0 +1,155 @@
+//! Where the lines of a log go. A stream that takes no octets now, as a pipe that nobody reads, isn't waited for.
+use crate::reading::{fault_of, log_file};
+use desk_operations::Fault;
+use hall_types::Moment;
+use mio::event::Events;
+use mio::unix::SourceFd;
+use mio::{Interest, Poll, Token};
+use std::alloc::{AllocError, Global};
+use std::fs::File;
+use std::io;
+use std::io::Write;
+use std::os::fd::{AsRawFd, RawFd};
+use std::time::Duration;
+
+// A pipe that takes octets takes so many at once (PIPE_BUF of Linux).
+const PIECE: usize = 4_096;
+
+const TOKEN: Token = Token(0);
+
+#[derive(Drop)]
+enum Stream {
+    Errors(io::Stderr),
+    File(File),
+}
+
+impl Stream {
+    fn fd(&self) -> RawFd {
+        match self {
+            Stream::Errors(stream) => stream.as_raw_fd(),
+            Stream::File(file) => file.as_raw_fd(),
+        }
+    }
+
+    fn is_written(&mut self, octets: &[u8]) -> bool {
+        match self {
+            Stream::Errors(stream) => stream.write_all(octets).is_ok(),
+            Stream::File(file) => file.write_all(octets).is_ok(),
+        }
+    }
+}
+
+/// A stream that lines are written to. Lines that couldn't be written are counted, and the next one that can be written is preceded
+/// by a line with their number.
+#[derive(Drop)]
+pub(crate) struct Outlet {
+    stream: Stream,
+    // Says whether the stream takes octets now. There is none for a file of a disk, which always does.
+    poll: Option<Poll>,
+    events: Events,
+    lost: u64,
+}
+
+// What watches a stream, where the system can.
+fn watched(rt: &HostRuntime, stream: &Stream) -> io::Result<Option<Poll>> {
+    let poll = Poll::new(rt)?;
+    let fd = stream.fd();
+    let mut source = SourceFd(&fd);
+    let registered = poll
+        .registry()
+        .register(&mut source, TOKEN, Interest::WRITABLE);
+    Ok(registered.is_ok().then_some(poll))
+}
+
+// The line that says how many are missing before it, with the moment, if there is one. What was written of the last of them ends
+// before it.
+fn lost_line(alloc: Global, moment: Option<Moment>, lost: u64) -> Result<String, AllocError> {
+    let mut text = String::new(alloc);
+    text.push('\n')?;
+    if let Some(moment) = moment {
+        text.push_str(moment.get().to_string(alloc)?.as_str())?;
+        text.push(' ')?;
+    }
+    text.push_str("- lost ")?;
+    text.push_str(lost.to_string(alloc)?.as_str())?;
+    text.push('\n')?;
+    Ok(text)
+}
+
+impl Outlet {
+    fn over(rt: &HostRuntime, stream: Stream) -> Result<Outlet, Fault> {
+        let poll = match watched(rt, &stream) {
+            Ok(poll) => poll,
+            Err(error) => return Err(fault_of(&error)),
+        };
+        Ok(Outlet {
+            stream,
+            poll,
+            events: Events::with_capacity(rt.alloc(), 1)?,
+            lost: 0,
+        })
+    }
+
+    /// Standard error, where the path is `-`, or a file to which lines are added.
+    pub(crate) fn at(rt: &HostRuntime, path: &str) -> Result<Outlet, Fault> {
+        if path == "-" {
+            return Outlet::over(rt, Stream::Errors(rt.stderr()));
+        }
+        Outlet::over(rt, Stream::File(log_file(rt, path)?))
+    }
+
+    /// How many lines were lost since the last one that was written.
+    pub(crate) fn lost(&self) -> u64 {
+        self.lost
+    }
+
+    // Whether the stream takes octets now. It is registered again, since the system tells once only that it does.
+    fn is_ready(&mut self) -> bool {
+        let fd = self.stream.fd();
+        let Some(poll) = &mut self.poll else {
+            return true;
+        };
+        let mut source = SourceFd(&fd);
+        let registered = poll
+            .registry()
+            .reregister(&mut source, TOKEN, Interest::WRITABLE);
+        registered.is_ok()
+            && poll.poll(&mut self.events, Some(Duration::ZERO)).is_ok()
+            && !self.events.is_empty()
+    }
+
+    // Writes a text, and says whether all of it was written.
+    fn is_written(&mut self, text: Result<String, AllocError>) -> bool {
+        let Ok(text) = text else {
+            return false;
+        };
+        for piece in text.as_bytes().chunks(PIECE) {
+            if !self.is_ready() || !self.stream.is_written(piece) {
+                return false;
+            }
+        }
+        true
+    }
+
+    /// Writes a line, or what there was no memory for, after one that says how many were lost before it, if any were.
+    pub(crate) fn write(
+        &mut self,
+        alloc: Global,
+        moment: Option<Moment>,
+        line: Result<String, AllocError>,
+    ) {
+        if self.lost > 0 && self.is_written(lost_line(alloc, moment, self.lost)) {
+            self.lost = 0;
+        }
+        if self.lost > 0 || !self.is_written(line) {
+            self.lost = self.lost.saturating_add(1);
+        }
+    }
+}
+
+/// Says something at standard error, unless that takes no octets now.
+pub fn tell(rt: &HostRuntime, text: Result<String, AllocError>) {
+    if let Ok(mut outlet) = Outlet::at(rt, "-") {
+        outlet.write(rt.alloc(), None, text);
+    }
+}

@@ -1,0 +1,125 @@
+//! A service from one opening of its hall's file to the next.
+use crate::outlet::Outlet;
+use crate::reading::fault_of;
+use crate::tasks::Serving;
+use desk_operations::Fault;
+use serve_sockets::{BindFault, MAX_CONNECTIONS, Sockets};
+use std::time::Instant;
+
+/// How long, in milliseconds, is waited before each opening in a row after which nothing was served for long: 64 seconds in all.
+const PAUSES: [u64; 16] = [
+    0, 100, 200, 400, 800, 1_600, 3_200, 6_400, 6_400, 6_400, 6_400, 6_400, 6_400, 6_400, 6_400,
+    6_400,
+];
+
+/// So many turns have a quiet moment among them for which the store was available.
+const WELL_SERVED: u64 = 16;
+
+/// What a service holds besides its hall: its sockets, with the connections that are open, its log, and when it began.
+#[derive(Drop)]
+pub(crate) struct Bound {
+    pub sockets: Sockets,
+    pub log: Option<Outlet>,
+    pub start: Instant,
+}
+
+fn bind_fault(fault: BindFault) -> Fault {
+    match fault {
+        BindFault::Bind => Fault::Bind,
+        BindFault::Memory => Fault::Memory,
+    }
+}
+
+fn opened_log(rt: &HostRuntime, path: &Option<String>) -> Result<Option<Outlet>, Fault> {
+    match path {
+        Some(path) => Ok(Some(Outlet::at(rt, path.as_str())?)),
+        None => Ok(None),
+    }
+}
+
+impl Bound {
+    /// Binds the sockets and opens the log, and says that the service is ready.
+    fn new(rt: &HostRuntime, serving: &Serving) -> Result<Bound, Fault> {
+        let sockets = match Sockets::bind(rt, rt.alloc(), &serving.addresses, MAX_CONNECTIONS) {
+            Ok(sockets) => sockets,
+            Err(fault) => return Err(bind_fault(fault)),
+        };
+        let log = opened_log(rt, &serving.log)?;
+        let start = match Instant::now(rt) {
+            Ok(start) => start,
+            Err(error) => return Err(fault_of(&error)),
+        };
+        desk_operations::write_text(&mut rt.stdout(), "hall desk ready\n")?;
+        Ok(Bound {
+            sockets,
+            log,
+            start,
+        })
+    }
+}
+
+/// What is kept of a service from one opening of its hall's file to the next.
+#[derive(Drop)]
+pub struct Suspended {
+    bound: Option<Bound>,
+    left: u64,
+    is_shut: bool,
+    // How many turns were left at the last wait, and how many there were in a row after which nothing was served for long.
+    left_before: u64,
+    waits: usize,
+}
+
+impl Suspended {
+    /// A service of so many turns, which holds nothing yet.
+    pub fn new(turns: u64) -> Suspended {
+        Suspended {
+            bound: None,
+            left: turns,
+            is_shut: false,
+            left_before: turns,
+            waits: 0,
+        }
+    }
+
+    /// Whether a fault has shut the store, so that the hall's file is to be opened again.
+    pub fn is_shut(&self) -> bool {
+        self.is_shut
+    }
+
+    /// How many turns are left.
+    pub(crate) fn left(&self) -> u64 {
+        self.left
+    }
+
+    /// What the service holds, which it has at first to get.
+    pub(crate) fn take(&mut self, rt: &HostRuntime, serving: &Serving) -> Result<Bound, Fault> {
+        match self.bound.take() {
+            Some(bound) => Ok(bound),
+            None => Bound::new(rt, serving),
+        }
+    }
+
+    /// So many turns are left, and a fault has shut the store or hasn't.
+    pub(crate) fn keep(&mut self, bound: Bound, left: u64, is_shut: bool) {
+        self.bound = Some(bound);
+        self.left = left;
+        self.is_shut = is_shut;
+    }
+
+    /// Waits before the next opening, at first not at all and then ever longer. What comes meanwhile waits too. Whether it is to be
+    /// tried: not where it was for a minute in vain.
+    pub fn wait(&mut self) -> bool {
+        if self.left_before.saturating_sub(self.left) >= WELL_SERVED {
+            self.waits = 0;
+        }
+        self.left_before = self.left;
+        let Some(pause) = PAUSES.get(self.waits) else {
+            return false;
+        };
+        self.waits += 1;
+        if let Some(bound) = &mut self.bound {
+            bound.sockets.stand_still(*pause);
+        }
+        true
+    }
+}
