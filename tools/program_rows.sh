@@ -301,5 +301,7 @@ for name in frame init migrate request serve report import export; do
 done
 run --help
 [ "$status" = 0 ] && grep -q serve out || bad help
+kit=$(sed -n 's/.*Proved with `\(.*\)`.*/\1/p' "$here/../README.md")
+want 0 "hallboot 2, schema 2, $kit" '' --version
 for file in *-journal; do [ ! -e "$file" ] || bad "$file is left"; done
 echo "good: $count rows"

@@ -1,8 +1,16 @@
 #!/usr/bin/env bash
 # dhcrelay passes an OFFER of the desk on to a client without an address in another network namespace, and tshark, where it is
-# there, decodes what came. real_peers.sh runs it as root in namespaces of its own, with HALLBOOT set.
+# there, decodes what came. It is root's, and makes namespaces of its own.
+# Usage: tools/relayed_peer.sh     HALLBOOT=PROGRAM names a program that is built already.
 set -euo pipefail
 here=$(cd "$(dirname "$0")" && pwd)
+need() { type -P "$1" > /dev/null || { echo "relayed_peer: $1 is missing (Debian's package $2)" >&2; exit 1; }; }
+if [ $$ != 1 ]; then    # not yet the first process of a namespace
+    need python3 python3; need ip iproute2; need unshare util-linux; need nsenter util-linux; need dhcrelay isc-dhcp-relay
+    [ "$(id -u)" = 0 ] || { echo 'relayed_peer: only root can make network namespaces' >&2; exit 1; }
+    . "$here/program.sh"
+    exec unshare --net --pid --fork --kill-child --mount-proc "$here/relayed_peer.sh"
+fi
 work=$(mktemp -d)
 trap 'rm -rf "$work"' EXIT    # all processes of the namespace end with this one
 cd "$work"

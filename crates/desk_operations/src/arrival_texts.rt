@@ -16,7 +16,7 @@ fn answered_text(
         (Input::Datagram { port, octets }, _) => {
             datagram_text(alloc, *port, octets.as_slice(), answer, sight)
         }
-        (Input::Request(octets), _) => exchange_text(alloc, octets.as_slice(), answer),
+        (Input::Request(octets), _) => exchange_text(alloc, octets.as_slice(), answer, sight),
         (Input::Quiet, Answer::Unavailable) => String::from_str(alloc, "quiet: unavailable"),
         (Input::Quiet, _) => String::from_str(alloc, "quiet: silence"),
     }
@@ -35,7 +35,7 @@ pub fn is_of_note(arrival: &Arrival, answer: &Answer, sight: &Sight) -> bool {
 /// What came and how it was answered, a client's silence with its cause, and then the machine whose status was changed:
 /// `discover DISCOVER 52:54:00:12:34:56 uefi64: ipxe64.efi`, or
 /// `boot REQUEST 52:54:00:12:34:56 uefi64: silence, the hall is full`, or
-/// `POST /commands allocate of machine 1: 200 {..}; machine 1: Ready to Allocated`. `sight` is what was read and changed for
+/// `POST /commands allocate of machine 1 by ada: 200 {..}; machine 1: Ready to Allocated`. `sight` is what was read and changed for
 /// this arrival and no other.
 pub fn arrival_text(
     alloc: Global,

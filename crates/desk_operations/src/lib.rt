@@ -4,7 +4,9 @@
 
 mod addresses;
 mod arrival_texts;
+mod command_texts;
 mod exports;
+mod failures;
 mod fault;
 mod frame_input;
 mod frame_texts;
@@ -21,6 +23,7 @@ mod writing;
 
 pub use arrival_texts::{arrival_text, is_of_note};
 pub use exports::export;
+pub use failures::Failures;
 pub use fault::Fault;
 pub use frame_input::{Input, one_reading, parse, read_input};
 pub use frames::{Exit, frame_run};

@@ -1,57 +1,14 @@
 //! A request and its response, in words for a log.
 use crate::addresses::address_text;
+use crate::command_texts::command_text;
 use hall_desk::Answer;
-use hall_events::{Event, HallCommand, MachineCommand};
+use hall_events::Event;
 use http_requests::event_of;
 use std::alloc::{AllocError, Global};
+use store_watched::Sight;
 
 // The longest body that is printed.
 const MAX_BODY: usize = 100;
-
-fn machine_word(command: &MachineCommand) -> &'static str {
-    match command {
-        MachineCommand::AddInterface { .. } => "add_interface",
-        MachineCommand::RemoveInterface { .. } => "remove_interface",
-        MachineCommand::SetPool { .. } => "set_pool",
-        MachineCommand::Commission { .. } => "commission",
-        MachineCommand::Test => "test",
-        MachineCommand::Override => "override",
-        MachineCommand::Fix => "fix",
-        MachineCommand::Delete => "delete",
-        MachineCommand::Allocate => "allocate",
-        MachineCommand::Deploy { .. } => "deploy",
-        MachineCommand::Release { .. } => "release",
-        MachineCommand::Rescue => "rescue",
-        MachineCommand::Abort => "abort",
-        MachineCommand::Lock => "lock",
-        MachineCommand::Unlock => "unlock",
-        MachineCommand::ExitRescue => "exit_rescue",
-        MachineCommand::Break => "break",
-    }
-}
-
-fn command_text(alloc: Global, command: &HallCommand) -> Result<String, AllocError> {
-    let word = match command {
-        HallCommand::AddOperator { .. } => "add_operator",
-        HallCommand::DisableOperator { .. } => "disable_operator",
-        HallCommand::AddPool { .. } => "add_pool",
-        HallCommand::Grant { .. } => "grant",
-        HallCommand::AddImage { .. } => "add_image",
-        HallCommand::DeleteImage { .. } => "delete_image",
-        HallCommand::SetLive { .. } => "set_live",
-        HallCommand::AddMachine { .. } => "add_machine",
-        HallCommand::OnMachine {
-            machine,
-            command,
-            ..
-        } => {
-            let word = machine_word(command);
-            let id = machine.get();
-            return format!(in alloc; "POST /commands {word} of machine {id}");
-        }
-    };
-    format!(in alloc; "POST /commands {word}")
-}
 
 fn event_text(alloc: Global, event: &Event) -> Result<String, AllocError> {
     match event {
@@ -73,7 +30,10 @@ fn event_text(alloc: Global, event: &Event) -> Result<String, AllocError> {
             let id = machine.get();
             format!(in alloc; "GET /machines/{id}")
         }
-        Event::Command { command, .. } => command_text(alloc, command),
+        Event::Command { command, .. } => {
+            let command = command_text(alloc, command)?;
+            format!(in alloc; "POST /commands {command}")
+        }
         Event::Frame { .. } | Event::Quiet => Ok(String::new(alloc)),
     }
 }
@@ -108,14 +68,24 @@ fn answer_text(alloc: Global, answer: &Answer) -> Result<String, AllocError> {
     }
 }
 
-/// A request and how it was answered, without its token and its key: the method and the path, what is asked for, and the
-/// status of the response with a short body.
+// What came, and which operator's token it had, if it had one's.
+fn sender_text(alloc: Global, octets: &[u8], sight: &Sight) -> Result<String, AllocError> {
+    let came = request_text(alloc, octets)?;
+    match sight.operator {
+        Some(operator) => format!(in alloc; "{came} by {operator}"),
+        None => Ok(came),
+    }
+}
+
+/// A request and how it was answered, without its token and its key: the method and the path, what is asked for, by which operator,
+/// and the status of the response with a short body.
 pub(crate) fn exchange_text(
     alloc: Global,
     octets: &[u8],
     answer: &Answer,
+    sight: &Sight,
 ) -> Result<String, AllocError> {
-    let came = request_text(alloc, octets)?;
+    let came = sender_text(alloc, octets, sight)?;
     let said = answer_text(alloc, answer)?;
     format!(in alloc; "{came}: {said}")
 }

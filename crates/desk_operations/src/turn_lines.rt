@@ -63,15 +63,14 @@ fn turn_text(
             let text = format!(in alloc; "{from} closed {word}")?;
             Ok(Some(text))
         }
-        Turn::Failed => Ok(Some(String::from_str(alloc, "- failed")?)),
-        Turn::Moved(_) | Turn::Nothing => Ok(None),
+        Turn::Failed | Turn::Moved(_) | Turn::Nothing => Ok(None),
     }
 }
 
 /// The line of a turn, with its line feed: the moment in seconds, where the turn's datagram or connection came from, and the
 /// text of the arrival, if the turn handed one over and it's of note, as in
 /// `1790000000 192.0.2.9:68 discover DISCOVER 52:54:00:12:34:56 uefi64: ipxe-x86_64.efi`. A turn in which nothing of note was
-/// done has none: a quiet moment without a text, octets that moved, an empty place.
+/// done has none: a quiet moment without a text, octets that moved, an empty place. One that failed is for [`Failures`](crate::Failures).
 pub fn turn_line(
     alloc: Global,
     moment: Moment,

@@ -1,6 +1,6 @@
 //! The log of a service's turns.
 use crate::outlet::Outlet;
-use desk_operations::{UNSTAMPED_LINE, arrival_text, is_of_note, turn_line};
+use desk_operations::{Failures, UNSTAMPED_LINE, arrival_text, is_of_note, turn_line};
 use hall_desk::{Answer, Arrival};
 use hall_types::Moment;
 use serve_sockets::{Turn, TurnLog};
@@ -17,6 +17,7 @@ pub(crate) struct Lines<'a> {
     sight: &'a RefCell<Sight>,
     // The text of the last arrival, if it's of note and its turn wasn't told of yet. The error is want of memory for it.
     arrival: Option<Result<String, AllocError>>,
+    failures: Failures,
 }
 
 impl<'a> Lines<'a> {
@@ -30,6 +31,7 @@ impl<'a> Lines<'a> {
             outlet,
             sight,
             arrival: None,
+            failures: Failures::NONE,
         }
     }
 
@@ -71,7 +73,11 @@ impl<'a> TurnLog for Lines<'a> {
         let Some(outlet) = &mut self.outlet else {
             return;
         };
-        let line = match line_of(self.alloc, moment, turn, self.arrival.take()) {
+        let line = match turn {
+            Turn::Failed => self.failures.line(self.alloc, moment),
+            _ => line_of(self.alloc, moment, turn, self.arrival.take()),
+        };
+        let line = match line {
             Ok(None) => return,
             Ok(Some(line)) => Ok(line),
             Err(AllocError) => Err(AllocError),

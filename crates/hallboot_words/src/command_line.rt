@@ -4,6 +4,9 @@ use crate::subcommands::{ENTRIES, Entry};
 use clap::{Arg, ArgAction, Command};
 use std::alloc::{AllocError, Global};
 
+// The program's version, the schema of the files that it makes, and the kit that proved it, as README.md has it.
+const VERSION: &str = "2, schema 2, rattle-kit-13f logic dac8208d650f15bf";
+
 // A value may begin with a hyphen.
 fn option<'a>(alloc: Global, word: &Word) -> Arg<'a> {
     Arg::new(alloc, word.name)
@@ -69,7 +72,8 @@ pub(crate) fn command_line<'a>(alloc: Global) -> Result<Command<'a>, AllocError>
         "hallboot",
         "The boot desk of a server hall",
         "Exit status: 0 done, 1 fault, 2 wrong usage, 3 no answer.",
-    );
+    )
+    .version(VERSION);
     for entry in &ENTRIES {
         command = with_subcommand(alloc, command, entry)?;
     }

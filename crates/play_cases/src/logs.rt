@@ -4,7 +4,7 @@ use crate::decisions::numbers;
 use crate::escapes::octets;
 use crate::printing::Answer;
 use crate::values::{halves, moment, number};
-use desk_operations::{arrival_text, turn_line};
+use desk_operations::{Failures, arrival_text, turn_line};
 use hall_desk::{Arrival, Input};
 use hall_types::{Port, Token};
 use pxe_vendor::Octets;
@@ -61,6 +61,18 @@ pub fn turn(alloc: Global, rest: &str, out: &mut Answer) -> Result<(), Cause> {
     match &turn_line(alloc, moment(1_790_000_000)?, &turn, arrival)? {
         Some(line) => out.escaped(line.as_bytes()),
         None => out.push("none"),
+    }
+    Ok(())
+}
+
+/// The lines of turns that failed, `MOMENT MOMENT ..`, and `none` for each turn without one.
+pub fn failures(alloc: Global, rest: &str, out: &mut Answer) -> Result<(), Cause> {
+    let mut failures = Failures::NONE;
+    for word in rest.split(' ') {
+        match &failures.line(alloc, moment(number(word)?)?)? {
+            Some(line) => out.escaped(line.as_bytes()),
+            None => out.push("none "),
+        }
     }
     Ok(())
 }

@@ -263,9 +263,10 @@ impl Sockets {
         }
     }
 
-    /// Sends a datagram, and says whether it could be sent.
+    /// Sends a datagram, and says whether it could be sent. One to a client without an address couldn't: the system would send it to
+    /// this machine itself.
     pub(crate) fn send(&self, port: Port, octets: &[u8], target: SocketAddr) -> bool {
-        self.ports.send(port, octets, target).is_ok()
+        !target.ip().is_unspecified() && self.ports.send(port, octets, target).is_ok()
     }
 
     /// Accepts a connection.

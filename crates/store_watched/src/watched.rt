@@ -12,7 +12,7 @@ use hall_types::{
 use std::alloc::Global;
 use std::cell::RefCell;
 
-/// A store that asks the store within it, and notes in a cell what was answered of clients and machines, and which machine's
+/// A store that asks the store within it, and notes in a cell what was answered of clients, operators and machines, and which machine's
 /// status was changed. It has the hall that the store within it has, and adds no call.
 #[derive(Drop)]
 pub struct Watched<'a, S> {
@@ -56,6 +56,16 @@ fn note_count(sight: &RefCell<Sight>, machines: u64) {
 fn note_numbers(sight: &RefCell<Sight>, numbers: Numbers) {
     if let Ok(mut now) = sight.try_borrow_mut() {
         now.view.numbers = numbers;
+    }
+}
+
+// The token's digest is looked for before any other one.
+fn note_operator(sight: &RefCell<Sight>, operator: &Option<Operator>) {
+    if let Ok(mut now) = sight.try_borrow_mut()
+        && now.operator.is_none()
+        && let Some(operator) = operator
+    {
+        now.operator = Some(operator.name);
     }
 }
 
@@ -121,7 +131,11 @@ impl<'a, S: HallStore> HallStore for Watched<'a, S> {
     }
 
     fn operator_by_digest(&mut self, digest: &Digest) -> Result<Option<Operator>, Unavailable> {
-        self.store.operator_by_digest(digest)
+        let answer = self.store.operator_by_digest(digest);
+        if let Ok(operator) = &answer {
+            note_operator(self.sight, operator);
+        }
+        answer
     }
 
     fn pool(&mut self, name: &Name) -> Result<Option<Pool>, Unavailable> {
