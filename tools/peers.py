@@ -78,7 +78,9 @@ def asked(target):
 
 def is_closed(s):
     """Whether the desk has closed a connection to which it sent nothing."""
-    if not select.select([s], [], [], 0)[0]:
+    waiting = select.poll()
+    waiting.register(s, select.POLLIN)
+    if not waiting.poll(0):
         return False
     try:
         return s.recv(1) == b""

@@ -149,7 +149,7 @@ unread() { timeout 1 cat <&9 || true; }
 serve - stalled
 peer scripts 1000 || bad 'scripts while nobody reads the log'
 unread > stalled.log
-[ "$(wc -l < stalled.log)" -lt 1000 ] || bad 'the pipe takes no more'
+[ "$(grep -c 'GET /ipxe/' stalled.log)" -lt 1000 ] || bad 'the pipe takes no more'
 peer scripts 1 || bad 'a script once the log is read'
 unread > read.log
 grep -qE '^[0-9]+ - lost [0-9]+$' read.log || bad "the number of lost lines: $(cat read.log)"
@@ -158,9 +158,9 @@ exec 9>&-
 good 'a log that nobody reads delays no answer, and says later how many lines it lost'
 
 if has strace; then
-    serve desk.log err strace -D -qq -o calls -e trace=fdatasync -e inject=fdatasync:error=EIO:when=2
+    serve desk.log err strace -D -qq -o calls -e trace=fdatasync -e inject=fdatasync:error=EIO:when=20    # opening takes some twelve
     refused=0
-    for number in 21 22 23 24 25; do
+    for number in {21..50}; do
         for ((i = 0; i < 100; i++)); do
             answered=$(post $number "\"command\":\"add_pool\",\"pool\":\"pool$number\"")
             if [ "$answered" = '{} 200' ]; then break; fi
@@ -171,7 +171,7 @@ if has strace; then
         is 'the command again' "$answered" '{} 200'
     done
     [ $refused -gt 0 ] || bad 'a failing fdatasync'
-    is 'messages of the desk' "$(cat err)" 'hallboot: a fault has shut hall.db, which is opened again'
+    is 'messages of the desk' "$(head -n 1 err)" 'hallboot: a fault has shut hall.db, which is opened again'
     stopped
     good "strace: after a failing fdatasync the same program opens the file again, and answers what it refused $refused times"
 else
