@@ -1,41 +1,16 @@
 -- The texts of machines and of lists.
-use Rattle.std.proofs.Common.{◌≡◌, ℕ, Bool, true, false, List, [], ◌∷◌, ◌++◌, Option, Some, None, map, refl, sym, ap, ◌∙◌, ◌+◌, ◌<◌, length, drop, get_or, add-one, drop-cons, append_assoc}
+use Rattle.std.proofs.Common.{◌≡◌, ℕ, Bool, true, false, List, [], ◌∷◌, ◌++◌, map, refl, sym, ap, ◌∙◌, ◌+◌, ◌<◌, length, drop, get_or, add-one, drop-cons, append_assoc}
 use Rattle.std.specs.Prelude.{codes, fold}
 use Rattle.json.specs.Print.{escape_byte}
 use Rattle.serde_json.specs.Data.{Data, Items, item, array, object, member, no_members}
 use Rattle.serde_json.specs.View.{items_of}
-use Rattle.serde_json.specs.Written.{has_float, items_have_float, comma_if, compact_text, items_text}
+use Rattle.serde_json.specs.Written.{comma_if, compact_text, items_text}
 use Rattle.hall_types.specs.Hall.{second}
 use Rattle.hall_types.specs.declared.order.Order.{Order}
-use Rattle.hall_events.specs.Object.{or_null}
 use Rattle.hall_events.specs.Listing.{Listing}
-use Rattle.hall_events.specs.Command.{mac_data}
 use Rattle.hall_events.specs.declared.reply.Reply.TheVariants.{Http}
 use Rattle.hall_events.specs.declared.reply.BodyKind.TheVariants.{Json}
 use Rattle.hall_events.specs.Reply.{ListedMachine, machine_data, with_machine, no_machine, listing, order_data, reply_of, machine_list}
-
-or_null_no_float : {A : Type 0} (made : A → Data) (o : Option A) → ((a : A) → has_float (made a) ≡ false) → has_float (or_null made o) ≡ false
-or_null_no_float made None h = refl
-or_null_no_float made (Some a) h = h a
-
-macs_no_float : (macs : List (List ℕ)) → items_have_float (items_of (map mac_data macs)) ≡ false
-macs_no_float [] = refl
-macs_no_float (mac ∷ macs) = macs_no_float macs
-
-pub machine_no_float : (listed : ListedMachine) → has_float (machine_data second listed) ≡ false
-unfolding machine_data
-machine_no_float listed =
-    let m = listed.machine in
-    rw (
-      or_null_no_float _ m.boot (λ n. refl),
-      or_null_no_float _ m.deadline (λ n. refl),
-      or_null_no_float _ m.erase (λ e. refl),
-      or_null_no_float _ m.image (λ n. refl),
-      macs_no_float listed.macs,
-      or_null_no_float _ m.waiting (λ n. refl),
-      or_null_no_float _ m.owner (λ n. refl),
-      or_null_no_float _ m.uuid (λ u. refl),
-    ) refl
 
 -- ---- lists that are written item by item
 

@@ -6,3 +6,4 @@ pub mod Object
 pub mod ObjectLaws
 pub mod Reply
 pub mod ReplyLaws
+pub mod WrittenMachine

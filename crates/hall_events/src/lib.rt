@@ -7,8 +7,10 @@ mod event;
 mod laws;
 mod list_text;
 mod machine_list;
+mod machine_text;
 mod machine_value;
 mod member;
+mod plain_text;
 mod reply;
 
 pub use command::{HallCommand, MachineCommand};

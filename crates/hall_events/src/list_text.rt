@@ -6,7 +6,7 @@ ghost use Rattle.serde_json.specs.Written.{comma_if as comma_before, compact_tex
 use serde_json::Value;
 use std::alloc::{AllocError, Global};
 
-fn comma_if(later: bool) -> &'static str
+pub(crate) fn comma_if(later: bool) -> &'static str
     ensures { result.now ≡ comma_before later }
 {
     if later { "," } else { "" }

@@ -3,8 +3,8 @@ ghost use Rattle.std.specs.Prelude.{◌≡◌, List, IfOk, OnOk};
 ghost use Rattle.hall_types.specs.Hall.{second};
 ghost use Rattle.hall_events.specs.Reply.{ListedMachine, listed, listing, machine_list, no_machine, reply_of, with_machine};
 
-use crate::list_text::push_item;
-use crate::machine_value::machine_value;
+use crate::list_text::comma_if;
+use crate::machine_text::push_machine;
 use crate::reply::{OK, Reply, json_reply};
 use hall_types::{Interface, Machine};
 use std::alloc::{AllocError, Global};
@@ -37,7 +37,7 @@ impl MachineList {
 
     /// Writes a machine with its interfaces after those that stand in the list. After an error the list is of
     /// no use.
-    #[tactic(auto, using(crate::proofs::ReplyLemmas::machine_no_float), unfolding(crate::specs::Reply::with_machine))]
+    #[tactic(auto, unfolding(crate::specs::Reply::with_machine))]
     pub fn push(
         &mut self,
         alloc: Global,
@@ -46,8 +46,8 @@ impl MachineList {
     ) -> Result<(), AllocError>
         ensures { OnOk result (self.new ≡ with_machine self.old (listed machine.now interfaces.now)) }
     {
-        let value = machine_value(alloc, machine, interfaces)?;
-        push_item(alloc, &mut self.text, self.any, &value)?;
+        self.text.push_str(comma_if(self.any))?;
+        push_machine(alloc, &mut self.text, machine, interfaces)?;
         self.any = true;
         Ok(())
     }

@@ -7,7 +7,8 @@ ghost use Rattle.hall_events.specs.Reply as content;
 ghost use Rattle.hall_events.specs.Reply.{id_data, listed, ok as answer_of, order_data, refusal_data, reply_of, result_data};
 
 use crate::list_text::push_item;
-use crate::machine_value::{machine_value, order_value, status_value};
+use crate::machine_text::push_machine;
+use crate::machine_value::{order_value, status_value};
 use hall_types::{Interface, Machine, Number, Order, Receipt, Refusal, Text};
 use ipxe_script::Script;
 use serde_json::{Value, json};
@@ -167,7 +168,7 @@ impl Reply {
     }
 
     /// The answer with this machine and its interfaces.
-    #[tactic(auto, using(crate::proofs::ReplyLemmas::machine_no_float), unfolding(crate::specs::Reply::reply_of))]
+    #[tactic(auto, unfolding(crate::specs::Reply::reply_of))]
     pub fn one_machine(
         alloc: Global,
         machine: &Machine,
@@ -175,7 +176,9 @@ impl Reply {
     ) -> Result<Reply, AllocError>
         ensures { IfOk result (λ reply. reply ≡ reply_of second (content.one_machine (listed machine.now interfaces.now))) }
     {
-        ok(alloc, &machine_value(alloc, machine, interfaces)?)
+        let mut text = String::new(alloc);
+        push_machine(alloc, &mut text, machine, interfaces)?;
+        Ok(json_reply(OK, text))
     }
 
     /// The answer that a receipt keeps.

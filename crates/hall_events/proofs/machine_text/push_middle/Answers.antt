@@ -1,0 +1,32 @@
+use Rattle.std.specs.Prelude.{true, codes, map, string_bytes}
+use Rattle.json.specs.Print.{escape_byte}
+use Rattle.serde_json.specs.Data.{string, boolean, array}
+use Rattle.serde_json.specs.View.{items_of}
+use Rattle.hall_types.specs.declared.machine.Machine.{Machine}
+use Rattle.hall_events.specs.Command.{mac_data}
+use Rattle.hall_events.specs.Object.{count, or_null}
+use Rattle.hall_events.proofs.MachineLemmas.{four_pushed}
+use Rattle.hall_events.proofs.machine_text.push_middle.Goals as goal
+
+pub returns : goal.returns
+unfolding escape_byte
+returns c =
+    let m : Machine = c.args.machine.now in
+    four_pushed true
+    (codes "image", or_null string m.image)
+    (codes "interfaces", array (items_of (map mac_data (map (λ i. i.mac) c.args.interfaces.now))))
+    (codes "locked", boolean m.locked)
+    (codes "order", or_null count m.waiting)
+    (string_bytes c.args.text.now)
+    (string_bytes c.push_str.new.self)
+    (string_bytes c.push_name.new.text)
+    (string_bytes c.push_str-2.new.self)
+    (string_bytes c.push_macs.new.text)
+    (string_bytes c.push_str-3.new.self)
+    (string_bytes c.push_flag.new.text)
+    (string_bytes c.push_str-4.new.self)
+    (string_bytes c.push_number.new.text)
+    c.in_ok-push_str.ensures.bytes c.in_ok-push_name.ensures
+    c.in_ok-push_str-2.ensures.bytes c.in_ok-push_macs.ensures
+    c.in_ok-push_str-3.ensures.bytes c.in_ok-push_flag.ensures
+    c.in_ok-push_str-4.ensures.bytes c.in_ok-push_number.ensures
