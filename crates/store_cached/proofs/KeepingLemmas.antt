@@ -1,16 +1,17 @@
 -- What is known after a change.
-use Rattle.std.proofs.Common.{◌≡◌, false, List, [], ◌∷◌, Result, Ok, Err, Some, IsTrue, refl, ap, ◌∙◌, subst, sym, ◌||◌, Bool, true}
+use Rattle.std.proofs.Common.{◌≡◌, false, List, [], ◌∷◌, Result, Ok, Err, Some, refl, ◌∙◌, subst, sym, ◌||◌, Bool, true}
 use Rattle.std.specs.Prelude.{Option, option_map, IfSome, All}
 use Rattle.std.specs.List.{list_any}
 use Rattle.std.specs.Result.{is_ok}
 use Rattle.hall_types.specs.Hall.{Hall, applied, written}
 use Rattle.hall_types.specs.Rows.{at}
-use Rattle.hall_types.specs.Tables.{ChangesOnly, interfaces, is_among, tables_of}
+use Rattle.hall_types.specs.Tables.{interfaces, is_among, tables_of}
 use Rattle.hall_types.specs.declared.change.RowWrite.{RowWrite}
 use Rattle.hall_types.specs.declared.machine.Interface.{Interface}
 use Rattle.hall_types.proofs.WriteLemmas.{changes_only}
 use Rattle.hall_store.specs.Store.{IsWrite}
-use Rattle.store_cached.specs.Known.{AreOf, IsOf, changes_interfaces}
+use Rattle.store_cached.specs.Known.{AreOf, changes_interfaces}
+use Rattle.store_cached.specs.Lists.{AreListsOf}
 use Rattle.store_cached.specs.Cached.{Keeps, inner}
 use Rattle.store_cached.specs.declared.cached.Cached.{Cached}
 
@@ -35,19 +36,20 @@ module _ {S : Type 0} (holds : S → Hall → Type 0) (leaves : S → List Hall 
   pub written_around : (r : Result Y E) → IsWrite holds leaves (inner old) (inner new) r (λ h. rows)
       → ((h : Hall) → AreOf h old.known.slots.items → AreOf (applied rows h) new.known.slots.items)
       → ((h : Hall) → AreOf h old.known.slots.items → AreOf h new.known.slots.items)
+      → ((h : Hall) → AreListsOf h new.lists)
       → new.is_settled ≡ is_ok r
       → IsWrite (Keeps holds leaves) (λ cached hs. leaves (inner cached) hs) old new r (λ h. rows)
-  written_around (Ok y) w after same settled = record {
-    made = λ h kept keep. record { held = w.made h kept.held keep; known = after h kept.known; settled = λ is. w.settled h kept.held keep };
+  written_around (Ok y) w after same forgotten settled = record {
+    made = λ h kept keep. record { held = w.made h kept.held keep; known = after h kept.known; lists = forgotten (applied rows h); settled = λ is. w.settled h kept.held keep };
     versions = λ h kept keep. w.versions h kept.held keep;
     same = tt;
     crash = λ h kept keep hs left. w.crash h kept.held keep hs left;
     settled = λ h kept keep. w.settled h kept.held keep;
   }
-  written_around (Err e) w after same settled = record {
+  written_around (Err e) w after same forgotten settled = record {
     made = tt;
     versions = tt;
-    same = λ h kept. record { held = w.same h kept.held; known = same h kept.known; settled = λ is. absurd cc };
+    same = λ h kept. record { held = w.same h kept.held; known = same h kept.known; lists = forgotten h; settled = λ is. absurd cc };
     crash = λ h kept keep hs left. w.crash h kept.held keep hs left;
     settled = tt;
   }

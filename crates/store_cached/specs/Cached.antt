@@ -1,7 +1,8 @@
--- A store that keeps in memory which machines addresses were found at.
+-- A store that keeps in memory which machines addresses were found at, and the lists that were read since the last change.
 use Rattle.std.specs.Prelude.{List, [], ◌∷◌, IsTrue}
 use Rattle.hall_types.specs.Hall.{Hall}
 use Rattle.store_cached.specs.Known.{AreOf}
+use Rattle.store_cached.specs.Lists.{AreListsOf}
 use Rattle.store_cached.specs.declared.cached.Cached.{Cached}
 
 -- the store within it
@@ -13,4 +14,5 @@ module _ {S : Type 0} (holds : S → Hall → Type 0) (leaves : S → List Hall 
   pub record Keeps (cached : Cached S) (h : Hall) : Type 0 where
     pub held : holds (inner cached) h
     pub known : AreOf h cached.known.slots.items
+    pub lists : AreListsOf h cached.lists
     pub settled : IsTrue cached.is_settled → leaves (inner cached) (h ∷ [])

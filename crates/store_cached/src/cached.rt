@@ -1,9 +1,10 @@
-//! A store that keeps in memory which machines addresses were found at.
+//! A store that keeps in memory which machines addresses were found at, and lists.
 ghost use Rattle.std.specs.Prelude.{◌≡◌, IfOk, IfErr};
 ghost use Rattle.hall_types.specs.Hall.{Hall};
 ghost use Rattle.store_cached.specs.Cached.{Keeps, inner};
 
 use crate::known::Known;
+use crate::lists::Lists;
 use hall_store::{Count, HallStore, Unavailable};
 use hall_types::{
     Arch, Boot, Change, Digest, Image, Interface, Live, MacAddress, Machine, MachineUuid, Member,
@@ -12,11 +13,13 @@ use hall_types::{
 use std::alloc::{AllocError, Global};
 
 /// A store that asks the store within it, and keeps which machines addresses were found at, 16,384 at most. An address that is
-/// kept is answered without a call of the store within. A change of interfaces has it forget them all.
+/// kept is answered without a call of the store within. A change of interfaces has it forget them all. It keeps copies of the lists of
+/// machines and of interfaces too, which the next change has it forget.
 #[derive(Drop)]
 pub struct Cached<S> {
     store: S,
     known: Known,
+    lists: Lists,
     // The last change was written whole, or an answer was read since: a stop leaves the hall that the store has.
     is_settled: bool,
 }
@@ -33,6 +36,7 @@ impl<S: HallStore> Cached<S> {
             Ok(known) => Ok(Cached {
                 store,
                 known,
+                lists: Lists::new(),
                 is_settled: false,
             }),
             Err(AllocError) => Err(store),
@@ -59,8 +63,8 @@ impl<S: HallStore> HallStore for Cached<S> {
     ghost second_schema = { λ cached h kept. S.second_schema (inner cached) h kept.held };
 
     fn by_mac(&mut self, mac: MacAddress) -> Result<Option<Number>, Unavailable> {
-        if self.is_settled
-            && let Some(machine) = self.known.find(mac)
+        if let Some(machine) = self.known.find(mac)
+            && self.is_settled
         {
             return Ok(Some(machine));
         }
@@ -142,11 +146,27 @@ impl<S: HallStore> HallStore for Cached<S> {
     }
 
     fn interfaces(&mut self, alloc: Global) -> Result<Vec<Interface>, Unavailable> {
-        self.store.interfaces(alloc)
+        if self.is_settled
+            && let Some(interfaces) = self.lists.interfaces(alloc)
+        {
+            return Ok(interfaces);
+        }
+        let interfaces = self.store.interfaces(alloc)?;
+        self.is_settled = true;
+        self.lists.keep_interfaces(alloc, interfaces.as_slice());
+        Ok(interfaces)
     }
 
     fn machines(&mut self, alloc: Global) -> Result<Vec<Machine>, Unavailable> {
-        self.store.machines(alloc)
+        if self.is_settled
+            && let Some(machines) = self.lists.machines(alloc)
+        {
+            return Ok(machines);
+        }
+        let machines = self.store.machines(alloc)?;
+        self.is_settled = true;
+        self.lists.keep_machines(alloc, machines.as_slice());
+        Ok(machines)
     }
 
     fn waiting_orders(&mut self, alloc: Global) -> Result<Vec<Order>, Unavailable> {
@@ -159,6 +179,7 @@ impl<S: HallStore> HallStore for Cached<S> {
 
     fn apply(&mut self, change: &Change) -> Result<(), Unavailable> {
         self.known.follow(change);
+        self.lists.forget();
         let answer = self.store.apply(change);
         self.is_settled = answer.is_ok();
         answer

@@ -7,5 +7,5 @@ returns g c clean =
     let wrote = c.apply-answer.ensures clean in (
       wrote.0,
       written_around g.S.HallStore.holds g.S.HallStore.leaves _ _ c.args.change.now c.apply-answer.result wrote.1
-          c.follow.ensures.after c.follow.ensures.refused c.is_ok-self.ensures.value,
+          c.follow.ensures.after c.follow.ensures.refused c.forget.ensures c.is_ok-self.ensures.value,
     )
