@@ -33,13 +33,14 @@ for s in kept: s.bind(("127.0.0.1", 0))
 print(*(s.getsockname()[1] for s in kept))')
 desk=http://127.0.0.1:$http
 
-# Serves with this log and this standard error, by a command that runs the program.
+# Serves with this log and this standard error, by a command that runs the program. log_time is how the log writes moments.
+log_time=seconds
 serve() {
     local log=$1 errors=$2
     shift 2
     : > ready
     "$@" "$HALLBOOT" serve --db hall.db --discover 127.0.0.1:$discover --boot 127.0.0.1:$boot --http 127.0.0.1:$http \
-        --turns 1000000000000 --server 10.8.0.1 --next 10.8.0.2 --host 127.0.0.1:$http --log "$log" > ready 2> "$errors" & server=$!
+        --turns 1000000000000 --server 10.8.0.1 --next 10.8.0.2 --host 127.0.0.1:$http --log "$log" --log-time $log_time > ready 2> "$errors" & server=$!
     started+=($server)
     for ((i = 0; i < 600; i++)); do
         if grep -q 'hall desk ready' ready; then return; fi
@@ -178,7 +179,8 @@ else
     echo 'not tried: strace is missing'
 fi
 
-serve desk.log err
+log_time=utc
+serve utc.log err
 mv hall.db moved.db
 peer scripts 10 2> gone.log || true
 run=0
@@ -188,6 +190,12 @@ is 'messages of the desk' "$(cat err)" $'hallboot: hall.db isn\'t the hall\'s fi
 mv moved.db hall.db
 "$HALLBOOT" report --db hall.db > report.txt || bad 'the report of the file that was moved'
 good 'a desk whose file is moved ends'
+python3 -c 'import datetime, sys
+for line in open("utc.log"):
+    moment = datetime.datetime.strptime(line.split()[0], "%Y-%m-%dT%H:%M:%SZ")
+    assert abs(datetime.datetime.utcnow() - moment) < datetime.timedelta(minutes=1), line' || bad 'the log in UTC'
+[ -s utc.log ] || bad 'a log in UTC'
+good 'python3: a log in UTC has the time'
 
 if has sqlite3; then
     tables=$(sqlite3 hall.db 'PRAGMA integrity_check; SELECT name FROM pools WHERE name < '"'pool'"' ORDER BY name; SELECT operator, status, body FROM receipts ORDER BY rowid LIMIT 1')

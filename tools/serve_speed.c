@@ -1,14 +1,18 @@
-// A bare UDP echo loop, a client that measures OFFERs, and two ways to disturb a desk. Built and run by serve_speed.sh.
+// A bare UDP echo loop, a client that measures OFFERs and requests, and three ways to disturb a desk. Built and run by serve_speed.sh.
 //   echo ADDRESS PORT
 //   offers FROM ADDRESS PORT COUNT IN-FLIGHT PAUSE-MICROSECONDS   prints: answers a second, median and 99th of 100 microseconds
 //   hold ADDRESS PORT COUNT                                       keeps so many silent connections open
 //   flood ADDRESS PORT CHILDREN TOKEN                             sends commands, each of which is committed
+//   asks ADDRESS PORT TARGET TOKEN COUNT PAUSE-MICROSECONDS       prints: median and 99th of 100 microseconds of a GET
+//   list ADDRESS PORT CHILDREN TOKEN                              asks for the list of all machines, without pause
 #include <arpa/inet.h>
 #include <errno.h>
+#include <signal.h>
 #include <stdint.h>
 #include <stdio.h>
 #include <stdlib.h>
 #include <string.h>
+#include <sys/prctl.h>
 #include <sys/socket.h>
 #include <sys/time.h>
 #include <time.h>
@@ -132,20 +136,61 @@ static void hold(char **w) {
         }
 }
 
+// So many processes, numbered from 1, of which all end with the first.
+static int forked(int children) {
+    for (int self = 1; self < children; self++)
+        if (fork() == 0) {
+            prctl(PR_SET_PDEATHSIG, SIGKILL);
+            return self + 1;
+        }
+    return 1;
+}
+
+// Asks once and reads the whole answer: how many octets came, none where the desk took no connection.
+static size_t ask(const char *address, int port, const char *request, int n) {
+    static char answer[1 << 20];
+    size_t all = 0;
+    int s = connected(address, port);
+    if (s < 0) return 0;
+    if (send(s, request, n, MSG_NOSIGNAL) == n)
+        for (ssize_t more; (more = recv(s, answer, sizeof answer, 0)) > 0;) all += more;
+    close(s);
+    return all;
+}
+
+static void asks(char **w) {
+    int count = atoi(w[4]), pause = atoi(w[5]);
+    double *took = malloc(sizeof *took * count);
+    char request[512];
+    int n = snprintf(request, sizeof request, "GET %s HTTP/1.1\r\nAuthorization: Bearer %s\r\n\r\n", w[2], w[3]);
+    check(took && count > 0, "COUNT");
+    for (int i = 0; i < count; i++) {
+        if (pause) usleep(pause);
+        double begin = now();
+        if (!ask(w[0], atoi(w[1]), request, n)) { fprintf(stderr, "no answer came\n"); exit(1); }
+        took[i] = now() - begin;
+    }
+    qsort(took, count, sizeof *took, by_size);
+    printf("%.1f %.1f\n", took[count / 2], took[(int)(count * 0.99)]);
+}
+
+static void list(char **w) {
+    char request[512];
+    int n = snprintf(request, sizeof request, "GET /machines HTTP/1.1\r\nAuthorization: Bearer %s\r\n\r\n", w[3]);
+    forked(atoi(w[2]));
+    for (;;)
+        if (!ask(w[0], atoi(w[1]), request, n)) usleep(1000);
+}
+
 static void flood(char **w) {
-    int children = atoi(w[2]), self = 0;
-    while (++self < children && fork() != 0) {}
+    int self = forked(atoi(w[2]));
     for (unsigned i = 0;; i++) {
-        char body[256], request[768], answer[1024];
+        char body[256], request[768];
         int n = snprintf(body, sizeof body, "{\"key\":\"00000000-0000-4000-9%03x-%012x\",\"command\":\"add_pool\",\"pool\":\"p%d-%u-%u\"}",
                          self & 0xfff, i, self, (unsigned)getpid(), i);
         n = snprintf(request, sizeof request, "POST /commands HTTP/1.1\r\nHost: desk\r\nAuthorization: Bearer %s\r\nContent-Length: %d\r\n\r\n%s",
                      w[3], n, body);
-        int s = connected(w[0], atoi(w[1]));
-        if (s < 0) { usleep(1000); continue; }
-        if (send(s, request, n, MSG_NOSIGNAL) == n)
-            while (recv(s, answer, sizeof answer, 0) > 0) {}
-        close(s);
+        if (!ask(w[0], atoi(w[1]), request, n)) usleep(1000);
     }
 }
 
@@ -155,6 +200,8 @@ int main(int count, char **words) {
     else if (!strcmp(what, "offers") && count == 8) offers(words + 2);
     else if (!strcmp(what, "hold") && count == 5) hold(words + 2);
     else if (!strcmp(what, "flood") && count == 6) flood(words + 2);
+    else if (!strcmp(what, "asks") && count == 8) asks(words + 2);
+    else if (!strcmp(what, "list") && count == 6) list(words + 2);
     else { fprintf(stderr, "see the head of serve_speed.c\n"); return 2; }
     return 0;
 }

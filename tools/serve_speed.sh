@@ -1,7 +1,8 @@
 #!/usr/bin/env bash
 # The service beside dnsmasq as a proxyDHCP server and a bare UDP loop in C, with 10,000 machines in the file: OFFERs one by
 # one and with 32 in flight, the processor's share at rest, and the median time of a DISCOVER at rest, with 50 silent
-# connections, and with a flood of commands. COUNT is the number of OFFERs in one of five runs. Needs root, for network
+# connections, and with a flood of commands; and how long a DISCOVER and a script request take beside 64 clients that ask for the list of
+# all machines without pause, 99 of 100. COUNT is the number of OFFERs in one of five runs. Needs root, for network
 # namespaces of its own; run it on a quiet machine.
 # Usage: tools/serve_speed.sh [COUNT]     HALLBOOT=PROGRAM names a program that is built already.
 set -euo pipefail
@@ -46,6 +47,10 @@ offers() {   # offers COUNT FLIGHT GAP: OFFERs a second, the median and the time
     if [ "$3" != 0 ]; then column=-k2,2n; fi
     for run in 1 2 3 4 5; do outside ./peer offers 10.9.0.2 10.9.0.1 67 "$@"; done > offers.log
     sort "$column" offers.log | head -n 1
+}
+asks() {   # asks TARGET COUNT GAP: the median and the time of 99 of 100 requests in microseconds
+    for run in 1 2 3 4 5; do outside ./peer asks 10.9.0.1 80 "$1" abc "$2" "$3"; done > asks.log
+    sort -k1,1n asks.log | head -n 1
 }
 share() {   # share PROCESS: of one processor, in percent, over twenty seconds
     local before after
@@ -105,6 +110,14 @@ desk_share=$(share "$server")
 read -r desk_one desk_median _ < <(offers "$count" 1 0)
 read -r desk_many _ _ < <(offers "$count" 32 0)
 read -r _ desk_rest desk_rest99 < <(offers 200 1 20000)
+read -r script_rest script_rest99 < <(asks /ipxe/52:54:00:00:00:05 200 20000)
+read -r list_rest _ < <(asks /machines 20 100000)
+outside setpriv --pdeathsig KILL ./peer list 10.9.0.1 80 64 abc & peer=$!
+sleep 0.5
+read -r _ _ listed99 < <(offers 200 1 20000)
+read -r _ script_listed99 < <(asks /ipxe/52:54:00:00:00:05 200 20000)
+ended "$peer"
+sleep 1
 outside ./peer hold 10.9.0.1 80 50 & peer=$!
 sleep 0.5
 read -r _ held_rest held_rest99 < <(offers 200 1 20000)
@@ -125,6 +138,8 @@ row 'processor at rest, percent' - "$dns_share" "$desk_share"
 row 'median, 50 silent connections, us' - - "$held_rest"
 row 'median, flood of commands, us' - - "$flood_rest"
 echo "99 of 100 within: $desk_rest99 us at rest, $held_rest99 us with silent connections, $flood_rest99 us in the flood"
+echo "a script request: $script_rest us at the median at rest, 99 of 100 within $script_rest99 us; the list of all machines: $list_rest us"
+echo "beside 64 clients that list without pause, 99 of 100 within: $listed99 us a DISCOVER, $script_listed99 us a script request"
 echo "dnsmasq with the 10,000 machines as hosts: $hosts_one OFFERs a second, one by one"
 echo "a command of the import, with its durable commit: $commit us"
 
@@ -137,6 +152,11 @@ want "$dns_one" "$desk_one" 'one by one, at least as many as dnsmasq'
 want "$dns_many" "$desk_many" '32 in flight, at least as many as dnsmasq'
 want "$desk_share" 0.05 'at rest at most 0.05 percent of a processor'
 want "$desk_rest" 150 'at rest under 150 microseconds at the median'
+want "$list_rest" 15000 'the list of 10,000 machines within 15 milliseconds'
+for time in "$listed99 $desk_rest99 DISCOVER" "$script_listed99 $script_rest99 script"; do
+    read -r beside rest what <<< "$time"
+    want "$beside" "$(awk -v r="$rest" -v l="$list_rest" -v c="$commit" 'BEGIN { print r + l + c }')" "beside 64 that list, a $what waits for one list and one commit at most"
+done
 want "$held_rest" "$limit" 'with 50 silent connections, 1.2 times that and one commit'
 want "$flood_rest" "$limit" 'in a flood of commands, 1.2 times that and one commit'
 exit "$status"

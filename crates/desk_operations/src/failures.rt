@@ -1,4 +1,5 @@
 //! Sockets that fail again and again, of which a log has a line a minute.
+use crate::moment_texts::{TimeFormat, moment_text};
 use hall_types::Moment;
 use std::alloc::{AllocError, Global};
 
@@ -26,9 +27,14 @@ impl Failures {
         untold: 0,
     };
 
-    /// The line of a turn that failed, with its line feed, if one is due: the moment in seconds, and how many failed since the last
+    /// The line of a turn that failed, with its line feed, if one is due: the moment, and how many failed since the last
     /// one, this one among them.
-    pub fn line(&mut self, alloc: Global, moment: Moment) -> Result<Option<String>, AllocError> {
+    pub fn line(
+        &mut self,
+        alloc: Global,
+        format: TimeFormat,
+        moment: Moment,
+    ) -> Result<Option<String>, AllocError> {
         let failed = self.untold.saturating_add(1);
         if !is_due(self.told, moment) {
             self.untold = failed;
@@ -36,7 +42,7 @@ impl Failures {
         }
         self.told = Some(moment);
         self.untold = 0;
-        let moment = moment.get();
+        let moment = moment_text(alloc, format, moment)?;
         let line = if failed == 1 {
             format!(in alloc; "{moment} - failed\n")?
         } else {

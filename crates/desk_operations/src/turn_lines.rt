@@ -1,4 +1,5 @@
 //! The line of a turn in a log.
+use crate::moment_texts::{TimeFormat, moment_text};
 use hall_types::Moment;
 use serve_sockets::{Close, Handover, Kind, Said, Turn};
 use std::alloc::{AllocError, Global};
@@ -67,12 +68,13 @@ fn turn_text(
     }
 }
 
-/// The line of a turn, with its line feed: the moment in seconds, where the turn's datagram or connection came from, and the
+/// The line of a turn, with its line feed: the moment, where the turn's datagram or connection came from, and the
 /// text of the arrival, if the turn handed one over and it's of note, as in
 /// `1790000000 192.0.2.9:68 discover DISCOVER 52:54:00:12:34:56 uefi64: ipxe-x86_64.efi`. A turn in which nothing of note was
 /// done has none: a quiet moment without a text, octets that moved, an empty place. One that failed is for [`Failures`](crate::Failures).
 pub fn turn_line(
     alloc: Global,
+    format: TimeFormat,
     moment: Moment,
     turn: &Turn,
     arrival: Option<&str>,
@@ -80,7 +82,7 @@ pub fn turn_line(
     let Some(text) = turn_text(alloc, turn, arrival)? else {
         return Ok(None);
     };
-    let moment = moment.get();
+    let moment = moment_text(alloc, format, moment)?;
     let line = format!(in alloc; "{moment} {text}\n")?;
     Ok(Some(line))
 }

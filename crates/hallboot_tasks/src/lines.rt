@@ -1,6 +1,6 @@
 //! The log of a service's turns.
 use crate::outlet::Outlet;
-use desk_operations::{Failures, UNSTAMPED_LINE, arrival_text, is_of_note, turn_line};
+use desk_operations::{Failures, TimeFormat, UNSTAMPED_LINE, arrival_text, is_of_note, turn_line};
 use hall_desk::{Answer, Arrival};
 use hall_types::Moment;
 use serve_sockets::{Turn, TurnLog};
@@ -51,13 +51,14 @@ fn take_sight(sight: &RefCell<Sight>) -> Sight {
 // The line of a turn, with the text of its arrival, if there is one.
 fn line_of(
     alloc: Global,
+    format: TimeFormat,
     moment: Moment,
     turn: &Turn,
     arrival: Option<Result<String, AllocError>>,
 ) -> Result<Option<String>, AllocError> {
     match arrival {
-        Some(text) => turn_line(alloc, moment, turn, Some(text?.as_str())),
-        None => turn_line(alloc, moment, turn, None),
+        Some(text) => turn_line(alloc, format, moment, turn, Some(text?.as_str())),
+        None => turn_line(alloc, format, moment, turn, None),
     }
 }
 
@@ -73,9 +74,10 @@ impl<'a> TurnLog for Lines<'a> {
         let Some(outlet) = &mut self.outlet else {
             return;
         };
+        let format = outlet.format();
         let line = match turn {
-            Turn::Failed => self.failures.line(self.alloc, moment),
-            _ => line_of(self.alloc, moment, turn, self.arrival.take()),
+            Turn::Failed => self.failures.line(self.alloc, format, moment),
+            _ => line_of(self.alloc, format, moment, turn, self.arrival.take()),
         };
         let line = match line {
             Ok(None) => return,

@@ -1,6 +1,6 @@
 //! Where the lines of a log go. A stream that takes no octets now, as a pipe that nobody reads, isn't waited for.
 use crate::reading::{fault_of, log_file};
-use desk_operations::Fault;
+use desk_operations::{Fault, TimeFormat, moment_text};
 use hall_types::Moment;
 use mio::event::Events;
 use mio::unix::SourceFd;
@@ -47,6 +47,7 @@ pub(crate) struct Outlet {
     // Says whether the stream takes octets now. There is none for a file of a disk, which always does.
     poll: Option<Poll>,
     events: Events,
+    format: TimeFormat,
     lost: u64,
 }
 
@@ -63,11 +64,16 @@ fn watched(rt: &HostRuntime, stream: &Stream) -> io::Result<Option<Poll>> {
 
 // The line that says how many are missing before it, with the moment, if there is one. What was written of the last of them ends
 // before it.
-fn lost_line(alloc: Global, moment: Option<Moment>, lost: u64) -> Result<String, AllocError> {
+fn lost_line(
+    alloc: Global,
+    format: TimeFormat,
+    moment: Option<Moment>,
+    lost: u64,
+) -> Result<String, AllocError> {
     let mut text = String::new(alloc);
     text.push('\n')?;
     if let Some(moment) = moment {
-        text.push_str(moment.get().to_string(alloc)?.as_str())?;
+        text.push_str(moment_text(alloc, format, moment)?.as_str())?;
         text.push(' ')?;
     }
     text.push_str("- lost ")?;
@@ -77,7 +83,7 @@ fn lost_line(alloc: Global, moment: Option<Moment>, lost: u64) -> Result<String,
 }
 
 impl Outlet {
-    fn over(rt: &HostRuntime, stream: Stream) -> Result<Outlet, Fault> {
+    fn over(rt: &HostRuntime, stream: Stream, format: TimeFormat) -> Result<Outlet, Fault> {
         let poll = match watched(rt, &stream) {
             Ok(poll) => poll,
             Err(error) => return Err(fault_of(&error)),
@@ -86,16 +92,22 @@ impl Outlet {
             stream,
             poll,
             events: Events::with_capacity(rt.alloc(), 1)?,
+            format,
             lost: 0,
         })
     }
 
-    /// Standard error, where the path is `-`, or a file to which lines are added.
-    pub(crate) fn at(rt: &HostRuntime, path: &str) -> Result<Outlet, Fault> {
+    /// Standard error, where the path is `-`, or a file to which lines are added, with moments in this format.
+    pub(crate) fn at(rt: &HostRuntime, path: &str, format: TimeFormat) -> Result<Outlet, Fault> {
         if path == "-" {
-            return Outlet::over(rt, Stream::Errors(rt.stderr()));
+            return Outlet::over(rt, Stream::Errors(rt.stderr()), format);
         }
-        Outlet::over(rt, Stream::File(log_file(rt, path)?))
+        Outlet::over(rt, Stream::File(log_file(rt, path)?), format)
+    }
+
+    /// How moments are written.
+    pub(crate) fn format(&self) -> TimeFormat {
+        self.format
     }
 
     /// How many lines were lost since the last one that was written.
@@ -138,7 +150,7 @@ impl Outlet {
         moment: Option<Moment>,
         line: Result<String, AllocError>,
     ) {
-        if self.lost > 0 && self.is_written(lost_line(alloc, moment, self.lost)) {
+        if self.lost > 0 && self.is_written(lost_line(alloc, self.format, moment, self.lost)) {
             self.lost = 0;
         }
         if self.lost > 0 || !self.is_written(line) {
@@ -149,7 +161,7 @@ impl Outlet {
 
 /// Says something at standard error, unless that takes no octets now.
 pub fn tell(rt: &HostRuntime, text: Result<String, AllocError>) {
-    if let Ok(mut outlet) = Outlet::at(rt, "-") {
+    if let Ok(mut outlet) = Outlet::at(rt, "-", TimeFormat::Seconds) {
         outlet.write(rt.alloc(), None, text);
     }
 }

@@ -30,9 +30,9 @@ fn bind_fault(fault: BindFault) -> Fault {
     }
 }
 
-fn opened_log(rt: &HostRuntime, path: &Option<String>) -> Result<Option<Outlet>, Fault> {
-    match path {
-        Some(path) => Ok(Some(Outlet::at(rt, path.as_str())?)),
+fn opened_log(rt: &HostRuntime, serving: &Serving) -> Result<Option<Outlet>, Fault> {
+    match &serving.log {
+        Some(path) => Ok(Some(Outlet::at(rt, path.as_str(), serving.format)?)),
         None => Ok(None),
     }
 }
@@ -44,7 +44,7 @@ impl Bound {
             Ok(sockets) => sockets,
             Err(fault) => return Err(bind_fault(fault)),
         };
-        let log = opened_log(rt, &serving.log)?;
+        let log = opened_log(rt, serving)?;
         let start = match Instant::now(rt) {
             Ok(start) => start,
             Err(error) => return Err(fault_of(&error)),

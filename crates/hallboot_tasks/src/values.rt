@@ -1,6 +1,6 @@
 //! The values of options. `BadInput` is one that isn't of its form.
 use desk_operations::{
-    Fault, What, count_of, digest_of, fresh_of, is_bearer_token, moment_of, what_of,
+    Fault, TimeFormat, What, count_of, digest_of, fresh_of, is_bearer_token, moment_of, what_of,
 };
 use hall_types::{Digest, Moment, Name, Port, Token};
 use hallboot_words::Words;
@@ -46,6 +46,15 @@ pub(crate) fn role(words: &Words<'_>) -> Result<Port, Fault> {
     match text(words.role)? {
         "discover" => Ok(Port::Discover),
         "boot" => Ok(Port::Boot),
+        _ => Err(Fault::BadInput),
+    }
+}
+
+/// How the log of a service writes moments.
+pub(crate) fn log_time(words: &Words<'_>) -> Result<TimeFormat, Fault> {
+    match text(words.log_time)? {
+        "seconds" => Ok(TimeFormat::Seconds),
+        "utc" => Ok(TimeFormat::Utc),
         _ => Err(Fault::BadInput),
     }
 }

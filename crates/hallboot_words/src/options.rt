@@ -99,6 +99,13 @@ pub(crate) const TURNS: Word = Word {
     given: Given::Always,
 };
 
+pub(crate) const LOG_TIME: Word = Word {
+    name: "log-time",
+    value: "FORMAT",
+    help: "How the log writes moments: seconds since 1970, or utc",
+    given: Given::OrElse("seconds"),
+};
+
 pub(crate) const LOG: Word = Word {
     name: "log",
     value: "FILE",

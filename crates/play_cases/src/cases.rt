@@ -95,6 +95,7 @@ fn play_log_line(alloc: Global, kind: &str, rest: &str, out: &mut Answer) -> Res
         "arrival" => logs::arrival(alloc, rest, out),
         "turn" => logs::turn(alloc, rest, out),
         "failures" => logs::failures(alloc, rest, out),
+        "utc" => logs::utc(alloc, rest, out),
         "unknown" => logs::unknown(alloc, rest, out),
         "takes" => ends::takes(rest, out),
         "puts" => ends::puts(rest, out),

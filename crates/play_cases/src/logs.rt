@@ -4,7 +4,7 @@ use crate::decisions::numbers;
 use crate::escapes::octets;
 use crate::printing::Answer;
 use crate::values::{halves, moment, number};
-use desk_operations::{Failures, arrival_text, turn_line};
+use desk_operations::{Failures, TimeFormat, arrival_text, moment_text, turn_line};
 use hall_desk::{Arrival, Input};
 use hall_types::{Port, Token};
 use pxe_vendor::Octets;
@@ -58,7 +58,8 @@ pub fn turn(alloc: Global, rest: &str, out: &mut Answer) -> Result<(), Cause> {
         None => (rest, None),
     };
     let turn = turn_of(word)?;
-    match &turn_line(alloc, moment(1_790_000_000)?, &turn, arrival)? {
+    let format = TimeFormat::Seconds;
+    match &turn_line(alloc, format, moment(1_790_000_000)?, &turn, arrival)? {
         Some(line) => out.escaped(line.as_bytes()),
         None => out.push("none"),
     }
@@ -69,11 +70,18 @@ pub fn turn(alloc: Global, rest: &str, out: &mut Answer) -> Result<(), Cause> {
 pub fn failures(alloc: Global, rest: &str, out: &mut Answer) -> Result<(), Cause> {
     let mut failures = Failures::NONE;
     for word in rest.split(' ') {
-        match &failures.line(alloc, moment(number(word)?)?)? {
+        match &failures.line(alloc, TimeFormat::Seconds, moment(number(word)?)?)? {
             Some(line) => out.escaped(line.as_bytes()),
             None => out.push("none "),
         }
     }
+    Ok(())
+}
+
+/// A moment in UTC.
+pub fn utc(alloc: Global, rest: &str, out: &mut Answer) -> Result<(), Cause> {
+    let moment = moment(number(rest)?)?;
+    out.push(moment_text(alloc, TimeFormat::Utc, moment)?.as_str());
     Ok(())
 }
 

@@ -1,6 +1,6 @@
 //! The log of the service's turns.
 use crate::client::Client;
-use desk_operations::{arrival_text, is_of_note, turn_line};
+use desk_operations::{TimeFormat, arrival_text, is_of_note, turn_line};
 use hall_desk::{Answer, Arrival};
 use hall_types::{Moment, Port};
 use serve_sockets::{Kind, Said, Turn, TurnLog};
@@ -162,9 +162,15 @@ fn line_of(
     match arrival {
         Some(arrival) => {
             let text = handed_text(alloc, turn, arrival.as_str())?;
-            turn_line(alloc, moment, turn, Some(text.as_str()))
+            turn_line(
+                alloc,
+                TimeFormat::Seconds,
+                moment,
+                turn,
+                Some(text.as_str()),
+            )
         }
-        None => turn_line(alloc, moment, turn, None),
+        None => turn_line(alloc, TimeFormat::Seconds, moment, turn, None),
     }
 }
 
