@@ -206,6 +206,12 @@ fault BadInput import --db hall.db --token 'a b' --at 1000 good.csv
 fault BadInput import --db hall.db --token '' --at 1000 good.csv
 fault BadInput import --db hall.db --token abc --at x good.csv
 fault Io import --db absent2.db --token abc --at 1000 absent.csv
+printf 'abc\nanother line\n' > token
+printf 'a b\n' > no-token
+fault BadInput import --db hall.db --at 1000 good.csv
+fault BadInput import --db hall.db --token abc --token-file token --at 1000 good.csv
+fault BadInput import --db hall.db --token-file no-token --at 1000 good.csv
+fault Io import --db hall.db --token-file absent --at 1000 good.csv
 absent absent2.db
 fault BadHeader import --db hall.db --token abc --at 1000 header.csv
 fault BadRow import --db hall.db --token abc --at 1000 row.csv
@@ -213,6 +219,7 @@ fault BadRow import --db hall.db --token abc --at 1000 /dev/zero
 want 1 '1 401 {"refusal":"UnknownToken"}' '' import --db hall.db --token nobody --at 1000 good.csv
 want 0 '1 200 {"id":2,"status":"New","version":1}' '' import --db hall.db --token abc --at 1000 good.csv
 want 0 '1 200 {"id":2,"status":"New","version":1}' '' import --db hall.db --token abc --at 2000 good.csv
+want 0 '1 200 {"id":2,"status":"New","version":1}' '' import --db hall.db --token-file token --at 2000 good.csv
 want 1 $'1 200 {"id":2,"status":"New","version":1}\n2 409 {"refusal":"Taken"}' '' import --db hall.db --token abc --at 2000 taken.csv
 want 0 "$names"$'\n1,52:54:00:12:34:56,uefi64,,lab,New,,,no,1\n2,52:54:00:12:34:57,uefi64,,lab,New,,,no,1' '' export --db hall.db
 mv before.db hall.db

@@ -8,7 +8,6 @@ use hall_types::{Digest, Moment, Name, Port, Token};
 use hallboot_words::{Subcommand, Words};
 use pxe_vendor::Place;
 use serve_sockets::Addresses;
-use sha2::{Digest as _, Sha256};
 use std::alloc::{AllocError, Global};
 
 /// A task over an open store, with what it needs besides.
@@ -140,14 +139,9 @@ fn report<'a>(words: &Words<'a>) -> Result<Asked<'a>, Fault> {
     Ok(Asked::Over { path, task })
 }
 
-fn bearer(words: &Words<'_>) -> Result<Digest, Fault> {
-    let token = values::token(words)?;
-    Ok(Digest::from(Sha256::digest(token.as_bytes())))
-}
-
 fn import<'a>(rt: &HostRuntime, words: &Words<'a>) -> Result<Asked<'a>, Fault> {
     let path = values::db(words)?;
-    let bearer = bearer(words)?;
+    let bearer = values::bearer(rt, words)?;
     let moment = values::moment(words)?;
     let file = values::file(words)?;
     let place = values::place(rt.alloc(), words)?;
@@ -167,11 +161,11 @@ fn export<'a>(words: &Words<'a>) -> Result<Asked<'a>, Fault> {
     Ok(Asked::Over { path, task })
 }
 
-/// What the words ask for. The file of an import is read.
+/// What the words ask for. The files of an import and of a token are read.
 ///
 /// # Errors
 ///
-/// `BadInput` where an option isn't of its form, `Io` where the file of an import can't be read, and `Memory`.
+/// `BadInput` where an option isn't of its form, `Io` where the file of an import or a token can't be read, and `Memory`.
 pub fn asked_by<'a>(rt: &HostRuntime, words: &Words<'a>) -> Result<Asked<'a>, Fault> {
     match words.subcommand {
         Subcommand::Frame => frame(rt, words),

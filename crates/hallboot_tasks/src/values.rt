@@ -1,4 +1,5 @@
 //! The values of options. `BadInput` is one that isn't of its form.
+use crate::reading::first_line;
 use desk_operations::{
     Fault, TimeFormat, What, count_of, digest_of, fresh_of, is_bearer_token, moment_of, what_of,
 };
@@ -6,6 +7,7 @@ use hall_types::{Digest, Moment, Name, Port, Token};
 use hallboot_words::Words;
 use pxe_vendor::{Place, PlaceFault};
 use serve_sockets::Addresses;
+use sha2::{Digest as _, Sha256};
 use std::alloc::Global;
 use std::net::{Ipv4Addr, SocketAddr};
 
@@ -81,13 +83,21 @@ pub(crate) fn what(words: &Words<'_>) -> Result<What, Fault> {
     what_of(text(words.what)?).ok_or(Fault::BadInput)
 }
 
-/// The bearer token of `--token`.
-pub(crate) fn token<'a>(words: &Words<'a>) -> Result<&'a str, Fault> {
-    let token = text(words.token)?;
+// The digest of a bearer token.
+fn digest(token: &str) -> Result<Digest, Fault> {
     if is_bearer_token(token) {
-        Ok(token)
+        Ok(Digest::from(Sha256::digest(token.as_bytes())))
     } else {
         Err(Fault::BadInput)
+    }
+}
+
+/// The digest of the bearer token that `--token` is, or that the file of `--token-file` has.
+pub(crate) fn bearer(rt: &HostRuntime, words: &Words<'_>) -> Result<Digest, Fault> {
+    match (words.token, words.token_file) {
+        (Some(token), None) => digest(token),
+        (None, Some(path)) => digest(first_line(rt, path)?.as_str()),
+        _ => Err(Fault::BadInput),
     }
 }
 

@@ -124,7 +124,14 @@ pub(crate) const TOKEN: Word = Word {
     name: "token",
     value: "TOKEN",
     help: "The bearer token of an administrator",
-    given: Given::Always,
+    given: Given::Maybe,
+};
+
+pub(crate) const TOKEN_FILE: Word = Word {
+    name: "token-file",
+    value: "FILE",
+    help: "A file whose first line is that token, in place of --token",
+    given: Given::Maybe,
 };
 
 pub(crate) const FILE: Word = Word {

@@ -1,7 +1,7 @@
 //! The subcommands.
 use crate::options::{
-    ADMIN, AT, BOOT, DB, DIGEST, DISCOVER, FILE, FRESH, HTTP, LOG, LOG_TIME, ROLE, TOKEN, TURNS,
-    WHAT, Word,
+    ADMIN, AT, BOOT, DB, DIGEST, DISCOVER, FILE, FRESH, HTTP, LOG, LOG_TIME, ROLE, TOKEN,
+    TOKEN_FILE, TURNS, WHAT, Word,
 };
 
 /// What a command line asks for.
@@ -82,8 +82,8 @@ pub(crate) const ENTRIES: [Entry; 8] = [
         subcommand: Subcommand::Import,
         name: "import",
         about: "Adds the machines of a file of comma-separated values",
-        example: "Example: hallboot import --db hall.db --token \"$TOKEN\" --at 1790000000 machines.csv\n\nThe file begins with key,mac,arch,uuid,pool. Exit status 1 without a message: a row was refused.",
-        words: &[DB, TOKEN, AT, FILE],
+        example: "Example: hallboot import --db hall.db --token-file token --at 1790000000 machines.csv\n\nThe file begins with key,mac,arch,uuid,pool. Exit status 1 without a message: a row was refused.",
+        words: &[DB, TOKEN, TOKEN_FILE, AT, FILE],
         has_place: true,
     },
     Entry {
