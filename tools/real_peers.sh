@@ -172,7 +172,7 @@ if has strace; then
         is 'the command again' "$answered" '{} 200'
     done
     [ $refused -gt 0 ] || bad 'a failing fdatasync'
-    is 'messages of the desk' "$(head -n 1 err)" 'hallboot: a fault has shut hall.db, which is opened again'
+    is 'messages of the desk' "$(cat err)" 'hallboot: a fault has shut hall.db, which is opened again'
     stopped
     good "strace: after a failing fdatasync the same program opens the file again, and answers what it refused $refused times"
 else

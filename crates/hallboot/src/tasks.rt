@@ -4,7 +4,7 @@ use hall_store::HallStore;
 use hall_types::{Digest, Name};
 use hallboot_tasks::{Asked, Serving, Suspended, Task, asked_by, carried_out, tell};
 use hallboot_words::Words;
-use sql_file::{FileFault, StoreTask, create, migrate, over};
+use sql_file::{Ended, FileFault, StoreTask, create, migrate, over};
 use sql_tables::Migrated;
 use std::fs;
 use std::os::unix::fs::PermissionsExt;
@@ -63,10 +63,25 @@ fn carry_over(rt: &HostRuntime, path: &str) -> Result<Exit, Fault> {
 }
 
 // Carries a task out over a hall's file.
-fn over_file(rt: &HostRuntime, path: &str, task: Task<'_>) -> Result<Exit, Fault> {
-    let ended = over(rt, path, FileTask { rt, task }).map_err(of_file)?;
+fn ended_over(
+    rt: &HostRuntime,
+    path: &str,
+    task: Task<'_>,
+) -> Result<Ended<Result<Exit, Fault>>, Fault> {
+    over(rt, path, FileTask { rt, task }).map_err(of_file)
+}
+
+fn outcome_of(
+    rt: &HostRuntime,
+    path: &str,
+    ended: Ended<Result<Exit, Fault>>,
+) -> Result<Exit, Fault> {
     tell_of_closing(rt, path, ended.closing);
     ended.outcome
+}
+
+fn over_file(rt: &HostRuntime, path: &str, task: Task<'_>) -> Result<Exit, Fault> {
+    outcome_of(rt, path, ended_over(rt, path, task)?)
 }
 
 // Tells where others than the owner can read or write a file that is to be served.
@@ -91,9 +106,9 @@ fn serve(rt: &HostRuntime, serving: &Serving) -> Result<Exit, Fault> {
             serving: &*serving,
             suspended: &mut suspended,
         };
-        let ended = over_file(rt, path, task);
+        let ended = ended_over(rt, path, task);
         if !suspended.is_shut() {
-            return ended;
+            return outcome_of(rt, path, ended?);
         }
         if !suspended.wait() {
             break;

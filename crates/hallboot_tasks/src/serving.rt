@@ -49,10 +49,9 @@ fn serve_part<S: HallStore, C: Source, L: TurnLog>(
     let mut left = part.turns;
     for _ in 0..part.turns.div_ceil(LOOK) {
         let turns = left.min(LOOK);
-        let unserved = service.serve_turns(stamps, lines, turns);
-        left -= turns - unserved;
-        if unserved > 0 {
-            return (Ended::Shut, left);
+        left -= turns;
+        if let Some(unserved) = service.serve_turns(stamps, lines, turns) {
+            return (Ended::Shut, left + unserved);
         }
         if part.file.is_gone(rt, part.path) {
             return (Ended::Gone, left);

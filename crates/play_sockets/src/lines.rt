@@ -156,7 +156,7 @@ fn push_turns<S: HallStore + Drop>(
     let left = stage.turns(number(count)?);
     let told = stage.log.turns.saturating_sub(before);
     write!(line, "{told} turns")?;
-    if left > 0 {
+    if let Some(left) = left {
         write!(line, ", {left} left")?;
     }
     Ok(())

@@ -14,7 +14,8 @@
 //! - `trickle NAME ARRIVAL`: likewise octet by octet, with two turns after each: how many octets, and how many came back before the last;
 //! - `datagrams COUNT ARRIVAL`: the client `asker` sends a datagram to the socket of its port so many times;
 //! - `end NAME`: a client sends nothing more;
-//! - `turns COUNT`: so many turns are served: how many the log was told of, and how many are left, if any are;
+//! - `turns COUNT`: so many turns are served: how many the log was told of, and how many are left where the
+//!   store was found shut;
 //! - `settle`: turns are served until 16 in a row moved nothing;
 //! - `at MILLIS`: the clock jumps to here, as where a turn takes long;
 //! - `pass MILLIS`: so many milliseconds go by, with a turn after each 100 of them and after the last;

@@ -130,8 +130,8 @@ impl<'a, S: HallStore + Drop> Stage<'a, S> {
         }
     }
 
-    /// Serves so many turns, or until the store is found shut. How many are left.
-    pub fn turns(&mut self, count: u64) -> u64 {
+    /// Serves so many turns, or until the store is found shut: how many are left then.
+    pub fn turns(&mut self, count: u64) -> Option<u64> {
         self.service
             .serve_turns(&mut self.clock, &mut self.log, count)
     }

@@ -27,7 +27,7 @@ pub struct Service<S> {
 }
 
 impl<S: HallStore> Service<S> {
-    ghost use Rattle.std.specs.Prelude.{◌≡◌, ◌≤◌, ◌+◌, ◌-◌, ◌%◌};
+    ghost use Rattle.std.specs.Prelude.{◌≡◌, ◌<◌, ◌+◌, ◌-◌, ◌%◌, IfSome, unwrap_or};
     ghost use Rattle.hall_desk.specs.Desk.{site_of, store_of};
     ghost use Rattle.serve_sockets.specs.Service.{desk_of, sockets_of, turns_of};
     ghost use Rattle.serve_sockets.specs.Sockets.{places_of};
@@ -205,25 +205,25 @@ impl<S: HallStore> Service<S> {
     }
 
     /// Serves so many turns, each with a stamp of the source, and tells each to the log; or ends after the first quiet moment for
-    /// which the store is unavailable, as one is that a fault has shut. How many turns are left. A turn without a stamp does
+    /// which the store is unavailable, as one is that a fault has shut: how many turns are left then. A turn without a stamp does
     /// nothing for 100 milliseconds, and the log is told when such turns begin.
     pub fn serve_turns<C: Source, L: TurnLog>(
         &mut self,
         source: &mut C,
         log: &mut L,
         turns: u64,
-    ) -> u64
-        ensures left { result ≤ turns }
+    ) -> Option<u64>
+        ensures left { IfSome result (λ left. left < turns) }
         ensures clean { S.HallStore.is_clean (store_of (desk_of self.new)) → S.HallStore.is_clean (store_of (desk_of self.old)) }
         ensures site { site_of (desk_of self.new) ≡ site_of (desk_of self.old) }
         ensures went_on { S.HallStore.is_clean (store_of (desk_of self.new)) → WentOn S.HallStore.holds
-            (store_of (desk_of self.old)) (store_of (desk_of self.new)) (site_of (desk_of self.old)) (turns - result) }
+            (store_of (desk_of self.old)) (store_of (desk_of self.new)) (site_of (desk_of self.old)) (turns - unwrap_or result 0) }
     {
         for served in 0..turns {
             if self.serve_turn(source, log) {
-                return turns - served - 1;
+                return Some(turns - served - 1);
             }
         }
-        0
+        None
     }
 }
