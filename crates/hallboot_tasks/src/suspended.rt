@@ -3,6 +3,7 @@ use crate::outlet::Outlet;
 use crate::reading::fault_of;
 use crate::tasks::Serving;
 use desk_operations::Fault;
+use mio::Poll;
 use serve_sockets::{BindFault, MAX_CONNECTIONS, Sockets};
 use std::time::Instant;
 
@@ -37,14 +38,24 @@ fn opened_log(rt: &HostRuntime, serving: &Serving) -> Result<Option<Outlet>, Fau
     }
 }
 
+// A connection needs a descriptor: whether there is one.
+fn has_room(rt: &HostRuntime) -> Result<(), Fault> {
+    match Poll::new(rt) {
+        Ok(_) => Ok(()),
+        Err(error) => Err(fault_of(&error)),
+    }
+}
+
 impl Bound {
-    /// Binds the sockets and opens the log, and says that the service is ready.
+    /// Binds the sockets and opens the log, and says that the service is ready. The fault is `Io` where there is no descriptor for a
+    /// connection.
     fn new(rt: &HostRuntime, serving: &Serving) -> Result<Bound, Fault> {
         let sockets = match Sockets::bind(rt, rt.alloc(), &serving.addresses, MAX_CONNECTIONS) {
             Ok(sockets) => sockets,
             Err(fault) => return Err(bind_fault(fault)),
         };
         let log = opened_log(rt, serving)?;
+        has_room(rt)?;
         let start = match Instant::now(rt) {
             Ok(start) => start,
             Err(error) => return Err(fault_of(&error)),
