@@ -25,6 +25,11 @@ pub(crate) struct Room {
     ghost agree: { length (ready_of ring) ≡ length (slots_of table) + 3 },
 }
 
+// Room for the octets of a datagram. That it has so many isn't said, since a proof would count them.
+fn buffer(alloc: Global) -> Result<Vec<u8>, AllocError> {
+    Vec::from_elem(alloc, 0u8, MAX_DATAGRAM)
+}
+
 impl Room {
     /// Room for so many connections. None is open.
     pub fn new(alloc: Global, places: usize) -> Result<Room, AllocError>
@@ -35,7 +40,7 @@ impl Room {
             events: Events::with_capacity(alloc, MAX_EVENTS)?,
             table: Table::new(alloc, places)?,
             ring: Ring::new(alloc, places)?,
-            buffer: Vec::from_elem(alloc, 0u8, MAX_DATAGRAM)?,
+            buffer: buffer(alloc)?,
         })
     }
 }
