@@ -9,7 +9,7 @@ set -euo pipefail
 here=$(cd "$(dirname "$0")" && pwd)
 need() { command -v "$1" > /dev/null || { echo "serve_speed: $1 is missing (Debian's package $2)" >&2; exit 1; }; }
 need cc gcc; need dnsmasq dnsmasq-base; need ip iproute2; need unshare util-linux; need nsenter util-linux; need awk mawk
-need setpriv util-linux; need getconf libc-bin
+need setpriv util-linux
 [ "$(id -u)" = 0 ] || { echo "serve_speed: root is needed for network namespaces" >&2; exit 1; }
 
 if [ "${SERVE_SPEED_INSIDE:-}" != yes ]; then
@@ -52,12 +52,12 @@ asks() {   # asks TARGET COUNT GAP: the median and the time of 99 of 100 request
     for run in 1 2 3 4 5; do outside ./peer asks 10.9.0.1 80 "$1" abc "$2" "$3"; done > asks.log
     sort -k1,1n asks.log | head -n 1
 }
-share() {   # share PROCESS: of one processor, in percent, over twenty seconds
+share() {   # share PROCESS: of one processor, in percent, over twenty seconds, by its nanoseconds: ticks may miss who wakes at them
     local before after
-    before=$(awk '{ sub(/.*\) /, ""); print $12 + $13 }' "/proc/$1/stat")
+    read -r before _ < "/proc/$1/schedstat"
     sleep 20
-    after=$(awk '{ sub(/.*\) /, ""); print $12 + $13 }' "/proc/$1/stat")
-    awk -v t=$((after - before)) -v h="$(getconf CLK_TCK)" 'BEGIN { printf "%.2f\n", t / h * 5 }'
+    read -r after _ < "/proc/$1/schedstat"
+    awk -v t=$((after - before)) 'BEGIN { printf "%.3f\n", t / 2e8 }'
 }
 
 ./peer echo 10.9.0.1 67 & server=$!
