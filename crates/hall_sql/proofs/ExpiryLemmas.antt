@@ -1,20 +1,22 @@
 -- The moment before which no machine expires, as halls change.
-use Rattle.std.proofs.Common.{◌≡◌, inl, inr, ◌≤◌, ◌<◌, ◌+◌, ℕ, nat_le, List, [], ◌∷◌, length, drop, drop-cons, get_or, suc, add-one, true, false, Option, Some, None, refl, sym, ap, subst, ◌∙◌, arith}
+use Rattle.std.proofs.Common.{◌≡◌, inl, inr, ◌≤◌, ◌<◌, ◌+◌, ℕ, nat_le, List, [], ◌∷◌, length, drop, drop-cons, get_or, suc, add-one, Bool, true, false, Option, Some, None, refl, sym, ap, subst, ◌∙◌, arith}
+use Rattle.std.specs.Prelude.{if◌then◌else◌, unwrap_or}
 use Rattle.std.specs.List.{AllByRecursion}
+use Rattle.std.proofs.lemmas.Bool.{both_ways}
 use Rattle.std.proofs.lemmas.Bool.Decides.{nat_tests}
 use Rattle.std.proofs.lemmas.Grind.{common_steps}
 use Rattle.hall_types.specs.Hall.{Hall, applied, written}
 use Rattle.hall_types.specs.Keyed.{StandUnder}
-use Rattle.hall_types.specs.Lookup.{has_come, is_due, next_expired}
-use Rattle.hall_types.specs.LookupLaws.{next_expired-is, next_expired-none}
+use Rattle.hall_types.specs.Lookup.{has_come, is_before, is_due, next_expired}
+use Rattle.hall_types.specs.LookupLaws.{IsNext, next_expired-is, next_expired-none}
 use Rattle.hall_types.specs.RowLaws.{put_cases, gone_found}
-use Rattle.hall_types.specs.Rows.{Rows, numbers, put}
+use Rattle.hall_types.specs.Rows.{Rows, at, numbers, put}
 use Rattle.hall_types.specs.declared.change.RowWrite.{RowWrite}
 use Rattle.hall_types.specs.declared.change.RowWrite.TheVariants.{PutOperator, PutPool, PutMember, PutImage, ImageGone, PutLive, PutMachine, MachineGone, PutInterface, InterfaceGone, PutBoot, PutOrder, PutReceipt, PutNumbers}
 use Rattle.hall_types.specs.declared.machine.Machine.{Machine}
 use Rattle.sql_schema.specs.Holding.{IsHeld}
 use Rattle.sqlite.specs.State.{State}
-use Rattle.hall_sql.specs.Expiring.{HasNoEarlier, IsEarliest, PutsNoEarlier}
+use Rattle.hall_sql.specs.Expiring.{HasNoEarlier, IsEarliest, PutsNoEarlier, earliest_of, if_due}
 
 le_trans : {a b c : ℕ} → a ≤ b → b ≤ c → a ≤ c
 le_trans p q = omega arith
@@ -96,7 +98,7 @@ next_item xs i x low is = drop-cons xs i x low ∙ ap (λ y. y ∷ drop (suc i) 
 
 -- ---- the next machine to expire
 
-machines_under : (s : State) (h : Hall) → IsHeld s h → StandUnder (λ m. m.id) h.machines
+pub machines_under : (s : State) (h : Hall) → IsHeld s h → StandUnder (λ m. m.id) h.machines
 machines_under s h held = subst (λ (k : Hall). StandUnder (λ m. m.id) k.machines) held.spelt.agrees.hall held.spelt.tables.machines.under
 
 not_due : (earliest moment : ℕ) (m : Machine) → moment < earliest → HasNoEarlier earliest m → is_due moment m ≡ true → ⊥
@@ -128,3 +130,73 @@ later_earliest h moment none id m there deadline has = after (next_expired-none 
 
     after : is_due moment m ≡ false → moment + 1 ≤ deadline
     after due = low deadline moment (sym (ap (has_come moment) has) ∙ due)
+
+-- ---- the first machine to expire of all
+
+come_later : (early late : ℕ) (d : Option ℕ) → early ≤ late → has_come early d ≡ true → has_come late d ≡ true
+come_later early late None before come = cc
+come_later early late (Some deadline) before come = grind (arith, nat_tests)
+
+-- a deadline that isn't before another one has come only if the other one has
+come_first : (moment : ℕ) (d other : Option ℕ) → is_before other d ≡ false → has_come moment other ≡ true → has_come moment d ≡ true
+come_first moment d None apart come = cc
+come_first moment None (Some other) apart come = cc
+come_first moment (Some deadline) (Some other) apart come = grind (arith, nat_tests)
+
+-- of two machines that come before each other both are the same one
+same_next : (m other : Machine) → IsNext m other → IsNext other m → m.id ≡ other.id
+same_next m other one two = both (one.1 two.0) (two.1 one.0)
+  where
+    both : {a b : ℕ} → a ≤ b → b ≤ a → a ≡ b
+    both p q = omega arith
+
+module _ (h : Hall) (under : StandUnder (λ m. m.id) h.machines) (late : ℕ) where
+  -- the machine that expires next at a moment is the first that expires at a later one, if that one is due
+  pub first_due : (moment : ℕ) → moment ≤ late → (first : Option Machine) → next_expired h late ≡ first → if_due moment first ≡ next_expired h moment
+  first_due moment before None none = by (next_expired h moment) refl
+    where
+      by : (o : Option Machine) → next_expired h moment ≡ o → None ≡ o
+      by None e = refl
+      by (Some m) e =
+          let it = next_expired-is h under moment m e in
+          absurd (both_ways (is_due late m) (next_expired-none h late m.id m none it.recorded) (come_later moment late m.deadline before it.due))
+  first_due moment before (Some m) is = by (is_due moment m) refl (next_expired h moment) refl ∙ refl
+    where
+      by : (b : Bool) → is_due moment m ≡ b → (o : Option Machine) → next_expired h moment ≡ o → (if b then Some m else None) ≡ o
+      by true due None none = absurd (both_ways (is_due moment m) (next_expired-none h moment m.id m none (next_expired-is h under late m is).recorded) due)
+      by true due (Some other) e =
+          let its = next_expired-is h under late m is in
+          let others = next_expired-is h under moment other e in
+          sym its.recorded
+          ∙ (ap (at h.machines) (same_next m other (its.next other.id other others.recorded (come_later moment late other.deadline before others.due)) (others.next m.id m its.recorded due))
+          ∙ others.recorded)
+      by false apart None e = refl
+      by false apart (Some other) e =
+          let others = next_expired-is h under moment other e in
+          absurd (both_ways (is_due moment m) apart
+          (come_first moment m.deadline other.deadline ((next_expired-is h under late m is).next other.id other others.recorded (come_later moment late other.deadline before others.due)).0 others.due))
+
+-- no deadline is earlier than that of the first machine to expire of all, nor, where none expires up to the last moment, than what comes after it
+pub first_earliest : (h : Hall) (under : StandUnder (λ m. m.id) h.machines) (first : Option Machine) → next_expired h 1000000000000 ≡ first → IsEarliest (earliest_of first) h.machines
+first_earliest h under None none = later_earliest h 1000000000000 (sym none)
+first_earliest h under (Some m) is = each
+  where
+    not_before : (d deadline : ℕ) → is_before (Some deadline) (Some d) ≡ false → d ≤ deadline
+    not_before d deadline apart = grind (arith, nat_tests)
+
+    far : (d deadline : ℕ) → has_come 1000000000000 (Some d) ≡ true → has_come 1000000000000 (Some deadline) ≡ false → d ≤ deadline
+    far d deadline come later = grind (arith, nat_tests)
+
+    zero : (n : ℕ) → 0 ≤ n
+    zero n = omega arith
+
+    each : IsEarliest (unwrap_or m.deadline 0) h.machines
+    each id other there deadline has = by m.deadline refl (is_due 1000000000000 other) refl
+      where
+        by : (d : Option ℕ) → m.deadline ≡ d → (b : Bool) → is_due 1000000000000 other ≡ b → unwrap_or d 0 ≤ deadline
+        by None e b due = zero deadline
+        by (Some d) e true due =
+            not_before d deadline
+            (sym (ap (λ o. is_before o (Some d)) has) ∙ (sym (ap (is_before other.deadline) e) ∙ ((next_expired-is h under 1000000000000 m is).next id other there due).0))
+        by (Some d) e false later =
+            far d deadline (sym (ap (has_come 1000000000000) e) ∙ (next_expired-is h under 1000000000000 m is).due) (sym (ap (has_come 1000000000000) has) ∙ later)

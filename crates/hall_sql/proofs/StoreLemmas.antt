@@ -1,5 +1,5 @@
 -- From a call of the connection to one of the store.
-use Rattle.std.proofs.Common.{◌≡◌, inl, inr, ◌≤◌, ◌<◌, ◌+◌, None, List, [], ◌∷◌, false, Bool, true, not, ℕ, Ok, Err, Result, IsTrue, refl, sym, ap, subst, ◌∙◌, true≢false}
+use Rattle.std.proofs.Common.{◌≡◌, inl, inr, ◌≤◌, ◌<◌, None, Option, List, [], ◌∷◌, false, Bool, true, not, ℕ, Ok, Err, Result, IsTrue, refl, sym, ap, subst, ◌∙◌, true≢false}
 use Rattle.sqlite.specs.declared.error.Error.{Error}
 use Rattle.sqlite.specs.Effect.{Database}
 use Rattle.sqlite.specs.Held.{Held, state}
@@ -8,6 +8,7 @@ use Rattle.sqlite_trees.specs.declared.store.Store as trees
 use Rattle.hall_types.specs.Hall.{Hall, applied}
 use Rattle.hall_types.specs.Lookup.{next_expired}
 use Rattle.hall_types.specs.declared.change.RowWrite.{RowWrite}
+use Rattle.hall_types.specs.declared.machine.Machine.{Machine}
 use Rattle.sql_schema.specs.Holding.{IsHeld, Leaves, IsTableRead}
 use Rattle.sql_schema.specs.HoldingLaws.{back_held, leaves_on}
 use Rattle.sql_schema.specs.Spelling.{SpellHall}
@@ -15,10 +16,10 @@ use Rattle.std.specs.List.{AllByRecursion}
 use Rattle.hall_store.specs.Store.{IsRead, IsWrite}
 use Rattle.hall_store.specs.declared.store.Unavailable.{Unavailable}
 use Rattle.hall_sql.specs.Applying.{IsTold}
-use Rattle.hall_sql.specs.Expiring.{IsEarliest, PutsNoEarlier}
+use Rattle.hall_sql.specs.Expiring.{IsEarliest, PutsNoEarlier, earliest_of, if_due}
 use Rattle.hall_sql.specs.Store.{HasHall, LeavesCommitted, Passes, StopLeaves}
 use Rattle.hall_sql.specs.declared.store.SqlStore.{SqlStore}
-use Rattle.hall_sql.proofs.ExpiryLemmas.{applied_earliest, applied_schema, later_earliest, lower_earliest, none_due}
+use Rattle.hall_sql.proofs.ExpiryLemmas.{applied_earliest, applied_schema, first_due, first_earliest, lower_earliest, machines_under, none_due}
 
 pub is_true : (b : Bool) → not b ≡ false → IsTrue b
 is_true true e = refl
@@ -78,21 +79,26 @@ module _ {S : Type 0} (g : trees.Ghosts S) where
     settled = λ h has. settles s.conn h settled (has.held (has.running up));
   }
 
-  -- where none has expired, the store keeps the next moment
-  pub none_expired : (old new : SqlStore S) (seconds moment : ℕ) → seconds ≡ moment
-      → IsRead (HasHall g) (StopLeaves g) old new {E = Unavailable} (Ok None) (λ h answer. answer ≡ next_expired h moment)
-      → IsRead (HasHall g) (StopLeaves g) old (record new { earliest = seconds + 1 }) {E = Unavailable} (Ok None) (λ h answer. answer ≡ next_expired h moment)
-  none_expired old new seconds moment is r = record {
-    answer = r.answer;
+  -- where the store knows the first machine to expire of all, it knows the one that expires next, and keeps its deadline
+  pub first_known : (old new : SqlStore S) (up : old.stopped ≡ false) (first : Option Machine) (moment : ℕ) → moment ≤ 1000000000000
+      → IsRead (HasHall g) (StopLeaves g) old new {E = Unavailable} (Ok first) (λ h answer. answer ≡ next_expired h 1000000000000)
+      → IsRead (HasHall g) (StopLeaves g) old (record new { earliest = earliest_of first }) {E = Unavailable} (Ok (if_due moment first)) (λ h answer. answer ≡ next_expired h moment)
+  first_known old new up first moment before r = record {
+    answer = λ h has. first_due h (machines_under (state g old.conn) h (has.held (has.running up))) 1000000000000 moment before first (sym (r.answer h has));
     same = λ h has. record {
       schema = has.schema;
       running = (r.same h has).running;
       held = (r.same h has).held;
-      earliest = subst (λ n. IsEarliest (n + 1) h.machines) (sym is) (later_earliest h moment (r.answer h has));
+      earliest = first_earliest h (machines_under (state g old.conn) h (has.held (has.running up))) first (sym (r.answer h has));
     };
     crash = r.crash;
     settled = r.settled;
   }
+
+  -- a refused read answers nothing, whatever was asked
+  pub refused_read : {Y : Type 0} (old new : SqlStore S) (u : Unavailable) (Right Other : Hall → Y → Type 0)
+      → IsRead (HasHall g) (StopLeaves g) old new {Y = Y} (Err u) Right → IsRead (HasHall g) (StopLeaves g) old new {Y = Y} (Err u) Other
+  refused_read old new u Right Other r = record { answer = tt; same = r.same; crash = r.crash; settled = tt }
 
   -- ---- writes
 

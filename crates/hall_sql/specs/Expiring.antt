@@ -1,5 +1,6 @@
 -- The moment before which no machine expires.
-use Rattle.std.specs.Prelude.{◌≡◌, ◌≤◌, ℕ, ⊤, Some}
+use Rattle.std.specs.Prelude.{◌≡◌, ◌≤◌, ◌+◌, ℕ, ⊤, Option, None, Some, unwrap_or, if◌then◌else◌}
+use Rattle.hall_types.specs.Lookup.{is_due}
 use Rattle.hall_types.specs.Rows.{Rows, numbers, at}
 use Rattle.hall_types.specs.declared.change.RowWrite.{RowWrite}
 use Rattle.hall_types.specs.declared.change.RowWrite.TheVariants.{PutOperator, PutPool, PutMember, PutImage, ImageGone, PutLive, PutMachine, MachineGone, PutInterface, InterfaceGone, PutBoot, PutOrder, PutReceipt, PutNumbers}
@@ -29,3 +30,13 @@ PutsNoEarlier earliest (PutBoot b) = ⊤
 PutsNoEarlier earliest (PutOrder o) = ⊤
 PutsNoEarlier earliest (PutReceipt r) = ⊤
 PutsNoEarlier earliest (PutNumbers n) = ⊤
+
+-- the machine that is the first to expire, if it is due
+abbrev pub if_due : ℕ → Option Machine → Option Machine
+if_due moment None = None
+if_due moment (Some m) = if is_due moment m then Some m else None
+
+-- the deadline of the first machine to expire; where none ever does, the moment after the last one
+abbrev pub earliest_of : Option Machine → ℕ
+earliest_of None = 1000000000000 + 1
+earliest_of (Some m) = unwrap_or m.deadline 0

@@ -1,16 +1,16 @@
 //! Which machine expires next.
-ghost use Rattle.std.specs.Prelude.{◌≡◌, ◌≤◌};
+ghost use Rattle.std.specs.Prelude.{◌≡◌, ◌≤◌, false};
 ghost use Rattle.std.specs.List.{AllByRecursion};
 ghost use Rattle.sqlite.specs.Held.{state};
 ghost use Rattle.sqlite.specs.State.{HasCleanDisk};
-ghost use Rattle.hall_types.specs.Lookup.{next_expired};
+ghost use Rattle.hall_types.specs.Lookup.{is_due, next_expired};
 ghost use Rattle.hall_store.specs.Store.{IsRead};
-ghost use Rattle.hall_sql.specs.Expiring.{PutsNoEarlier};
+ghost use Rattle.hall_sql.specs.Expiring.{PutsNoEarlier, earliest_of, if_due};
 ghost use Rattle.hall_sql.specs.Store.{HasHall, StopLeaves};
 
 use crate::store::SqlStore;
 use hall_store::Unavailable;
-use hall_types::{Machine, Moment, RowWrite};
+use hall_types::{MAX_MOMENT, Machine, Moment, RowWrite};
 use sql_machine_parts::next_expired;
 use sqlite::Alter;
 
@@ -40,9 +40,58 @@ pub(crate) fn earliest_after(earliest: u64, writes: &[RowWrite]) -> u64
     known
 }
 
+// The last moment that there is.
+fn last_moment() -> Moment
+    ensures { result ≡ MAX_MOMENT }
+{
+    match Moment::new(MAX_MOMENT) {
+        Ok(last) => last,
+        Err(_) => unreachable!(),
+    }
+}
+
+// The deadline of the first machine to expire. Where none ever does, the moment after the last one.
+fn earliest_of(first: &Option<Machine>) -> u64
+    ensures { result ≡ earliest_of first.now }
+{
+    match first {
+        Some(machine) => machine.deadline.unwrap_or(0),
+        None => MAX_MOMENT + 1,
+    }
+}
+
+fn is_due(machine: &Machine, moment: Moment) -> bool
+    ensures { result ≡ is_due moment machine.now }
+{
+    match machine.deadline {
+        Some(deadline) => deadline <= moment.get(),
+        None => false,
+    }
+}
+
+// The first machine to expire, if it is due.
+fn if_due(first: Option<Machine>, moment: Moment) -> Option<Machine>
+    ensures { result ≡ if_due moment first }
+{
+    match first {
+        Some(machine) if is_due(&machine, moment) => Some(machine),
+        _ => None,
+    }
+}
+
 impl<S: Alter> SqlStore<S> {
-    /// The next machine to expire. The tables are asked only if a machine may have expired, and where none has, none is
-    /// known to expire up to this moment.
+    // The first machine to expire of all.
+    fn first_to_expire(&mut self) -> Result<Option<Machine>, Unavailable>
+        requires { self.old.stopped ≡ false }
+        ensures clean { HasCleanDisk (state S.Store self.new.conn) → HasCleanDisk (state S.Store self.old.conn) }
+        ensures read { HasCleanDisk (state S.Store self.new.conn) → IsRead (HasHall S.Store) (StopLeaves S.Store) self.old self.new result (λ h answer. answer ≡ next_expired h MAX_MOMENT) }
+    {
+        let answer = next_expired(&mut self.conn, last_moment());
+        self.pass(answer)
+    }
+
+    /// The next machine to expire. The tables are asked only if a machine may have expired, and the least deadline that is found is
+    /// known from then on.
     pub(crate) fn next_due(&mut self, moment: Moment) -> Result<Option<Machine>, Unavailable>
         ensures clean { HasCleanDisk (state S.Store self.new.conn) → HasCleanDisk (state S.Store self.old.conn) }
         ensures read { HasCleanDisk (state S.Store self.new.conn) → IsRead (HasHall S.Store) (StopLeaves S.Store) self.old self.new result (λ h answer. answer ≡ next_expired h moment) }
@@ -53,13 +102,11 @@ impl<S: Alter> SqlStore<S> {
         if moment.get() < self.earliest {
             return Ok(None);
         }
-        let answer = next_expired(&mut self.conn, moment);
-        match self.pass(answer) {
-            Ok(None) => {
-                self.earliest = moment.get() + 1;
-                Ok(None)
+        match self.first_to_expire() {
+            Ok(first) => {
+                self.earliest = earliest_of(&first);
+                Ok(if_due(first, moment))
             }
-            Ok(Some(machine)) => Ok(Some(machine)),
             Err(unavailable) => Err(unavailable),
         }
     }
