@@ -300,6 +300,31 @@ want 0 'hall desk ready' '' serve --db hall.db --discover $here4 --boot $here4 -
 fault Bind serve --db hall.db --discover 192.0.2.77:0 --boot $here4 --http $here4 --turns 0
 fault Io serve --db hall.db --discover $here4 --boot $here4 --http $here4 --turns 0 --log nowhere/log
 
+# What a fault is about, in a second line, where that is asked for. The error of the system has its number.
+why() { want 1 '' "hallboot: $1"$'\n'"hallboot: $2" "${@:3}" --why; }
+why BadInput "--what 07: hall, orders or a machine's number" report --db hall.db --what 07
+why BadInput '--at 007: seconds since 1970 are decimal digits without a leading zero, at most 1000000000000' \
+    request --db hall.db --at 007 --fresh 000102030405060708090a0b0c0d0e0f
+why BadInput '--boot localhost:1: an address and a port are as in 10.0.0.5:67' serve --db hall.db --discover $here4 --boot localhost:1 --http $here4 --turns 0
+why BadInput '--enlist maybe: yes or no' serve --db hall.db --discover $here4 --boot $here4 --http $here4 --turns 0 --enlist maybe
+why BadInput '--log-format xml: text or json' serve --db hall.db --discover $here4 --boot $here4 --http $here4 --turns 0 --log-format xml
+why BadInput '--token: one of --token and --token-file is needed' import --db hall.db --at 1000 in
+why Bind '--discover 192.0.2.77:0: Cannot assign requested address (os error 99)' \
+    serve --db hall.db --discover 192.0.2.77:0 --boot $here4 --http $here4 --turns 0
+why NotAHall 'absent4.db: No such file or directory (os error 2)' report --db absent4.db
+why NoMachine '--what 77: the hall has no such machine' report --db hall.db --what 77
+echo 'this is a text, and no table' > text.db
+why Unavailable "text.db isn't a file of SQLite" report --db text.db
+ln hall.db other.db
+why Unavailable 'hall.db has 2 names (hard links), and its log stands beside one of them' report --db hall.db
+rm other.db
+why NotEmpty 'hall.db has a hall already' init --db hall.db --admin ada --digest "$(zeros 32)"
+printf 'key,mac,arch,uuid,pool\n00000000-0000-4000-8000-000000000777,52:54:00:77:77:77,uefi64,,default\nbad\n' > bad.csv
+why BadRow 'bad.csv: row 2 after the header' import --db hall.db --token secret --at 1000 bad.csv
+printf 'key,mac\n' > bad.csv
+why BadHeader "bad.csv: its first line isn't key,mac,arch,uuid,pool" import --db hall.db --token secret --at 1000 bad.csv
+why Io 'nowhere.csv: No such file or directory (os error 2)' import --db hall.db --token secret --at 1000 nowhere.csv
+
 # Help: each subcommand's has an example.
 for name in frame init migrate request serve report import export; do
     run $name --help

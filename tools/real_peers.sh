@@ -33,14 +33,14 @@ for s in kept: s.bind(("127.0.0.1", 0))
 print(*(s.getsockname()[1] for s in kept))')
 desk=http://127.0.0.1:$http
 
-# Serves with this log and this standard error, by a command that runs the program. log_time is how the log writes moments.
-log_time=seconds
+# Serves with this log and this standard error, by a command that runs the program. log_time is how the log writes moments, log_format its lines.
+log_time=seconds log_format=text
 serve() {
     local log=$1 errors=$2
     shift 2
     : > ready
     "$@" "$HALLBOOT" serve --db hall.db --discover 127.0.0.1:$discover --boot 127.0.0.1:$boot --http 127.0.0.1:$http \
-        --turns 1000000000000 --server 10.8.0.1 --next 10.8.0.2 --host 127.0.0.1:$http --log "$log" --log-time $log_time > ready 2> "$errors" & server=$!
+        --turns 1000000000000 --server 10.8.0.1 --next 10.8.0.2 --host 127.0.0.1:$http --log "$log" --log-time $log_time --log-format $log_format > ready 2> "$errors" & server=$!
     started+=($server)
     for ((i = 0; i < 600; i++)); do
         if grep -q 'hall desk ready' ready; then return; fi
@@ -113,7 +113,7 @@ python3 - "$token" "$digest" "$key" "$boot_token" << 'PYTHON' || bad 'the log'
 import re, sys
 source, moment = r"127\.0\.0\.1:\d+", r"[1-9]\d*"
 came = r"(discover|boot) [^:]*(:[0-9a-f]{2}){5} [a-z0-9]+( by iPXE)?|(discover|boot) (malformed|not served), [^:]*"
-came += r"|(GET|POST) /[a-z]+\S*( \S+){0,3}( of machine \d+)?( by \S+)?|refused at once, [A-Za-z]+"
+came += r"|(GET|POST) /[a-z]+\S*( \S+){0,3}( of machine \d+)?( by \S+)?|refused at once, [A-Za-z]+, (GET|POST|another method|no method) (/[a-z]+|another path|no path)( [a-z_]+)?"
 causes = "at the wrong port|its identifier is too long to echo|its UUID is another machine's|the hall is full|the numbers are exhausted"
 said = rf"silence(, ({causes}|unavailable))?|unavailable|[^\s;]+|\d\d\d (\{{.*\}}|\d+ octets)"
 status = "[A-Z][a-z]+( [a-z]+)*"
@@ -196,6 +196,30 @@ for line in open("utc.log"):
     assert abs(datetime.datetime.utcnow() - moment) < datetime.timedelta(minutes=1), line' || bad 'the log in UTC'
 [ -s utc.log ] || bad 'a log in UTC'
 good 'python3: a log in UTC has the time'
+
+log_format=json
+serve objects.log err
+peer scripts 10 2> objects.err || bad 'scripts beside a log of objects'
+is 'a pool that is there' "$(post 70 '"command":"add_pool","pool":"default"')" '{"refusal":"Taken"} 409'
+is 'a token that nobody has' "$(asked -H 'Authorization: Bearer nobody' "$desk/machines")" '{"refusal":"UnknownToken"} 401'
+stopped
+python3 -c 'import collections, datetime, json
+lines = [json.loads(line) for line in open("objects.log")]
+count = collections.Counter(line["event.action"] for line in lines)
+assert count["script"] and count["script"] == sum(line.get("url.path", "").startswith("/ipxe/") for line in lines), count
+assert count["accepted"] and count["accepted"] - count["closed"] in (0, 1), count
+[taken] = [line for line in lines if line["event.action"] == "command"]
+assert (taken["user.name"], taken["hall.command"], taken["http.response.status_code"]) == ("ada", "add_pool default", 409), taken
+[unknown] = [line for line in lines if line["event.action"] == "machines"]
+assert "user.name" not in unknown and unknown["event.outcome"] == "failure", unknown
+for line in lines:
+    moment = datetime.datetime.strptime(line["@timestamp"], "%Y-%m-%dT%H:%M:%SZ")
+    assert abs(datetime.datetime.utcnow() - moment) < datetime.timedelta(minutes=1), line
+    assert line["client.ip"] == "127.0.0.1" and line["client.port"] and line["message"], line' || bad 'a log of objects'
+if has jq; then
+    is 'what ada did, by jq' "$(jq -r 'select(.["user.name"] == "ada") | .["hall.command"]' objects.log)" 'add_pool default'
+fi
+good 'python3: a log of objects'
 
 if has sqlite3; then
     tables=$(sqlite3 hall.db 'PRAGMA integrity_check; SELECT name FROM pools WHERE name < '"'pool'"' ORDER BY name; SELECT operator, status, body FROM receipts ORDER BY rowid LIMIT 1')

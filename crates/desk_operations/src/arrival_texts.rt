@@ -2,21 +2,18 @@
 use crate::frame_texts::datagram_text;
 use crate::move_texts::move_text;
 use crate::request_texts::exchange_text;
-use hall_desk::{Answer, Arrival, Input};
+use hall_desk::{Account, Answer, Arrival, Input};
 use std::alloc::{AllocError, Global};
-use store_watched::Sight;
 
 fn answered_text(
     alloc: Global,
     input: &Input,
     answer: &Answer,
-    sight: &Sight,
+    account: &Account,
 ) -> Result<String, AllocError> {
     match (input, answer) {
-        (Input::Datagram { port, octets }, _) => {
-            datagram_text(alloc, *port, octets.as_slice(), answer, sight)
-        }
-        (Input::Request(octets), _) => exchange_text(alloc, octets.as_slice(), answer, sight),
+        (Input::Datagram { port, .. }, _) => datagram_text(alloc, *port, answer, account),
+        (Input::Request(octets), _) => exchange_text(alloc, octets.as_slice(), answer, account),
         (Input::Quiet, Answer::Unavailable) => String::from_str(alloc, "quiet: unavailable"),
         (Input::Quiet, _) => String::from_str(alloc, "quiet: silence"),
     }
@@ -24,10 +21,10 @@ fn answered_text(
 
 /// Whether an arrival has a line in a log. A quiet moment has one where the hall couldn't be read or written, or a machine was
 /// moved.
-pub fn is_of_note(arrival: &Arrival, answer: &Answer, sight: &Sight) -> bool {
+pub fn is_of_note(arrival: &Arrival, answer: &Answer, account: &Account) -> bool {
     match (&arrival.input, answer) {
         (Input::Quiet, Answer::Unavailable) => true,
-        (Input::Quiet, _) => sight.moved.is_some(),
+        (Input::Quiet, _) => account.notes.moved.is_some(),
         _ => true,
     }
 }
@@ -35,16 +32,16 @@ pub fn is_of_note(arrival: &Arrival, answer: &Answer, sight: &Sight) -> bool {
 /// What came and how it was answered, a client's silence with its cause, and then the machine whose status was changed:
 /// `discover DISCOVER 52:54:00:12:34:56 uefi64: ipxe64.efi`, or
 /// `boot REQUEST 52:54:00:12:34:56 uefi64: silence, the hall is full`, or
-/// `POST /commands allocate of machine 1 by ada: 200 {..}; machine 1: Ready to Allocated`. `sight` is what was read and changed for
-/// this arrival and no other.
+/// `POST /commands allocate of machine 1 by ada: 200 {..}; machine 1: Ready to Allocated`. The answer and the account are the desk's
+/// for this arrival.
 pub fn arrival_text(
     alloc: Global,
     arrival: &Arrival,
     answer: &Answer,
-    sight: &Sight,
+    account: &Account,
 ) -> Result<String, AllocError> {
-    let text = answered_text(alloc, &arrival.input, answer, sight)?;
-    match &sight.moved {
+    let text = answered_text(alloc, &arrival.input, answer, account)?;
+    match &account.notes.moved {
         Some(moved) => {
             let moved = move_text(alloc, moved)?;
             format!(in alloc; "{text}; {moved}")

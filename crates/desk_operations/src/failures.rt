@@ -1,5 +1,6 @@
 //! Sockets that fail again and again, of which a log has a line a minute.
-use crate::moment_texts::{TimeFormat, moment_text};
+use crate::event_lines::event_line;
+use crate::moment_texts::LogFormat;
 use hall_types::Moment;
 use std::alloc::{AllocError, Global};
 
@@ -32,7 +33,7 @@ impl Failures {
     pub fn line(
         &mut self,
         alloc: Global,
-        format: TimeFormat,
+        format: LogFormat,
         moment: Moment,
     ) -> Result<Option<String>, AllocError> {
         let failed = self.untold.saturating_add(1);
@@ -42,12 +43,19 @@ impl Failures {
         }
         self.told = Some(moment);
         self.untold = 0;
-        let moment = moment_text(alloc, format, moment)?;
-        let line = if failed == 1 {
-            format!(in alloc; "{moment} - failed\n")?
+        let words = if failed == 1 {
+            String::from_str(alloc, "failed")?
         } else {
-            format!(in alloc; "{moment} - failed {failed} times\n")?
+            format!(in alloc; "failed {failed} times")?
         };
+        let line = event_line(
+            alloc,
+            format,
+            Some(moment),
+            "failed",
+            Some(failed),
+            words.as_str(),
+        )?;
         Ok(Some(line))
     }
 }

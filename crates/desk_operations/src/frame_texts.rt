@@ -1,18 +1,29 @@
 //! A client's frame and its answer, in words for a log.
 use crate::addresses::address_text;
-use boot_desk::{Decision, Silence, frame};
-use dhcp_frame::read;
-use hall_desk::Answer;
+use boot_desk::{Decision, Silence};
+use hall_desk::{Account, Answer, Came, Notes};
 use hall_types::Port;
-use pxe_vendor::{Client, Kind, client};
+use pxe_vendor::{Client, Kind};
 use std::alloc::{AllocError, Global};
-use store_watched::Sight;
 
-fn client_text(alloc: Global, client: &Client) -> Result<String, AllocError> {
-    let kind = match client.kind {
+/// The kind of a client's message (RFC 2132 section 9.6).
+pub(crate) fn kind_word(kind: Kind) -> &'static str {
+    match kind {
         Kind::Discover => "DISCOVER",
         Kind::Request => "REQUEST",
-    };
+    }
+}
+
+/// The option of `serve` that the port is given by.
+pub(crate) fn port_word(port: Port) -> &'static str {
+    match port {
+        Port::Discover => "discover",
+        Port::Boot => "boot",
+    }
+}
+
+fn client_text(alloc: Global, client: &Client) -> Result<String, AllocError> {
+    let kind = kind_word(client.kind);
     let mac = address_text(alloc, &client.mac)?;
     let arch = client.arch.text();
     let by = if client.ipxe { " by iPXE" } else { "" };
@@ -30,16 +41,19 @@ fn cause_words(cause: Silence) -> &'static str {
     }
 }
 
-// Why a client got silence. A frame that was to be answered wasn't where memory or the hall's file failed.
-fn silence_words(sight: &Sight, port: Port, client: &Client) -> &'static str {
-    match frame(&sight.view, port, client) {
-        Decision::Silent(cause) => cause_words(cause),
-        Decision::Loader | Decision::ScriptUrl | Decision::Enlist => "unavailable",
+/// Why a client got silence. A frame that was to be answered wasn't where memory or the hall's file failed.
+pub(crate) fn silence_words(notes: &Notes) -> &'static str {
+    if notes.unlisted {
+        return "unknown, and no client is enlisted";
+    }
+    match notes.decision {
+        Some(Decision::Silent(cause)) => cause_words(cause),
+        Some(Decision::Loader | Decision::ScriptUrl | Decision::Enlist) | None => "unavailable",
     }
 }
 
-// The file field of a reply (RFC 2131 section 2).
-fn file_text(octets: &[u8]) -> &str {
+/// The file field of a reply (RFC 2131 section 2).
+pub(crate) fn file_text(octets: &[u8]) -> &str {
     let Some(field) = octets.get(108..236) else {
         return "";
     };
@@ -57,37 +71,28 @@ fn reply_text(answer: &Answer) -> &str {
 
 fn served_text(
     alloc: Global,
-    port: Port,
     client: &Client,
     answer: &Answer,
-    sight: &Sight,
+    notes: &Notes,
 ) -> Result<String, AllocError> {
     let came = client_text(alloc, client)?;
     let said = reply_text(answer);
     match answer {
         Answer::Silence => {
-            let cause = silence_words(sight, port, client);
+            let cause = silence_words(notes);
             format!(in alloc; "{came}: {said}, {cause}")
         }
         _ => format!(in alloc; "{came}: {said}"),
     }
 }
 
-fn frame_text(
-    alloc: Global,
-    port: Port,
-    octets: &[u8],
-    answer: &Answer,
-    sight: &Sight,
-) -> Result<String, AllocError> {
+fn frame_text(alloc: Global, answer: &Answer, account: &Account) -> Result<String, AllocError> {
     let said = reply_text(answer);
-    let frame = match read(octets) {
-        Ok(frame) => frame,
-        Err(fault) => return format!(in alloc; "malformed, {fault}: {said}"),
-    };
-    match client(alloc, &frame) {
-        Ok(client) => served_text(alloc, port, &client, answer, sight),
-        Err(cause) => format!(in alloc; "not served, {cause}: {said}"),
+    match &account.came {
+        Came::Malformed(fault) => format!(in alloc; "malformed, {fault}: {said}"),
+        Came::NotServed(cause) => format!(in alloc; "not served, {cause}: {said}"),
+        Came::Client(client) => served_text(alloc, client, answer, &account.notes),
+        Came::Refused(_) | Came::Asked(_) | Came::Quiet => Ok(String::new(alloc)),
     }
 }
 
@@ -96,14 +101,10 @@ fn frame_text(
 pub(crate) fn datagram_text(
     alloc: Global,
     port: Port,
-    octets: &[u8],
     answer: &Answer,
-    sight: &Sight,
+    account: &Account,
 ) -> Result<String, AllocError> {
-    let word = match port {
-        Port::Discover => "discover",
-        Port::Boot => "boot",
-    };
-    let frame = frame_text(alloc, port, octets, answer, sight)?;
+    let word = port_word(port);
+    let frame = frame_text(alloc, answer, account)?;
     format!(in alloc; "{word} {frame}")
 }

@@ -3,8 +3,11 @@
 #![tactic(auto)]
 
 mod addresses;
+mod arrival_objects;
 mod arrival_texts;
+mod bad_rows;
 mod command_texts;
+mod event_lines;
 mod exports;
 mod failures;
 mod fault;
@@ -13,8 +16,10 @@ mod frame_texts;
 mod frames;
 mod import_line;
 mod imports;
+mod members;
 mod moment_texts;
 mod move_texts;
+mod refused_texts;
 mod reports;
 mod request_texts;
 mod requests;
@@ -22,16 +27,19 @@ mod turn_lines;
 mod values;
 mod writing;
 
+pub use arrival_objects::arrival_members;
 pub use arrival_texts::{arrival_text, is_of_note};
+pub use bad_rows::bad_row;
+pub use event_lines::{lost_line, unstamped_line};
 pub use exports::export;
 pub use failures::Failures;
 pub use fault::Fault;
 pub use frame_input::{Input, one_reading, parse, read_input};
 pub use frames::{Exit, frame_run};
 pub use imports::{Imported, import};
-pub use moment_texts::{TimeFormat, moment_text};
+pub use moment_texts::{LogFormat, moment_text};
 pub use reports::{What, report};
 pub use requests::request;
-pub use turn_lines::{UNSTAMPED_LINE, turn_line};
+pub use turn_lines::turn_line;
 pub use values::{count_of, digest_of, fresh_of, is_bearer_token, moment_of, what_of};
 pub use writing::write_text;

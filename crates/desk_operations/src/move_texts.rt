@@ -1,6 +1,6 @@
 //! A machine's move from one status to another, in words for a log.
+use hall_desk::Moved;
 use std::alloc::{AllocError, Global};
-use store_watched::Moved;
 
 /// `machine 5: Ready to Allocated`, `machine 5: new, New` or `machine 5: Broken, gone`.
 pub(crate) fn move_text(alloc: Global, moved: &Moved) -> Result<String, AllocError> {

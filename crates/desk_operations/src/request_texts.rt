@@ -1,57 +1,91 @@
 //! A request and its response, in words for a log.
 use crate::addresses::address_text;
 use crate::command_texts::command_text;
-use hall_desk::Answer;
+use crate::refused_texts::refused_text;
+use hall_desk::{Account, Answer, Came};
 use hall_events::Event;
-use http_requests::event_of;
 use std::alloc::{AllocError, Global};
-use store_watched::Sight;
 
-// The longest body that is printed.
-const MAX_BODY: usize = 100;
+/// The longest body that is printed.
+pub(crate) const MAX_BODY: usize = 100;
 
-fn event_text(alloc: Global, event: &Event) -> Result<String, AllocError> {
+/// The path of a request, without its token.
+pub(crate) fn path_text(alloc: Global, event: &Event) -> Result<String, AllocError> {
     match event {
         Event::Script { mac } => {
             let mac = address_text(alloc, &mac.octets())?;
-            format!(in alloc; "GET /ipxe/{mac}")
+            format!(in alloc; "/ipxe/{mac}")
         }
-        Event::Report { boot, progress, .. } => {
-            let (boot, word) = (boot.get(), progress.text());
-            format!(in alloc; "POST /report/{boot} {word}")
+        Event::Report { boot, .. } => {
+            let boot = boot.get();
+            format!(in alloc; "/report/{boot}")
         }
-        Event::Orders { .. } => String::from_str(alloc, "GET /orders"),
-        Event::OrderAnswer { order, outcome, .. } => {
-            let (order, word) = (order.get(), outcome.text());
-            format!(in alloc; "POST /orders/{order} {word}")
+        Event::Orders { .. } => String::from_str(alloc, "/orders"),
+        Event::OrderAnswer { order, .. } => {
+            let order = order.get();
+            format!(in alloc; "/orders/{order}")
         }
-        Event::Machines { .. } => String::from_str(alloc, "GET /machines"),
+        Event::Machines { .. } => String::from_str(alloc, "/machines"),
         Event::OneMachine { machine, .. } => {
             let id = machine.get();
-            format!(in alloc; "GET /machines/{id}")
+            format!(in alloc; "/machines/{id}")
         }
-        Event::Command { command, .. } => {
-            let command = command_text(alloc, command)?;
-            format!(in alloc; "POST /commands {command}")
-        }
+        Event::Command { .. } => String::from_str(alloc, "/commands"),
         Event::Frame { .. } | Event::Quiet => Ok(String::new(alloc)),
     }
 }
 
-fn request_text(alloc: Global, octets: &[u8]) -> Result<String, AllocError> {
-    match event_of(alloc, octets) {
-        Ok(event) => event_text(alloc, &event),
-        Err(fault) => format!(in alloc; "refused at once, {fault}"),
+/// The method of a request.
+pub(crate) fn method_word(event: &Event) -> &'static str {
+    match event {
+        Event::Report { .. } | Event::OrderAnswer { .. } | Event::Command { .. } => "POST",
+        _ => "GET",
+    }
+}
+
+// The method and the path of a request, and what its body asks for.
+fn event_text(alloc: Global, event: &Event) -> Result<String, AllocError> {
+    let method = method_word(event);
+    let path = path_text(alloc, event)?;
+    match event {
+        Event::Report { progress, .. } => {
+            let word = progress.text();
+            format!(in alloc; "{method} {path} {word}")
+        }
+        Event::OrderAnswer { outcome, .. } => {
+            let word = outcome.text();
+            format!(in alloc; "{method} {path} {word}")
+        }
+        Event::Command { command, .. } => {
+            let command = command_text(alloc, command)?;
+            format!(in alloc; "{method} {path} {command}")
+        }
+        _ => format!(in alloc; "{method} {path}"),
+    }
+}
+
+fn request_text(alloc: Global, octets: &[u8], came: &Came) -> Result<String, AllocError> {
+    match came {
+        Came::Asked(event) => event_text(alloc, event),
+        Came::Refused(fault) => refused_text(alloc, octets, *fault),
+        Came::Malformed(_) | Came::NotServed(_) | Came::Client(_) | Came::Quiet => {
+            Ok(String::new(alloc))
+        }
+    }
+}
+
+/// The status of a response (RFC 9112 section 4), and its body.
+pub(crate) fn said(octets: &[u8]) -> (&str, &str) {
+    let text = std::str::from_utf8(octets).unwrap_or("");
+    match text.split_once("\r\n\r\n") {
+        Some((head, body)) => (head.get(9..12).unwrap_or(""), body),
+        None => ("", ""),
     }
 }
 
 // The status of a response, and its body where it is short and no script, which has a token.
 fn response_text(alloc: Global, octets: &[u8]) -> Result<String, AllocError> {
-    let text = std::str::from_utf8(octets).unwrap_or("");
-    let Some((head, body)) = text.split_once("\r\n\r\n") else {
-        return String::from_str(alloc, "response");
-    };
-    let status = head.get(9..12).unwrap_or("");
+    let (status, body) = said(octets);
     if body.starts_with('{') && body.len() <= MAX_BODY {
         format!(in alloc; "{status} {body}")
     } else {
@@ -69,9 +103,9 @@ fn answer_text(alloc: Global, answer: &Answer) -> Result<String, AllocError> {
 }
 
 // What came, and which operator's token it had, if it had one's.
-fn sender_text(alloc: Global, octets: &[u8], sight: &Sight) -> Result<String, AllocError> {
-    let came = request_text(alloc, octets)?;
-    match sight.operator {
+fn sender_text(alloc: Global, octets: &[u8], account: &Account) -> Result<String, AllocError> {
+    let came = request_text(alloc, octets, &account.came)?;
+    match account.notes.operator {
         Some(operator) => format!(in alloc; "{came} by {operator}"),
         None => Ok(came),
     }
@@ -83,9 +117,9 @@ pub(crate) fn exchange_text(
     alloc: Global,
     octets: &[u8],
     answer: &Answer,
-    sight: &Sight,
+    account: &Account,
 ) -> Result<String, AllocError> {
-    let came = sender_text(alloc, octets, sight)?;
+    let came = sender_text(alloc, octets, account)?;
     let said = answer_text(alloc, answer)?;
     format!(in alloc; "{came}: {said}")
 }

@@ -1,12 +1,14 @@
 //! The line of a turn in a log.
-use crate::moment_texts::{TimeFormat, moment_text};
+use crate::event_lines::stamped;
+use crate::members::Members;
+use crate::moment_texts::{LogFormat, moment_text};
 use hall_types::Moment;
 use serve_sockets::{Close, Handover, Kind, Said, Turn};
 use std::alloc::{AllocError, Global};
 use std::net::SocketAddr;
 
-/// The line of a log where the service's clock or its source of random octets begins to fail. It has no moment.
-pub const UNSTAMPED_LINE: &str = "- the clock or the random source failed\n";
+// The members of an arrival for whose words there was no memory.
+const UNWORDED: &str = "\"message\":\"-\"";
 
 fn source_text(alloc: Global, from: Option<SocketAddr>) -> Result<String, AllocError> {
     match from {
@@ -25,64 +27,116 @@ fn close_word(cause: Close) -> &'static str {
 }
 
 // A quiet moment is of note where it has a text, or the hall couldn't be read or written.
-fn is_of_note(handover: &Handover, arrival: Option<&str>) -> bool {
+fn is_handover_of_note(handover: &Handover, arrival: Option<&str>) -> bool {
     handover.kind != Kind::Quiet || handover.said == Said::Unavailable || arrival.is_some()
 }
 
-fn handover_text(
-    alloc: Global,
-    handover: &Handover,
-    arrival: Option<&str>,
-    end: &str,
-) -> Result<Option<String>, AllocError> {
-    if !is_of_note(handover, arrival) {
-        return Ok(None);
+// Whether a turn did something of note.
+fn is_of_note(turn: &Turn, arrival: Option<&str>) -> bool {
+    match turn {
+        Turn::Handed(handover) | Turn::Unsent(handover) => is_handover_of_note(handover, arrival),
+        Turn::Accepted { .. } | Turn::Closed { .. } => true,
+        Turn::Failed | Turn::Moved(_) | Turn::Nothing => false,
     }
-    let arrival = arrival.unwrap_or("-");
-    let from = source_text(alloc, handover.from)?;
-    let text = format!(in alloc; "{from} {arrival}{end}")?;
-    Ok(Some(text))
 }
 
-fn turn_text(
+fn source(turn: &Turn) -> Option<SocketAddr> {
+    match turn {
+        Turn::Handed(handover) | Turn::Unsent(handover) => handover.from,
+        Turn::Accepted { from, .. } | Turn::Closed { from, .. } | Turn::Moved(from) => Some(*from),
+        Turn::Failed | Turn::Nothing => None,
+    }
+}
+
+fn turn_words(alloc: Global, turn: &Turn, arrival: Option<&str>) -> Result<String, AllocError> {
+    let arrival = arrival.unwrap_or("-");
+    match turn {
+        Turn::Unsent(_) => format!(in alloc; "{arrival}, unsent"),
+        Turn::Accepted { instead_of, .. } => {
+            let instead_of = source_text(alloc, *instead_of)?;
+            format!(in alloc; "accepted instead of {instead_of}")
+        }
+        Turn::Closed { cause, .. } => {
+            let word = close_word(*cause);
+            format!(in alloc; "closed {word}")
+        }
+        _ => String::from_str(alloc, arrival),
+    }
+}
+
+fn text_line(
     alloc: Global,
+    format: LogFormat,
+    moment: Moment,
     turn: &Turn,
     arrival: Option<&str>,
-) -> Result<Option<String>, AllocError> {
+) -> Result<String, AllocError> {
+    let moment = moment_text(alloc, format, moment)?;
+    let from = source_text(alloc, source(turn))?;
+    let words = turn_words(alloc, turn, arrival)?;
+    format!(in alloc; "{moment} {from} {words}\n")
+}
+
+// What a turn did, after where it came from.
+fn push_turn(
+    alloc: Global,
+    members: &mut Members,
+    turn: &Turn,
+    arrival: Option<&str>,
+) -> Result<(), AllocError> {
     match turn {
-        Turn::Handed(handover) => handover_text(alloc, handover, arrival, ""),
-        Turn::Unsent(handover) => handover_text(alloc, handover, arrival, ", unsent"),
-        Turn::Accepted { from, instead_of } => {
-            let from = source_text(alloc, Some(*from))?;
-            let instead_of = source_text(alloc, *instead_of)?;
-            let text = format!(in alloc; "{from} accepted instead of {instead_of}")?;
-            Ok(Some(text))
+        Turn::Accepted { instead_of, .. } => {
+            members.push_text("event.action", "accepted")?;
+            if let Some(instead_of) = instead_of {
+                members.push_text("hall.instead_of", instead_of.to_string(alloc)?.as_str())?;
+            }
         }
-        Turn::Closed { from, cause } => {
-            let from = source_text(alloc, Some(*from))?;
-            let word = close_word(*cause);
-            let text = format!(in alloc; "{from} closed {word}")?;
-            Ok(Some(text))
+        Turn::Closed { cause, .. } => {
+            members.push_text("event.action", "closed")?;
+            members.push_text("event.reason", close_word(*cause))?;
         }
-        Turn::Failed | Turn::Moved(_) | Turn::Nothing => Ok(None),
+        Turn::Unsent(_) => {
+            members.push_true("hall.unsent")?;
+            return members.push_members(arrival.unwrap_or(UNWORDED));
+        }
+        _ => return members.push_members(arrival.unwrap_or(UNWORDED)),
     }
+    members.push_text("message", turn_words(alloc, turn, None)?.as_str())
+}
+
+fn object_line(
+    alloc: Global,
+    moment: Moment,
+    turn: &Turn,
+    arrival: Option<&str>,
+) -> Result<String, AllocError> {
+    let mut members = stamped(alloc, Some(moment))?;
+    if let Some(from) = source(turn) {
+        members.push_text("client.ip", from.ip().to_string(alloc)?.as_str())?;
+        members.push_number("client.port", u64::from(from.port()))?;
+    }
+    push_turn(alloc, &mut members, turn, arrival)?;
+    members.into_line()
 }
 
 /// The line of a turn, with its line feed: the moment, where the turn's datagram or connection came from, and the
 /// text of the arrival, if the turn handed one over and it's of note, as in
-/// `1790000000 192.0.2.9:68 discover DISCOVER 52:54:00:12:34:56 uefi64: ipxe-x86_64.efi`. A turn in which nothing of note was
-/// done has none: a quiet moment without a text, octets that moved, an empty place. One that failed is for [`Failures`](crate::Failures).
+/// `1790000000 192.0.2.9:68 discover DISCOVER 52:54:00:12:34:56 uefi64: ipxe-x86_64.efi`. In a log of objects the arrival is given by
+/// its members. A turn in which nothing of note was done has none: a quiet moment without a text, octets that moved, an empty place.
+/// One that failed is for [`Failures`](crate::Failures).
 pub fn turn_line(
     alloc: Global,
-    format: TimeFormat,
+    format: LogFormat,
     moment: Moment,
     turn: &Turn,
     arrival: Option<&str>,
 ) -> Result<Option<String>, AllocError> {
-    let Some(text) = turn_text(alloc, turn, arrival)? else {
+    if !is_of_note(turn, arrival) {
         return Ok(None);
+    }
+    let line = match format {
+        LogFormat::Json => object_line(alloc, moment, turn, arrival)?,
+        LogFormat::Seconds | LogFormat::Utc => text_line(alloc, format, moment, turn, arrival)?,
     };
-    let moment = moment_text(alloc, format, moment)?;
-    let line = format!(in alloc; "{moment} {text}\n")?;
     Ok(Some(line))
 }

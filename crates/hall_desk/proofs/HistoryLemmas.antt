@@ -15,16 +15,14 @@ use Rattle.hall_desk.specs.Attempt.{IsAnswered, IsKept, IsRan}
 use Rattle.hall_desk.specs.Octets.{HasMissed, IsArrivalRun, IsOfType, Leads, Meaning, Means, answered, asks}
 use Rattle.hall_desk.specs.declared.arrival.Answer.{Answer}
 use Rattle.hall_desk.specs.declared.arrival.Arrival.{Arrival}
-use Rattle.hall_desk.specs.declared.arrival.Input.{Input}
 use Rattle.hall_desk.specs.declared.arrival.Input.TheVariants as input
 use Rattle.hall_desk.specs.Served.{IsServed}
 use Rattle.hall_desk.specs.declared.serving.Served.{Served}
 use Rattle.hall_desk.specs.declared.serving.Served.TheVariants as serving
 use Rattle.hall_events.specs.declared.event.Event.{Event}
-use Rattle.hall_events.specs.declared.event.Event.TheVariants as event
 use Rattle.laws_past.specs.Laws.{AreTyped}
 use Rattle.hall_desk.specs.Headline.{HasHistory, HasServed, Headline}
-use Rattle.hall_desk.specs.History.{AllLead, AreStepsOf, Carried, Exchange, IsAside, IsCarried, IsStepOf, Item, ItemLeads, Unanswered, Unreplied, answered_by, carried, carried_out, exchange, exchanged, exchanges, replied_by, unanswered, unreplied}
+use Rattle.hall_desk.specs.History.{AllLead, AreStepsOf, Carried, Exchange, IsAside, IsCarried, IsStepOf, Item, ItemLeads, Unanswered, Unreplied, carried, carried_out, exchange, exchanged, exchanges, replied_by, unanswered, unreplied}
 
 put_aside : (item : Item) (items : List Item) (steps : List Step) → IsAside item → AreStepsOf items steps → AreStepsOf (item ∷ items) steps
 put_aside item items [] aside are = (aside, are)

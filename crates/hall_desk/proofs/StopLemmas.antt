@@ -20,9 +20,9 @@ use Rattle.hall_store.specs.declared.store.Unavailable.{Unavailable as Refusing}
 use Rattle.laws_model.specs.Decision.{decision_of, framed}
 use Rattle.laws_model.specs.Step.{IsTyped}
 use Rattle.hall_desk.specs.Attempt.{IsAnswered, IsKept, IsTorn}
-use Rattle.hall_desk.specs.Headline.{HasHistory, Headline}
-use Rattle.hall_desk.specs.History.{AllLead, IsCarried, Item, ItemLeads, came_unanswered, came_unreplied, carried_out, exchanged, exchanges}
-use Rattle.hall_desk.specs.Octets.{HasMissed, IsArrivalStep, IsGiven, IsIdle, IsSilent, Meaning, Means, answered, asks, frame_answer}
+use Rattle.hall_desk.specs.Headline.{Headline}
+use Rattle.hall_desk.specs.History.{AllLead, Item, ItemLeads, came_unanswered, came_unreplied, carried_out, exchanged, exchanges}
+use Rattle.hall_desk.specs.Octets.{HasMissed, IsArrivalStep, IsGiven, IsIdle, IsSilent, answered, asks, frame_answer}
 use Rattle.hall_desk.specs.Plan.{IsCarriedOut}
 use Rattle.hall_desk.specs.Stops.{AndCutRun, AreAnswered, HasRun, IsCutEnd, IsEnd, IsLeft, IsSettled, OrUnanswered, OrUnreplied}
 use Rattle.hall_desk.specs.declared.arrival.Answer.{Answer}

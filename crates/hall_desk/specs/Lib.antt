@@ -1,8 +1,10 @@
+pub mod Account
 pub mod Attempt
 pub mod AttemptLaws
 pub mod Desk
 pub mod Headline
 pub mod History
+pub mod Moved
 pub mod Octets
 pub mod Plan
 pub mod Served

@@ -1,9 +1,12 @@
 //! Attempts to carry out what came.
-ghost use Rattle.std.specs.Prelude.{◌≡◌};
+ghost use Rattle.std.specs.Prelude.{◌≡◌, None};
+ghost use Rattle.hall_types.specs.Hall.{Hall};
+ghost use Rattle.hall_desk.specs.Account.{IsFound, IsReadAs};
 ghost use Rattle.hall_desk.specs.Attempt.{Attempts};
 ghost use Rattle.hall_desk.specs.Octets.{missed_answer};
 ghost use Rattle.hall_desk.specs.declared.arrival.Input.TheVariants as input;
 
+use crate::account::{Account, Came};
 use crate::arrival::{Answer, Arrival, Input};
 use crate::carrying::{carry_frame, carry_quiet, carry_request};
 use crate::octets::fault_response;
@@ -17,7 +20,7 @@ use laws_steps::{decisions_keep_the_rules, steps_keep_halls_sound};
 use pxe_vendor::{NotServed, Place, client};
 use std::alloc::Global;
 
-/// Carries out a datagram, if it is a client's frame.
+/// Carries out a datagram, if it is a client's frame, and gives an account of it.
 pub(crate) fn attempt_datagram<S: HallStore>(
     alloc: Global,
     store: &mut S,
@@ -26,28 +29,43 @@ pub(crate) fn attempt_datagram<S: HallStore>(
     octets: &[u8],
     moment: Moment,
     fresh: Token,
+    enlists: bool,
+    account: &mut Account,
 ) -> Result<Answer, Unavailable>
-    ensures { Attempts S.HallStore.is_clean S.HallStore.holds S.HallStore.leaves store.old store.new place.now (input.Datagram port octets.now) moment fresh result }
+    ensures attempts { Attempts S.HallStore.is_clean S.HallStore.holds S.HallStore.leaves store.old store.new place.now (input.Datagram port octets.now) moment fresh result }
+    ensures came { IsReadAs (input.Datagram port octets.now) account.new.came }
+    ensures found { account.old.notes.decision ≡ None → S.HallStore.is_clean store.new → (h : Hall) → S.HallStore.holds store.old h → IsFound h (input.Datagram port octets.now) account.new }
 {
     steps_keep_halls_sound();
     decisions_keep_the_rules();
     let frame = match read(octets) {
         Ok(frame) => frame,
-        Err(_) => return Ok(Answer::Silence),
+        Err(fault) => {
+            account.came = Came::Malformed(fault);
+            return Ok(Answer::Silence);
+        }
     };
     match client(alloc, &frame) {
         Ok(client) => {
             frame_is_typed(place, port, &client, fresh);
-            carry_frame(alloc, store, place, port, &frame, &client, moment, fresh)
+            let notes = &mut account.notes;
+            let answer = carry_frame(
+                alloc, store, place, port, &frame, &client, moment, fresh, enlists, notes,
+            );
+            account.came = Came::Client(client);
+            answer
         }
-        Err(cause) => match cause {
-            NotServed::Memory => Err(Unavailable),
-            _ => Ok(Answer::Silence),
-        },
+        Err(cause) => {
+            account.came = Came::NotServed(cause);
+            match cause {
+                NotServed::Memory => Err(Unavailable),
+                _ => Ok(Answer::Silence),
+            }
+        }
     }
 }
 
-/// Carries out a request.
+/// Carries out a request, and gives an account of it.
 pub(crate) fn attempt_request<S: HallStore>(
     alloc: Global,
     store: &mut S,
@@ -55,58 +73,84 @@ pub(crate) fn attempt_request<S: HallStore>(
     octets: &[u8],
     moment: Moment,
     fresh: Token,
+    account: &mut Account,
 ) -> Result<Answer, Unavailable>
-    ensures { Attempts S.HallStore.is_clean S.HallStore.holds S.HallStore.leaves store.old store.new place.now (input.Request octets.now) moment fresh result }
+    ensures attempts { Attempts S.HallStore.is_clean S.HallStore.holds S.HallStore.leaves store.old store.new place.now (input.Request octets.now) moment fresh result }
+    ensures came { IsReadAs (input.Request octets.now) account.new.came }
 {
     steps_keep_halls_sound();
     decisions_keep_the_rules();
     match event_of(alloc, octets) {
         Ok(event) => {
             event_is_typed(place, &event, fresh);
-            carry_request(alloc, store, place, &event, moment, fresh)
+            let notes = &mut account.notes;
+            let answer = carry_request(alloc, store, place, &event, moment, fresh, notes);
+            account.came = Came::Asked(event);
+            answer
         }
-        Err(fault) => match fault {
-            HttpFault::Memory => Err(Unavailable),
-            _ => fault_response(alloc, fault),
-        },
+        Err(fault) => {
+            account.came = Came::Refused(fault);
+            match fault {
+                HttpFault::Memory => Err(Unavailable),
+                _ => fault_response(alloc, fault),
+            }
+        }
     }
 }
 
-/// Carries out a quiet moment.
+/// Carries out a quiet moment, and gives an account of it.
 pub(crate) fn attempt_quiet<S: HallStore>(
     alloc: Global,
     store: &mut S,
     place: &Place,
     moment: Moment,
     fresh: Token,
+    account: &mut Account,
 ) -> Result<Answer, Unavailable>
-    ensures { Attempts S.HallStore.is_clean S.HallStore.holds S.HallStore.leaves store.old store.new place.now input.Quiet moment fresh result }
+    ensures attempts { Attempts S.HallStore.is_clean S.HallStore.holds S.HallStore.leaves store.old store.new place.now input.Quiet moment fresh result }
+    ensures came { IsReadAs input.Quiet account.new.came }
 {
     steps_keep_halls_sound();
     decisions_keep_the_rules();
     event_is_typed(place, &Event::Quiet, fresh);
-    carry_quiet(alloc, store, place, moment, fresh)
+    account.came = Came::Quiet;
+    carry_quiet(alloc, store, place, moment, fresh, &mut account.notes)
 }
 
-/// Carries out what came. The error says that it counts as not having come.
+/// Carries out what came, and gives an account of it. The error says that it counts as not having come.
 pub(crate) fn attempt<S: HallStore>(
     alloc: Global,
     store: &mut S,
     place: &Place,
     arrival: &Arrival,
+    enlists: bool,
+    account: &mut Account,
 ) -> Result<Answer, Unavailable>
-    ensures { Attempts S.HallStore.is_clean S.HallStore.holds S.HallStore.leaves store.old store.new place.now arrival.now.input arrival.now.moment arrival.now.fresh result }
+    ensures attempts { Attempts S.HallStore.is_clean S.HallStore.holds S.HallStore.leaves store.old store.new place.now arrival.now.input arrival.now.moment arrival.now.fresh result }
+    ensures came { IsReadAs arrival.now.input account.new.came }
+    ensures found { account.old.notes.decision ≡ None → S.HallStore.is_clean store.new → (h : Hall) → S.HallStore.holds store.old h → IsFound h arrival.now.input account.new }
 {
     let moment = arrival.moment;
     let fresh = arrival.fresh;
     match &arrival.input {
         Input::Datagram { port, octets } => {
-            attempt_datagram(alloc, store, place, *port, octets.as_slice(), moment, fresh)
+            let octets = octets.as_slice();
+            attempt_datagram(
+                alloc, store, place, *port, octets, moment, fresh, enlists, account,
+            )
         }
         Input::Request(octets) => {
-            attempt_request(alloc, store, place, octets.as_slice(), moment, fresh)
+            attempt_request(
+                alloc,
+                store,
+                place,
+                octets.as_slice(),
+                moment,
+                fresh,
+                account,
+            )
         }
-        Input::Quiet => attempt_quiet(alloc, store, place, moment, fresh),
+        Input::Quiet => attempt_quiet(alloc, store, place, moment, fresh, account),
     }
 }
 

@@ -1,16 +1,20 @@
 //! Carrying out what came.
-ghost use Rattle.std.specs.Prelude.{◌≡◌};
+ghost use Rattle.std.specs.Prelude.{◌≡◌, None};
+ghost use Rattle.hall_types.specs.Hall.{Hall};
 ghost use Rattle.hall_events.specs.Reply.{Content};
 ghost use Rattle.hall_events.specs.declared.event.Event.TheVariants as event;
 ghost use Rattle.laws_model.specs.Decision.{decision_of};
+ghost use Rattle.hall_desk.specs.Account.{IsDecided};
 ghost use Rattle.hall_desk.specs.Octets.{frame_answer, no_answer, response_answer};
 ghost use Rattle.hall_desk.specs.Plan.{CarriesOut};
 
+use crate::account::Notes;
 use crate::arrival::Answer;
 use crate::octets::{client_answer, response};
 use crate::planning::planned;
 use crate::plans::plan_client;
 use crate::writing::write;
+use boot_desk::Decision;
 use dhcp_frame::Frame;
 use hall_events::Event;
 use hall_store::{HallStore, Unavailable};
@@ -18,7 +22,16 @@ use hall_types::{Moment, Port, Token};
 use pxe_vendor::{Client, Place};
 use std::alloc::Global;
 
-/// Carries out a client's frame, and gives its answer. All memory is taken before a row is written.
+// Whether the client is to be enlisted.
+fn is_enlisting(decision: Decision) -> bool {
+    match decision {
+        Decision::Enlist => true,
+        Decision::Loader | Decision::ScriptUrl | Decision::Silent(_) => false,
+    }
+}
+
+/// Carries out a client's frame, and gives its answer. All memory is taken before a row is written. Of a desk that doesn't enlist, the
+/// frame of a client that is to be enlisted counts as not having come.
 #[tactic(auto, unfolding(laws_model::specs::Decision::decision_of))]
 pub(crate) fn carry_frame<S: HallStore>(
     alloc: Global,
@@ -29,14 +42,23 @@ pub(crate) fn carry_frame<S: HallStore>(
     client: &Client,
     moment: Moment,
     fresh: Token,
+    enlists: bool,
+    notes: &mut Notes,
 ) -> Result<Answer, Unavailable>
-    ensures { CarriesOut S.HallStore.is_clean S.HallStore.holds S.HallStore.leaves store.old store.new result
+    ensures carried { CarriesOut S.HallStore.is_clean S.HallStore.holds S.HallStore.leaves store.old store.new result
         (λ h. (decision_of place.now h (event.Frame port client.now) moment fresh).rows)
         (λ h answer. answer ≡ frame_answer place.now frame.now client.now (decision_of place.now h (event.Frame port client.now) moment fresh).content) }
+    ensures decided { notes.old.decision ≡ None → S.HallStore.is_clean store.new → (h : Hall) → S.HallStore.holds store.old h → IsDecided h port client.now notes.new.decision }
 {
     let (change, decision) = plan_client(alloc, store, port, client)?;
+    notes.decision = Some(decision);
+    if !enlists && is_enlisting(decision) {
+        notes.unlisted = true;
+        return Err(Unavailable);
+    }
     let answer = client_answer(alloc, decision, frame, client, place)?;
     write(store, &change)?;
+    notes.note_change(&change);
     Ok(answer)
 }
 
@@ -48,14 +70,16 @@ pub(crate) fn carry_request<S: HallStore>(
     event: &Event,
     moment: Moment,
     fresh: Token,
+    notes: &mut Notes,
 ) -> Result<Answer, Unavailable>
     ensures { CarriesOut S.HallStore.is_clean S.HallStore.holds S.HallStore.leaves store.old store.new result
         (λ h. (decision_of place.now h event.now moment fresh).rows)
         (λ h answer. answer ≡ response_answer (decision_of place.now h event.now moment fresh).content) }
 {
-    let (change, reply) = planned(alloc, store, place, event, moment, fresh)?;
+    let (change, reply) = planned(alloc, store, place, event, moment, fresh, notes)?;
     let answer = response(alloc, &reply)?;
     write(store, &change)?;
+    notes.note_change(&change);
     Ok(answer)
 }
 
@@ -66,12 +90,14 @@ pub(crate) fn carry_quiet<S: HallStore>(
     place: &Place,
     moment: Moment,
     fresh: Token,
+    notes: &mut Notes,
 ) -> Result<Answer, Unavailable>
     ensures { CarriesOut S.HallStore.is_clean S.HallStore.holds S.HallStore.leaves store.old store.new result
         (λ h. (decision_of place.now h event.Quiet moment fresh).rows)
         (λ h answer. answer ≡ no_answer (decision_of place.now h event.Quiet moment fresh).content) }
 {
-    let (change, _) = planned(alloc, store, place, &Event::Quiet, moment, fresh)?;
+    let (change, _) = planned(alloc, store, place, &Event::Quiet, moment, fresh, notes)?;
     write(store, &change)?;
+    notes.note_change(&change);
     Ok(Answer::Silence)
 }

@@ -5,6 +5,7 @@ ghost use Rattle.laws_model.specs.Decision.{decision_of};
 ghost use Rattle.hall_types.specs.Hall.{Hall, new_hall, second};
 ghost use Rattle.desk_views.specs.Look.{Looks};
 ghost use Rattle.boot_desk.specs.Sound.{IsSound};
+ghost use Rattle.hall_desk.specs.Account.{IsFound, IsReadAs};
 ghost use Rattle.hall_desk.specs.Attempt.{ChangeNothing, GivesAnswer};
 ghost use Rattle.hall_desk.specs.Desk.{site_of, store_of};
 ghost use Rattle.hall_desk.specs.Headline.{HasHistory};
@@ -13,6 +14,7 @@ ghost use Rattle.hall_desk.specs.Octets.{IsGiven};
 ghost use Rattle.hall_desk.specs.Plan.{CarriesOut, Plans};
 ghost use Rattle.hall_desk.specs.Stops.{AndCutRun, AreAnswered, HasRun, IsLeft, IsSettled, OrUnanswered, OrUnreplied};
 
+use crate::account::{Account, Came, Notes};
 use crate::arrival::{Answer, Arrival};
 use crate::attempts::{attempt, missed};
 use crate::laws::histories_keep_the_laws;
@@ -31,6 +33,8 @@ use std::alloc::{AllocError, Global};
 pub struct Desk<S> {
     store: S,
     place: Place,
+    // Whether unknown clients are enlisted.
+    enlists: bool,
 }
 
 impl<S: HallStore> Desk<S> {
@@ -41,7 +45,22 @@ impl<S: HallStore> Desk<S> {
         ensures history { (admin digest : List ℕ) → S.HallStore.holds store (new_hall second admin digest) → HasHistory S.HallStore.holds (store_of result) admin digest [] }
     {
         histories_keep_the_laws();
-        Desk { store, place }
+        Desk {
+            store,
+            place,
+            enlists: true,
+        }
+    }
+
+    /// The desk as one that enlists no unknown client: its frame counts as not having come, and gets silence.
+    pub fn without_enlisting(self) -> Desk<S>
+        ensures store { store_of result ≡ store_of self }
+        ensures site { site_of result ≡ site_of self }
+    {
+        Desk {
+            enlists: false,
+            ..self
+        }
     }
 
     /// The store, with the hall that the desk left.
@@ -63,7 +82,16 @@ impl<S: HallStore> Desk<S> {
         ensures plan { Looks S.HallStore.is_clean S.HallStore.holds S.HallStore.leaves (store_of self.old) (store_of self.new) result
             (λ h planned. Plans (decision_of (site_of self.old) h event.now moment fresh) planned) }
     {
-        planned(alloc, &mut self.store, &self.place, event, moment, fresh)
+        let mut notes = Notes::NONE;
+        planned(
+            alloc,
+            &mut self.store,
+            &self.place,
+            event,
+            moment,
+            fresh,
+            &mut notes,
+        )
     }
 
     /// Carries an event out: its rows are written, and its answer is given. After `Unavailable` the hall is as it was
@@ -115,6 +143,57 @@ impl<S: HallStore> Desk<S> {
         Ok(reply)
     }
 
+    /// Answers what came, and gives an account of it for a log. After `Unavailable`, and after a datagram's silence, the hall may be as it
+    /// was before. With all that came to the hall since it was new, at this place or others, it is a history that keeps all laws. A stop
+    /// at any moment leaves the hall before it or the hall after it, of a store that was settled; once it was answered, the hall after it
+    /// alone.
+    pub fn answer_with_account(&mut self, alloc: Global, arrival: &Arrival) -> (Answer, Account)
+        ensures site { site_of self.new ≡ site_of self.old }
+        ensures answer { GivesAnswer S.HallStore.is_clean S.HallStore.holds S.HallStore.leaves (store_of self.old) (store_of self.new)
+            (site_of self.old) arrival.now.input arrival.now.moment arrival.now.fresh result.0 }
+        ensures history { S.HallStore.is_clean (store_of self.new) → (admin digest : List ℕ) (past : List Item)
+            → HasHistory S.HallStore.holds (store_of self.old) admin digest past
+            → HasHistory S.HallStore.holds (store_of self.new) admin digest (past ++ exchanged (site_of self.old) arrival.now result.0 ∷ []) }
+        ensures settled { S.HallStore.is_clean (store_of self.new) → (admin digest : List ℕ) (past : List Item)
+            → (was : IsSettled S.HallStore.holds S.HallStore.leaves (store_of self.old) admin digest past)
+            → IsGiven (site_of self.old) was.history.end arrival.now.input arrival.now.moment arrival.now.fresh result.0
+            → IsSettled S.HallStore.holds S.HallStore.leaves (store_of self.new) admin digest (past ++ exchanged (site_of self.old) arrival.now result.0 ∷ []) }
+        ensures stop { S.HallStore.is_clean (store_of self.new) → (admin digest : List ℕ) (past : List Item)
+            → IsSettled S.HallStore.holds S.HallStore.leaves (store_of self.old) admin digest past
+            → IsLeft S.HallStore.leaves (store_of self.new) admin digest (OrUnanswered past (site_of self.old) arrival.now) }
+        ensures came { IsReadAs arrival.now.input result.1.came }
+        ensures found { S.HallStore.is_clean (store_of self.new) → (h : Hall) → S.HallStore.holds (store_of self.old) h → IsFound h arrival.now.input result.1 }
+    {
+        histories_keep_the_laws();
+        self.take(alloc, arrival)
+    }
+
+    // Answers what came, with an account of it.
+    #[tactic(auto, using(crate::proofs::AttemptLemmas::answered_ok, crate::proofs::AttemptLemmas::answered_err))]
+    fn take(&mut self, alloc: Global, arrival: &Arrival) -> (Answer, Account)
+        ensures site { site_of self.new ≡ site_of self.old }
+        ensures answer { GivesAnswer S.HallStore.is_clean S.HallStore.holds S.HallStore.leaves (store_of self.old) (store_of self.new)
+            (site_of self.old) arrival.now.input arrival.now.moment arrival.now.fresh result.0 }
+        ensures came { IsReadAs arrival.now.input result.1.came }
+        ensures found { S.HallStore.is_clean (store_of self.new) → (h : Hall) → S.HallStore.holds (store_of self.old) h → IsFound h arrival.now.input result.1 }
+    {
+        let mut account = Account {
+            came: Came::Quiet,
+            notes: Notes::NONE,
+        };
+        match attempt(
+            alloc,
+            &mut self.store,
+            &self.place,
+            arrival,
+            self.enlists,
+            &mut account,
+        ) {
+            Ok(answer) => (answer, account),
+            Err(Unavailable) => (missed(&arrival.input), account),
+        }
+    }
+
     /// Answers what came. After `Unavailable`, and after a datagram's silence, the hall may be as it was before. With all that came to
     /// the hall since it was new, at this place or others, it is a history that keeps all laws. A stop at any moment leaves the hall
     /// before it or the hall after it, of a store that was settled; once it was answered, the hall after it alone.
@@ -133,21 +212,8 @@ impl<S: HallStore> Desk<S> {
             → IsSettled S.HallStore.holds S.HallStore.leaves (store_of self.old) admin digest past
             → IsLeft S.HallStore.leaves (store_of self.new) admin digest (OrUnanswered past (site_of self.old) arrival.now) }
     {
-        histories_keep_the_laws();
-        self.take(alloc, arrival)
-    }
-
-    // Answers what came.
-    #[tactic(auto, using(crate::proofs::AttemptLemmas::answered_ok, crate::proofs::AttemptLemmas::answered_err))]
-    fn take(&mut self, alloc: Global, arrival: &Arrival) -> Answer
-        ensures site { site_of self.new ≡ site_of self.old }
-        ensures answer { GivesAnswer S.HallStore.is_clean S.HallStore.holds S.HallStore.leaves (store_of self.old) (store_of self.new)
-            (site_of self.old) arrival.now.input arrival.now.moment arrival.now.fresh result }
-    {
-        match attempt(alloc, &mut self.store, &self.place, arrival) {
-            Ok(answer) => answer,
-            Err(Unavailable) => missed(&arrival.input),
-        }
+        let (answer, _) = self.answer_with_account(alloc, arrival);
+        answer
     }
 
     /// Answers what comes in turn, one answer each. A hall stays, sound or not, that none of it changes. With all that came to the hall

@@ -1,12 +1,14 @@
 //! The desk: what comes is decided on a hall's rows, written to the store, and answered.
 #![tactic(auto)]
 
+mod account;
 mod arrival;
 mod attempts;
 mod carrying;
 mod desk;
 mod laws;
 mod listing;
+mod moved;
 mod octets;
 mod planning;
 mod plans;
@@ -16,7 +18,9 @@ mod serving;
 mod typed;
 mod writing;
 
+pub use account::{Account, Came, Notes};
 pub use arrival::{Answer, Arrival, Input};
 pub use desk::Desk;
 pub use laws::{histories_go_on, histories_keep_the_laws, items_are_steps};
+pub use moved::{Moved, Seen};
 pub use serving::Served;

@@ -3,6 +3,7 @@ ghost use Rattle.laws_model.specs.Decision.{decision_of};
 ghost use Rattle.desk_views.specs.Look.{Looks};
 ghost use Rattle.hall_desk.specs.Plan.{Plans};
 
+use crate::account::Notes;
 use crate::plans::{plan_frame, plan_quiet, plan_report, plan_script};
 use crate::requests::{
     plan_command, plan_machines, plan_one_machine, plan_order_answer, plan_orders,
@@ -22,33 +23,34 @@ pub(crate) fn planned<S: HallStore>(
     event: &Event,
     moment: Moment,
     fresh: Token,
+    notes: &mut Notes,
 ) -> Result<(Change, Reply), Unavailable>
     ensures { Looks S.HallStore.is_clean S.HallStore.holds S.HallStore.leaves store.old store.new result
         (λ h its. Plans (decision_of place.now h event.now moment fresh) its) }
 {
     match event {
         Event::Frame { port, client } => plan_frame(alloc, store, place, *port, client),
-        Event::Script { mac } => plan_script(alloc, store, place, *mac, moment, fresh),
+        Event::Script { mac } => plan_script(alloc, store, place, *mac, moment, fresh, notes),
         Event::Report {
             boot,
             token,
             progress,
-        } => plan_report(alloc, store, *boot, *token, *progress, moment),
-        Event::Orders { bearer } => plan_orders(alloc, store, *bearer),
+        } => plan_report(alloc, store, *boot, *token, *progress, moment, notes),
+        Event::Orders { bearer } => plan_orders(alloc, store, *bearer, notes),
         Event::OrderAnswer {
             bearer,
             order,
             outcome,
-        } => plan_order_answer(alloc, store, *bearer, *order, *outcome, moment),
-        Event::Machines { bearer } => plan_machines(alloc, store, *bearer),
+        } => plan_order_answer(alloc, store, *bearer, *order, *outcome, moment, notes),
+        Event::Machines { bearer } => plan_machines(alloc, store, *bearer, notes),
         Event::OneMachine { bearer, machine } => {
-            plan_one_machine(alloc, store, *bearer, *machine)
+            plan_one_machine(alloc, store, *bearer, *machine, notes)
         }
         Event::Command {
             bearer,
             key,
             command,
-        } => plan_command(alloc, store, *bearer, *key, command, moment),
-        Event::Quiet => plan_quiet(alloc, store, moment),
+        } => plan_command(alloc, store, *bearer, *key, command, moment, notes),
+        Event::Quiet => plan_quiet(alloc, store, moment, notes),
     }
 }

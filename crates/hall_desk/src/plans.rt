@@ -17,6 +17,7 @@ ghost use Rattle.laws_model.specs.Decision.{framed, given_if, judged, refuses, v
 ghost use Rattle.desk_views.specs.Look.{Looks};
 ghost use Rattle.hall_desk.specs.Plan.{Plans, rows_for};
 
+use crate::account::Notes;
 use boot_desk::{Decision, DeskFault, Verdict, enlist, fetch, frame, order_answer, report, sweep};
 use desk_views::{expired_view, frame_view, order_view, report_view, view_at};
 use hall_events::Reply;
@@ -143,11 +144,14 @@ pub(crate) fn plan_script<S: HallStore>(
     mac: MacAddress,
     moment: Moment,
     fresh: Token,
+    notes: &mut Notes,
 ) -> Result<(Change, Reply), Unavailable>
     ensures { Looks S.HallStore.is_clean S.HallStore.holds S.HallStore.leaves store.old store.new result
         (λ h planned. Plans (given_if place.now.host (view.view_at h mac) moment fresh) planned) }
 {
-    match view_at(alloc, store, mac)? {
+    let view = view_at(alloc, store, mac)?;
+    notes.note_boot_view(&view);
+    match view {
         Some(view) => script_plan(alloc, fetch(alloc, &view, place, moment, fresh)),
         None => refused(alloc, Refusal::NoMachine),
     }
@@ -188,11 +192,13 @@ pub(crate) fn plan_report<S: HallStore>(
     token: Token,
     progress: Progress,
     moment: Moment,
+    notes: &mut Notes,
 ) -> Result<(Change, Reply), Unavailable>
     ensures { Looks S.HallStore.is_clean S.HallStore.holds S.HallStore.leaves store.old store.new result
         (λ h planned. Plans (judged (reported (view.report_view h boot) token progress moment)) planned) }
 {
     let view = report_view(alloc, store, boot)?;
+    notes.note_report_view(&view);
     verdict_plan(alloc, report(alloc, view.as_ref(), token, progress, moment))
 }
 
@@ -203,11 +209,13 @@ pub(crate) fn judge_answer<S: HallStore>(
     order: Number,
     outcome: Outcome,
     moment: Moment,
+    notes: &mut Notes,
 ) -> Result<(Change, Reply), Unavailable>
     ensures { Looks S.HallStore.is_clean S.HallStore.holds S.HallStore.leaves store.old store.new result
         (λ h planned. Plans (judged (answered (view.order_view h order) outcome moment)) planned) }
 {
     let view = order_view(alloc, store, order)?;
+    notes.note_order_view(&view);
     verdict_plan(alloc, order_answer(alloc, view.as_ref(), outcome, moment))
 }
 
@@ -227,10 +235,12 @@ pub(crate) fn plan_quiet<S: HallStore>(
     alloc: Global,
     store: &mut S,
     moment: Moment,
+    notes: &mut Notes,
 ) -> Result<(Change, Reply), Unavailable>
     ensures { Looks S.HallStore.is_clean S.HallStore.holds S.HallStore.leaves store.old store.new result
         (λ h planned. Plans (record { rows = swept (view.machine_view h (next_expired h moment)) moment; content = nothing }) planned) }
 {
     let view = expired_view(alloc, store, moment)?;
+    notes.note_boot_view(&view);
     quiet_plan(sweep(alloc, view.as_ref(), moment))
 }

@@ -14,6 +14,7 @@ ghost use Rattle.hall_events.specs.Reply.{machine_list, waiting_orders};
 ghost use Rattle.desk_views.specs.Look.{Looks};
 ghost use Rattle.hall_desk.specs.Plan.{Plans};
 
+use crate::account::Notes;
 use crate::listing::list_machines;
 use crate::plans::{judge_answer, refused};
 use boot_desk::DeskFault;
@@ -23,6 +24,19 @@ use hall_events::{HallCommand, Reply};
 use hall_store::{HallStore, Unavailable};
 use hall_types::{Change, Digest, Moment, Number, Operator, Outcome, Refusal, RequestKey, Role};
 use std::alloc::{AllocError, Global};
+
+// The operator of a bearer token's digest, who is noted.
+fn noted_sender<S: HallStore>(
+    store: &mut S,
+    bearer: Option<Digest>,
+    notes: &mut Notes,
+) -> Result<Option<Operator>, Unavailable>
+    ensures { Looks S.HallStore.is_clean S.HallStore.holds S.HallStore.leaves store.old store.new result (λ h answer. answer ≡ commands.sender h bearer) }
+{
+    let operator = sender(store, bearer)?;
+    notes.note_operator(&operator);
+    Ok(operator)
+}
 
 // ---- commands
 
@@ -48,6 +62,7 @@ fn plan_new_command<S: HallStore>(
     key: RequestKey,
     wish: &HallCommand,
     moment: Moment,
+    notes: &mut Notes,
 ) -> Result<(Change, Reply), Unavailable>
     ensures { Looks S.HallStore.is_clean S.HallStore.holds S.HallStore.leaves store.old store.new result
         (λ h planned. Plans (commanded (commands.keyed h by.now None key wish.now moment)) planned) }
@@ -56,6 +71,7 @@ fn plan_new_command<S: HallStore>(
         return refused(alloc, Refusal::RoleNeeded);
     }
     let view = command_view(alloc, store, by, wish)?;
+    notes.note_command_view(&view);
     command_plan(alloc, command(alloc, &view, by, key, wish, moment))
 }
 
@@ -67,13 +83,14 @@ fn plan_keyed<S: HallStore>(
     key: RequestKey,
     wish: &HallCommand,
     moment: Moment,
+    notes: &mut Notes,
 ) -> Result<(Change, Reply), Unavailable>
     ensures { Looks S.HallStore.is_clean S.HallStore.holds S.HallStore.leaves store.old store.new result
         (λ h planned. Plans (commanded (commands.keyed h by.now (at h.receipts (pair by.now.name key)) key wish.now moment)) planned) }
 {
     match store.receipt(alloc, &by.name, key)? {
         Some(receipt) => command_plan(alloc, repeated(alloc, &receipt, wish)),
-        None => plan_new_command(alloc, store, by, key, wish, moment),
+        None => plan_new_command(alloc, store, by, key, wish, moment, notes),
     }
 }
 
@@ -85,12 +102,13 @@ pub(crate) fn plan_command<S: HallStore>(
     key: RequestKey,
     wish: &HallCommand,
     moment: Moment,
+    notes: &mut Notes,
 ) -> Result<(Change, Reply), Unavailable>
     ensures { Looks S.HallStore.is_clean S.HallStore.holds S.HallStore.leaves store.old store.new result
         (λ h planned. Plans (commanded (commands.command_decision h bearer key wish.now moment)) planned) }
 {
-    match sender(store, bearer)? {
-        Some(by) if by.enabled => plan_keyed(alloc, store, &by, key, wish, moment),
+    match noted_sender(store, bearer, notes)? {
+        Some(by) if by.enabled => plan_keyed(alloc, store, &by, key, wish, moment, notes),
         Some(_) | None => refused(alloc, Refusal::UnknownToken),
     }
 }
@@ -152,11 +170,12 @@ pub(crate) fn plan_orders<S: HallStore>(
     alloc: Global,
     store: &mut S,
     bearer: Option<Digest>,
+    notes: &mut Notes,
 ) -> Result<(Change, Reply), Unavailable>
     ensures { Looks S.HallStore.is_clean S.HallStore.holds S.HallStore.leaves store.old store.new result
         (λ h planned. Plans (if_role may_see_orders (commands.sender h bearer) (says (waiting_orders (waiting h)))) planned) }
 {
-    match sender(store, bearer)? {
+    match noted_sender(store, bearer, notes)? {
         Some(by) if by.enabled => {
             if may_see_orders(by.role) {
                 list_orders(alloc, store)
@@ -175,14 +194,15 @@ pub(crate) fn plan_order_answer<S: HallStore>(
     order: Number,
     outcome: Outcome,
     moment: Moment,
+    notes: &mut Notes,
 ) -> Result<(Change, Reply), Unavailable>
     ensures { Looks S.HallStore.is_clean S.HallStore.holds S.HallStore.leaves store.old store.new result
         (λ h planned. Plans (if_role may_answer (commands.sender h bearer) (judged (answered (view.order_view h order) outcome moment))) planned) }
 {
-    match sender(store, bearer)? {
+    match noted_sender(store, bearer, notes)? {
         Some(by) if by.enabled => {
             if may_answer(by.role) {
-                judge_answer(alloc, store, order, outcome, moment)
+                judge_answer(alloc, store, order, outcome, moment, notes)
             } else {
                 refused(alloc, Refusal::RoleNeeded)
             }
@@ -212,11 +232,12 @@ pub(crate) fn plan_one_machine<S: HallStore>(
     store: &mut S,
     bearer: Option<Digest>,
     id: Number,
+    notes: &mut Notes,
 ) -> Result<(Change, Reply), Unavailable>
     ensures { Looks S.HallStore.is_clean S.HallStore.holds S.HallStore.leaves store.old store.new result
         (λ h planned. Plans (if_role may_see_machines (commands.sender h bearer) (listed_if h (at h.machines id))) planned) }
 {
-    match sender(store, bearer)? {
+    match noted_sender(store, bearer, notes)? {
         Some(by) if by.enabled => {
             if may_see_machines(by.role) {
                 list_one(alloc, store, id)
@@ -232,11 +253,12 @@ pub(crate) fn plan_machines<S: HallStore>(
     alloc: Global,
     store: &mut S,
     bearer: Option<Digest>,
+    notes: &mut Notes,
 ) -> Result<(Change, Reply), Unavailable>
     ensures { Looks S.HallStore.is_clean S.HallStore.holds S.HallStore.leaves store.old store.new result
         (λ h planned. Plans (if_role may_see_machines (commands.sender h bearer) (says (machine_list (map (listed_of h) (listed h.machines))))) planned) }
 {
-    match sender(store, bearer)? {
+    match noted_sender(store, bearer, notes)? {
         Some(by) if by.enabled => {
             if may_see_machines(by.role) {
                 list_machines(alloc, store)

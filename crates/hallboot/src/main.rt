@@ -5,9 +5,9 @@
 mod tasks;
 
 use desk_operations::{Exit, Fault};
-use hallboot_tasks::fault_of;
-use hallboot_words::{Refusal, read};
-use std::io::ErrorKind;
+use hallboot_tasks::{fault_of, reason};
+use hallboot_words::{Refusal, Words, read};
+use std::io::{ErrorKind, IsTerminal};
 use std::process::ExitCode;
 use std::{env, io};
 
@@ -50,9 +50,26 @@ fn status_of_refusal(rt: &HostRuntime, refusal: &Refusal) -> u8 {
     refusal.status()
 }
 
+// What a fault is about, in a second line, where that is asked for, or people read it.
+fn explain(rt: &HostRuntime, words: &Words<'_>, exit: Exit) {
+    if let Exit::Fault(fault) = exit
+        && (words.why || rt.stderr().is_terminal())
+        && let Some(reason) = reason(rt, words, fault)
+    {
+        let _ = eprintln!(rt; "hallboot: {reason}");
+    }
+}
+
+fn status_of_task(rt: &HostRuntime, words: &Words<'_>) -> u8 {
+    let exit = tasks::done(rt, words);
+    let status = status(rt, exit);
+    explain(rt, words, exit);
+    status
+}
+
 fn run(rt: &HostRuntime, words: &[String]) -> u8 {
     match read(rt.alloc(), words) {
-        Ok(words) => status(rt, tasks::done(rt, &words)),
+        Ok(words) => status_of_task(rt, &words),
         Err(refusal) => status_of_refusal(rt, &refusal),
     }
 }

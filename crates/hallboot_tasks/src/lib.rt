@@ -2,6 +2,7 @@
 #![tactic(auto)]
 
 mod carrying;
+mod explaining;
 mod lines;
 mod outlet;
 mod random_block;
@@ -12,8 +13,10 @@ mod stamps;
 mod suspended;
 mod tasks;
 mod values;
+mod wrong_options;
 
 pub use carrying::carried_out;
+pub use explaining::reason;
 pub use outlet::tell;
 pub use reading::fault_of;
 pub use suspended::Suspended;

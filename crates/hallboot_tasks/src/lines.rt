@@ -1,35 +1,28 @@
 //! The log of a service's turns.
 use crate::outlet::Outlet;
-use desk_operations::{Failures, TimeFormat, UNSTAMPED_LINE, arrival_text, is_of_note, turn_line};
-use hall_desk::{Answer, Arrival};
+use desk_operations::{
+    Failures, LogFormat, arrival_members, arrival_text, is_of_note, turn_line, unstamped_line,
+};
+use hall_desk::{Account, Answer, Arrival};
 use hall_types::Moment;
 use serve_sockets::{Turn, TurnLog};
 use std::alloc::{AllocError, Global};
-use std::cell::RefCell;
-use store_watched::Sight;
 
 /// Tells turns to an outlet, if there is one.
 #[derive(Drop)]
-pub(crate) struct Lines<'a> {
+pub(crate) struct Lines {
     alloc: Global,
     outlet: Option<Outlet>,
-    // What the store noted of the arrival that the desk answers.
-    sight: &'a RefCell<Sight>,
     // The text of the last arrival, if it's of note and its turn wasn't told of yet. The error is want of memory for it.
     arrival: Option<Result<String, AllocError>>,
     failures: Failures,
 }
 
-impl<'a> Lines<'a> {
-    pub(crate) fn new(
-        alloc: Global,
-        outlet: Option<Outlet>,
-        sight: &'a RefCell<Sight>,
-    ) -> Lines<'a> {
+impl Lines {
+    pub(crate) fn new(alloc: Global, outlet: Option<Outlet>) -> Lines {
         Lines {
             alloc,
             outlet,
-            sight,
             arrival: None,
             failures: Failures::NONE,
         }
@@ -40,18 +33,24 @@ impl<'a> Lines<'a> {
     }
 }
 
-// What was noted for one arrival. Afterwards nothing is.
-fn take_sight(sight: &RefCell<Sight>) -> Sight {
-    match sight.try_take() {
-        Ok(sight) => sight,
-        Err(_) => Sight::default(),
+// What a log in a format says of an arrival.
+fn words_of(
+    alloc: Global,
+    format: LogFormat,
+    arrival: &Arrival,
+    answer: &Answer,
+    account: &Account,
+) -> Result<String, AllocError> {
+    match format {
+        LogFormat::Json => arrival_members(alloc, arrival, answer, account),
+        LogFormat::Seconds | LogFormat::Utc => arrival_text(alloc, arrival, answer, account),
     }
 }
 
 // The line of a turn, with the text of its arrival, if there is one.
 fn line_of(
     alloc: Global,
-    format: TimeFormat,
+    format: LogFormat,
     moment: Moment,
     turn: &Turn,
     arrival: Option<Result<String, AllocError>>,
@@ -62,11 +61,13 @@ fn line_of(
     }
 }
 
-impl<'a> TurnLog for Lines<'a> {
-    fn arrived(&mut self, arrival: &Arrival, answer: &Answer) {
-        let sight = take_sight(self.sight);
-        if self.outlet.is_some() && is_of_note(arrival, answer, &sight) {
-            self.arrival = Some(arrival_text(self.alloc, arrival, answer, &sight));
+impl TurnLog for Lines {
+    fn arrived(&mut self, arrival: &Arrival, answer: &Answer, account: &Account) {
+        if let Some(outlet) = &self.outlet
+            && is_of_note(arrival, answer, account)
+        {
+            let text = words_of(self.alloc, outlet.format(), arrival, answer, account);
+            self.arrival = Some(text);
         }
     }
 
@@ -89,7 +90,7 @@ impl<'a> TurnLog for Lines<'a> {
 
     fn unstamped(&mut self) {
         if let Some(outlet) = &mut self.outlet {
-            let line = String::from_str(self.alloc, UNSTAMPED_LINE);
+            let line = unstamped_line(self.alloc, outlet.format());
             outlet.write(self.alloc, None, line);
         }
     }

@@ -1,6 +1,6 @@
 //! Where the lines of a log go. A stream that takes no octets now, as a pipe that nobody reads, isn't waited for.
 use crate::reading::{fault_of, log_file};
-use desk_operations::{Fault, TimeFormat, moment_text};
+use desk_operations::{Fault, LogFormat, lost_line};
 use hall_types::Moment;
 use mio::event::Events;
 use mio::unix::SourceFd;
@@ -47,7 +47,7 @@ pub(crate) struct Outlet {
     // Says whether the stream takes octets now. There is none for a file of a disk, which always does.
     poll: Option<Poll>,
     events: Events,
-    format: TimeFormat,
+    format: LogFormat,
     lost: u64,
 }
 
@@ -62,28 +62,19 @@ fn watched(rt: &HostRuntime, stream: &Stream) -> io::Result<Option<Poll>> {
     Ok(registered.is_ok().then_some(poll))
 }
 
-// The line that says how many are missing before it, with the moment, if there is one. What was written of the last of them ends
-// before it.
-fn lost_line(
+// The line that says how many are missing before it. What was written of the last of them ends before it.
+fn broken_line(
     alloc: Global,
-    format: TimeFormat,
+    format: LogFormat,
     moment: Option<Moment>,
     lost: u64,
 ) -> Result<String, AllocError> {
-    let mut text = String::new(alloc);
-    text.push('\n')?;
-    if let Some(moment) = moment {
-        text.push_str(moment_text(alloc, format, moment)?.as_str())?;
-        text.push(' ')?;
-    }
-    text.push_str("- lost ")?;
-    text.push_str(lost.to_string(alloc)?.as_str())?;
-    text.push('\n')?;
-    Ok(text)
+    let line = lost_line(alloc, format, moment, lost)?;
+    format!(in alloc; "\n{line}")
 }
 
 impl Outlet {
-    fn over(rt: &HostRuntime, stream: Stream, format: TimeFormat) -> Result<Outlet, Fault> {
+    fn over(rt: &HostRuntime, stream: Stream, format: LogFormat) -> Result<Outlet, Fault> {
         let poll = match watched(rt, &stream) {
             Ok(poll) => poll,
             Err(error) => return Err(fault_of(&error)),
@@ -97,16 +88,16 @@ impl Outlet {
         })
     }
 
-    /// Standard error, where the path is `-`, or a file to which lines are added, with moments in this format.
-    pub(crate) fn at(rt: &HostRuntime, path: &str, format: TimeFormat) -> Result<Outlet, Fault> {
+    /// Standard error, where the path is `-`, or a file to which lines are added, in this format.
+    pub(crate) fn at(rt: &HostRuntime, path: &str, format: LogFormat) -> Result<Outlet, Fault> {
         if path == "-" {
             return Outlet::over(rt, Stream::Errors(rt.stderr()), format);
         }
         Outlet::over(rt, Stream::File(log_file(rt, path)?), format)
     }
 
-    /// How moments are written.
-    pub(crate) fn format(&self) -> TimeFormat {
+    /// How lines are written.
+    pub(crate) fn format(&self) -> LogFormat {
         self.format
     }
 
@@ -150,7 +141,7 @@ impl Outlet {
         moment: Option<Moment>,
         line: Result<String, AllocError>,
     ) {
-        if self.lost > 0 && self.is_written(lost_line(alloc, self.format, moment, self.lost)) {
+        if self.lost > 0 && self.is_written(broken_line(alloc, self.format, moment, self.lost)) {
             self.lost = 0;
         }
         if self.lost > 0 || !self.is_written(line) {
@@ -161,7 +152,7 @@ impl Outlet {
 
 /// Says something at standard error, unless that takes no octets now.
 pub fn tell(rt: &HostRuntime, text: Result<String, AllocError>) {
-    if let Ok(mut outlet) = Outlet::at(rt, "-", TimeFormat::Seconds) {
+    if let Ok(mut outlet) = Outlet::at(rt, "-", LogFormat::Seconds) {
         outlet.write(rt.alloc(), None, text);
     }
 }

@@ -11,10 +11,8 @@ use hall_store::HallStore;
 use pxe_vendor::{Place, PlaceFault};
 use serve_sockets::{Service, Source, TurnLog};
 use std::alloc::Global;
-use std::cell::RefCell;
 use std::time::Instant;
 use store_cached::Cached;
-use store_watched::{Sight, Watched};
 
 /// After how many turns it is looked whether the hall's file is still there.
 const LOOK: u64 = 8;
@@ -30,12 +28,13 @@ enum Ended {
     Gone,
 }
 
-/// A file, and how many turns are to be served over its hall.
+/// A file, and how many turns are to be served over its hall, with unknown clients enlisted or not.
 #[derive(Drop)]
 struct Part<'a> {
     path: &'a str,
     file: ServedFile,
     turns: u64,
+    enlists: bool,
 }
 
 // Serves a part's turns, and says how that ended and how many turns are left.
@@ -60,11 +59,20 @@ fn serve_part<S: HallStore, C: Source, L: TurnLog>(
     (Ended::Served, left)
 }
 
-// Serves over a store that notes in the cell what it is asked.
-fn serve_noted<S: HallStore>(
+// The desk of a store's hall.
+fn desk_over<S: HallStore>(store: S, place: Place, enlists: bool) -> Desk<S> {
+    let desk = Desk::new(store, place);
+    if enlists {
+        desk
+    } else {
+        desk.without_enlisting()
+    }
+}
+
+// Serves a part over a store, and says how that ended and how many turns are left.
+fn serve_over<S: HallStore>(
     rt: &HostRuntime,
     store: S,
-    sight: &RefCell<Sight>,
     place: Place,
     bound: Bound,
     part: &Part<'_>,
@@ -74,9 +82,9 @@ fn serve_noted<S: HallStore>(
         log,
         start,
     } = bound;
-    let mut service = Service::new(rt.alloc(), Desk::new(store, place), sockets);
+    let mut service = Service::new(rt.alloc(), desk_over(store, place, part.enlists), sockets);
     let mut stamps = Stamps::since(rt, start);
-    let mut lines = Lines::new(rt.alloc(), log, sight);
+    let mut lines = Lines::new(rt.alloc(), log);
     let ended = serve_part(rt, &mut service, &mut stamps, &mut lines, part);
     let (desk, sockets) = service.into_parts();
     let bound = Bound {
@@ -85,20 +93,6 @@ fn serve_noted<S: HallStore>(
         start,
     };
     (ended, desk.into_store(), bound)
-}
-
-// Serves over a store, noting what it is asked.
-fn serve_watched<S: HallStore>(
-    rt: &HostRuntime,
-    store: S,
-    place: Place,
-    bound: Bound,
-    part: &Part<'_>,
-) -> ((Ended, u64), S, Bound) {
-    let sight = RefCell::new(Sight::default());
-    let watched = Watched::new(store, &sight);
-    let (ended, watched, bound) = serve_noted(rt, watched, &sight, place, bound, part);
-    (ended, watched.into_inner(), bound)
 }
 
 // A place of its own for a desk.
@@ -180,8 +174,9 @@ pub(crate) fn serve<S: HallStore>(
         path: serving.path.as_str(),
         file,
         turns: suspended.left(),
+        enlists: serving.enlists,
     };
-    let ((ended, left), cached, bound) = serve_watched(rt, cached, place, bound, &part);
+    let ((ended, left), cached, bound) = serve_over(rt, cached, place, bound, &part);
     let outcome = told(rt, serving.path.as_str(), ended, &bound);
     suspended.keep(bound, left, ended == Ended::Shut);
     (outcome, cached.into_inner())

@@ -3,7 +3,7 @@
 use crate::reading::octets_of;
 use crate::suspended::Suspended;
 use crate::values;
-use desk_operations::{Fault, TimeFormat, What};
+use desk_operations::{Fault, LogFormat, What};
 use hall_types::{Digest, Moment, Name, Port, Token};
 use hallboot_words::{Subcommand, Words};
 use pxe_vendor::Place;
@@ -44,7 +44,8 @@ pub struct Serving {
     pub place: Place,
     pub addresses: Addresses,
     pub log: Option<String>,
-    pub format: TimeFormat,
+    pub format: LogFormat,
+    pub enlists: bool,
     pub turns: u64,
 }
 
@@ -120,7 +121,8 @@ fn serve<'a>(rt: &HostRuntime, words: &Words<'a>) -> Result<Asked<'a>, Fault> {
     let path = values::db(words)?;
     let addresses = values::addresses(words)?;
     let turns = values::turns(words)?;
-    let format = values::log_time(words)?;
+    let format = values::log_format(words)?;
+    let enlists = values::enlists(words)?;
     let place = values::place(rt.alloc(), words)?;
     let log = copied(rt.alloc(), words.log)?;
     Ok(Asked::Serve(Serving {
@@ -129,6 +131,7 @@ fn serve<'a>(rt: &HostRuntime, words: &Words<'a>) -> Result<Asked<'a>, Fault> {
         addresses,
         log,
         format,
+        enlists,
         turns,
     }))
 }

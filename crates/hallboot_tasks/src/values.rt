@@ -1,7 +1,7 @@
 //! The values of options. `BadInput` is one that isn't of its form.
 use crate::reading::first_line;
 use desk_operations::{
-    Fault, TimeFormat, What, count_of, digest_of, fresh_of, is_bearer_token, moment_of, what_of,
+    Fault, LogFormat, What, count_of, digest_of, fresh_of, is_bearer_token, moment_of, what_of,
 };
 use hall_types::{Digest, Moment, Name, Port, Token};
 use hallboot_words::Words;
@@ -21,6 +21,11 @@ fn ip(text: &str) -> Result<[u8; 4], Fault> {
         Ok(address) => Ok(address.octets()),
         Err(_) => Err(Fault::BadInput),
     }
+}
+
+/// Whether a text is an address with a port.
+pub(crate) fn is_socket(text: &str) -> bool {
+    socket(text).is_ok()
 }
 
 fn socket(text: &str) -> Result<SocketAddr, Fault> {
@@ -52,11 +57,21 @@ pub(crate) fn role(words: &Words<'_>) -> Result<Port, Fault> {
     }
 }
 
-/// How the log of a service writes moments.
-pub(crate) fn log_time(words: &Words<'_>) -> Result<TimeFormat, Fault> {
-    match text(words.log_time)? {
-        "seconds" => Ok(TimeFormat::Seconds),
-        "utc" => Ok(TimeFormat::Utc),
+/// How the log of a service is written.
+pub(crate) fn log_format(words: &Words<'_>) -> Result<LogFormat, Fault> {
+    match (text(words.log_format)?, text(words.log_time)?) {
+        ("text", "seconds") => Ok(LogFormat::Seconds),
+        ("text", "utc") => Ok(LogFormat::Utc),
+        ("json", "seconds" | "utc") => Ok(LogFormat::Json),
+        _ => Err(Fault::BadInput),
+    }
+}
+
+/// Whether unknown clients are enlisted.
+pub(crate) fn enlists(words: &Words<'_>) -> Result<bool, Fault> {
+    match text(words.enlist)? {
+        "yes" => Ok(true),
+        "no" => Ok(false),
         _ => Err(Fault::BadInput),
     }
 }

@@ -26,6 +26,14 @@ fn arg<'a>(alloc: Global, word: &Word) -> Arg<'a> {
     }
 }
 
+// Each subcommand has it.
+fn why<'a>(alloc: Global) -> Arg<'a> {
+    Arg::new(alloc, "why")
+        .long("why")
+        .help("Says in a second line what a fault is about, as it does at a terminal")
+        .action(ArgAction::SetTrue)
+}
+
 fn with<'a>(
     alloc: Global,
     command: Command<'a>,
@@ -49,7 +57,7 @@ fn new<'a>(
 
 fn command_of<'a>(alloc: Global, entry: &Entry) -> Result<Command<'a>, AllocError> {
     let command = new(alloc, entry.name, entry.about, entry.example);
-    let command = with(alloc, command, entry.words)?;
+    let command = with(alloc, command, entry.words)?.arg(why(alloc))?;
     if entry.has_place {
         with(alloc, command, &PLACE)
     } else {

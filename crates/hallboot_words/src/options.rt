@@ -106,6 +106,20 @@ pub(crate) const LOG_TIME: Word = Word {
     given: Given::OrElse("seconds"),
 };
 
+pub(crate) const ENLIST: Word = Word {
+    name: "enlist",
+    value: "ENLIST",
+    help: "yes; or no: unknown clients get silence, and machines are added by hand",
+    given: Given::OrElse("yes"),
+};
+
+pub(crate) const LOG_FORMAT: Word = Word {
+    name: "log-format",
+    value: "FORMAT",
+    help: "text, or json: an object a line, with the time in UTC",
+    given: Given::OrElse("text"),
+};
+
 pub(crate) const LOG: Word = Word {
     name: "log",
     value: "FILE",

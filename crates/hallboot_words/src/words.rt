@@ -11,6 +11,8 @@ use std::alloc::Global;
 #[derive(Clone, Copy)]
 pub struct Words<'a> {
     pub subcommand: Subcommand,
+    /// Whether the reason of a fault is asked for.
+    pub why: bool,
     pub role: Option<&'a str>,
     pub db: Option<&'a str>,
     pub admin: Option<&'a str>,
@@ -21,7 +23,9 @@ pub struct Words<'a> {
     pub boot: Option<&'a str>,
     pub http: Option<&'a str>,
     pub turns: Option<&'a str>,
+    pub enlist: Option<&'a str>,
     pub log: Option<&'a str>,
+    pub log_format: Option<&'a str>,
     pub log_time: Option<&'a str>,
     pub what: Option<&'a str>,
     pub token: Option<&'a str>,
@@ -35,6 +39,7 @@ pub struct Words<'a> {
 // What is done without a word.
 const FRAME: Words<'static> = Words {
     subcommand: Subcommand::Frame,
+    why: false,
     role: Some("discover"),
     db: None,
     admin: None,
@@ -45,7 +50,9 @@ const FRAME: Words<'static> = Words {
     boot: None,
     http: None,
     turns: None,
+    enlist: None,
     log: None,
+    log_format: None,
     log_time: None,
     what: None,
     token: None,
@@ -59,6 +66,7 @@ const FRAME: Words<'static> = Words {
 fn words_of<'a>(subcommand: Subcommand, matches: &ArgMatches<'a>) -> Words<'a> {
     Words {
         subcommand,
+        why: matches.get_flag("why"),
         role: matches.get_str("role"),
         db: matches.get_str("db"),
         admin: matches.get_str("admin"),
@@ -69,7 +77,9 @@ fn words_of<'a>(subcommand: Subcommand, matches: &ArgMatches<'a>) -> Words<'a> {
         boot: matches.get_str("boot"),
         http: matches.get_str("http"),
         turns: matches.get_str("turns"),
+        enlist: matches.get_str("enlist"),
         log: matches.get_str("log"),
+        log_format: matches.get_str("log-format"),
         log_time: matches.get_str("log-time"),
         what: matches.get_str("what"),
         token: matches.get_str("token"),

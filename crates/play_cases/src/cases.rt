@@ -4,6 +4,7 @@ use crate::printing::Answer;
 use crate::{
     answers, decisions, ends, faults, frames, kinds, life, logs, office, records, requests, scripts,
 };
+use desk_operations::LogFormat;
 use std::alloc::Global;
 
 /// Prints the answer to the case of a line, `KIND REST`.
@@ -93,8 +94,12 @@ fn play_office(alloc: Global, kind: &str, rest: &str, out: &mut Answer) -> Resul
 fn play_log_line(alloc: Global, kind: &str, rest: &str, out: &mut Answer) -> Result<(), Cause> {
     match kind {
         "arrival" => logs::arrival(alloc, rest, out),
-        "turn" => logs::turn(alloc, rest, out),
-        "failures" => logs::failures(alloc, rest, out),
+        "turn" => logs::turn(alloc, LogFormat::Seconds, rest, out),
+        "turn_object" => logs::turn(alloc, LogFormat::Json, rest, out),
+        "failures" => logs::failures(alloc, LogFormat::Seconds, rest, out),
+        "failures_object" => logs::failures(alloc, LogFormat::Json, rest, out),
+        "lost" => logs::lost(alloc, LogFormat::Utc, rest, out),
+        "lost_object" => logs::lost(alloc, LogFormat::Json, rest, out),
         "utc" => logs::utc(alloc, rest, out),
         "unknown" => logs::unknown(alloc, rest, out),
         "takes" => ends::takes(rest, out),

@@ -4,14 +4,17 @@ use crate::decisions::numbers;
 use crate::escapes::octets;
 use crate::printing::Answer;
 use crate::values::{halves, moment, number};
-use desk_operations::{Failures, TimeFormat, arrival_text, moment_text, turn_line};
-use hall_desk::{Arrival, Input};
+use boot_desk::{FrameView, frame};
+use desk_operations::{
+    Failures, LogFormat, arrival_text, lost_line, moment_text, turn_line, unstamped_line,
+};
+use dhcp_frame::read;
+use hall_desk::{Account, Arrival, Came, Input, Notes};
 use hall_types::{Port, Token};
-use pxe_vendor::Octets;
+use pxe_vendor::{Octets, client};
 use serve_sockets::{Close, Handover, Kind, Said, Turn};
 use std::alloc::Global;
 use std::net::{IpAddr, Ipv4Addr, SocketAddr};
-use store_watched::Sight;
 
 /// Whether a line is an arrival's: `taken`, or its fault.
 pub fn arrival(alloc: Global, rest: &str, out: &mut Answer) -> Result<(), Cause> {
@@ -40,6 +43,10 @@ fn turn_of(word: &str) -> Result<Turn, Cause> {
             from,
             cause: Close::Crowded,
         }),
+        "accepted" => Ok(Turn::Accepted {
+            from,
+            instead_of: Some(from),
+        }),
         "quiet" => Ok(Turn::Handed(Handover {
             kind: Kind::Quiet,
             from: None,
@@ -51,14 +58,13 @@ fn turn_of(word: &str) -> Result<Turn, Cause> {
     }
 }
 
-/// The line of a turn at the moment 1,790,000,000, `TURN` or `TURN ARRIVAL`, with the text of its arrival.
-pub fn turn(alloc: Global, rest: &str, out: &mut Answer) -> Result<(), Cause> {
+/// The line of a turn at the moment 1,790,000,000, `TURN` or `TURN ARRIVAL`, with the text or the members of its arrival.
+pub fn turn(alloc: Global, format: LogFormat, rest: &str, out: &mut Answer) -> Result<(), Cause> {
     let (word, arrival) = match rest.split_once(' ') {
         Some((word, text)) => (word, Some(text)),
         None => (rest, None),
     };
     let turn = turn_of(word)?;
-    let format = TimeFormat::Seconds;
     match &turn_line(alloc, format, moment(1_790_000_000)?, &turn, arrival)? {
         Some(line) => out.escaped(line.as_bytes()),
         None => out.push("none"),
@@ -67,10 +73,15 @@ pub fn turn(alloc: Global, rest: &str, out: &mut Answer) -> Result<(), Cause> {
 }
 
 /// The lines of turns that failed, `MOMENT MOMENT ..`, and `none` for each turn without one.
-pub fn failures(alloc: Global, rest: &str, out: &mut Answer) -> Result<(), Cause> {
+pub fn failures(
+    alloc: Global,
+    format: LogFormat,
+    rest: &str,
+    out: &mut Answer,
+) -> Result<(), Cause> {
     let mut failures = Failures::NONE;
     for word in rest.split(' ') {
-        match &failures.line(alloc, TimeFormat::Seconds, moment(number(word)?)?)? {
+        match &failures.line(alloc, format, moment(number(word)?)?)? {
             Some(line) => out.escaped(line.as_bytes()),
             None => out.push("none "),
         }
@@ -78,11 +89,41 @@ pub fn failures(alloc: Global, rest: &str, out: &mut Answer) -> Result<(), Cause
     Ok(())
 }
 
+/// The line that says that so many were lost before the moment 1,790,000,000, and the one where the clock begins to fail.
+pub fn lost(alloc: Global, format: LogFormat, rest: &str, out: &mut Answer) -> Result<(), Cause> {
+    let moment = Some(moment(1_790_000_000)?);
+    out.escaped(lost_line(alloc, format, moment, number(rest)?)?.as_bytes());
+    out.escaped(unstamped_line(alloc, format)?.as_bytes());
+    Ok(())
+}
+
 /// A moment in UTC.
 pub fn utc(alloc: Global, rest: &str, out: &mut Answer) -> Result<(), Cause> {
     let moment = moment(number(rest)?)?;
-    out.push(moment_text(alloc, TimeFormat::Utc, moment)?.as_str());
+    out.push(moment_text(alloc, LogFormat::Utc, moment)?.as_str());
     Ok(())
+}
+
+// What a desk finds of a datagram at the DHCP server's port, if it is an unknown client's.
+fn account(alloc: Global, octets: &[u8], machines: u64, last: &str) -> Result<Account, Cause> {
+    let view = FrameView {
+        by_mac: None,
+        by_uuid: None,
+        machines,
+        numbers: numbers(last)?,
+    };
+    let mut notes = Notes::NONE;
+    let came = match read(octets) {
+        Ok(message) => match client(alloc, &message) {
+            Ok(client) => {
+                notes.decision = Some(frame(&view, Port::Discover, &client));
+                Came::Client(client)
+            }
+            Err(cause) => Came::NotServed(cause),
+        },
+        Err(fault) => Came::Malformed(fault),
+    };
+    Ok(Account { came, notes })
 }
 
 /// What is noted of a DISCOVER of an unknown client that got silence, `MACHINES LAST, OCTETS`: how many machines the hall has, and
@@ -90,18 +131,17 @@ pub fn utc(alloc: Global, rest: &str, out: &mut Answer) -> Result<(), Cause> {
 pub fn unknown(alloc: Global, rest: &str, out: &mut Answer) -> Result<(), Cause> {
     let (words, source) = halves(rest, ", ")?;
     let (machines, last) = halves(words, " ")?;
-    let mut sight = Sight::default();
-    sight.view.machines = number(machines)?;
-    sight.view.numbers = numbers(last)?;
-    let moment = moment(1_000)?;
-    let octets = Octets::from(octets(alloc, source)?);
-    let port = Port::Discover;
+    let octets = octets(alloc, source)?;
+    let account = account(alloc, &octets, number(machines)?, last)?;
     let arrival = Arrival {
-        moment,
+        moment: moment(1_000)?,
         fresh: Token::from([7; 16]),
-        input: Input::Datagram { port, octets },
+        input: Input::Datagram {
+            port: Port::Discover,
+            octets: Octets::from(octets),
+        },
     };
     let silence = hall_desk::Answer::Silence;
-    out.push(arrival_text(alloc, &arrival, &silence, &sight)?.as_str());
+    out.push(arrival_text(alloc, &arrival, &silence, &account)?.as_str());
     Ok(())
 }

@@ -4,10 +4,8 @@ use crate::filling::fill;
 use crate::playing::play;
 use hall_store::Probe;
 use hall_types::{Digest, Name};
-use std::cell::RefCell;
 use std::io::{BufRead, BufReader};
 use store_memory::MemoryStore;
-use store_watched::{Sight, Watched};
 
 // SHA-256 of ada's token `abc`.
 const DIGEST: [u8; 32] = [
@@ -35,9 +33,7 @@ fn play_hall<R: BufRead>(
     };
     let mut store = MemoryStore::create(rt.alloc(), admin, Digest::from(DIGEST))?;
     fill(rt.alloc(), &mut store, hall.machines)?;
-    let store = Probe::new(store, hall.fails_at);
-    let sight = RefCell::new(Sight::default());
-    play(rt, Watched::new(store, &sight), &sight, reader)
+    play(rt, Probe::new(store, hall.fails_at), reader)
 }
 
 /// Plays a script. What stands before its first hall is played over one without machines.

@@ -1,19 +1,15 @@
 //! The log of the service's turns.
 use crate::client::Client;
-use desk_operations::{TimeFormat, arrival_text, is_of_note, turn_line};
-use hall_desk::{Answer, Arrival};
+use desk_operations::{LogFormat, arrival_text, is_of_note, turn_line};
+use hall_desk::{Account, Answer, Arrival};
 use hall_types::{Moment, Port};
 use serve_sockets::{Kind, Said, Turn, TurnLog};
 use std::alloc::{AllocError, Global};
-use std::cell::RefCell;
-use store_watched::Sight;
 
 /// Keeps the lines of turns, and counts the turns.
 #[derive(Drop)]
-pub struct Log<'a> {
+pub struct Log {
     alloc: Global,
-    // What the store noted of the arrival that the desk answers.
-    sight: &'a RefCell<Sight>,
     // The text of the last arrival, if it's of note and its turn wasn't noted yet.
     arrival: Option<String>,
     lines: Vec<String>,
@@ -27,11 +23,10 @@ pub struct Log<'a> {
     pub failures: u64,
 }
 
-impl<'a> Log<'a> {
-    pub fn new(alloc: Global, sight: &'a RefCell<Sight>) -> Log<'a> {
+impl Log {
+    pub fn new(alloc: Global) -> Log {
         Log {
             alloc,
-            sight,
             arrival: None,
             lines: Vec::new(alloc),
             handed: Vec::new(alloc),
@@ -112,14 +107,6 @@ fn moves_nothing(turn: &Turn) -> bool {
     }
 }
 
-// What was noted for one arrival. Afterwards nothing is.
-fn take_sight(sight: &RefCell<Sight>) -> Sight {
-    match sight.try_take() {
-        Ok(sight) => sight,
-        Err(_) => Sight::default(),
-    }
-}
-
 fn kind_word(kind: Kind) -> &'static str {
     match kind {
         Kind::Datagram(Port::Discover) => "Datagram(Discover)",
@@ -162,23 +149,16 @@ fn line_of(
     match arrival {
         Some(arrival) => {
             let text = handed_text(alloc, turn, arrival.as_str())?;
-            turn_line(
-                alloc,
-                TimeFormat::Seconds,
-                moment,
-                turn,
-                Some(text.as_str()),
-            )
+            turn_line(alloc, LogFormat::Seconds, moment, turn, Some(text.as_str()))
         }
-        None => turn_line(alloc, TimeFormat::Seconds, moment, turn, None),
+        None => turn_line(alloc, LogFormat::Seconds, moment, turn, None),
     }
 }
 
-impl<'a> TurnLog for Log<'a> {
-    fn arrived(&mut self, arrival: &Arrival, answer: &Answer) {
-        let sight = take_sight(self.sight);
-        if is_of_note(arrival, answer, &sight) {
-            self.arrival = arrival_text(self.alloc, arrival, answer, &sight).ok();
+impl TurnLog for Log {
+    fn arrived(&mut self, arrival: &Arrival, answer: &Answer, account: &Account) {
+        if is_of_note(arrival, answer, account) {
+            self.arrival = arrival_text(self.alloc, arrival, answer, account).ok();
         }
     }
 

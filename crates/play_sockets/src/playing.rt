@@ -6,9 +6,7 @@ use crate::stage::Stage;
 use crate::texts::number;
 use hall_store::HallStore;
 use play_log::next_line;
-use std::cell::RefCell;
 use std::io::BufRead;
-use store_watched::Sight;
 
 // Writes the answer of a line.
 fn answer<S: HallStore + Drop>(
@@ -69,10 +67,9 @@ fn step<S: HallStore + Drop, R: BufRead>(
 pub fn play<S: HallStore + Drop, R: BufRead>(
     rt: &HostRuntime,
     store: S,
-    sight: &RefCell<Sight>,
     reader: &mut R,
 ) -> Result<Option<Begun>, Fault> {
-    let mut stage = Stage::new(rt, store, sight)?;
+    let mut stage = Stage::new(rt, store)?;
     for _ in 0..u64::MAX {
         match step(rt, &mut stage, reader)? {
             Next::Line => {}

@@ -9,9 +9,7 @@ use play_log::arrival;
 use pxe_vendor::Place;
 use serve_sockets::{Addresses, Service, Sockets, Source, Stamp};
 use std::alloc::Global;
-use std::cell::RefCell;
 use std::net::{IpAddr, Ipv4Addr, SocketAddr, UdpSocket};
-use store_watched::Sight;
 
 // How long, in milliseconds, a turn waits where nothing is known to be there.
 const PAUSE: u64 = 10;
@@ -42,10 +40,10 @@ impl Source for Clock {
 
 /// A service on loopback, and its clients.
 #[derive(Drop)]
-pub struct Stage<'a, S> {
+pub struct Stage<S> {
     pub alloc: Global,
     pub service: Service<S>,
-    pub log: Log<'a>,
+    pub log: Log,
     pub clock: Clock,
     pub clients: Vec<Client>,
     /// Sends datagrams.
@@ -95,13 +93,9 @@ fn asker(alloc: Global, address: SocketAddr) -> Result<Client, Fault> {
     })
 }
 
-impl<'a, S: HallStore + Drop> Stage<'a, S> {
-    /// A service over the store, which makes its notes in the cell. The moment is 1000.
-    pub fn new(
-        rt: &HostRuntime,
-        store: S,
-        sight: &'a RefCell<Sight>,
-    ) -> Result<Stage<'a, S>, Fault> {
+impl<S: HallStore + Drop> Stage<S> {
+    /// A service over the store. The moment is 1000.
+    pub fn new(rt: &HostRuntime, store: S) -> Result<Stage<S>, Fault> {
         let alloc = rt.alloc();
         let clock = standing_clock()?;
         let socket = UdpSocket::bind(rt, loopback(2))?;
@@ -111,7 +105,7 @@ impl<'a, S: HallStore + Drop> Stage<'a, S> {
         Ok(Stage {
             alloc,
             service: service(rt, store)?,
-            log: Log::new(alloc, sight),
+            log: Log::new(alloc),
             clock,
             clients,
             asker: socket,

@@ -1,14 +1,12 @@
 //! Arrivals at a desk over a store.
 use crate::asking::Asked;
 use crate::fault::Fault;
-use desk_operations::{arrival_text, is_of_note};
-use hall_desk::{Answer, Arrival, Desk};
+use desk_operations::{arrival_members, arrival_text, is_of_note};
+use hall_desk::{Account, Answer, Arrival, Desk};
 use hall_store::{HallStore, Probe};
 use play_log::{answer_line, answer_text, arrival, is_readable};
 use pxe_vendor::Place;
 use std::alloc::Global;
-use std::cell::RefCell;
-use store_watched::{Sight, Watched};
 
 /// Whether a line's first word is that of an arrival.
 pub fn is_arrival(kind: &str) -> bool {
@@ -80,18 +78,32 @@ pub fn arrive<S: HallStore>(
     }
 }
 
-// The text that a log has for an arrival, and whether it has one.
+// What a log says of an arrival: a text, or the members of an object.
+#[derive(Clone, Copy)]
+enum Form {
+    Text,
+    // Of a desk that enlists no client.
+    Unlisted,
+    Members,
+}
+
+// What a log has for an arrival, and whether it has it.
 fn push_log(
     alloc: Global,
     line: &mut String,
+    form: Form,
     arrival: &Arrival,
     answer: &Answer,
-    seen: &Sight,
+    account: &Account,
 ) -> Result<(), Fault> {
-    if !is_of_note(arrival, answer, seen) {
+    if !is_of_note(arrival, answer, account) {
         line.push_str("not in the log: ")?;
     }
-    line.push_str(arrival_text(alloc, arrival, answer, seen)?.as_str())?;
+    let text = match form {
+        Form::Text | Form::Unlisted => arrival_text(alloc, arrival, answer, account)?,
+        Form::Members => arrival_members(alloc, arrival, answer, account)?,
+    };
+    line.push_str(text.as_str())?;
     line.push('\n')?;
     Ok(())
 }
@@ -100,19 +112,22 @@ fn push_log(
 fn log_of<S: HallStore>(
     alloc: Global,
     store: S,
-    place: Place,
-    arrival: &Arrival,
+    form: Form,
+    text: &str,
     line: &mut String,
 ) -> (Result<(), Fault>, S) {
-    let sight = RefCell::new(Sight::default());
-    let mut desk = Desk::new(Watched::new(store, &sight), place);
-    let answer = desk.answer(alloc, arrival);
-    let store = desk.into_store().into_inner();
-    let done = match sight.try_take() {
-        Ok(seen) => push_log(alloc, line, arrival, &answer, &seen),
-        Err(_) => Err(Fault::Memory),
+    let (arrival, place) = match prepared(alloc, text) {
+        Ok(prepared) => prepared,
+        Err(fault) => return (Err(fault), store),
     };
-    (done, store)
+    let desk = Desk::new(store, place);
+    let mut desk = match form {
+        Form::Text | Form::Members => desk,
+        Form::Unlisted => desk.without_enlisting(),
+    };
+    let (answer, account) = desk.answer_with_account(alloc, &arrival);
+    let done = push_log(alloc, line, form, &arrival, &answer, &account);
+    (done, desk.into_store())
 }
 
 /// Answers an arrival at a desk over the store, which is given back, and writes what a log says of it.
@@ -122,8 +137,25 @@ pub fn log<S: HallStore>(
     text: &str,
     line: &mut String,
 ) -> (Result<(), Fault>, S) {
-    match prepared(alloc, text) {
-        Ok((arrival, place)) => log_of(alloc, store, place, &arrival, line),
-        Err(fault) => (Err(fault), store),
-    }
+    log_of(alloc, store, Form::Text, text, line)
+}
+
+/// So too, and writes the members of the object that a log in JSON has for it.
+pub fn log_object<S: HallStore>(
+    alloc: Global,
+    store: S,
+    text: &str,
+    line: &mut String,
+) -> (Result<(), Fault>, S) {
+    log_of(alloc, store, Form::Members, text, line)
+}
+
+/// As [`log`], of a desk that enlists no client.
+pub fn log_unlisted<S: HallStore>(
+    alloc: Global,
+    store: S,
+    text: &str,
+    line: &mut String,
+) -> (Result<(), Fault>, S) {
+    log_of(alloc, store, Form::Unlisted, text, line)
 }

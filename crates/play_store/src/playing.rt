@@ -1,5 +1,5 @@
 //! Lines that are played over a store.
-use crate::arriving::{arrive, is_arrival, log};
+use crate::arriving::{arrive, is_arrival, log, log_object, log_unlisted};
 use crate::asking::Asked;
 use crate::changes::apply;
 use crate::cutting::cuts;
@@ -132,6 +132,8 @@ fn play_once<S: HallStore>(
     }
     match kind {
         "log" => log(alloc, store, rest, line),
+        "log_object" => log_object(alloc, store, rest, line),
+        "log_unlisted" => log_unlisted(alloc, store, rest, line),
         "import" => import(alloc, store, usize::MAX, rest, line),
         "serve" => serve(alloc, store, Ends::NOWHERE, rest, line),
         "short" => short(alloc, store, rest, line),

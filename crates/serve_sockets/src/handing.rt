@@ -28,8 +28,8 @@ pub(crate) fn hand<S: HallStore, L: TurnLog>(
         fresh: stamp.fresh,
         input,
     };
-    let answer = desk.answer(alloc, &arrival);
-    log.arrived(&arrival, &answer);
+    let (answer, account) = desk.answer_with_account(alloc, &arrival);
+    log.arrived(&arrival, &answer, &account);
     answer
 }
 

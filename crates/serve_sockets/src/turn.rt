@@ -1,5 +1,5 @@
 //! What a turn did, and what one needs.
-use hall_desk::{Answer, Arrival};
+use hall_desk::{Account, Answer, Arrival};
 use hall_types::{Moment, Port, Token};
 use std::net::SocketAddr;
 
@@ -105,9 +105,9 @@ impl Turn {
 
 /// What the turns of a service are told to.
 pub trait TurnLog {
-    /// What was handed to the desk, and its answer; nothing is kept of it. The turn that they belong to is noted next. The
-    /// octets of a request have its token and its key, which no log may keep.
-    fn arrived(&mut self, _arrival: &Arrival, _answer: &Answer) {}
+    /// What was handed to the desk, its answer, and its account of what it did; nothing is kept of it. The turn that they belong to
+    /// is noted next. The octets of a request, and its event, have its token and its key, which no log may keep.
+    fn arrived(&mut self, _arrival: &Arrival, _answer: &Answer, _account: &Account) {}
 
     /// What a turn did, at the moment of its stamp.
     fn note(&mut self, moment: Moment, turn: &Turn);

@@ -6,20 +6,20 @@ use Rattle.hall_desk.specs.declared.arrival.Input.TheVariants as input
 use Rattle.hall_desk.proofs.AttemptLemmas.{attempt_answered, attempt_asked, attempt_missed, no_client, no_frame}
 use Rattle.hall_desk.proofs.attempts.attempt_datagram.Goals as goal
 
-pub returns-in-Err : goal.returns-in-Err
-returns-in-Err g c clean = (
+pub returns-in-Err-clause-attempts : goal.returns-in-Err-clause-attempts
+returns-in-Err-clause-attempts g c clean = (
   clean,
   attempt_answered g.S.HallStore.holds g.S.HallStore.leaves g.S.HallStore.wider c.args.store.now c.args.place.now (input.Datagram c.args.port c.args.octets.now)
-      c.args.moment c.args.fresh Silence (no_frame c.args.octets.now c.in-Err.field-0 c.in-Err.ensures.only, refl),
+      c.args.moment c.args.fresh Silence (no_frame c.args.octets.now c.in-Err.fault c.in-Err.ensures.only, refl),
 )
 
-pub returns-in-Ok-client : goal.returns-in-Ok-client
-returns-in-Ok-client g c clean =
-    let done = c.carry_frame.ensures clean in (
+pub returns-in-Ok-client-clause-attempts : goal.returns-in-Ok-client-clause-attempts
+returns-in-Ok-client-clause-attempts g c clean =
+    let done = c.carry_frame-answer.ensures.carried clean in (
       done.0,
       attempt_asked g.S.HallStore.holds g.S.HallStore.leaves
           (record { keep = c.decisions_keep_the_rules.ensures; sound = c.steps_keep_halls_sound.ensures.rows }) g.S.HallStore.second_schema
-          c.args.store.now c.carry_frame.new.store c.args.place.now (input.Datagram c.args.port c.args.octets.now) c.args.moment c.args.fresh
+          c.args.store.now c.carry_frame-answer.new.store c.args.place.now (input.Datagram c.args.port c.args.octets.now) c.args.moment c.args.fresh
           (Frame c.args.port c.in-Ok-client.client) (frame_answer c.args.place.now c.in-Ok.frame c.in-Ok-client.client)
           (record {
             message = c.in-Ok.frame;
@@ -27,18 +27,18 @@ returns-in-Ok-client g c clean =
             from = record { carries = c.in-Ok.ensures.frame; sent = c.in-Ok-client.ensures.client };
             event = refl;
             sends = refl;
-          }) c.frame_is_typed.ensures c.carry_frame.result done.1,
+          }) c.frame_is_typed.ensures c.carry_frame-answer.result done.1,
     )
 
-pub returns-in-Memory : goal.returns-in-Memory
-returns-in-Memory g c clean = (
+pub returns-in-Memory-clause-attempts : goal.returns-in-Memory-clause-attempts
+returns-in-Memory-clause-attempts g c clean = (
   clean,
   attempt_missed g.S.HallStore.holds g.S.HallStore.leaves g.S.HallStore.wider c.args.store.now c.args.place.now (input.Datagram c.args.port c.args.octets.now)
       c.args.moment c.args.fresh _,
 )
 
-pub returns-in_default : goal.returns-in_default
-returns-in_default g c clean = (
+pub returns-in_default-clause-attempts : goal.returns-in_default-clause-attempts
+returns-in_default-clause-attempts g c clean = (
   clean,
   attempt_answered g.S.HallStore.holds g.S.HallStore.leaves g.S.HallStore.wider c.args.store.now c.args.place.now (input.Datagram c.args.port c.args.octets.now)
       c.args.moment c.args.fresh Silence

@@ -5,8 +5,8 @@ use Rattle.hall_desk.specs.declared.arrival.Input.TheVariants as input
 use Rattle.hall_desk.proofs.AttemptLemmas.{attempt_asked}
 use Rattle.hall_desk.proofs.attempts.attempt_quiet.Goals as goal
 
-pub returns : goal.returns
-returns g c clean =
+pub returns-clause-attempts : goal.returns-clause-attempts
+returns-clause-attempts g c clean =
     let done = c.carry_quiet.ensures clean in (
       done.0,
       attempt_asked g.S.HallStore.holds g.S.HallStore.leaves

@@ -1,6 +1,6 @@
 //! A machine's move from one status to another.
 ghost use Rattle.std.specs.Prelude.{◌≡◌};
-ghost use Rattle.store_watched.specs.Moved.{is_status, moved_by, moved_by_put, moved_by_row, seen_of, status_seen};
+ghost use Rattle.hall_desk.specs.Moved.{is_status, moved_by, moved_by_put, moved_by_row, status_seen};
 
 use hall_types::{Change, Machine, Number, RowWrite, Status};
 
@@ -19,19 +19,6 @@ pub struct Moved {
     pub from: Option<Status>,
     /// The status now, none where the machine is gone.
     pub to: Option<Status>,
-}
-
-/// What was seen of a machine.
-pub(crate) fn seen_of(machine: &Option<Machine>) -> Option<Seen>
-    ensures { result ≡ seen_of machine.now }
-{
-    match machine {
-        Some(machine) => Some(Seen {
-            machine: machine.id,
-            status: machine.status,
-        }),
-        None => None,
-    }
 }
 
 // The status that a machine was seen with, none where another machine was seen.
@@ -83,7 +70,7 @@ fn moved_by_row(seen: &Option<Seen>, row: &RowWrite) -> Option<Moved>
 
 /// The move that a change makes of the machine that was seen with a status, or of another one, which is new. Where a change
 /// moves several machines it's the first one's.
-pub fn moved_by(seen: &Option<Seen>, change: &Change) -> Option<Moved>
+pub(crate) fn moved_by(seen: &Option<Seen>, change: &Change) -> Option<Moved>
     ensures { result ≡ moved_by seen.now change.now }
 {
     for row in change.writes() {

@@ -1,6 +1,6 @@
 use Rattle.std.proofs.Common.{◌≡◌, drop}
-use Rattle.store_watched.specs.Moved.{moved_by}
-use Rattle.store_watched.proofs.moved.moved_by.Given as goal
+use Rattle.hall_desk.specs.Moved.{moved_by}
+use Rattle.hall_desk.proofs.moved.moved_by.Given as goal
 
 -- the rows so far move no machine
 abbrev pub invariant-loop-row : goal.invariant-loop-row

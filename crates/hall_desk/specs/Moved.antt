@@ -1,17 +1,13 @@
 -- A machine's move from one status to another.
-use Rattle.std.specs.Prelude.{ℕ, ◌==◌, Bool, false, List, [], ◌∷◌, Option, None, Some, option_map, if◌then◌else◌}
+use Rattle.std.specs.Prelude.{ℕ, ◌==◌, Bool, false, List, [], ◌∷◌, Option, None, Some, if◌then◌else◌}
 use Rattle.std.specs.Option.{option_or}
 use Rattle.hall_types.specs.Status.{status_number}
 use Rattle.hall_types.specs.declared.change.RowWrite.{RowWrite}
 use Rattle.hall_types.specs.declared.change.RowWrite.TheVariants.{PutMachine, MachineGone}
 use Rattle.hall_types.specs.declared.machine.Machine.{Machine}
 use Rattle.hall_types.specs.declared.status.Status.{Status}
-use Rattle.store_watched.specs.declared.moved.Moved.{Moved}
-use Rattle.store_watched.specs.declared.moved.Seen.{Seen}
-
--- what was seen of a machine
-abbrev pub seen_of : Option Machine → Option Seen
-seen_of machine = option_map (λ m. record { machine = m.id; status = m.status }) machine
+use Rattle.hall_desk.specs.declared.moved.Moved.{Moved}
+use Rattle.hall_desk.specs.declared.moved.Seen.{Seen}
 
 -- the status that a machine was seen with, none where another machine was seen
 abbrev pub status_seen : Option Seen → ℕ → Option Status

@@ -1,0 +1,197 @@
+//! What came, how it was answered and which machine it moved, as members of an object of JSON for a log. No token, key or digest
+//! is in them. Names are those of the Elastic Common Schema where it has one; those that begin `hall.` are the desk's own.
+use crate::addresses::address_text;
+use crate::arrival_texts::arrival_text;
+use crate::command_texts::command_text;
+use crate::frame_texts::{file_text, kind_word, port_word, silence_words};
+use crate::members::Members;
+use crate::request_texts::{MAX_BODY, method_word, path_text, said};
+use hall_desk::{Account, Answer, Arrival, Came, Input, Moved};
+use hall_events::{Event, HallCommand};
+use pxe_vendor::Client;
+use std::alloc::{AllocError, Global};
+
+fn push_client(alloc: Global, members: &mut Members, client: &Client) -> Result<(), AllocError> {
+    members.push_text("hall.message", kind_word(client.kind))?;
+    members.push_text("client.mac", address_text(alloc, &client.mac)?.as_str())?;
+    members.push_text("hall.arch", client.arch.text())?;
+    if client.ipxe {
+        members.push_true("hall.ipxe")?;
+    }
+    Ok(())
+}
+
+// What came in a datagram, and why it isn't answered, where that stands in the frame alone.
+fn push_frame(alloc: Global, members: &mut Members, came: &Came) -> Result<(), AllocError> {
+    match came {
+        Came::Malformed(fault) => {
+            members.push_text("event.reason", fault.to_string(alloc)?.as_str())
+        }
+        Came::NotServed(cause) => {
+            members.push_text("event.reason", cause.to_string(alloc)?.as_str())
+        }
+        Came::Client(client) => push_client(alloc, members, client),
+        Came::Refused(_) | Came::Asked(_) | Came::Quiet => Ok(()),
+    }
+}
+
+fn push_frame_answer(
+    members: &mut Members,
+    answer: &Answer,
+    account: &Account,
+) -> Result<(), AllocError> {
+    match (answer, &account.came) {
+        (Answer::Octets(octets), _) => {
+            members.push_text("event.outcome", "success")?;
+            members.push_text("file.name", file_text(octets.as_slice()))
+        }
+        (_, Came::Client(_)) => {
+            members.push_text("event.outcome", "failure")?;
+            members.push_text("event.reason", silence_words(&account.notes))
+        }
+        _ => members.push_text("event.outcome", "failure"),
+    }
+}
+
+fn push_command(
+    alloc: Global,
+    members: &mut Members,
+    command: &HallCommand,
+) -> Result<(), AllocError> {
+    members.push_text("hall.command", command_text(alloc, command)?.as_str())
+}
+
+fn event_word(event: &Event) -> &'static str {
+    match event {
+        Event::Script { .. } => "script",
+        Event::Report { .. } => "report",
+        Event::Orders { .. } => "orders",
+        Event::OrderAnswer { .. } => "order",
+        Event::Machines { .. } => "machines",
+        Event::OneMachine { .. } => "machine",
+        Event::Command { .. } => "command",
+        Event::Frame { .. } | Event::Quiet => "quiet",
+    }
+}
+
+// What the event asks for besides its path.
+fn push_asked(alloc: Global, members: &mut Members, event: &Event) -> Result<(), AllocError> {
+    match event {
+        Event::Script { mac } => {
+            members.push_text("client.mac", address_text(alloc, &mac.octets())?.as_str())
+        }
+        Event::Report { progress, .. } => members.push_text("hall.stage", progress.text()),
+        Event::OrderAnswer { outcome, .. } => members.push_text("hall.order", outcome.text()),
+        Event::Command { command, .. } => push_command(alloc, members, command),
+        _ => Ok(()),
+    }
+}
+
+fn push_event(alloc: Global, members: &mut Members, event: &Event) -> Result<(), AllocError> {
+    members.push_text("event.action", event_word(event))?;
+    members.push_text("http.request.method", method_word(event))?;
+    members.push_text("url.path", path_text(alloc, event)?.as_str())?;
+    push_asked(alloc, members, event)
+}
+
+fn push_request(alloc: Global, members: &mut Members, came: &Came) -> Result<(), AllocError> {
+    match came {
+        Came::Asked(event) => push_event(alloc, members, event),
+        Came::Refused(fault) => {
+            members.push_text("event.action", "request")?;
+            members.push_text("event.reason", fault.to_string(alloc)?.as_str())
+        }
+        Came::Malformed(_) | Came::NotServed(_) | Came::Client(_) | Came::Quiet => Ok(()),
+    }
+}
+
+fn outcome_word(status: &str) -> &'static str {
+    if status == "200" {
+        "success"
+    } else {
+        "failure"
+    }
+}
+
+fn push_response(members: &mut Members, octets: &[u8]) -> Result<(), AllocError> {
+    let (status, body) = said(octets);
+    members.push_text("event.outcome", outcome_word(status))?;
+    members.push_number("http.response.status_code", status.parse().unwrap_or(0))?;
+    members.push_number("http.response.body.bytes", body.len() as u64)?;
+    if body.starts_with('{') && body.len() <= MAX_BODY {
+        members.push_text("http.response.body.content", body)?;
+    }
+    Ok(())
+}
+
+fn push_answer(members: &mut Members, answer: &Answer) -> Result<(), AllocError> {
+    match answer {
+        Answer::Octets(octets) => push_response(members, octets.as_slice()),
+        Answer::Silence => Ok(()),
+        Answer::Unavailable => {
+            members.push_text("event.outcome", "failure")?;
+            members.push_text("event.reason", "unavailable")
+        }
+    }
+}
+
+// Which machine it was about, and its move, if it moved one.
+fn push_machine(members: &mut Members, account: &Account) -> Result<(), AllocError> {
+    match (&account.notes.moved, &account.notes.machine) {
+        (Some(moved), _) => push_move(members, moved),
+        (None, Some(seen)) => members.push_number("hall.machine", seen.machine.get()),
+        (None, None) => Ok(()),
+    }
+}
+
+fn push_move(members: &mut Members, moved: &Moved) -> Result<(), AllocError> {
+    members.push_number("hall.machine", moved.machine.get())?;
+    if let Some(from) = moved.from {
+        members.push_text("hall.before", from.text())?;
+    }
+    if let Some(to) = moved.to {
+        members.push_text("hall.after", to.text())?;
+    }
+    Ok(())
+}
+
+fn push_exchange(
+    alloc: Global,
+    members: &mut Members,
+    answer: &Answer,
+    account: &Account,
+) -> Result<(), AllocError> {
+    push_request(alloc, members, &account.came)?;
+    if let Some(operator) = account.notes.operator {
+        members.push_text("user.name", operator.text())?;
+    }
+    push_answer(members, answer)
+}
+
+/// The same facts as those of [`arrival_text`](crate::arrival_text), by name, and then that text as `message`.
+pub fn arrival_members(
+    alloc: Global,
+    arrival: &Arrival,
+    answer: &Answer,
+    account: &Account,
+) -> Result<String, AllocError> {
+    let mut members = Members::new(alloc);
+    match &arrival.input {
+        Input::Datagram { port, .. } => {
+            members.push_text("event.action", port_word(*port))?;
+            push_frame(alloc, &mut members, &account.came)?;
+            push_frame_answer(&mut members, answer, account)?;
+        }
+        Input::Request(_) => push_exchange(alloc, &mut members, answer, account)?,
+        Input::Quiet => {
+            members.push_text("event.action", "quiet")?;
+            push_answer(&mut members, answer)?;
+        }
+    }
+    push_machine(&mut members, account)?;
+    members.push_text(
+        "message",
+        arrival_text(alloc, arrival, answer, account)?.as_str(),
+    )?;
+    Ok(members.into_text())
+}

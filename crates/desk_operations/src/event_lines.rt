@@ -1,0 +1,79 @@
+//! Lines of a log that no arrival has.
+use crate::members::Members;
+use crate::moment_texts::{LogFormat, moment_text};
+use hall_types::Moment;
+use std::alloc::{AllocError, Global};
+
+/// Members that begin with a moment, if there is one.
+pub(crate) fn stamped(alloc: Global, moment: Option<Moment>) -> Result<Members, AllocError> {
+    let mut members = Members::new(alloc);
+    if let Some(moment) = moment {
+        let text = moment_text(alloc, LogFormat::Json, moment)?;
+        members.push_text("@timestamp", text.as_str())?;
+    }
+    Ok(members)
+}
+
+fn object_line(
+    alloc: Global,
+    moment: Option<Moment>,
+    action: &str,
+    count: Option<u64>,
+    words: &str,
+) -> Result<String, AllocError> {
+    let mut members = stamped(alloc, moment)?;
+    members.push_text("event.action", action)?;
+    if let Some(count) = count {
+        members.push_number("hall.count", count)?;
+    }
+    members.push_text("message", words)?;
+    members.into_line()
+}
+
+fn text_line(
+    alloc: Global,
+    format: LogFormat,
+    moment: Option<Moment>,
+    words: &str,
+) -> Result<String, AllocError> {
+    match moment {
+        Some(moment) => {
+            let moment = moment_text(alloc, format, moment)?;
+            format!(in alloc; "{moment} - {words}\n")
+        }
+        None => format!(in alloc; "- {words}\n"),
+    }
+}
+
+/// The line of what happened at a moment, if that is known, with its line feed: in one word for an object, and in words, `lost 3`. The
+/// count is a member of an object.
+pub(crate) fn event_line(
+    alloc: Global,
+    format: LogFormat,
+    moment: Option<Moment>,
+    action: &str,
+    count: Option<u64>,
+    words: &str,
+) -> Result<String, AllocError> {
+    match format {
+        LogFormat::Json => object_line(alloc, moment, action, count, words),
+        LogFormat::Seconds | LogFormat::Utc => text_line(alloc, format, moment, words),
+    }
+}
+
+/// The line where the service's clock or its source of random octets begins to fail. It has no moment.
+pub fn unstamped_line(alloc: Global, format: LogFormat) -> Result<String, AllocError> {
+    let words = "the clock or the random source failed";
+    event_line(alloc, format, None, "unstamped", None, words)
+}
+
+/// The line that says how many lines before it couldn't be written.
+pub fn lost_line(
+    alloc: Global,
+    format: LogFormat,
+    moment: Option<Moment>,
+    lost: u64,
+) -> Result<String, AllocError> {
+    let words = format!(in alloc; "lost {lost}")?;
+    event_line(alloc, format, moment, "lost", Some(lost), words.as_str())
+}

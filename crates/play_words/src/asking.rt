@@ -1,0 +1,80 @@
+//! What a command line asks for, in words.
+use crate::texts::{
+    addresses_text, digest_text, format_word, place_text, port_word, token_text, what_text,
+};
+use hallboot_tasks::{Asked, Serving, Task};
+use std::alloc::{AllocError, Global};
+
+fn serving_text(alloc: Global, serving: &Serving) -> Result<String, AllocError> {
+    let path = serving.path.as_str();
+    let addresses = addresses_text(alloc, &serving.addresses)?;
+    let turns = serving.turns;
+    let format = format_word(serving.format);
+    let enlists = if serving.enlists {
+        "enlisting"
+    } else {
+        "not enlisting"
+    };
+    let place = place_text(alloc, &serving.place)?;
+    let log = match &serving.log {
+        Some(log) => log.as_str(),
+        None => "none",
+    };
+    format!(in alloc; "serve {path} {addresses} {turns} {format} {enlists} {place}, log {log}")
+}
+
+fn task_text(alloc: Global, task: Task<'_>) -> Result<String, AllocError> {
+    match task {
+        Task::Request {
+            place,
+            moment,
+            fresh,
+        } => {
+            let (moment, fresh) = (moment.get(), token_text(alloc, fresh)?);
+            let place = place_text(alloc, &place)?;
+            format!(in alloc; "request {moment} {fresh} {place}")
+        }
+        Task::Report(what) => {
+            let what = what_text(alloc, what)?;
+            format!(in alloc; "report {what}")
+        }
+        Task::Export => String::from_str(alloc, "export"),
+        Task::Import {
+            place,
+            octets,
+            bearer,
+            moment,
+        } => {
+            let (moment, len) = (moment.get(), octets.len());
+            let bearer = digest_text(alloc, bearer)?;
+            let place = place_text(alloc, &place)?;
+            format!(in alloc; "import {bearer} {moment} of {len} octets {place}")
+        }
+        Task::Serve { .. } => String::from_str(alloc, "serve"),
+    }
+}
+
+/// What is asked for, with its values.
+pub(crate) fn asked_text(alloc: Global, asked: Asked<'_>) -> Result<String, AllocError> {
+    match asked {
+        Asked::Frame { port, place } => {
+            let port = port_word(port);
+            let place = place_text(alloc, &place)?;
+            format!(in alloc; "frame {port} {place}")
+        }
+        Asked::Init {
+            path,
+            admin,
+            digest,
+        } => {
+            let digest = digest_text(alloc, digest)?;
+            format!(in alloc; "init {path} {admin} {digest}")
+        }
+        Asked::Migrate { path } => format!(in alloc; "migrate {path}"),
+        Asked::Serve(serving) => serving_text(alloc, &serving),
+        Asked::Over { path, task } => {
+            let task = task_text(alloc, task)?;
+            format!(in alloc; "{path}: {task}")
+        }
+    }
+}

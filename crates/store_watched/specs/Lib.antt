@@ -1,3 +1,0 @@
-pub mod Moved
-pub mod Sight
-pub mod Watched
