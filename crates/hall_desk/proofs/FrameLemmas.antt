@@ -1,5 +1,5 @@
 -- A client's frame is planned as the whole hall has it planned.
-use Rattle.std.specs.Prelude.{◌≡◌, List}
+use Rattle.std.specs.Prelude.{◌≡◌, List, [], false}
 use Rattle.std.proofs.Common.{refl, sym, ap, ◌∙◌}
 use Rattle.pxe_vendor.specs.Place.{Site}
 use Rattle.pxe_vendor.specs.declared.clients.Client.{Client}
@@ -12,6 +12,7 @@ use Rattle.boot_desk.specs.declared.frames.Decision.TheVariants.{Loader, ScriptU
 use Rattle.boot_desk.specs.declared.frames.FrameView.{FrameView}
 use Rattle.laws_model.specs.Decision.{framed}
 use Rattle.desk_views.specs.Client.{IsEnough}
+use Rattle.hall_desk.specs.Account.{is_unlisted}
 use Rattle.hall_desk.specs.Plan.{rows_for}
 
 -- a view that is enough leads to the decision on the hall, and to its rows
@@ -27,3 +28,10 @@ enough_plans h client port v enough d is rows are =
     same site ScriptUrl is = refl
     same site Enlist is = ap (λ numbers. enlisted client numbers) (enough.numbers port (sym is))
     same site (Silent silence) is = refl
+
+-- a frame whose client isn't to be enlisted writes nothing
+pub no_rows : (d : Decision) → is_unlisted false d ≡ false → (site : Site) (h : Hall) (client : Client) → (framed d site h client).rows ≡ []
+no_rows Loader off site h client = refl
+no_rows ScriptUrl off site h client = refl
+no_rows Enlist off site h client = cc
+no_rows (Silent cause) off site h client = refl

@@ -1,5 +1,5 @@
 -- What an account of an arrival says.
-use Rattle.std.specs.Prelude.{◌≡◌, ⊤, ℕ, List, Option, None, Some, Ok, Err, IfSome}
+use Rattle.std.specs.Prelude.{◌≡◌, ⊤, ℕ, Bool, false, not, List, Option, None, Some, Ok, Err, IfSome}
 use Rattle.dhcp_frame.specs.Message.{Message}
 use Rattle.dhcp_frame.specs.Understood.{understood}
 use Rattle.pxe_vendor.specs.Served.{Answers, client_of}
@@ -11,6 +11,7 @@ use Rattle.hall_types.specs.declared.operator.Operator.{Operator}
 use Rattle.hall_types.specs.declared.port.Port.{Port}
 use Rattle.boot_desk.specs.FrameEvent.{frame_decision, frame_view}
 use Rattle.boot_desk.specs.declared.frames.Decision.{Decision}
+use Rattle.boot_desk.specs.declared.frames.Decision.TheVariants.{Loader, ScriptUrl, Enlist, Silent}
 use Rattle.http_requests.specs.Request.{IsEvent}
 use Rattle.hall_desk.specs.Octets.{IsFrom}
 use Rattle.hall_desk.specs.declared.account.Account.{Account}
@@ -73,3 +74,18 @@ abbrev pub IsFound : Hall → Input → Account → Type 0
 IsFound h (input.Datagram port octets) account = (client : Client) → account.came ≡ came.Client client → IsDecided h port client account.notes.decision
 IsFound h (input.Request octets) account = ⊤
 IsFound h input.Quiet account = ⊤
+
+-- ---- enlisting
+
+-- a client that is to be enlisted isn't, by a desk that doesn't enlist
+abbrev pub is_unlisted : Bool → Decision → Bool
+is_unlisted enlists Loader = false
+is_unlisted enlists ScriptUrl = false
+is_unlisted enlists Enlist = not enlists
+is_unlisted enlists (Silent cause) = false
+
+-- what came is a datagram
+abbrev pub IsDatagram : Input → Type 0
+IsDatagram (input.Datagram port octets) = ⊤
+IsDatagram (input.Request octets) = ⊥
+IsDatagram input.Quiet = ⊥

@@ -1,7 +1,7 @@
 //! Attempts to carry out what came.
-ghost use Rattle.std.specs.Prelude.{◌≡◌, None};
+ghost use Rattle.std.specs.Prelude.{◌≡◌, None, false};
 ghost use Rattle.hall_types.specs.Hall.{Hall};
-ghost use Rattle.hall_desk.specs.Account.{IsFound, IsReadAs};
+ghost use Rattle.hall_desk.specs.Account.{IsDatagram, IsFound, IsReadAs};
 ghost use Rattle.hall_desk.specs.Attempt.{Attempts};
 ghost use Rattle.hall_desk.specs.Octets.{missed_answer};
 ghost use Rattle.hall_desk.specs.declared.arrival.Input.TheVariants as input;
@@ -35,6 +35,7 @@ pub(crate) fn attempt_datagram<S: HallStore>(
     ensures attempts { Attempts S.HallStore.is_clean S.HallStore.holds S.HallStore.leaves store.old store.new place.now (input.Datagram port octets.now) moment fresh result }
     ensures came { IsReadAs (input.Datagram port octets.now) account.new.came }
     ensures found { account.old.notes.decision ≡ None → S.HallStore.is_clean store.new → (h : Hall) → S.HallStore.holds store.old h → IsFound h (input.Datagram port octets.now) account.new }
+    ensures unlisted { enlists ≡ false → S.HallStore.is_clean store.new → (h : Hall) → S.HallStore.holds store.old h → S.HallStore.holds store.new h }
 {
     steps_keep_halls_sound();
     decisions_keep_the_rules();
@@ -129,6 +130,7 @@ pub(crate) fn attempt<S: HallStore>(
     ensures attempts { Attempts S.HallStore.is_clean S.HallStore.holds S.HallStore.leaves store.old store.new place.now arrival.now.input arrival.now.moment arrival.now.fresh result }
     ensures came { IsReadAs arrival.now.input account.new.came }
     ensures found { account.old.notes.decision ≡ None → S.HallStore.is_clean store.new → (h : Hall) → S.HallStore.holds store.old h → IsFound h arrival.now.input account.new }
+    ensures unlisted { enlists ≡ false → IsDatagram arrival.now.input → S.HallStore.is_clean store.new → (h : Hall) → S.HallStore.holds store.old h → S.HallStore.holds store.new h }
 {
     let moment = arrival.moment;
     let fresh = arrival.fresh;

@@ -1,10 +1,10 @@
 //! Carrying out what came.
-ghost use Rattle.std.specs.Prelude.{◌≡◌, None};
+ghost use Rattle.std.specs.Prelude.{◌≡◌, None, false};
 ghost use Rattle.hall_types.specs.Hall.{Hall};
 ghost use Rattle.hall_events.specs.Reply.{Content};
 ghost use Rattle.hall_events.specs.declared.event.Event.TheVariants as event;
 ghost use Rattle.laws_model.specs.Decision.{decision_of};
-ghost use Rattle.hall_desk.specs.Account.{IsDecided};
+ghost use Rattle.hall_desk.specs.Account.{IsDecided, is_unlisted};
 ghost use Rattle.hall_desk.specs.Octets.{frame_answer, no_answer, response_answer};
 ghost use Rattle.hall_desk.specs.Plan.{CarriesOut};
 
@@ -22,10 +22,12 @@ use hall_types::{Moment, Port, Token};
 use pxe_vendor::{Client, Place};
 use std::alloc::Global;
 
-// Whether the client is to be enlisted.
-fn is_enlisting(decision: Decision) -> bool {
+// Whether the client is to be enlisted, by a desk that doesn't.
+fn is_unlisted(enlists: bool, decision: Decision) -> bool
+    ensures { result ≡ is_unlisted enlists decision }
+{
     match decision {
-        Decision::Enlist => true,
+        Decision::Enlist => !enlists,
         Decision::Loader | Decision::ScriptUrl | Decision::Silent(_) => false,
     }
 }
@@ -49,10 +51,11 @@ pub(crate) fn carry_frame<S: HallStore>(
         (λ h. (decision_of place.now h (event.Frame port client.now) moment fresh).rows)
         (λ h answer. answer ≡ frame_answer place.now frame.now client.now (decision_of place.now h (event.Frame port client.now) moment fresh).content) }
     ensures decided { notes.old.decision ≡ None → S.HallStore.is_clean store.new → (h : Hall) → S.HallStore.holds store.old h → IsDecided h port client.now notes.new.decision }
+    ensures unlisted { enlists ≡ false → S.HallStore.is_clean store.new → (h : Hall) → S.HallStore.holds store.old h → S.HallStore.holds store.new h }
 {
     let (change, decision) = plan_client(alloc, store, port, client)?;
     notes.decision = Some(decision);
-    if !enlists && is_enlisting(decision) {
+    if is_unlisted(enlists, decision) {
         notes.unlisted = true;
         return Err(Unavailable);
     }

@@ -1,13 +1,13 @@
 //! The desk: a store, and the place that it serves.
-ghost use Rattle.std.specs.Prelude.{◌≡◌, ℕ, List, [], ◌∷◌, ◌++◌, length, IfOk, OnErr};
+ghost use Rattle.std.specs.Prelude.{◌≡◌, true, false, ℕ, List, [], ◌∷◌, ◌++◌, length, IfOk, OnErr};
 ghost use Rattle.hall_events.specs.Reply.{reply_of};
 ghost use Rattle.laws_model.specs.Decision.{decision_of};
 ghost use Rattle.hall_types.specs.Hall.{Hall, new_hall, second};
 ghost use Rattle.desk_views.specs.Look.{Looks};
 ghost use Rattle.boot_desk.specs.Sound.{IsSound};
-ghost use Rattle.hall_desk.specs.Account.{IsFound, IsReadAs};
+ghost use Rattle.hall_desk.specs.Account.{IsDatagram, IsFound, IsReadAs};
 ghost use Rattle.hall_desk.specs.Attempt.{ChangeNothing, GivesAnswer};
-ghost use Rattle.hall_desk.specs.Desk.{site_of, store_of};
+ghost use Rattle.hall_desk.specs.Desk.{enlists_of, site_of, store_of};
 ghost use Rattle.hall_desk.specs.Headline.{HasHistory};
 ghost use Rattle.hall_desk.specs.History.{Item, carried_out, exchanged, exchanges};
 ghost use Rattle.hall_desk.specs.Octets.{IsGiven};
@@ -42,6 +42,7 @@ impl<S: HallStore> Desk<S> {
     pub fn new(store: S, place: Place) -> Desk<S>
         ensures store { store_of result ≡ store }
         ensures site { site_of result ≡ place }
+        ensures enlists { enlists_of result ≡ true }
         ensures history { (admin digest : List ℕ) → S.HallStore.holds store (new_hall second admin digest) → HasHistory S.HallStore.holds (store_of result) admin digest [] }
     {
         histories_keep_the_laws();
@@ -52,10 +53,12 @@ impl<S: HallStore> Desk<S> {
         }
     }
 
-    /// The desk as one that enlists no unknown client: its frame counts as not having come, and gets silence.
+    /// The desk as one that enlists no unknown client: its frame counts as not having come, and gets silence. No datagram changes the hall
+    /// then.
     pub fn without_enlisting(self) -> Desk<S>
         ensures store { store_of result ≡ store_of self }
         ensures site { site_of result ≡ site_of self }
+        ensures enlists { enlists_of result ≡ false }
     {
         Desk {
             enlists: false,
@@ -163,6 +166,8 @@ impl<S: HallStore> Desk<S> {
             → IsLeft S.HallStore.leaves (store_of self.new) admin digest (OrUnanswered past (site_of self.old) arrival.now) }
         ensures came { IsReadAs arrival.now.input result.1.came }
         ensures found { S.HallStore.is_clean (store_of self.new) → (h : Hall) → S.HallStore.holds (store_of self.old) h → IsFound h arrival.now.input result.1 }
+        ensures enlists { enlists_of self.new ≡ enlists_of self.old }
+        ensures unlisted { enlists_of self.old ≡ false → IsDatagram arrival.now.input → S.HallStore.is_clean (store_of self.new) → (h : Hall) → S.HallStore.holds (store_of self.old) h → S.HallStore.holds (store_of self.new) h }
     {
         histories_keep_the_laws();
         self.take(alloc, arrival)
@@ -176,6 +181,8 @@ impl<S: HallStore> Desk<S> {
             (site_of self.old) arrival.now.input arrival.now.moment arrival.now.fresh result.0 }
         ensures came { IsReadAs arrival.now.input result.1.came }
         ensures found { S.HallStore.is_clean (store_of self.new) → (h : Hall) → S.HallStore.holds (store_of self.old) h → IsFound h arrival.now.input result.1 }
+        ensures enlists { enlists_of self.new ≡ enlists_of self.old }
+        ensures unlisted { enlists_of self.old ≡ false → IsDatagram arrival.now.input → S.HallStore.is_clean (store_of self.new) → (h : Hall) → S.HallStore.holds (store_of self.old) h → S.HallStore.holds (store_of self.new) h }
     {
         let mut account = Account {
             came: Came::Quiet,
@@ -211,6 +218,8 @@ impl<S: HallStore> Desk<S> {
         ensures stop { S.HallStore.is_clean (store_of self.new) → (admin digest : List ℕ) (past : List Item)
             → IsSettled S.HallStore.holds S.HallStore.leaves (store_of self.old) admin digest past
             → IsLeft S.HallStore.leaves (store_of self.new) admin digest (OrUnanswered past (site_of self.old) arrival.now) }
+        ensures enlists { enlists_of self.new ≡ enlists_of self.old }
+        ensures unlisted { enlists_of self.old ≡ false → IsDatagram arrival.now.input → S.HallStore.is_clean (store_of self.new) → (h : Hall) → S.HallStore.holds (store_of self.old) h → S.HallStore.holds (store_of self.new) h }
     {
         let (answer, _) = self.answer_with_account(alloc, arrival);
         answer
