@@ -8,12 +8,18 @@ use crate::members::Members;
 use crate::request_texts::{MAX_BODY, method_word, path_text, said};
 use hall_desk::{Account, Answer, Arrival, Came, Input, Moved};
 use hall_events::{Event, HallCommand};
+use hall_types::Port;
 use pxe_vendor::Client;
 use std::alloc::{AllocError, Global};
 
+fn push_address(alloc: Global, members: &mut Members, address: &[u8; 6]) -> Result<(), AllocError> {
+    let text = address_text(alloc, address)?;
+    members.push_text("client.mac", text.as_str())
+}
+
 fn push_client(alloc: Global, members: &mut Members, client: &Client) -> Result<(), AllocError> {
     members.push_text("hall.message", kind_word(client.kind))?;
-    members.push_text("client.mac", address_text(alloc, &client.mac)?.as_str())?;
+    push_address(alloc, members, &client.mac)?;
     members.push_text("hall.arch", client.arch.text())?;
     if client.ipxe {
         members.push_true("hall.ipxe")?;
@@ -77,9 +83,7 @@ fn event_word(event: &Event) -> &'static str {
 // What the event asks for besides its path.
 fn push_asked(alloc: Global, members: &mut Members, event: &Event) -> Result<(), AllocError> {
     match event {
-        Event::Script { mac } => {
-            members.push_text("client.mac", address_text(alloc, &mac.octets())?.as_str())
-        }
+        Event::Script { mac } => push_address(alloc, members, &mac.octets()),
         Event::Report { progress, .. } => members.push_text("hall.stage", progress.text()),
         Event::OrderAnswer { outcome, .. } => members.push_text("hall.order", outcome.text()),
         Event::Command { command, .. } => push_command(alloc, members, command),
@@ -168,6 +172,49 @@ fn push_exchange(
     push_answer(members, answer)
 }
 
+fn push_datagram(
+    alloc: Global,
+    members: &mut Members,
+    port: Port,
+    answer: &Answer,
+    account: &Account,
+) -> Result<(), AllocError> {
+    members.push_text("event.action", port_word(port))?;
+    push_frame(alloc, members, &account.came)?;
+    push_frame_answer(members, answer, account)
+}
+
+fn push_arrival(
+    alloc: Global,
+    members: &mut Members,
+    input: &Input,
+    answer: &Answer,
+    account: &Account,
+) -> Result<(), AllocError> {
+    match input {
+        Input::Datagram { port, .. } => push_datagram(alloc, members, *port, answer, account),
+        Input::Request(_) => push_exchange(alloc, members, answer, account),
+        Input::Quiet => {
+            members.push_text("event.action", "quiet")?;
+            push_answer(members, answer)
+        }
+    }
+}
+
+// The members, the text last.
+fn push_all(
+    alloc: Global,
+    members: &mut Members,
+    arrival: &Arrival,
+    answer: &Answer,
+    account: &Account,
+) -> Result<(), AllocError> {
+    push_arrival(alloc, members, &arrival.input, answer, account)?;
+    push_machine(members, account)?;
+    let text = arrival_text(alloc, arrival, answer, account)?;
+    members.push_text("message", text.as_str())
+}
+
 /// The same facts as those of [`arrival_text`](crate::arrival_text), by name, and then that text as `message`.
 pub fn arrival_members(
     alloc: Global,
@@ -176,22 +223,6 @@ pub fn arrival_members(
     account: &Account,
 ) -> Result<String, AllocError> {
     let mut members = Members::new(alloc);
-    match &arrival.input {
-        Input::Datagram { port, .. } => {
-            members.push_text("event.action", port_word(*port))?;
-            push_frame(alloc, &mut members, &account.came)?;
-            push_frame_answer(&mut members, answer, account)?;
-        }
-        Input::Request(_) => push_exchange(alloc, &mut members, answer, account)?,
-        Input::Quiet => {
-            members.push_text("event.action", "quiet")?;
-            push_answer(&mut members, answer)?;
-        }
-    }
-    push_machine(&mut members, account)?;
-    members.push_text(
-        "message",
-        arrival_text(alloc, arrival, answer, account)?.as_str(),
-    )?;
+    push_all(alloc, &mut members, arrival, answer, account)?;
     Ok(members.into_text())
 }

@@ -77,6 +77,32 @@ fn text_line(
     format!(in alloc; "{moment} {from} {words}\n")
 }
 
+fn push_source(alloc: Global, members: &mut Members, from: SocketAddr) -> Result<(), AllocError> {
+    let address = from.ip().to_string(alloc)?;
+    members.push_text("client.ip", address.as_str())?;
+    members.push_number("client.port", u64::from(from.port()))
+}
+
+fn push_accepted(
+    alloc: Global,
+    members: &mut Members,
+    instead_of: Option<SocketAddr>,
+) -> Result<(), AllocError> {
+    members.push_text("event.action", "accepted")?;
+    match instead_of {
+        Some(other) => {
+            let other = other.to_string(alloc)?;
+            members.push_text("hall.instead_of", other.as_str())
+        }
+        None => Ok(()),
+    }
+}
+
+fn push_words(alloc: Global, members: &mut Members, turn: &Turn) -> Result<(), AllocError> {
+    let words = turn_words(alloc, turn, None)?;
+    members.push_text("message", words.as_str())
+}
+
 // What a turn did, after where it came from.
 fn push_turn(
     alloc: Global,
@@ -86,22 +112,32 @@ fn push_turn(
 ) -> Result<(), AllocError> {
     match turn {
         Turn::Accepted { instead_of, .. } => {
-            members.push_text("event.action", "accepted")?;
-            if let Some(instead_of) = instead_of {
-                members.push_text("hall.instead_of", instead_of.to_string(alloc)?.as_str())?;
-            }
+            push_accepted(alloc, members, *instead_of)?;
+            push_words(alloc, members, turn)
         }
         Turn::Closed { cause, .. } => {
             members.push_text("event.action", "closed")?;
             members.push_text("event.reason", close_word(*cause))?;
+            push_words(alloc, members, turn)
         }
         Turn::Unsent(_) => {
             members.push_true("hall.unsent")?;
-            return members.push_members(arrival.unwrap_or(UNWORDED));
+            members.push_members(arrival.unwrap_or(UNWORDED))
         }
-        _ => return members.push_members(arrival.unwrap_or(UNWORDED)),
+        _ => members.push_members(arrival.unwrap_or(UNWORDED)),
     }
-    members.push_text("message", turn_words(alloc, turn, None)?.as_str())
+}
+
+fn push_all(
+    alloc: Global,
+    members: &mut Members,
+    turn: &Turn,
+    arrival: Option<&str>,
+) -> Result<(), AllocError> {
+    if let Some(from) = source(turn) {
+        push_source(alloc, members, from)?;
+    }
+    push_turn(alloc, members, turn, arrival)
 }
 
 fn object_line(
@@ -111,11 +147,7 @@ fn object_line(
     arrival: Option<&str>,
 ) -> Result<String, AllocError> {
     let mut members = stamped(alloc, Some(moment))?;
-    if let Some(from) = source(turn) {
-        members.push_text("client.ip", from.ip().to_string(alloc)?.as_str())?;
-        members.push_number("client.port", u64::from(from.port()))?;
-    }
-    push_turn(alloc, &mut members, turn, arrival)?;
+    push_all(alloc, &mut members, turn, arrival)?;
     members.into_line()
 }
 
