@@ -315,6 +315,7 @@ why NotAHall 'absent4.db: No such file or directory (os error 2)' report --db ab
 why NoMachine '--what 77: the hall has no such machine' report --db hall.db --what 77
 echo 'this is a text, and no table' > text.db
 why Unavailable "text.db isn't a file of SQLite" report --db text.db
+absent text.db-wal
 ln hall.db other.db
 why Unavailable 'hall.db has 2 names (hard links), and its log stands beside one of them' report --db hall.db
 rm other.db

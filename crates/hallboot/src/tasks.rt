@@ -2,7 +2,7 @@
 use desk_operations::{Exit, Fault, frame_run};
 use hall_store::HallStore;
 use hall_types::{Digest, Name};
-use hallboot_tasks::{Asked, Serving, Suspended, Task, asked_by, carried_out, tell};
+use hallboot_tasks::{Asked, Serving, Suspended, Task, asked_by, carried_out, is_foreign, tell};
 use hallboot_words::Words;
 use sql_file::{Ended, FileFault, StoreTask, create, migrate, over};
 use sql_tables::Migrated;
@@ -21,7 +21,17 @@ fn of_file(fault: FileFault) -> Fault {
     }
 }
 
+// A file of something else isn't opened, so that no log is made beside it.
+fn looked_at(rt: &HostRuntime, path: &str) -> Result<(), Fault> {
+    if is_foreign(rt, path) {
+        Err(Fault::Unavailable)
+    } else {
+        Ok(())
+    }
+}
+
 fn init(rt: &HostRuntime, path: &str, admin: Name, digest: Digest) -> Result<Exit, Fault> {
+    looked_at(rt, path)?;
     create(rt, path, admin, digest).map_err(of_file)?;
     desk_operations::write_text(&mut rt.stdout(), "hall created\n")?;
     Ok(Exit::Done)
@@ -52,6 +62,7 @@ fn tell_of_closing(rt: &HostRuntime, path: &str, closing: Result<(), FileFault>)
 }
 
 fn carry_over(rt: &HostRuntime, path: &str) -> Result<Exit, Fault> {
+    looked_at(rt, path)?;
     let ended = migrate(rt, path).map_err(of_file)?;
     tell_of_closing(rt, path, ended.closing);
     let text = match ended.outcome {
@@ -68,6 +79,7 @@ fn ended_over(
     path: &str,
     task: Task<'_>,
 ) -> Result<Ended<Result<Exit, Fault>>, Fault> {
+    looked_at(rt, path)?;
     over(rt, path, FileTask { rt, task }).map_err(of_file)
 }
 

@@ -1,17 +1,14 @@
 //! Why a fault came, in words for people. It is found out afterwards, by another look at what was given, so that it may be another reason by
 //! then.
+use crate::foreign_file::{is_foreign, is_no_file};
 use crate::reading::octets_of;
 use crate::wrong_options::wrong_option;
 use desk_operations::{Fault, bad_row};
 use hallboot_words::Words;
 use std::alloc::{AllocError, Global};
 use std::fs::{self, File, OpenOptions};
-use std::io::Read;
 use std::net::{SocketAddr, TcpListener, UdpSocket};
 use std::os::unix::fs::MetadataExt;
-
-// What each file of SQLite begins with.
-const MAGIC: &[u8; 16] = b"SQLite format 3\0";
 
 fn input_reason(alloc: Global, words: &Words<'_>) -> Result<String, AllocError> {
     match wrong_option(alloc, words) {
@@ -64,17 +61,6 @@ fn bind_reason(rt: &HostRuntime, words: &Words<'_>) -> Option<String> {
     refusal_of(rt, "--http", words.http)
 }
 
-// Why a file isn't one of SQLite, if it isn't. An empty one is.
-fn unlike_sqlite(alloc: Global, path: &str, file: File) -> Option<String> {
-    let mut file = file;
-    let mut start = [0; 16];
-    match file.read(&mut start) {
-        Ok(count) if count == 0 || start == *MAGIC => None,
-        Ok(_) => format!(in alloc; "{path} isn't a file of SQLite").ok(),
-        Err(error) => format!(in alloc; "{path}: {error}").ok(),
-    }
-}
-
 // Why a file can't be a hall's, whatever its tables are.
 fn unfit_reason(rt: &HostRuntime, path: &str) -> Option<String> {
     let alloc = rt.alloc();
@@ -82,13 +68,17 @@ fn unfit_reason(rt: &HostRuntime, path: &str) -> Option<String> {
         Ok(found) => found.nlink(),
         Err(error) => return format!(in alloc; "{path}: {error}").ok(),
     };
+    if is_no_file(rt, path) {
+        return format!(in alloc; "{path} is no file").ok();
+    }
     if links > 1 {
         return format!(in alloc;
             "{path} has {links} names (hard links), and its log stands beside one of them"
         ).ok();
     }
     match OpenOptions::new().read(true).write(true).open(rt, path) {
-        Ok(file) => unlike_sqlite(alloc, path, file),
+        Ok(_) if is_foreign(rt, path) => format!(in alloc; "{path} isn't a file of SQLite").ok(),
+        Ok(_) => None,
         Err(error) => format!(in alloc; "{path}: {error}").ok(),
     }
 }

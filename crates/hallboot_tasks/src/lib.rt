@@ -3,6 +3,7 @@
 
 mod carrying;
 mod explaining;
+mod foreign_file;
 mod lines;
 mod outlet;
 mod random_block;
@@ -17,6 +18,7 @@ mod wrong_options;
 
 pub use carrying::carried_out;
 pub use explaining::reason;
+pub use foreign_file::is_foreign;
 pub use outlet::tell;
 pub use reading::fault_of;
 pub use suspended::Suspended;
