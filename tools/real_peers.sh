@@ -113,7 +113,7 @@ python3 - "$token" "$digest" "$key" "$boot_token" << 'PYTHON' || bad 'the log'
 import re, sys
 source, moment = r"127\.0\.0\.1:\d+", r"[1-9]\d*"
 came = r"(discover|boot) [^:]*(:[0-9a-f]{2}){5} [a-z0-9]+( by iPXE)?|(discover|boot) (malformed|not served), [^:]*"
-came += r"|(GET|POST) /[a-z]+\S*( \S+){0,3}( of machine \d+)?( by \S+)?|refused at once, [A-Za-z]+, (GET|POST|another method|no method) (/[a-z]+|another path|no path)( [a-z_]+)?"
+came += r"|(GET|POST) /[a-z]+\S*( \S+){0,3}( of machine \d+)?( by \S+)?|refused at once, [A-Za-z]+, (GET|POST|another method|no method) (/[a-z]+|another path|no path)( [a-z_]+)?(, no command|, another member|, (no|bad) member [a-z]+)?"
 causes = "at the wrong port|its identifier is too long to echo|its UUID is another machine's|the hall is full|the numbers are exhausted"
 said = rf"silence(, ({causes}|unavailable))?|unavailable|[^\s;]+|\d\d\d (\{{.*\}}|\d+ octets)"
 status = "[A-Z][a-z]+( [a-z]+)*"

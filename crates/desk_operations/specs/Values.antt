@@ -4,7 +4,7 @@ use Rattle.std.specs.Char.{is_ascii_digit}
 use Rattle.std.specs.List.{list_all}
 use Rattle.std.specs.Result.{result_ok}
 use Rattle.hex.specs.Hex.{decode_sized}
-use Rattle.http_requests.specs.Fields.{decimal_value}
+use Rattle.pxe_vendor.specs.Digits.{decimal_value}
 use Rattle.desk_operations.specs.declared.reports.What.{What}
 use Rattle.desk_operations.specs.declared.reports.What.TheVariants as what
 

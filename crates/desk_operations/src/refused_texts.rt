@@ -1,11 +1,7 @@
 //! What a request was about that asks for nothing that the desk knows. It is looked for among the words that the desk knows, so that no
 //! token is in it.
-use hall_http::HttpFault;
-use serde_json::Value;
+use hall_http::{BodyFault, HttpFault, body_fault};
 use std::alloc::{AllocError, Global};
-
-// A command's word has at most so many characters, all of a-z and _.
-const MAX_COMMAND: usize = 20;
 
 // The method, as far as it is one of the desk's.
 fn method_of(word: &str) -> &'static str {
@@ -34,40 +30,50 @@ fn route_of(target: &str) -> &'static str {
     }
 }
 
-fn is_command(word: &str) -> bool {
-    word.len() <= MAX_COMMAND
-        && word
-            .bytes()
-            .all(|octet| octet.is_ascii_lowercase() || octet == b'_')
+// The word of the command that a body names, and what is wrong with its members.
+fn fault_text(alloc: Global, fault: BodyFault) -> Result<String, AllocError> {
+    let (kind, what, member) = match fault {
+        BodyFault::NoCommand => return String::from_str(alloc, ", no command"),
+        BodyFault::Missing(kind, member) => (kind, "no member", member),
+        BodyFault::Other(kind) => (kind, "another", "member"),
+        BodyFault::Bad(kind, member) => (kind, "bad member", member),
+    };
+    let command = kind.word();
+    format!(in alloc; " {command}, {what} {member}")
 }
 
-// The word of the command that a body names, if it is like one.
-fn command_of(alloc: Global, body: &str) -> Result<Option<String>, AllocError> {
-    let Ok(body) = Value::from_str(alloc, body) else {
-        return Ok(None);
-    };
-    match body.get("command").and_then(Value::as_str) {
-        Some(word) if is_command(word) => Ok(Some(String::from_str(alloc, word)?)),
-        _ => Ok(None),
+// What is wrong with the body of a command, if that is why it was refused.
+fn body_text(
+    alloc: Global,
+    fault: HttpFault,
+    route: &str,
+    body: &str,
+) -> Result<String, AllocError> {
+    let is_its_body = fault == HttpFault::BadRequest && route == "/commands";
+    match body_fault(alloc, body.as_bytes())? {
+        Some(fault) if is_its_body => fault_text(alloc, fault),
+        _ => Ok(String::new(alloc)),
     }
 }
 
-/// The fault, and the method, the route and the command of the request, as far as the desk knows them:
-/// `refused at once, BadRequest, POST /commands allocate`.
+/// The fault, and the method, the route, the command and the wrong member of the request, as far as the desk
+/// knows them: `refused at once, BadRequest, POST /commands allocate, no member machine`.
 pub(crate) fn refused_text(
     alloc: Global,
     octets: &[u8],
     fault: HttpFault,
 ) -> Result<String, AllocError> {
     let text = std::str::from_utf8(octets).unwrap_or("");
-    let (head, body) = text.split_once("\r\n\r\n").unwrap_or((text, ""));
+    let (head, body) = match text.split_once("\r\n\r\n") {
+        Some((head, body)) => (head, Some(body)),
+        None => (text, None),
+    };
     let (method, rest) = head.split_once(' ').unwrap_or(("", ""));
     let (target, _) = rest.split_once(' ').unwrap_or(("", ""));
     let (method, route) = (method_of(method), route_of(target));
-    match command_of(alloc, body)? {
-        Some(command) => {
-            format!(in alloc; "refused at once, {fault}, {method} {route} {command}")
-        }
-        None => format!(in alloc; "refused at once, {fault}, {method} {route}"),
-    }
+    let body = match body {
+        Some(body) => body_text(alloc, fault, route, body)?,
+        None => String::new(alloc),
+    };
+    format!(in alloc; "refused at once, {fault}, {method} {route}{body}")
 }

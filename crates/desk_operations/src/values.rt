@@ -2,40 +2,22 @@
 ghost use Rattle.std.specs.Prelude.{◌≡◌, ◌≤◌, true, length, option_map};
 ghost use Rattle.std.specs.List.{list_all};
 ghost use Rattle.std.specs.Char.{is_ascii_digit};
-ghost use Rattle.http_requests.specs.Fields.{decimal_value, is_bearer_token, is_visible};
+ghost use Rattle.http_requests.specs.Fields.{is_bearer_token, is_visible};
 ghost use Rattle.desk_operations.specs.Values.{at_most, count_in, is_decimal, moment_in, octets_in, what_in};
 
 use crate::reports::What;
 use hall_types::{Digest, Moment, Token};
 use hex::FromHex;
+use pxe_vendor::{are_digits, decimal};
 
 /// The highest count of turns and number of a machine.
 const MAX_COUNT: u64 = 1_000_000_000_000_000;
-
-fn are_digits(text: &[u8]) -> bool
-    ensures { result ≡ list_all is_ascii_digit text.now }
-{
-    text.iter().all(|octet| octet.is_ascii_digit())
-}
 
 // 1 to 16 digits, and no leading zero but in `0`.
 fn is_decimal(text: &[u8]) -> bool
     ensures { result ≡ is_decimal text.now }
 {
     1 <= text.len() && text.len() <= 16 && are_digits(text) && (text.len() == 1 || text[0] != b'0')
-}
-
-// The number that digits write.
-fn decimal(text: &[u8]) -> u64
-    requires short { length text.now ≤ 16 }
-    requires digits { list_all is_ascii_digit text.now ≡ true }
-    ensures { result ≡ decimal_value text.now }
-{
-    let mut n = 0;
-    for digit in text {
-        n = n * 10 + u64::from(*digit - b'0');
-    }
-    n
 }
 
 /// A count in decimal digits without a leading zero, at most 10^15.

@@ -44,7 +44,7 @@ fn sorted_reply(
     ensures { IfOk result (λ reply. reply ≡ reply_of second
         (machine_list (map (λ m. listed m (filter (λ i. i.machine == m.id) interfaces.now)) machines.now))) }
 {
-    let mut list = MachineList::new(alloc)?;
+    let mut list = MachineList::new(alloc, machines.len())?;
     for machine in machines {
         list.push(alloc, machine, own_interfaces(interfaces, machine.id))?;
     }

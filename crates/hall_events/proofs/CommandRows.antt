@@ -10,12 +10,13 @@ use Rattle.pxe_vendor.specs.declared.arch.Arch.TheVariants.{Bios, Uefi64}
 use Rattle.hall_types.specs.Kinds.{role_text, erase_text}
 use Rattle.hall_types.specs.declared.kinds.Role.TheVariants.{Power}
 use Rattle.hall_types.specs.declared.kinds.Erase.TheVariants.{Quick, Full}
-use Rattle.hall_events.specs.Command.{command_text, command_word, members_of}
+use Rattle.hall_events.specs.Command.{command_text, members_of}
+use Rattle.hall_events.specs.Kind.{kind_word, machine_word}
 use Rattle.hall_events.specs.declared.command.HallCommand.TheVariants.{AddOperator, AddPool, AddImage, AddMachine, OnMachine}
 use Rattle.hall_events.specs.declared.command.MachineCommand.TheVariants.{Commission, Deploy, Release}
 
 unfoldable texts_on_literals : ⊤
-unfolding command_text members_of command_word escape_byte digits hex_on_literals uuid_on_literals arch_text role_text erase_text
+unfolding command_text members_of kind_word machine_word escape_byte digits hex_on_literals uuid_on_literals arch_text role_text erase_text
 texts_on_literals = tt
 
 mac : List ℕ

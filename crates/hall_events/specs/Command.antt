@@ -13,6 +13,11 @@ use Rattle.hall_types.specs.Octets.{AreOctets}
 use Rattle.hall_types.specs.declared.kinds.Erase.{Erase}
 use Rattle.hall_types.specs.declared.kinds.Erase.TheVariants.{Quick, Full}
 use Rattle.hall_events.specs.Object.{Member, object_of, member_if, count}
+use Rattle.hall_events.specs.Kind.{kind_word}
+use Rattle.hall_events.specs.declared.kind.CommandKind.{CommandKind}
+use Rattle.hall_events.specs.declared.kind.CommandKind.TheVariants as of_hall
+use Rattle.hall_events.specs.declared.kind.MachineKind.{MachineKind}
+use Rattle.hall_events.specs.declared.kind.MachineKind.TheVariants as kind
 use Rattle.hall_events.specs.declared.command.HallCommand.{HallCommand}
 use Rattle.hall_events.specs.declared.command.HallCommand.TheVariants.{AddOperator, DisableOperator, AddPool, Grant, AddImage, DeleteImage, SetLive, AddMachine, OnMachine}
 use Rattle.hall_events.specs.declared.command.MachineCommand.{MachineCommand}
@@ -32,29 +37,41 @@ erase_data None = boolean false
 erase_data (Some Full) = boolean true
 erase_data (Some Quick) = string (erase_text Quick)
 
--- the member that names the command
-abbrev pub command_member : List ℕ → Member
-command_member word = (codes "command", string word)
+-- the member that names a command of this kind
+abbrev pub command_member : CommandKind → Member
+command_member kind = (codes "command", string (kind_word kind))
 
--- the word for a command on a machine
-unfoldable pub command_word : MachineCommand → List ℕ
-command_word (AddInterface mac) = codes "add_interface"
-command_word (RemoveInterface mac) = codes "remove_interface"
-command_word (SetPool pool) = codes "set_pool"
-command_word (Commission tests) = codes "commission"
-command_word Test = codes "test"
-command_word Override = codes "override"
-command_word Fix = codes "fix"
-command_word Delete = codes "delete"
-command_word Allocate = codes "allocate"
-command_word (Deploy image) = codes "deploy"
-command_word (Release erase) = codes "release"
-command_word Rescue = codes "rescue"
-command_word Abort = codes "abort"
-command_word Lock = codes "lock"
-command_word Unlock = codes "unlock"
-command_word ExitRescue = codes "exit_rescue"
-command_word Break = codes "break"
+-- the kind of a command on a machine
+abbrev pub machine_kind : MachineCommand → MachineKind
+machine_kind (AddInterface mac) = kind.AddInterface
+machine_kind (RemoveInterface mac) = kind.RemoveInterface
+machine_kind (SetPool pool) = kind.SetPool
+machine_kind (Commission tests) = kind.Commission
+machine_kind Test = kind.Test
+machine_kind Override = kind.Override
+machine_kind Fix = kind.Fix
+machine_kind Delete = kind.Delete
+machine_kind Allocate = kind.Allocate
+machine_kind (Deploy image) = kind.Deploy
+machine_kind (Release erase) = kind.Release
+machine_kind Rescue = kind.Rescue
+machine_kind Abort = kind.Abort
+machine_kind Lock = kind.Lock
+machine_kind Unlock = kind.Unlock
+machine_kind ExitRescue = kind.ExitRescue
+machine_kind Break = kind.Break
+
+-- the kind of a command
+abbrev pub command_kind : HallCommand → CommandKind
+command_kind (AddOperator operator role digest) = of_hall.AddOperator
+command_kind (DisableOperator operator) = of_hall.DisableOperator
+command_kind (AddPool pool) = of_hall.AddPool
+command_kind (Grant pool operator) = of_hall.Grant
+command_kind (AddImage image) = of_hall.AddImage
+command_kind (DeleteImage image) = of_hall.DeleteImage
+command_kind (SetLive image) = of_hall.SetLive
+command_kind (AddMachine mac arch pool uuid) = of_hall.AddMachine
+command_kind (OnMachine machine version c) = of_hall.OnMachine (machine_kind c)
 
 -- the member that only this command on a machine has
 abbrev pub own_members : MachineCommand → List Member
@@ -69,33 +86,33 @@ own_members other = []
 -- the members of a command
 unfoldable pub members_of : HallCommand → List Member
 members_of (AddOperator operator role digest) =
-    command_member (codes "add_operator")
+    command_member of_hall.AddOperator
     ∷ (codes "digest", string (encode_lower digest))
     ∷ (codes "operator", string operator)
     ∷ (codes "role", string (role_text role))
     ∷ []
-members_of (DisableOperator operator) = command_member (codes "disable_operator") ∷ (codes "operator", string operator) ∷ []
-members_of (AddPool pool) = command_member (codes "add_pool") ∷ (codes "pool", string pool) ∷ []
+members_of (DisableOperator operator) = command_member of_hall.DisableOperator ∷ (codes "operator", string operator) ∷ []
+members_of (AddPool pool) = command_member of_hall.AddPool ∷ (codes "pool", string pool) ∷ []
 members_of (Grant pool operator) =
-    command_member (codes "grant") ∷ (codes "operator", string operator) ∷ (codes "pool", string pool) ∷ []
+    command_member of_hall.Grant ∷ (codes "operator", string operator) ∷ (codes "pool", string pool) ∷ []
 members_of (AddImage image) =
-    command_member (codes "add_image")
+    command_member of_hall.AddImage
     ∷ (codes "arch", string (arch_text image.arch))
     ∷ (codes "args", array (items_of (map string image.args)))
     ∷ (codes "image", string image.name)
     ∷ (codes "initrd", string image.initrd)
     ∷ (codes "kernel", string image.kernel)
     ∷ []
-members_of (DeleteImage image) = command_member (codes "delete_image") ∷ (codes "image", string image) ∷ []
-members_of (SetLive image) = command_member (codes "set_live") ∷ (codes "image", string image) ∷ []
+members_of (DeleteImage image) = command_member of_hall.DeleteImage ∷ (codes "image", string image) ∷ []
+members_of (SetLive image) = command_member of_hall.SetLive ∷ (codes "image", string image) ∷ []
 members_of (AddMachine mac arch pool uuid) =
-    command_member (codes "add_machine")
+    command_member of_hall.AddMachine
     ∷ (codes "arch", string (arch_text arch))
     ∷ (codes "mac", mac_data mac)
     ∷ (codes "pool", string pool)
     ∷ member_if (codes "uuid") (option_map uuid_data uuid)
 members_of (OnMachine machine version c) =
-    command_member (command_word c)
+    command_member (of_hall.OnMachine (machine_kind c))
     ∷ (codes "machine", count machine)
     ∷ own_members c
     ++ member_if (codes "version") (option_map count version)
@@ -107,6 +124,10 @@ command_data c = object_of (members_of c)
 -- the text of a command
 unfoldable pub command_text : HallCommand → List ℕ
 command_text c = compact_text (command_data c)
+
+-- the text of the body of a request: a command, with the key of the request as one more member
+unfoldable pub request_text : List ℕ → HallCommand → List ℕ
+request_text key c = compact_text (object_of ((codes "key", uuid_data key) ∷ members_of c))
 
 -- ---- what commands are made of
 

@@ -23,9 +23,10 @@ use Rattle.hall_types.specs.declared.kinds.Role.{Role}
 use Rattle.hall_types.specs.declared.kinds.Role.TheVariants.{Admin}
 use Rattle.hall_types.specs.declared.kinds.Erase.{Erase}
 use Rattle.hall_types.specs.declared.kinds.Erase.TheVariants.{Quick, Full}
-use Rattle.hall_events.specs.Object.{Member, member_if, count}
+use Rattle.hall_events.specs.Object.{Member, object_of, member_if, count}
 use Rattle.hall_events.specs.ObjectLaws.{IsPlain, IsPlain-object, ItemsArePlain-texts, value_in, value_in-compact_text, text_in, texts_in, texts_of-texts, number_in}
-use Rattle.hall_events.specs.Command.{command_data, command_text, command_word, members_of, own_members, uuid_data, IsCommand, IsMachineCommand}
+use Rattle.hall_events.specs.Command.{command_data, command_text, machine_kind, members_of, own_members, uuid_data, IsCommand, IsMachineCommand}
+use Rattle.hall_events.specs.Kind.{kind_word, machine_word}
 use Rattle.hall_events.specs.declared.command.HallCommand.{HallCommand}
 use Rattle.hall_events.specs.declared.command.HallCommand.TheVariants.{AddOperator, DisableOperator, AddPool, Grant, AddImage, DeleteImage, SetLive, AddMachine, OnMachine}
 use Rattle.hall_events.specs.declared.command.MachineCommand.{MachineCommand}
@@ -73,6 +74,11 @@ members_plain (OnMachine machine (Some version) c) h =
 pub IsPlain-command : (c : HallCommand) → IsCommand c → IsPlain (command_data c) 2
 unfolding ArePlain
 IsPlain-command c h = IsPlain-object (members_of c) 1 (members_plain c h)
+
+-- so is a command with the key of its request
+pub IsPlain-request : (key : List ℕ) (c : HallCommand) → IsCommand c → IsPlain (object_of ((codes "key", uuid_data key) ∷ members_of c)) 2
+unfolding ArePlain
+IsPlain-request key c h = IsPlain-object ((codes "key", uuid_data key) ∷ members_of c) 1 (tt, members_plain c h)
 
 -- ---- a command from its value
 
@@ -146,7 +152,7 @@ machine_commands d =
     ∷ Test ∷ Override ∷ Fix ∷ Delete ∷ Allocate ∷ Rescue ∷ Abort ∷ Lock ∷ Unlock ∷ ExitRescue ∷ []
 
 machine_command_in : List ℕ → Data → MachineCommand
-machine_command_in name d = unwrap_or (with_text command_word name (machine_commands d)) Break
+machine_command_in name d = unwrap_or (with_text (λ c. machine_word (machine_kind c)) name (machine_commands d)) Break
 
 -- the command with these members and this name
 command_in : List ℕ → Data → HallCommand
@@ -176,7 +182,7 @@ command_of d = command_in (text_in (get (codes "command") d)) d
 
 -- a command on a machine is found, with a version or without
 on_machine : (machine : ℕ) (version : Option ℕ) (c : MachineCommand) → IsMachineCommand c → command_of (command_data (OnMachine machine version c)) ≡ OnMachine machine version c
-unfolding command_of command_in machine_command_in machine_commands members_of command_word erase_text
+unfolding command_of command_in machine_command_in machine_commands members_of kind_word machine_word erase_text
 on_machine machine None (AddInterface mac) h = rw (mac_in-mac_text mac h) refl
 on_machine machine (Some version) (AddInterface mac) h = rw (mac_in-mac_text mac h) refl
 on_machine machine None (RemoveInterface mac) h = rw (mac_in-mac_text mac h) refl
@@ -191,7 +197,7 @@ on_machine machine None c h = refl
 on_machine machine (Some version) c h = refl
 
 command_of-command_data : (c : HallCommand) → IsCommand c → command_of (command_data c) ≡ c
-unfolding command_of command_in members_of
+unfolding command_of command_in members_of kind_word
 command_of-command_data (AddOperator operator r digest) h = rw (role_in-role_text r, octets_in-encode_lower digest h.1) refl
 command_of-command_data (DisableOperator operator) h = refl
 command_of-command_data (AddPool pool) h = refl

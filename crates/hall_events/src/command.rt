@@ -1,9 +1,12 @@
 //! The commands of operators.
 ghost use Rattle.std.specs.Prelude.{◌≡◌, IfOk, OnOk, string_bytes};
-ghost use Rattle.hall_events.specs.Command.{IsCommand, command_text, command_word};
+ghost use Rattle.hall_events.specs.Command.{IsCommand, command_kind, command_text, machine_kind, request_text};
 
-use crate::command_value::command_value;
-use hall_types::{Digest, Erase, Image, MacAddress, MachineUuid, Name, Number, Role, Version};
+use crate::command_value::{command_value, request_value};
+use crate::kind::{CommandKind, MachineKind};
+use hall_types::{
+    Digest, Erase, Image, MacAddress, MachineUuid, Name, Number, RequestKey, Role, Version,
+};
 use pxe_vendor::Arch;
 use std::alloc::{AllocError, Global};
 
@@ -72,34 +75,50 @@ pub enum MachineCommand {
 }
 
 impl MachineCommand {
-    // The word for it in texts.
-    #[tactic(auto, unfolding(crate::specs::Command::command_word))]
-    pub(crate) fn word(&self) -> &'static str
-        ensures { result.now ≡ command_word self.now }
+    /// Its kind.
+    pub fn kind(&self) -> MachineKind
+        ensures { result ≡ machine_kind self.now }
     {
         match self {
-            MachineCommand::AddInterface { .. } => "add_interface",
-            MachineCommand::RemoveInterface { .. } => "remove_interface",
-            MachineCommand::SetPool { .. } => "set_pool",
-            MachineCommand::Commission { .. } => "commission",
-            MachineCommand::Test => "test",
-            MachineCommand::Override => "override",
-            MachineCommand::Fix => "fix",
-            MachineCommand::Delete => "delete",
-            MachineCommand::Allocate => "allocate",
-            MachineCommand::Deploy { .. } => "deploy",
-            MachineCommand::Release { .. } => "release",
-            MachineCommand::Rescue => "rescue",
-            MachineCommand::Abort => "abort",
-            MachineCommand::Lock => "lock",
-            MachineCommand::Unlock => "unlock",
-            MachineCommand::ExitRescue => "exit_rescue",
-            MachineCommand::Break => "break",
+            MachineCommand::AddInterface { .. } => MachineKind::AddInterface,
+            MachineCommand::RemoveInterface { .. } => MachineKind::RemoveInterface,
+            MachineCommand::SetPool { .. } => MachineKind::SetPool,
+            MachineCommand::Commission { .. } => MachineKind::Commission,
+            MachineCommand::Test => MachineKind::Test,
+            MachineCommand::Override => MachineKind::Override,
+            MachineCommand::Fix => MachineKind::Fix,
+            MachineCommand::Delete => MachineKind::Delete,
+            MachineCommand::Allocate => MachineKind::Allocate,
+            MachineCommand::Deploy { .. } => MachineKind::Deploy,
+            MachineCommand::Release { .. } => MachineKind::Release,
+            MachineCommand::Rescue => MachineKind::Rescue,
+            MachineCommand::Abort => MachineKind::Abort,
+            MachineCommand::Lock => MachineKind::Lock,
+            MachineCommand::Unlock => MachineKind::Unlock,
+            MachineCommand::ExitRescue => MachineKind::ExitRescue,
+            MachineCommand::Break => MachineKind::Break,
         }
     }
 }
 
 impl HallCommand {
+    /// Its kind.
+    pub fn kind(&self) -> CommandKind
+        ensures { result ≡ command_kind self.now }
+    {
+        match self {
+            HallCommand::AddOperator { .. } => CommandKind::AddOperator,
+            HallCommand::DisableOperator { .. } => CommandKind::DisableOperator,
+            HallCommand::AddPool { .. } => CommandKind::AddPool,
+            HallCommand::Grant { .. } => CommandKind::Grant,
+            HallCommand::AddImage { .. } => CommandKind::AddImage,
+            HallCommand::DeleteImage { .. } => CommandKind::DeleteImage,
+            HallCommand::SetLive { .. } => CommandKind::SetLive,
+            HallCommand::AddMachine { .. } => CommandKind::AddMachine,
+            HallCommand::OnMachine { command, .. } => CommandKind::OnMachine(command.kind()),
+        }
+    }
+
     /// The text by which a receipt keeps the command: compact JSON of one object, its members in the order
     /// of their names' octets. The key of the request is no part of it.
     #[tactic(auto, using(crate::proofs::CommandLemmas::command_no_float), unfolding(crate::specs::Command::command_text))]
@@ -108,5 +127,14 @@ impl HallCommand {
         ensures whole { OnOk result (IsCommand self.now) }
     {
         command_value(alloc, self)?.to_string(alloc)
+    }
+
+    /// The body of a request with this command: its text, with the key of the request as one more member.
+    #[tactic(auto, using(crate::proofs::CommandLemmas::request_no_float), unfolding(crate::specs::Command::request_text))]
+    pub fn request_text(&self, alloc: Global, key: RequestKey) -> Result<String, AllocError>
+        ensures text { IfOk result (λ text. string_bytes text ≡ request_text key self.now) }
+        ensures whole { OnOk result (IsCommand self.now) }
+    {
+        request_value(alloc, key, self)?.to_string(alloc)
     }
 }

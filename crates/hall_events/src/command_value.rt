@@ -5,13 +5,16 @@ ghost use Rattle.serde_json.specs.Data.{array, put as with, string};
 ghost use Rattle.serde_json.specs.View.{view, items_of, members_view};
 ghost use Rattle.hall_types.specs.Number.{IsNumber};
 ghost use Rattle.hall_types.specs.Octets.{AreOctets};
-ghost use Rattle.hall_events.specs.Object.{count, member_if, put_all};
+ghost use Rattle.hall_events.specs.Object.{count, member_if, object_of, put_all};
 ghost use Rattle.hall_events.specs.Command.{IsCommand, IsMachineCommand, command_data, command_member, erase_data, mac_data, members_of, own_members, uuid_data};
 ghost use Rattle.hall_events.specs.declared.command.HallCommand.{HallCommand};
 
 use crate::command::{HallCommand, MachineCommand};
-use crate::member::{mac_value, put_count, put_if, put_text, uuid_value};
-use hall_types::{Digest, Erase, Image, MacAddress, MachineUuid, Name, Number, Role, Version};
+use crate::kind::CommandKind;
+use crate::member::{mac_value, put_count, put_if, put_text, uuid_text, uuid_value};
+use hall_types::{
+    Digest, Erase, Image, MacAddress, MachineUuid, Name, Number, RequestKey, Role, Version,
+};
 use ipxe_script::Word;
 use pxe_vendor::Arch;
 use serde_json::{Map, Value, put};
@@ -21,13 +24,13 @@ use std::alloc::{AllocError, Global};
 fn put_named(
     alloc: Global,
     members: &mut Map<String, Value>,
-    command: &str,
+    kind: CommandKind,
     member: &str,
     name: Name,
 ) -> Result<(), AllocError>
-    ensures { OnOk result (members_view members.new.entries ≡ put_all (command_member command.now ∷ (member.now, string name) ∷ []) (members_view members.old.entries)) }
+    ensures { OnOk result (members_view members.new.entries ≡ put_all (command_member kind ∷ (member.now, string name) ∷ []) (members_view members.old.entries)) }
 {
-    put_text(alloc, members, "command", command)?;
+    put_text(alloc, members, "command", kind.word())?;
     put_text(alloc, members, member, name.text())
 }
 
@@ -40,7 +43,7 @@ fn put_grant(
 ) -> Result<(), AllocError>
     ensures { OnOk result (members_view members.new.entries ≡ put_all (members_of (HallCommand.Grant pool operator)) (members_view members.old.entries)) }
 {
-    put_text(alloc, members, "command", "grant")?;
+    put_text(alloc, members, "command", CommandKind::Grant.word())?;
     put_text(alloc, members, "operator", operator.text())?;
     put_text(alloc, members, "pool", pool.text())
 }
@@ -68,7 +71,7 @@ fn put_operator(
     ensures members { OnOk result (members_view members.new.entries ≡ put_all (members_of (HallCommand.AddOperator operator role digest)) (members_view members.old.entries)) }
     ensures whole { OnOk result (AreOctets 32 digest) }
 {
-    put_text(alloc, members, "command", "add_operator")?;
+    put_text(alloc, members, "command", CommandKind::AddOperator.word())?;
     put_digest(alloc, members, digest)?;
     put_text(alloc, members, "operator", operator.text())?;
     put_text(alloc, members, "role", role.text())
@@ -103,7 +106,7 @@ fn put_image(
 ) -> Result<(), AllocError>
     ensures { OnOk result (members_view members.new.entries ≡ put_all (members_of (HallCommand.AddImage image.now)) (members_view members.old.entries)) }
 {
-    put_text(alloc, members, "command", "add_image")?;
+    put_text(alloc, members, "command", CommandKind::AddImage.word())?;
     put_text(alloc, members, "arch", image.arch().text())?;
     put_words(alloc, members, image.args())?;
     put_text(alloc, members, "image", image.name().text())?;
@@ -147,7 +150,7 @@ fn put_machine(
     ensures members { OnOk result (members_view members.new.entries ≡ put_all (members_of (HallCommand.AddMachine mac arch pool uuid)) (members_view members.old.entries)) }
     ensures whole { OnOk result (AreOctets 6 mac × IfSome uuid (AreOctets 16)) }
 {
-    put_text(alloc, members, "command", "add_machine")?;
+    put_text(alloc, members, "command", CommandKind::AddMachine.word())?;
     put_text(alloc, members, "arch", arch.text())?;
     put_mac(alloc, members, mac)?;
     put_text(alloc, members, "pool", pool.text())?;
@@ -216,7 +219,8 @@ fn put_on_machine(
     ensures members { OnOk result (members_view members.new.entries ≡ put_all (members_of (HallCommand.OnMachine machine version command.now)) (members_view members.old.entries)) }
     ensures whole { OnOk result (IsNumber machine × IfSome version IsNumber × IsMachineCommand command.now) }
 {
-    put_text(alloc, members, "command", command.word())?;
+    let kind = CommandKind::OnMachine(command.kind());
+    put_text(alloc, members, "command", kind.word())?;
     put_count(alloc, members, "machine", machine.get())?;
     put_own(alloc, members, command)?;
     put_if(alloc, members, "version", version_value(version))
@@ -238,15 +242,29 @@ fn put_command(
             digest,
         } => put_operator(alloc, members, *operator, *role, *digest),
         HallCommand::DisableOperator { operator } => {
-            put_named(alloc, members, "disable_operator", "operator", *operator)
+            put_named(
+                alloc,
+                members,
+                CommandKind::DisableOperator,
+                "operator",
+                *operator,
+            )
         }
-        HallCommand::AddPool { pool } => put_named(alloc, members, "add_pool", "pool", *pool),
+        HallCommand::AddPool { pool } => put_named(
+            alloc,
+            members,
+            CommandKind::AddPool,
+            "pool",
+            *pool,
+        ),
         HallCommand::Grant { pool, operator } => put_grant(alloc, members, *pool, *operator),
         HallCommand::AddImage { image } => put_image(alloc, members, image),
         HallCommand::DeleteImage { image } => {
-            put_named(alloc, members, "delete_image", "image", *image)
+            put_named(alloc, members, CommandKind::DeleteImage, "image", *image)
         }
-        HallCommand::SetLive { image } => { put_named(alloc, members, "set_live", "image", *image) }
+        HallCommand::SetLive { image } => {
+            put_named(alloc, members, CommandKind::SetLive, "image", *image)
+        }
         HallCommand::AddMachine {
             mac,
             arch,
@@ -266,6 +284,31 @@ pub(crate) fn command_value(alloc: Global, command: &HallCommand) -> Result<Valu
     ensures whole { OnOk result (IsCommand command.now) }
 {
     let mut members = Map::new(alloc);
+    put_command(alloc, &mut members, command)?;
+    Ok(Value::Object(members))
+}
+
+fn put_key(
+    alloc: Global,
+    members: &mut Map<String, Value>,
+    key: RequestKey,
+) -> Result<(), AllocError>
+    ensures { OnOk result (members_view members.new.entries ≡ with (codes "key") (uuid_data key) (members_view members.old.entries)) }
+{
+    let key = uuid_text(alloc, key.octets())?;
+    put(members, alloc, "key", key)
+}
+
+pub(crate) fn request_value(
+    alloc: Global,
+    key: RequestKey,
+    command: &HallCommand,
+) -> Result<Value, AllocError>
+    ensures value { IfOk result (λ value. view value ≡ object_of ((codes "key", uuid_data key) ∷ members_of command.now)) }
+    ensures whole { OnOk result (IsCommand command.now) }
+{
+    let mut members = Map::new(alloc);
+    put_key(alloc, &mut members, key)?;
     put_command(alloc, &mut members, command)?;
     Ok(Value::Object(members))
 }

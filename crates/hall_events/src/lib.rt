@@ -4,6 +4,7 @@
 mod command;
 mod command_value;
 mod event;
+mod kind;
 mod laws;
 mod list_text;
 mod machine_list;
@@ -15,6 +16,7 @@ mod reply;
 
 pub use command::{HallCommand, MachineCommand};
 pub use event::Event;
+pub use kind::{CommandKind, MachineKind};
 pub use laws::{different_answers, one_text};
 pub use machine_list::MachineList;
 pub use reply::{BodyKind, Reply};

@@ -26,12 +26,22 @@ impl Model for MachineList {
     ghost view = { λ list. record { text = string_bytes list.text; any = list.any } };
 }
 
+// The room for one machine, octets: most take less.
+const MACHINE_ROOM: usize = 288;
+
+// The room for what is around the machines.
+const LIST_ROOM: usize = 16;
+
 impl MachineList {
-    /// The list before its first machine.
-    pub fn new(alloc: Global) -> Result<MachineList, AllocError>
+    /// The list before its first machine, with room for so many.
+    pub fn new(alloc: Global, machines: usize) -> Result<MachineList, AllocError>
         ensures { IfOk result (λ list. list ≡ no_machine) }
     {
-        let text = String::from_str(alloc, "{\"machines\":[")?;
+        let room = machines
+            .saturating_mul(MACHINE_ROOM)
+            .saturating_add(LIST_ROOM);
+        let mut text = String::with_capacity(alloc, room)?;
+        text.push_str("{\"machines\":[")?;
         Ok(MachineList { text, any: false })
     }
 

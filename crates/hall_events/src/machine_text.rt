@@ -85,28 +85,25 @@ fn push_uuid(alloc: Global, text: &mut String, uuid: Option<MachineUuid>) -> Res
     push_text(alloc, text, digits)
 }
 
-// One more address, with a comma before it if it's a later one.
-fn push_mac(
-    alloc: Global,
-    text: &mut String,
-    later: bool,
-    interface: &Interface,
-) -> Result<(), AllocError>
+// One more address, with a comma before it if it's a later one. Its text needs no escape.
+fn push_mac(text: &mut String, later: bool, interface: &Interface) -> Result<(), AllocError>
     ensures { OnOk result (string_bytes text.new ≡ string_bytes text.old ++ (comma_before later ++ compact_text (mac_data interface.now.mac))) }
 {
-    let mac = wire_mac::print(alloc, &interface.mac.octets())?;
     text.push_str(comma_if(later))?;
-    push_text(alloc, text, mac.as_str())
+    text.push_str("\"")?;
+    wire_mac::push(text, &interface.mac.octets())?;
+    text.push_str("\"")?;
+    Ok(())
 }
 
 // The addresses of interfaces.
-fn push_macs(alloc: Global, text: &mut String, interfaces: &[Interface]) -> Result<(), AllocError>
+fn push_macs(text: &mut String, interfaces: &[Interface]) -> Result<(), AllocError>
     ensures { OnOk result (string_bytes text.new ≡ string_bytes text.old ++ compact_text (array (items_of (map mac_data (map (λ i. i.mac) interfaces.now))))) }
 {
     text.push_str("[")?;
     let mut later = false;
     for interface in interfaces {
-        push_mac(alloc, text, later, interface)?;
+        push_mac(text, later, interface)?;
         later = true;
     }
     text.push_str("]")
@@ -139,7 +136,7 @@ fn push_middle(
     text.push_str(",\"image\":")?;
     push_name(alloc, text, machine.image)?;
     text.push_str(",\"interfaces\":")?;
-    push_macs(alloc, text, interfaces)?;
+    push_macs(text, interfaces)?;
     text.push_str(",\"locked\":")?;
     push_flag(text, machine.locked)?;
     text.push_str(",\"order\":")?;

@@ -57,6 +57,17 @@ pub(crate) fn mac_value(alloc: Global, mac: MacAddress) -> Result<Value, AllocEr
     Ok(Value::String(text))
 }
 
+/// The value of a UUID's octets.
+pub(crate) fn uuid_text(alloc: Global, octets: [u8; 16]) -> Result<Value, AllocError>
+    ensures { IfOk result (λ value. view value ≡ uuid_data octets) }
+{
+    let mut buffer = Uuid::encode_buffer();
+    let text = Uuid::from_bytes(octets)
+        .hyphenated()
+        .encode_lower(&mut buffer);
+    Value::try_from_str(alloc, text)
+}
+
 pub(crate) fn uuid_value(
     alloc: Global,
     uuid: Option<MachineUuid>,
@@ -64,12 +75,8 @@ pub(crate) fn uuid_value(
     ensures value { IfOk result (λ value. option_map view value ≡ option_map uuid_data uuid) }
     ensures whole { OnOk result (IfSome uuid (AreOctets 16)) }
 {
-    let Some(uuid) = uuid else {
-        return Ok(None);
-    };
-    let mut buffer = Uuid::encode_buffer();
-    let text = Uuid::from_bytes(uuid.octets())
-        .hyphenated()
-        .encode_lower(&mut buffer);
-    Ok(Some(Value::try_from_str(alloc, text)?))
+    match uuid {
+        Some(uuid) => Ok(Some(uuid_text(alloc, uuid.octets())?)),
+        None => Ok(None),
+    }
 }

@@ -1,6 +1,7 @@
 -- Responses: status line, fields and body (RFC 9112 section 4; RFC 9110 sections 8.3, 8.6 and 15; RFC 4918 section 11.3 for 423).
-use Rattle.std.specs.Prelude.{ℕ, ◌==◌, List, [], ◌∷◌, ◌++◌, codes, length, decimal, IsTrue, if◌then◌else◌}
+use Rattle.std.specs.Prelude.{ℕ, ◌==◌, List, [], ◌∷◌, ◌++◌, codes, length, decimal, unwrap_or, IsTrue}
 use Rattle.std.specs.List.{list_any}
+use Rattle.http.specs.StatusCode.{reason_phrase}
 use Rattle.hall_events.specs.Reply.{Content, stored, boot_file, nothing}
 use Rattle.hall_events.specs.declared.reply.Reply.{Reply}
 use Rattle.hall_events.specs.declared.reply.Reply.TheVariants.{Http, File, Nothing}
@@ -16,21 +17,7 @@ IsStatus status = IsTrue (list_any (λ one. one == status) statuses)
 
 -- their phrases
 unfoldable pub phrase_of : ℕ → List ℕ
-phrase_of status =
-    if status == 200 then codes "OK"
-    else if status == 400 then codes "Bad Request"
-    else if status == 401 then codes "Unauthorized"
-    else if status == 403 then codes "Forbidden"
-    else if status == 404 then codes "Not Found"
-    else if status == 405 then codes "Method Not Allowed"
-    else if status == 409 then codes "Conflict"
-    else if status == 410 then codes "Gone"
-    else if status == 411 then codes "Length Required"
-    else if status == 412 then codes "Precondition Failed"
-    else if status == 413 then codes "Payload Too Large"
-    else if status == 423 then codes "Locked"
-    else if status == 503 then codes "Service Unavailable"
-    else []
+phrase_of status = unwrap_or (reason_phrase status) []
 
 -- the text of a body's kind
 unfoldable pub kind_text : BodyKind → List ℕ

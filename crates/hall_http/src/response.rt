@@ -1,8 +1,9 @@
 //! The octets of responses.
 ghost use Rattle.std.specs.Prelude.{◌≡◌, ◌++◌, IfOk, OnOk};
-ghost use Rattle.hall_http.specs.Response.{phrase_of, kind_text, status_line, type_line, length_line, last_lines, response, response_of, IsResponse};
+ghost use Rattle.hall_http.specs.Response.{phrase_of, kind_text, status_line, type_line, length_line, last_lines, response, response_of, IsResponse, IsStatus};
 
 use hall_events::{BodyKind, Reply};
+use http::StatusCode;
 use itoa::Buffer;
 use std::alloc::{AllocError, Global};
 
@@ -14,25 +15,14 @@ pub const UNAVAILABLE: &[u8] =
 // Room for the octets of a response's head.
 const HEAD_ROOM: usize = 160;
 
-#[tactic(auto, unfolding(crate::specs::Response::phrase_of))]
+#[tactic(auto, using(crate::proofs::ResponseLemmas::status_is_code), unfolding(crate::specs::Response::phrase_of))]
 fn phrase(status: u16) -> &'static str
+    requires { IsStatus status }
     ensures { result.now ≡ phrase_of status }
 {
-    match status {
-        200 => "OK",
-        400 => "Bad Request",
-        401 => "Unauthorized",
-        403 => "Forbidden",
-        404 => "Not Found",
-        405 => "Method Not Allowed",
-        409 => "Conflict",
-        410 => "Gone",
-        411 => "Length Required",
-        412 => "Precondition Failed",
-        413 => "Payload Too Large",
-        423 => "Locked",
-        503 => "Service Unavailable",
-        _ => "",
+    match StatusCode::from_u16(status) {
+        Ok(status) => status.canonical_reason().unwrap_or(""),
+        Err(_) => unreachable!(),
     }
 }
 
@@ -48,6 +38,7 @@ fn kind_text(kind: BodyKind) -> &'static str
 
 #[tactic(auto, unfolding(crate::specs::Response::status_line))]
 fn push_status_line(octets: &mut Vec<u8>, status: u16) -> Result<(), AllocError>
+    requires { IsStatus status }
     ensures { OnOk result (octets.new.items ≡ octets.old.items ++ status_line status) }
 {
     let mut buffer = Buffer::new();
@@ -87,6 +78,7 @@ fn push_last_lines(octets: &mut Vec<u8>) -> Result<(), AllocError>
 
 // The octets of a response with these parts.
 fn response(alloc: Global, status: u16, kind: BodyKind, body: &str) -> Result<Vec<u8>, AllocError>
+    requires { IsStatus status }
     ensures { IfOk result (λ octets. octets.items ≡ response status kind body.now) }
 {
     let mut octets = Vec::with_capacity(alloc, body.len().saturating_add(HEAD_ROOM))?;

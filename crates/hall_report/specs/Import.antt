@@ -1,6 +1,5 @@
 -- Files of new machines, in comma-separated values (RFC 4180).
 use Rattle.std.specs.Prelude.{◌≡◌, ◌≢◌, ℕ, ◌+◌, ◌==◌, Bool, true, false, ◌&&◌, ◌||◌, List, [], ◌∷◌, length, Option, Some, None, option_and_then, option_map, Result, Ok, Err, bytes_eq, codes, if◌then◌else◌}
-use Rattle.std.specs.List.{list_all}
 use Rattle.std.specs.Str.{is_utf8}
 use Rattle.csv.specs.Reading.{default_config, records, strip_bom}
 use Rattle.csv.specs.Records.{field_at}
@@ -8,7 +7,8 @@ use Rattle.uuid.specs.Text.{parsed}
 use Rattle.wire_mac.specs.MacText.{mac_of}
 use Rattle.pxe_vendor.specs.Arch.{arch_in}
 use Rattle.pxe_vendor.specs.declared.arch.Arch.{Arch}
-use Rattle.hall_types.specs.Name.{is_name}
+use Rattle.hall_types.specs.Name.{name_of}
+use Rattle.hall_types.specs.Uuid.{unless_blank}
 use Rattle.hall_report.specs.Steps.{◌>>=◌}
 use Rattle.hall_report.specs.declared.fault.ImportFault.{ImportFault}
 use Rattle.hall_report.specs.declared.fault.ImportFault.TheVariants.{BadHeader, BadRow, Memory}
@@ -23,16 +23,6 @@ text_of octets = if is_utf8 octets then Some octets else None
 -- the text of the field at a column, from 0 on
 abbrev pub text_at : ℕ → List (List ℕ) → Option (List ℕ)
 text_at column fields = option_and_then text_of (field_at fields column)
-
-abbrev pub name_of : List ℕ → Option (List ℕ)
-name_of text = if is_name text then Some text else None
-
--- 16 octets that are all 0 or all 255 identify no machine
-abbrev pub is_blank : List ℕ → Bool
-is_blank octets = list_all (λ octet. octet == 0) octets || list_all (λ octet. octet == 255) octets
-
-abbrev pub unless_blank : List ℕ → Option (List ℕ)
-unless_blank octets = if is_blank octets then None else Some octets
 
 -- a machine's UUID in one of the spellings of a UUID; an empty text is none
 abbrev pub uuid_of : List ℕ → Option (Option (List ℕ))

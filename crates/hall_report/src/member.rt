@@ -27,20 +27,19 @@ pub(crate) fn uuid_text(alloc: Global, uuid: MachineUuid) -> Result<String, Allo
 }
 
 // Writes an address after a space.
-fn push_mac(alloc: Global, text: &mut String, mac: MacAddress) -> Result<(), AllocError>
+fn push_mac(text: &mut String, mac: MacAddress) -> Result<(), AllocError>
     ensures { OnOk result (string_bytes text.new ≡ string_bytes text.old ++ (32 ∷ []) ++ mac_text mac) }
 {
-    let printed = wire_mac::print(alloc, &mac.octets())?;
     text.push(' ')?;
-    text.push_str(printed.as_str())
+    wire_mac::push(text, &mac.octets())
 }
 
 // Writes the addresses of interfaces, each after a space.
-fn push_macs(alloc: Global, text: &mut String, interfaces: &[Interface]) -> Result<(), AllocError>
+fn push_macs(text: &mut String, interfaces: &[Interface]) -> Result<(), AllocError>
     ensures { OnOk result (string_bytes text.new ≡ string_bytes text.old ++ flat_map (λ i. (32 ∷ []) ++ mac_text i.mac) interfaces.now) }
 {
     for interface in interfaces {
-        push_mac(alloc, text, interface.mac)?;
+        push_mac(text, interface.mac)?;
     }
     Ok(())
 }
@@ -53,6 +52,6 @@ pub(crate) fn macs_text(alloc: Global, interfaces: &[Interface]) -> Result<Strin
         return Ok(String::new(alloc));
     };
     let mut text = wire_mac::print(alloc, &first.mac.octets())?;
-    push_macs(alloc, &mut text, others)?;
+    push_macs(&mut text, others)?;
     Ok(text)
 }

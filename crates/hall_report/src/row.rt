@@ -1,9 +1,8 @@
 //! The rows of an import.
 ghost use Rattle.std.specs.Prelude.{◌≡◌, ◌==◌, ◌∷◌, ◌++◌, [], map, OnOk, option_copied};
-ghost use Rattle.std.specs.List.{list_all};
 ghost use Rattle.csv.specs.Records.{fields_of};
 ghost use Rattle.uuid.specs.Text.{parsed};
-ghost use Rattle.hall_report.specs.Import.{Answers, arch_at, is_blank, key_at, mac_at, name_of, pool_at, row_in, row_of, rows_from, text_at, text_of, uuid_at, uuid_of, with_ok};
+ghost use Rattle.hall_report.specs.Import.{Answers, arch_at, key_at, mac_at, pool_at, row_in, row_of, rows_from, text_at, text_of, uuid_at, uuid_of, with_ok};
 
 use crate::fault::ImportFault;
 use csv::ByteRecord;
@@ -54,18 +53,6 @@ fn parsed(text: &str) -> Option<[u8; 16]>
     }
 }
 
-fn are_all(octets: &[u8], one: u8) -> bool
-    ensures { result ≡ list_all (λ octet. octet == one) octets.now }
-{
-    octets.iter().all(|octet| *octet == one)
-}
-
-fn is_blank(octets: &[u8]) -> bool
-    ensures { result ≡ is_blank octets.now }
-{
-    are_all(octets, 0) || are_all(octets, 255)
-}
-
 fn uuid_of(text: &str) -> Option<Option<MachineUuid>>
     ensures { result ≡ uuid_of text.now }
 {
@@ -73,21 +60,9 @@ fn uuid_of(text: &str) -> Option<Option<MachineUuid>>
         return Some(None);
     }
     match parsed(text) {
-        Some(octets) => {
-            if is_blank(&octets) {
-                None
-            } else {
-                Some(Some(MachineUuid::from(octets)))
-            }
-        }
+        Some(octets) => MachineUuid::identifying(octets).map(Some),
         None => None,
     }
-}
-
-fn name_of(text: &str) -> Option<Name>
-    ensures { result ≡ name_of text.now }
-{
-    Name::new(text).ok()
 }
 
 fn key_at(values: &ByteRecord) -> Option<RequestKey>
@@ -136,7 +111,7 @@ fn pool_at(values: &ByteRecord) -> Option<Name>
     ensures { result ≡ pool_at (fields_of values.now) }
 {
     match text_at(values, 4) {
-        Some(text) => name_of(text),
+        Some(text) => Name::new(text).ok(),
         None => None,
     }
 }

@@ -7,7 +7,7 @@ use Rattle.std.proofs.lemmas.Bool.Decides.{nat_tests}
 use Rattle.std.proofs.lemmas.Grind.{common_steps}
 use Rattle.hall_types.specs.Hall.{Hall, applied, written}
 use Rattle.hall_types.specs.Keyed.{StandUnder}
-use Rattle.hall_types.specs.Lookup.{has_come, is_before, is_due, next_expired}
+use Rattle.hall_types.specs.Lookup.{has_come, is_before, is_due, next_expired, if_due}
 use Rattle.hall_types.specs.LookupLaws.{IsNext, next_expired-is, next_expired-none}
 use Rattle.hall_types.specs.RowLaws.{put_cases, gone_found}
 use Rattle.hall_types.specs.Rows.{Rows, at, numbers, put}
@@ -16,7 +16,7 @@ use Rattle.hall_types.specs.declared.change.RowWrite.TheVariants.{PutOperator, P
 use Rattle.hall_types.specs.declared.machine.Machine.{Machine}
 use Rattle.sql_schema.specs.Holding.{IsHeld}
 use Rattle.sqlite.specs.State.{State}
-use Rattle.hall_sql.specs.Expiring.{HasNoEarlier, IsEarliest, PutsNoEarlier, earliest_of, if_due}
+use Rattle.hall_sql.specs.Expiring.{HasNoEarlier, IsEarliest, PutsNoEarlier, earliest_of}
 
 le_trans : {a b c : ℕ} → a ≤ b → b ≤ c → a ≤ c
 le_trans p q = omega arith

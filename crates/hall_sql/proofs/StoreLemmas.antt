@@ -6,7 +6,7 @@ use Rattle.sqlite.specs.Held.{Held, state}
 use Rattle.sqlite.specs.State.{HasCleanDisk}
 use Rattle.sqlite_trees.specs.declared.store.Store as trees
 use Rattle.hall_types.specs.Hall.{Hall, applied}
-use Rattle.hall_types.specs.Lookup.{next_expired}
+use Rattle.hall_types.specs.Lookup.{next_expired, if_due}
 use Rattle.hall_types.specs.declared.change.RowWrite.{RowWrite}
 use Rattle.hall_types.specs.declared.machine.Machine.{Machine}
 use Rattle.sql_schema.specs.Holding.{IsHeld, Leaves, IsTableRead}
@@ -16,7 +16,7 @@ use Rattle.std.specs.List.{AllByRecursion}
 use Rattle.hall_store.specs.Store.{IsRead, IsWrite}
 use Rattle.hall_store.specs.declared.store.Unavailable.{Unavailable}
 use Rattle.hall_sql.specs.Applying.{IsTold}
-use Rattle.hall_sql.specs.Expiring.{IsEarliest, PutsNoEarlier, earliest_of, if_due}
+use Rattle.hall_sql.specs.Expiring.{IsEarliest, PutsNoEarlier, earliest_of}
 use Rattle.hall_sql.specs.Store.{HasHall, LeavesCommitted, Passes, StopLeaves}
 use Rattle.hall_sql.specs.declared.store.SqlStore.{SqlStore}
 use Rattle.hall_sql.proofs.ExpiryLemmas.{applied_earliest, applied_schema, first_due, first_earliest, lower_earliest, machines_under, none_due}

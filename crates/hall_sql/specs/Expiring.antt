@@ -31,11 +31,6 @@ PutsNoEarlier earliest (PutOrder o) = ⊤
 PutsNoEarlier earliest (PutReceipt r) = ⊤
 PutsNoEarlier earliest (PutNumbers n) = ⊤
 
--- the machine that is the first to expire, if it is due
-abbrev pub if_due : ℕ → Option Machine → Option Machine
-if_due moment None = None
-if_due moment (Some m) = if is_due moment m then Some m else None
-
 -- the deadline of the first machine to expire; where none ever does, the moment after the last one
 abbrev pub earliest_of : Option Machine → ℕ
 earliest_of None = 1000000000000 + 1

@@ -3,9 +3,9 @@ ghost use Rattle.std.specs.Prelude.{◌≡◌, ◌≤◌, false};
 ghost use Rattle.std.specs.List.{AllByRecursion};
 ghost use Rattle.sqlite.specs.Held.{state};
 ghost use Rattle.sqlite.specs.State.{HasCleanDisk};
-ghost use Rattle.hall_types.specs.Lookup.{is_due, next_expired};
+ghost use Rattle.hall_types.specs.Lookup.{is_due, next_expired, if_due};
 ghost use Rattle.hall_store.specs.Store.{IsRead};
-ghost use Rattle.hall_sql.specs.Expiring.{PutsNoEarlier, earliest_of, if_due};
+ghost use Rattle.hall_sql.specs.Expiring.{PutsNoEarlier, earliest_of};
 ghost use Rattle.hall_sql.specs.Store.{HasHall, StopLeaves};
 
 use crate::store::SqlStore;
@@ -60,22 +60,13 @@ fn earliest_of(first: &Option<Machine>) -> u64
     }
 }
 
-fn is_due(machine: &Machine, moment: Moment) -> bool
-    ensures { result ≡ is_due moment machine.now }
-{
-    match machine.deadline {
-        Some(deadline) => deadline <= moment.get(),
-        None => false,
-    }
-}
-
 // The first machine to expire, if it is due.
 fn if_due(first: Option<Machine>, moment: Moment) -> Option<Machine>
     ensures { result ≡ if_due moment first }
 {
     match first {
-        Some(machine) if is_due(&machine, moment) => Some(machine),
-        _ => None,
+        Some(machine) => machine.if_due(moment),
+        None => None,
     }
 }
 

@@ -1,11 +1,9 @@
 -- What changes make of a hall.
-use Rattle.std.proofs.Common.{◌≡◌, ◌≢◌, ◌↔◌, ℕ, not, List, [], ◌∷◌, ◌++◌, Some, refl, ap}
+use Rattle.std.proofs.Common.{◌≡◌, ◌≢◌, ◌↔◌, ℕ, not, Some, ap}
 use Rattle.std.specs.Prelude.{◌==◌}
 use Rattle.std.proofs.lemmas.Bool.{both_ways, ne_eqb, eq-eqb}
 use Rattle.hall_types.specs.Rows.{Keys, Rows, at, rows_where}
 use Rattle.hall_types.specs.RowLaws.{where_found, where_kept}
-use Rattle.hall_types.specs.Hall.{Hall, applied, written}
-use Rattle.hall_types.specs.declared.change.RowWrite.{RowWrite}
 
 -- the rows that aren't of one machine
 pub others : {K X : Type 0} {keys : Keys K} (machine : X → ℕ) (id : ℕ) (rows : Rows keys X) (key : K) (x : X) →

@@ -1,8 +1,8 @@
 -- What row writes change and leave.
-use Rattle.std.proofs.Common.{◌≡◌, ◌≢◌, ℕ, Bool, true, not, List, [], ◌∷◌, Some, None, refl, sym, ap, ◌∙◌, inl, inr, ◌⊎◌}
+use Rattle.std.proofs.Common.{◌≡◌, ◌≢◌, ℕ, Bool, true, not, List, Some, refl, sym, ap, ◌∙◌, inl, inr, ◌⊎◌}
 use Rattle.std.specs.Prelude.{◌==◌}
 use Rattle.hall_types.specs.Kinds.{arch_number}
-use Rattle.hall_types.specs.Rows.{Keys, texts, numbers, Rows, at, put, gone, no_rows, rows_where}
+use Rattle.hall_types.specs.Rows.{Keys, Rows, at, put, gone, no_rows, rows_where}
 use Rattle.hall_types.specs.RowLaws.{at-put-same, at-put-other, at-gone-same, at-gone-other, at-no_rows, put_cases, gone_found, where_found}
 use Rattle.hall_types.specs.Hall.{Schema, Hall, written, new_hall, default_pool, pair}
 use Rattle.hall_types.specs.Image.{BootImage}

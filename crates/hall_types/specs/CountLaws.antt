@@ -4,7 +4,7 @@ use Rattle.std.specs.FinMap as map
 use Rattle.std.specs.FinMap.{get-entries, len-entries, len-empty, empty_of_len}
 use Rattle.std.proofs.Common.{refl, arith, ◌∙◌, ap, sym, subst}
 use Rattle.hall_types.specs.Rows.{Keys, Rows, passes, at, put, gone, no_rows, rows_where, same_key, one_if, size, how_many}
-use Rattle.hall_types.specs.RowLaws.{key-same, same-key, at-put, at-gone, at-gone-same, at-no_rows, at-rows_where, same_rows, size-gone, rows_where-put, rows_where-gone, how_many-put, how_many-gone}
+use Rattle.hall_types.specs.RowLaws.{key-same, same-key, at-put, at-gone, at-gone-same, at-no_rows, at-rows_where, same_rows, size-gone, rows_where-put, how_many-put, how_many-gone}
 
 not_suc : (n : ℕ) → suc n ≢ 0
 not_suc n e = absurd (omega arith)

@@ -1,5 +1,5 @@
 -- Every row of a hall stands under its own key.
-use Rattle.std.specs.Prelude.{◌≡◌, ℕ, List, Some}
+use Rattle.std.specs.Prelude.{◌≡◌, Some}
 use Rattle.hall_types.specs.Kinds.{arch_number}
 use Rattle.hall_types.specs.Rows.{Keys, Rows, at}
 use Rattle.hall_types.specs.Hall.{Hall, pair}

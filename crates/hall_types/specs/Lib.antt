@@ -16,3 +16,4 @@ pub mod RowLaws
 pub mod Rows
 pub mod Status
 pub mod Tables
+pub mod Uuid

@@ -44,6 +44,11 @@ has_come moment (Some deadline) = nat_le deadline moment
 abbrev pub is_due : ℕ → Machine → Bool
 is_due moment m = has_come moment m.deadline
 
+-- the machine, if it is due
+abbrev pub if_due : ℕ → Option Machine → Option Machine
+if_due moment None = None
+if_due moment (Some m) = if is_due moment m then Some m else None
+
 -- a deadline is before a later one, and before none
 abbrev pub is_before : Option ℕ → Option ℕ → Bool
 is_before None other = false

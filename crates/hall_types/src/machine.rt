@@ -1,8 +1,11 @@
 //! Machines and their network interfaces.
+ghost use Rattle.std.specs.Prelude.{◌≡◌, Some};
+
 use crate::address::MacAddress;
 use crate::boot::BootCount;
 use crate::kinds::Erase;
 use crate::machine_uuid::MachineUuid;
+use crate::moment::Moment;
 use crate::name::Name;
 use crate::number::Number;
 use crate::status::Status;
@@ -43,6 +46,31 @@ pub struct Machine {
     pub boots: BootCount,
     /// The number of its waiting order.
     pub waiting: Option<Number>,
+}
+
+impl Machine {
+    ghost use Rattle.hall_types.specs.Lookup.{if_due, is_due};
+
+    /// Whether its deadline has come.
+    pub fn is_due(&self, moment: Moment) -> bool
+        ensures { result ≡ is_due moment self.now }
+    {
+        match self.deadline {
+            Some(deadline) => deadline <= moment.get(),
+            None => false,
+        }
+    }
+
+    /// The machine, if its deadline has come.
+    pub fn if_due(self, moment: Moment) -> Option<Machine>
+        ensures { result ≡ if_due moment (Some self) }
+    {
+        if self.is_due(moment) {
+            Some(self)
+        } else {
+            None
+        }
+    }
 }
 
 /// A network interface of a machine.

@@ -1,7 +1,9 @@
 //! Identifiers of machines.
 ghost use Rattle.std.specs.Prelude.{◌≡◌};
 ghost use Rattle.hall_types.specs.Octets.{AreOctets};
+ghost use Rattle.hall_types.specs.Uuid.{unless_blank};
 
+use pxe_vendor::is_blank;
 use std::marker::Model;
 
 /// The UUID of a machine's system, 16 octets in the order in which a client sends them
@@ -30,6 +32,18 @@ impl From<[u8; 16]> for MachineUuid {
 }
 
 impl MachineUuid {
+    /// The UUID of these octets, unless they are all 0 or all 255, which identify no machine (SMBIOS, DSP0134
+    /// section 7.2.1).
+    pub fn identifying(octets: [u8; 16]) -> Option<MachineUuid>
+        ensures { result ≡ unless_blank octets }
+    {
+        if is_blank(&octets) {
+            None
+        } else {
+            Some(MachineUuid { octets })
+        }
+    }
+
     pub fn octets(self) -> [u8; 16]
         ensures octets { result ≡ self }
         ensures range { AreOctets 16 self }

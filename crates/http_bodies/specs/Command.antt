@@ -8,13 +8,14 @@ use Rattle.hall_events.specs.declared.command.HallCommand.TheVariants as command
 use Rattle.hall_events.specs.declared.command.MachineCommand.{MachineCommand}
 use Rattle.hall_events.specs.declared.command.MachineCommand.TheVariants as machine
 use Rattle.hall_types.specs.Image.{BootImage}
-use Rattle.http_bodies.specs.declared.kind.CommandKind.{CommandKind}
-use Rattle.http_bodies.specs.declared.kind.CommandKind.TheVariants.{AddOperator, DisableOperator, AddPool, Grant, AddImage, DeleteImage, SetLive, AddMachine, OnMachine}
-use Rattle.http_bodies.specs.declared.kind.MachineKind.{MachineKind}
-use Rattle.http_bodies.specs.declared.kind.MachineKind.TheVariants as kind
+use Rattle.hall_events.specs.declared.kind.CommandKind.{CommandKind}
+use Rattle.hall_events.specs.declared.kind.CommandKind.TheVariants.{AddOperator, DisableOperator, AddPool, Grant, AddImage, DeleteImage, SetLive, AddMachine, OnMachine}
+use Rattle.hall_events.specs.declared.kind.MachineKind.{MachineKind}
+use Rattle.hall_events.specs.declared.kind.MachineKind.TheVariants as kind
 use Rattle.http_bodies.specs.declared.command.KeyedCommand.{KeyedCommand}
 use Rattle.http_bodies.specs.Body.{data_of, fits}
-use Rattle.http_bodies.specs.Kind.{kind_of, common_members, own_members, optional_members}
+use Rattle.http_bodies.specs.Members.{common_members, own_members, optional_members}
+use Rattle.hall_events.specs.Kind.{kind_with_word}
 use Rattle.http_bodies.specs.Member.{text_at, number_at, name_at, uri_at, key_at, version_at, mac_at, digest_at, uuid_at, arch_at, role_at, tests_at, erase_at, words_at, progress_at, outcome_at}
 use Rattle.http_bodies.specs.Steps.{◌>>=◌}
 use Rattle.http_bodies.specs.Value.{image_of}
@@ -139,7 +140,7 @@ with_key kind json = do
 abbrev pub kind_at : Data → Option CommandKind
 kind_at json = do
   word ← text_at (codes "command") json
-  kind_of word
+  kind_with_word word
 
 -- the command of an object with exactly the members of its kind
 unfoldable pub keyed_command : Data → Option KeyedCommand

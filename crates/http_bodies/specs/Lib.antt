@@ -1,6 +1,6 @@
 pub mod Body
 pub mod Command
-pub mod Kind
+pub mod Members
 pub mod Member
 pub mod Steps
 pub mod Value

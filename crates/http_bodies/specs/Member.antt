@@ -6,12 +6,13 @@ use Rattle.pxe_vendor.specs.declared.arch.Arch.{Arch}
 use Rattle.serde_json.specs.Data.{Data}
 use Rattle.serde_json.specs.Find.{get, as_str, as_bool, as_array}
 use Rattle.uuid.specs.Text.{parsed}
+use Rattle.hall_types.specs.Name.{name_of}
 use Rattle.hall_types.specs.Kinds.{role_of_text, progress_of_text, outcome_of_text}
 use Rattle.hall_types.specs.declared.kinds.Erase.{Erase}
 use Rattle.hall_types.specs.declared.kinds.Outcome.{Outcome}
 use Rattle.hall_types.specs.declared.kinds.Progress.{Progress}
 use Rattle.hall_types.specs.declared.kinds.Role.{Role}
-use Rattle.http_bodies.specs.Value.{number_of, version_of, name_of, digest_of, uuid_of, erase_of, uri_of, words_of}
+use Rattle.http_bodies.specs.Value.{number_of, version_of, digest_of, uuid_of, erase_of, uri_of, words_of}
 
 abbrev pub text_at : List ℕ → Data → Option (List ℕ)
 text_at name json = option_and_then as_str (get name json)

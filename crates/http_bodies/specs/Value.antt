@@ -1,6 +1,5 @@
 -- What the values of a command's members mean.
-use Rattle.std.specs.Prelude.{ℕ, ◌==◌, List, [], ◌∷◌, Option, Some, None, option_and_then, option_map, codes, bytes_eq, nat_le, length, Bool, true, false, not, ◌&&◌, ◌||◌, if◌then◌else◌}
-use Rattle.std.specs.List.{list_all}
+use Rattle.std.specs.Prelude.{ℕ, List, [], ◌∷◌, Option, Some, None, option_and_then, option_map, codes, bytes_eq, nat_le, length, true, false, not, ◌&&◌, if◌then◌else◌}
 use Rattle.std.specs.Result.{result_ok}
 use Rattle.hex.specs.Hex.{decode_sized}
 use Rattle.uuid.specs.Text.{parsed}
@@ -9,8 +8,8 @@ use Rattle.serde_json.specs.Find.{as_str, as_number, as_u64}
 use Rattle.ipxe_script.specs.Word.{is_word, is_uri}
 use Rattle.hall_types.specs.Image.{BootImage, has_hall_word}
 use Rattle.hall_types.specs.Kinds.{erase_of_text}
-use Rattle.hall_types.specs.Name.{is_name}
 use Rattle.hall_types.specs.Number.{max_number}
+use Rattle.hall_types.specs.Uuid.{unless_blank}
 use Rattle.hall_types.specs.declared.kinds.Erase.{Erase}
 use Rattle.hall_types.specs.declared.kinds.Erase.TheVariants.{Full}
 use Rattle.http_bodies.specs.Steps.{◌>>=◌}
@@ -33,19 +32,9 @@ abbrev pub version_of : Option Data → Option (Option ℕ)
 version_of None = Some None
 version_of (Some value) = option_map Some (number_of value)
 
-abbrev pub name_of : List ℕ → Option (List ℕ)
-name_of text = if is_name text then Some text else None
-
 -- the octets of 64 hexadecimal digits, in either case
 abbrev pub digest_of : List ℕ → Option (List ℕ)
 digest_of text = result_ok (decode_sized text 32)
-
--- 16 octets that are all 0 or all 255 identify no machine
-abbrev pub is_blank : List ℕ → Bool
-is_blank octets = list_all (λ octet. octet == 0) octets || list_all (λ octet. octet == 255) octets
-
-abbrev pub unless_blank : List ℕ → Option (List ℕ)
-unless_blank octets = if is_blank octets then None else Some octets
 
 -- the UUID of a machine, in one of the four spellings of a UUID
 abbrev pub uuid_of_text : List ℕ → Option (List ℕ)

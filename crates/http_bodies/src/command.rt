@@ -6,11 +6,11 @@ ghost use Rattle.hall_events.specs.declared.command.HallCommand.TheVariants as m
 
 use crate::body::value_of;
 use crate::image::image_at;
-use crate::kind::{CommandKind, kind_of};
 use crate::machine::on_machine;
 use crate::member::{arch_at, digest_at, key_at, mac_at, name_at, role_at, text_at, uuid_at};
+use crate::members::{common_members, optional_members, own_members};
 use crate::shape::fits;
-use hall_events::HallCommand;
+use hall_events::{CommandKind, HallCommand};
 use hall_types::RequestKey;
 use serde_json::Value;
 use std::alloc::{AllocError, Global};
@@ -122,17 +122,17 @@ fn fits_kind(kind: CommandKind, json: &Value) -> bool
 {
     fits(
         json,
-        kind.common_members(),
-        kind.own_members(),
-        kind.optional_members(),
+        common_members(kind),
+        own_members(kind),
+        optional_members(kind),
     )
 }
 
-fn kind_at(json: &Value) -> Option<CommandKind>
+pub(crate) fn kind_at(json: &Value) -> Option<CommandKind>
     ensures { result ≡ from_json.kind_at (view json.now) }
 {
     match text_at(json, "command") {
-        Some(word) => kind_of(word),
+        Some(word) => CommandKind::with_word(word),
         None => None,
     }
 }

@@ -4,12 +4,14 @@
 mod body;
 mod command;
 mod image;
-mod kind;
 mod machine;
 mod member;
+mod members;
 mod report;
 mod shape;
 mod value;
+mod wrong_bodies;
 
 pub use command::{KeyedCommand, command_in};
 pub use report::{outcome_in, progress_in};
+pub use wrong_bodies::{BodyFault, body_fault};

@@ -4,9 +4,8 @@ ghost use Rattle.serde_json.specs.View.{view};
 ghost use Rattle.http_bodies.specs.Command as command;
 ghost use Rattle.hall_events.specs.declared.command.MachineCommand.TheVariants as made;
 
-use crate::kind::MachineKind;
 use crate::member::{erase_at, mac_at, name_at, number_at, tests_at, version_at};
-use hall_events::{HallCommand, MachineCommand};
+use hall_events::{HallCommand, MachineCommand, MachineKind};
 use serde_json::Value;
 
 fn add_interface(json: &Value) -> Option<MachineCommand>

@@ -3,9 +3,7 @@ ghost use Rattle.std.specs.Prelude.{◌≡◌, IfOk, option_copied, option_map};
 ghost use Rattle.serde_json.specs.View.{view};
 ghost use Rattle.http_bodies.specs.Member.{text_at, number_at, name_at, uri_at, key_at, version_at, mac_at, digest_at, uuid_at, arch_at, role_at, tests_at, erase_at, words_at, progress_at, outcome_at};
 
-use crate::value::{
-    digest_of, erase_of, name_of, number_of, parsed, uri_of, uuid_of, version_of, words_of,
-};
+use crate::value::{digest_of, erase_of, number_of, parsed, uri_of, uuid_of, version_of, words_of};
 use hall_types::{
     Digest, Erase, MacAddress, MachineUuid, Name, Number, Outcome, Progress, RequestKey, Role,
     Version,
@@ -34,7 +32,7 @@ pub(crate) fn name_at(json: &Value, name: &str) -> Option<Name>
     ensures { result ≡ name_at name.now (view json.now) }
 {
     match text_at(json, name) {
-        Some(text) => name_of(text),
+        Some(text) => Name::new(text).ok(),
         None => None,
     }
 }

@@ -54,7 +54,7 @@ fn are_allowed(
     true
 }
 
-fn has_only(json: &Value, common: &[&str], own: &[&str], optional: &[&str]) -> bool
+pub(crate) fn has_only(json: &Value, common: &[&str], own: &[&str], optional: &[&str]) -> bool
     ensures { result ≡ has_only (texts common.now) (texts own.now) (texts optional.now) (as_object (view json.now)) }
 {
     match json.as_object() {

@@ -1,13 +1,12 @@
 //! What the values of a command's members mean.
-ghost use Rattle.std.specs.Prelude.{◌≡◌, ◌==◌, IfOk, option_map};
-ghost use Rattle.std.specs.List.{list_all};
+ghost use Rattle.std.specs.Prelude.{◌≡◌, IfOk, option_map};
 ghost use Rattle.uuid.specs.Text.{parsed};
 ghost use Rattle.serde_json.specs.View.{view, items_view};
 ghost use Rattle.hall_types.specs.Kinds.{role_of_text, erase_of_text, progress_of_text, outcome_of_text};
 ghost use Rattle.pxe_vendor.specs.Arch.{arch_in};
-ghost use Rattle.http_bodies.specs.Value.{count_of, in_range, number_of, version_of, name_of, digest_of, is_blank, uuid_of_text, uuid_of_value, uuid_of, erase_of, erase_of_word, word_of, uri_of, words_of};
+ghost use Rattle.http_bodies.specs.Value.{count_of, in_range, number_of, version_of, digest_of, uuid_of_text, uuid_of_value, uuid_of, erase_of, erase_of_word, word_of, uri_of, words_of};
 
-use hall_types::{Digest, Erase, MachineUuid, Name, Number, Version};
+use hall_types::{Digest, Erase, MachineUuid, Number, Version};
 use hex::FromHex;
 use ipxe_script::{Uri, Word, WordFault};
 use serde_json::Value;
@@ -58,13 +57,6 @@ pub(crate) fn version_of(member: Option<&Value>) -> Option<Option<Version>>
     }
 }
 
-// The name with this text.
-pub(crate) fn name_of(text: &str) -> Option<Name>
-    ensures { result ≡ name_of text.now }
-{
-    Name::new(text).ok()
-}
-
 // The digest of 64 hexadecimal digits.
 pub(crate) fn digest_of(text: &str) -> Option<Digest>
     ensures { result ≡ digest_of text.now }
@@ -85,29 +77,11 @@ pub(crate) fn parsed(text: &str) -> Option<[u8; 16]>
     }
 }
 
-fn are_all(octets: &[u8], one: u8) -> bool
-    ensures { result ≡ list_all (λ octet. octet == one) octets.now }
-{
-    octets.iter().all(|octet| *octet == one)
-}
-
-fn is_blank(octets: &[u8]) -> bool
-    ensures { result ≡ is_blank octets.now }
-{
-    are_all(octets, 0) || are_all(octets, 255)
-}
-
 fn uuid_of_text(text: &str) -> Option<MachineUuid>
     ensures { result ≡ uuid_of_text text.now }
 {
     match parsed(text) {
-        Some(octets) => {
-            if is_blank(&octets) {
-                None
-            } else {
-                Some(MachineUuid::from(octets))
-            }
-        }
+        Some(octets) => MachineUuid::identifying(octets),
         None => None,
     }
 }

@@ -1,9 +1,10 @@
 -- What the fields of a request's head say (RFC 9110 sections 8.6 and 11.6.2; RFC 9112 section 6).
-use Rattle.std.specs.Prelude.{ℕ, ◌+◌, ◌*◌, ◌-◌, List, [], ◌∷◌, Option, Some, None, option_and_then, Result, Ok, Err, codes, length, take, drop, nat_le, nat_eq, ◌&&◌, Bool, if◌then◌else◌}
+use Rattle.std.specs.Prelude.{ℕ, ◌+◌, List, [], ◌∷◌, Option, Some, None, option_and_then, Result, Ok, Err, codes, length, take, drop, nat_le, nat_eq, ◌&&◌, Bool, if◌then◌else◌}
 use Rattle.std.specs.List.{list_all}
 use Rattle.std.specs.Str.{str_eq_ignore_ascii_case}
 use Rattle.std.specs.Char.{is_ascii_digit}
 use Rattle.sha2.specs.Sha256.{sha256}
+use Rattle.pxe_vendor.specs.Digits.{decimal_value}
 use Rattle.http_requests.specs.declared.fault.HttpFault.{HttpFault}
 use Rattle.http_requests.specs.declared.fault.HttpFault.TheVariants.{BadRequest, NeedLength, TooLarge}
 use Rattle.http_requests.specs.Answer.{◌>>=◌}
@@ -23,15 +24,6 @@ first_value name [] = None
 first_value name (field ∷ fields) = if str_eq_ignore_ascii_case field.0 name then Some field.1 else first_value name fields
 
 -- ---- the length of the body
-
--- the number that digits write after those of n
-abbrev pub decimal_after : ℕ → List ℕ → ℕ
-decimal_after n [] = n
-decimal_after n (digit ∷ digits) = decimal_after (n * 10 + (digit - 48)) digits
-
--- the number that digits write
-abbrev pub decimal_value : List ℕ → ℕ
-decimal_value digits = decimal_after 0 digits
 
 -- 1 to 9 digits
 abbrev pub is_length : List ℕ → Bool

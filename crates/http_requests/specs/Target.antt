@@ -6,7 +6,7 @@ use Rattle.std.specs.Char.{is_ascii_digit}
 use Rattle.hex.specs.Hex.{decode_sized}
 use Rattle.wire_mac.specs.MacText.{mac_of}
 use Rattle.http_bodies.specs.Value.{in_range}
-use Rattle.http_requests.specs.Fields.{decimal_value}
+use Rattle.pxe_vendor.specs.Digits.{decimal_value}
 
 -- where the first slash stands, or the end
 abbrev pub slash_index : List ℕ → ℕ

@@ -4,11 +4,12 @@ ghost use Rattle.std.specs.List.{list_all};
 ghost use Rattle.std.specs.Char.{is_ascii_digit};
 ghost use Rattle.std.specs.Str.{str_eq_ignore_ascii_case};
 ghost use Rattle.httparse.specs.Spans.{IsHeaderWithin, header_bytes};
-ghost use Rattle.http_requests.specs.Fields.{count, first_value, decimal_value, is_length, length_of, within_limit, has_plain_body, body_length, is_visible, is_bearer_token, has_bearer_token, bearer_digest, bearer};
+ghost use Rattle.http_requests.specs.Fields.{count, first_value, is_length, length_of, within_limit, has_plain_body, body_length, is_visible, is_bearer_token, has_bearer_token, bearer_digest, bearer};
 
 use crate::fault::HttpFault;
 use hall_types::Digest;
 use httparse::spans::HeaderSpan;
+use pxe_vendor::{are_digits, decimal};
 use sha2::{Digest as _, Sha256};
 
 /// The maximum number of a body's octets.
@@ -49,25 +50,6 @@ fn first_value<'f>(front: &'f [u8], headers: &[HeaderSpan], name: &str) -> Optio
 }
 
 // ---- the length of the body
-
-pub(crate) fn are_digits(text: &[u8]) -> bool
-    ensures { result ≡ list_all is_ascii_digit text.now }
-{
-    text.iter().all(|octet| octet.is_ascii_digit())
-}
-
-// The number that digits write.
-pub(crate) fn decimal(text: &[u8]) -> u64
-    requires short { length text.now ≤ 18 }
-    requires digits { list_all is_ascii_digit text.now ≡ true }
-    ensures { result ≡ decimal_value text.now }
-{
-    let mut n = 0;
-    for digit in text {
-        n = n * 10 + u64::from(*digit - b'0');
-    }
-    n
-}
 
 fn is_length(text: &[u8]) -> bool
     ensures { result ≡ is_length text.now }

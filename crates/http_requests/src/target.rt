@@ -3,10 +3,10 @@ ghost use Rattle.std.specs.Prelude.{◌≡◌, ◌≤◌, ◌<◌, ◌+◌, ◌=
 ghost use Rattle.http_bodies.specs.Value.{in_range};
 ghost use Rattle.http_requests.specs.Target.{slash_index, segment, is_coded_colon, begins_with_coded_colon, with_colons, address_of, is_numeral, number_of, token_of};
 
-use crate::fields::{are_digits, decimal};
 use crate::slices::suffix;
 use hall_types::{MacAddress, Number, Token};
 use hex::FromHex;
+use pxe_vendor::{are_digits, decimal};
 use std::alloc::{AllocError, Global};
 
 fn first_slash(octets: &[u8]) -> Option<usize>

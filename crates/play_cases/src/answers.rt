@@ -130,7 +130,7 @@ fn one_machine(alloc: Global, is_whole: bool) -> Result<Reply, Cause> {
 
 fn listed(alloc: Global, machine: &Machine) -> Result<Reply, AllocError> {
     let interfaces = [interface(FIRST), interface(SECOND)];
-    let mut list = MachineList::new(alloc)?;
+    let mut list = MachineList::new(alloc, 2)?;
     list.push(alloc, machine, &[])?;
     list.push(alloc, machine, &interfaces)?;
     list.finish()
@@ -149,7 +149,7 @@ fn script(alloc: Global, text: &str) -> Result<Reply, Cause> {
 }
 
 fn no_machines(alloc: Global) -> Result<Reply, AllocError> {
-    MachineList::new(alloc)?.finish()
+    MachineList::new(alloc, 0)?.finish()
 }
 
 fn loader(alloc: Global) -> Result<Reply, AllocError> {

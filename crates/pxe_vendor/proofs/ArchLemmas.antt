@@ -3,7 +3,8 @@ use Rattle.std.proofs.Common.{◌≡◌, ℕ, ◌+◌, ◌*◌, ◌<◌, true, f
 use Rattle.std.specs.Prelude.{is_some, slice_index, slice_range}
 use Rattle.std.specs.List.{AllByRecursion}
 use Rattle.std.specs.Option.{option_or}
-use Rattle.pxe_vendor.specs.Arch.{arch_of_dhcp_number, numbers_of, decimal, names_arch, class_numbers, first_known, FirstKnown}
+use Rattle.pxe_vendor.specs.Arch.{arch_of_dhcp_number, numbers_of, names_arch, class_numbers, first_known, FirstKnown}
+use Rattle.pxe_vendor.specs.Digits.{decimal_value}
 use Rattle.pxe_vendor.specs.declared.arch.Arch.{Arch}
 
 option_or-some : (o p : Option Arch) → is_some o ≡ true → option_or o p ≡ o
@@ -53,9 +54,9 @@ first_known-append [] ys = refl
 first_known-append (x ∷ xs) ys =
     ap (λ (o : Option Arch). option_or (arch_of_dhcp_number x) o) (first_known-append xs ys) ∙ option_or-or (arch_of_dhcp_number x) (first_known xs) (first_known ys)
 
-pub first_known-class : (class : List ℕ) → names_arch class ≡ true → first_known (class_numbers class) ≡ arch_of_dhcp_number (decimal (slice_range class 15 20))
+pub first_known-class : (class : List ℕ) → names_arch class ≡ true → first_known (class_numbers class) ≡ arch_of_dhcp_number (decimal_value (slice_range class 15 20))
 unfolding first_known
-first_known-class class h = rw h (option_or-last (arch_of_dhcp_number (decimal (slice_range class 15 20))))
+first_known-class class h = rw h (option_or-last (arch_of_dhcp_number (decimal_value (slice_range class 15 20))))
 
 pub first_known-no_class : (class : List ℕ) → names_arch class ≡ false → first_known (class_numbers class) ≡ None
 unfolding first_known

@@ -1,9 +1,10 @@
 -- Processor architectures (RFC 4578 section 2.1, and the registry of RFC 5970 section 3.3).
-use Rattle.std.specs.Prelude.{◌≡◌, ℕ, ◌+◌, ◌*◌, ◌-◌, List, [], ◌∷◌, ◌++◌, Option, Some, None, ◌==◌, ◌||◌, ◌&&◌, if◌then◌else◌, codes, fold, Bool, length, nat_le, slice_range, nat_eq}
+use Rattle.std.specs.Prelude.{◌≡◌, ℕ, ◌+◌, ◌*◌, List, [], ◌∷◌, ◌++◌, Option, Some, None, ◌==◌, ◌||◌, ◌&&◌, if◌then◌else◌, codes, Bool, length, nat_le, slice_range, nat_eq}
 use Rattle.std.specs.Option.{option_or}
 use Rattle.std.specs.List.{AllByRecursion, starts_with, list_all}
 use Rattle.std.specs.Char.{is_ascii_digit}
 use Rattle.std.specs.Cmp.Lexicographic.{pointwise}
+use Rattle.pxe_vendor.specs.Digits.{decimal_value}
 use Rattle.pxe_vendor.specs.declared.arch.TheConstants.{DIGITS_START, DIGITS_END}
 use Rattle.pxe_vendor.specs.declared.arch.Arch.{Arch}
 use Rattle.pxe_vendor.specs.declared.arch.Arch.TheVariants.{Bios, Uefi32, Uefi64, Arm64}
@@ -39,10 +40,6 @@ numbers_of [] = []
 numbers_of (last ∷ []) = []
 numbers_of (high ∷ low ∷ octets) = (256 * high + low) ∷ numbers_of octets
 
--- the number that decimal digits write
-abbrev pub decimal : List ℕ → ℕ
-decimal digits = fold (λ n digit. 10 * n + (digit - 48)) 0 digits
-
 -- a vendor class begins with `PXEClient:Arch:` and five digits, as in `PXEClient:Arch:xxxxx:UNDI:yyyzzz` (PXE 2.1)
 abbrev pub names_arch : List ℕ → Bool
 names_arch class =
@@ -50,7 +47,7 @@ names_arch class =
 
 -- the number of an architecture in a vendor class, if it has one
 abbrev pub class_numbers : List ℕ → List ℕ
-class_numbers class = if names_arch class then decimal (slice_range class DIGITS_START DIGITS_END) ∷ [] else []
+class_numbers class = if names_arch class then decimal_value (slice_range class DIGITS_START DIGITS_END) ∷ [] else []
 
 -- the architecture that the first number with a known one means
 unfoldable pub first_known : List ℕ → Option Arch

@@ -1,12 +1,12 @@
 -- The PXE client that sent a DHCP message (PXE 2.1; RFC 4578; RFC 3004).
 use Rattle.std.specs.Prelude.{◌≡◌, ℕ, Bool, false, List, [], ◌∷◌, ◌++◌, Option, Some, None, unwrap_or, take, length, ◌==◌, ◌&&◌, ◌||◌, not, if◌then◌else◌, codes, nat_eq}
-use Rattle.std.specs.List.{list_all}
 use Rattle.std.specs.Cmp.Lexicographic.{pointwise}
 use Rattle.dhcp_frame.specs.Area.{Entry, Reads, value_of}
 use Rattle.dhcp_frame.specs.Message.{Message}
 use Rattle.dhcp_frame.specs.declared.option_codes.TheConstants.{VENDOR_OPTIONS, MESSAGE_TYPE, VENDOR_CLASS, USER_CLASS, CLIENT_ARCHITECTURES, MACHINE_IDENTIFIER}
 use Rattle.pxe_vendor.specs.declared.numbers.TheConstants.{DISCOVER, REQUEST, BOOT_ITEM, BOOT_ITEM_LEN, UUID_LEN, UUID_TYPE}
 use Rattle.pxe_vendor.specs.Arch.{numbers_of, class_numbers, FirstKnown}
+use Rattle.pxe_vendor.specs.Blank.{is_blank}
 use Rattle.pxe_vendor.specs.declared.clients.Kind.{Kind}
 use Rattle.pxe_vendor.specs.declared.clients.Kind.TheVariants.{Discover, Request}
 use Rattle.pxe_vendor.specs.declared.clients.Client.{Client}
@@ -23,7 +23,7 @@ arch_numbers es = numbers_of (unwrap_or (value_of CLIENT_ARCHITECTURES es) []) +
 -- the UUID in option 97: after type 0, 16 octets that are not all 0 and not all 255 (RFC 4578 section 2.3)
 abbrev pub uuid_of : Option (List ℕ) → Option (List ℕ)
 uuid_of (Some (kind ∷ octets)) =
-    if not (kind == UUID_TYPE) || list_all (λ octet. octet == 0) octets || list_all (λ octet. octet == 255) octets then None
+    if not (kind == UUID_TYPE) || is_blank octets then None
     else if length octets == UUID_LEN then Some octets
     else None
 uuid_of (Some []) = None

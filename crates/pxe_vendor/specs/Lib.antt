@@ -1,6 +1,8 @@
 pub mod Arch
 pub mod ArchLaws
+pub mod Blank
 pub mod Client
+pub mod Digits
 pub mod Values
 pub mod Served
 pub mod Place

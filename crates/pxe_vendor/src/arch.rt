@@ -1,9 +1,8 @@
 //! Processor architectures.
-ghost use Rattle.std.specs.Prelude.{◌≡◌, ◌≤◌, ◌↔◌, ℕ, List, Some, true, length};
-ghost use Rattle.std.specs.List.{list_all};
-ghost use Rattle.std.specs.Char.{is_ascii_digit};
-ghost use Rattle.pxe_vendor.specs.Arch.{arch_of_dhcp_number, arch_in, arch_text, numbers_of, decimal, class_numbers, first_known};
+ghost use Rattle.std.specs.Prelude.{◌≡◌, ◌↔◌, ℕ, List, Some};
+ghost use Rattle.pxe_vendor.specs.Arch.{arch_of_dhcp_number, arch_in, arch_text, numbers_of, class_numbers, first_known};
 
+use crate::digits::{are_digits, decimal};
 use std::str::FromStr;
 use thiserror::Error;
 
@@ -65,7 +64,7 @@ pub fn one_word()
 {}
 
 // The architecture of a number in option 93 or in a vendor class.
-fn from_dhcp_number(number: u32) -> Option<Arch>
+fn from_dhcp_number(number: u64) -> Option<Arch>
     ensures { result ≡ arch_of_dhcp_number number }
 {
     match number {
@@ -83,7 +82,7 @@ pub(crate) fn in_list(octets: &[u8]) -> Option<Arch>
     ensures { result ≡ first_known (numbers_of octets.now) }
 {
     for pair in octets.chunks_exact(2) {
-        let known = from_dhcp_number(256 * u32::from(pair[0]) + u32::from(pair[1]));
+        let known = from_dhcp_number(256 * u64::from(pair[0]) + u64::from(pair[1]));
         if known.is_some() {
             return known;
         }
@@ -96,24 +95,6 @@ const DIGITS_START: usize = 15;
 
 const DIGITS_END: usize = 20;
 
-fn are_digits(octets: &[u8]) -> bool
-    ensures { result ≡ list_all is_ascii_digit octets.now }
-{
-    octets.iter().all(|octet| octet.is_ascii_digit())
-}
-
-fn decimal_of(digits: &[u8]) -> u32
-    requires digits { list_all is_ascii_digit digits.now ≡ true }
-    requires short { length digits.now ≤ 5 }
-    ensures { result ≡ decimal digits.now }
-{
-    let mut number = 0;
-    for digit in digits {
-        number = 10 * number + u32::from(*digit - b'0');
-    }
-    number
-}
-
 /// The known architecture in a vendor class.
 #[tactic(auto, using(crate::proofs::ArchLemmas::arch_steps))]
 pub(crate) fn in_class(class: &[u8]) -> Option<Arch>
@@ -122,7 +103,7 @@ pub(crate) fn in_class(class: &[u8]) -> Option<Arch>
     if class.starts_with(b"PXEClient:Arch:") && class.len() >= DIGITS_END {
         let digits = &class[DIGITS_START..DIGITS_END];
         if are_digits(digits) {
-            return from_dhcp_number(decimal_of(digits));
+            return from_dhcp_number(decimal(digits));
         }
     }
     None

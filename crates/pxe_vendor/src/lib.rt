@@ -3,7 +3,9 @@
 
 mod answer;
 mod arch;
+mod blank;
 mod clients;
+mod digits;
 mod file;
 mod numbers;
 mod octets;
@@ -13,7 +15,9 @@ mod values;
 
 pub use answer::{boot_reply, reply};
 pub use arch::{Arch, UnknownArch, one_word};
+pub use blank::is_blank;
 pub use clients::{Client, Kind};
+pub use digits::{are_digits, decimal};
 pub use file::{boot_file, loader_file, script_url};
 pub use octets::Octets;
 pub use place::{Place, PlaceFault};

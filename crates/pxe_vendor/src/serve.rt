@@ -1,6 +1,6 @@
 //! Identifying the client that sent a message.
 ghost use Rattle.std.specs.Prelude.{◌≡◌, ◌⊎◌, ◌↔◌, ◌++◌, [], ℕ, List, unwrap_or, Option, Some, None, Ok, IfOk, IsErrOf, MatchResult, ok_or, option_copied, length, nat_eq, codes, ◌==◌, if◌then◌else◌};
-ghost use Rattle.std.specs.List.{starts_with, list_all};
+ghost use Rattle.std.specs.List.{starts_with};
 ghost use Rattle.dhcp_frame.specs.Message.{Message};
 ghost use Rattle.pxe_vendor.specs.Arch.{first_known, class_numbers, numbers_of};
 ghost use Rattle.pxe_vendor.specs.Client.{IsClient, uuid_of, is_ipxe, boot_item};
@@ -9,6 +9,7 @@ ghost use Rattle.pxe_vendor.specs.Values.{values_of};
 
 use crate::arch;
 use crate::arch::Arch;
+use crate::blank::is_blank;
 use crate::clients::{Client, Kind};
 use crate::numbers::{BOOT_ITEM, BOOT_ITEM_LEN, DISCOVER, REQUEST, UUID_LEN, UUID_TYPE};
 use crate::octets::Octets;
@@ -94,18 +95,12 @@ fn exactly<const N: usize>(octets: &[u8]) -> Option<[u8; N]>
     <[u8; N]>::try_from(octets).ok()
 }
 
-fn are_all(octets: &[u8], value: u8) -> bool
-    ensures { result ≡ list_all (λ octet. octet == value) octets.now }
-{
-    octets.iter().all(|octet| *octet == value)
-}
-
 // The UUID in the value of option 97.
 fn uuid_in(value: Option<&[u8]>) -> Option<[u8; UUID_LEN]>
     ensures { result ≡ uuid_of (option_copied value.entry) }
 {
     let (kind, octets) = value?.split_first()?;
-    if *kind != UUID_TYPE || are_all(octets, 0) || are_all(octets, 255) {
+    if *kind != UUID_TYPE || is_blank(octets) {
         return None;
     }
     exactly(octets)

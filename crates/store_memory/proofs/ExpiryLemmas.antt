@@ -9,10 +9,10 @@ use Rattle.hall_types.specs.Rows.{at, listed}
 use Rattle.hall_types.specs.Hall.{Hall}
 use Rattle.hall_types.specs.Keyed.{StandUnder}
 use Rattle.hall_types.specs.ListLaws.{AllByRecursion-listed, Contains-listed}
-use Rattle.hall_types.specs.Lookup.{has_come, is_before, is_due, next_expired, sooner, soonest}
+use Rattle.hall_types.specs.Lookup.{has_come, is_before, is_due, next_expired, sooner, soonest, if_due}
 use Rattle.hall_types.specs.LookupLaws.{is_before-asym, is_before-trans, is_before-itself}
 use Rattle.hall_types.specs.declared.machine.Machine.{Machine}
-use Rattle.store_memory.specs.Expiry.{if_due, joined}
+use Rattle.store_memory.specs.Expiry.{joined}
 use Rattle.store_memory.specs.Held.{IsEarliest}
 
 -- if the second is before the first and the third before the second, the third is before the first

@@ -7,8 +7,3 @@ use Rattle.hall_types.specs.declared.machine.Machine.{Machine}
 abbrev pub joined : Option Machine → Option Machine → Option Machine
 joined None later = later
 joined (Some m) later = Some (sooner m later)
-
--- the machine, if it is due
-abbrev pub if_due : ℕ → Option Machine → Option Machine
-if_due moment None = None
-if_due moment (Some m) = if is_due moment m then Some m else None

@@ -5,7 +5,7 @@ ghost use Rattle.std.specs.Ordering.{nat_cmp};
 ghost use Rattle.hall_types.specs.Hall.{Hall};
 ghost use Rattle.hall_types.specs.declared.machine.Machine.{Machine};
 ghost use Rattle.hall_types.specs.Lookup.{is_before, is_due, next_expired, sooner, soonest};
-ghost use Rattle.store_memory.specs.Expiry.{if_due, joined};
+ghost use Rattle.store_memory.specs.Expiry.{joined};
 ghost use Rattle.store_memory.specs.Held.{IsHeld};
 ghost use Rattle.store_memory.specs.Table.{rows_of};
 
@@ -20,15 +20,6 @@ fn is_before(deadline: Option<u64>, other: Option<u64>) -> bool
         (None, _) => false,
         (Some(_), None) => true,
         (Some(deadline), Some(other)) => deadline < other,
-    }
-}
-
-fn is_due(machine: &Machine, moment: Moment) -> bool
-    ensures { result ≡ is_due moment machine.now }
-{
-    match machine.deadline {
-        Some(deadline) => deadline <= moment.get(),
-        None => false,
     }
 }
 
@@ -61,17 +52,6 @@ fn soonest(machines: &BTreeMap<u64, Option<Machine>>) -> Option<Machine>
     best
 }
 
-// The machine, if it is due.
-fn if_due(machine: &Machine, moment: Moment) -> Option<Machine>
-    ensures { result ≡ if_due moment (Some machine.now) }
-{
-    if is_due(machine, moment) {
-        Some(*machine)
-    } else {
-        None
-    }
-}
-
 impl MemoryStore {
     /// The next machine to expire. It is looked for only if no deadline is known to be later than the moment, and
     /// the least deadline that is found is known from then on.
@@ -85,7 +65,7 @@ impl MemoryStore {
         match soonest(&self.machines) {
             Some(first) => {
                 self.earliest = first.deadline.unwrap_or(u64::MAX);
-                if_due(&first, moment)
+                first.if_due(moment)
             }
             None => {
                 self.earliest = u64::MAX;

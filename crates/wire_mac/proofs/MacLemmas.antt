@@ -1,10 +1,11 @@
 -- Reading an address from the left, and printing one.
-use Rattle.std.proofs.Common.{◌≡◌, ℕ, ◌+◌, ◌-◌, ◌*◌, ◌<◌, ◌≤◌, List, [], ◌∷◌, ◌++◌, length, take, drop, map, slice_index, slice_set, Option, Some, None, refl, sym, ap, ◌∙◌, arith}
-use Rattle.std.specs.Prelude.{option_map, IfSome}
+use Rattle.std.proofs.Common.{◌≡◌, ℕ, ◌+◌, ◌-◌, ◌*◌, ◌<◌, ◌≤◌, List, [], ◌∷◌, ◌++◌, length, take, drop, map, ◌/◌, ◌%◌, slice_index, slice_set, Option, Some, None, refl, sym, ap, ◌∙◌, arith}
+use Rattle.std.specs.Prelude.{option_map, IfSome, nat_lt, true}
+use Rattle.std.proofs.lemmas.Bool.{agree_below_at, ltb-true}
 use Rattle.std.specs.List.{join_with_byte}
 use Rattle.std.proofs.lemmas.List.{append-nil, append_assoc, length-drop, length-take-le, map-append, take_all, take_more, take_more_set, drop_all, drop_more}
-use Rattle.hex.specs.Hex.{encode_lower}
-use Rattle.wire_mac.specs.MacText.{IsMacText, mac_text, mac_of, more_octets, octet_of, octet_then}
+use Rattle.hex.specs.Hex.{encode_lower, encode_with}
+use Rattle.wire_mac.specs.MacText.{IsMacText, digit, mac_text, mac_of, more_octets, octet_of, octet_then}
 use Rattle.wire_mac.specs.MacLaws.{more_octets-pair, more_octets-other, mac_of-pair, mac_of-other, IsMacText-from_mac_of}
 
 -- ---- reading from the left
@@ -105,6 +106,26 @@ mac_text-take_more address i octet some room is =
     rw (front, ← is) (mac_text-push (take i address) octet (omega (arith, length-take-le i address (omega arith))))
 
 pub ruleset print_steps = (mac_text-take_first, mac_text-take_more, append_assoc)
+
+-- an octet's two digits, each of which is a character of ASCII
+two_digits : (octet : ℕ) → encode_lower (octet ∷ []) ≡ digit (octet / 16) ∷ digit (octet % 16) ∷ []
+unfolding encode_with
+two_digits octet = refl
+
+digit-ascii : (value : ℕ) → value < 16 → digit value < 128
+digit-ascii value h = ltb-true _ _ (agree_below_at (λ (v : ℕ). nat_lt (digit v) 128) (λ (v : ℕ). true) 16 value refl h)
+
+-- an octet is written as its two digits
+pub octet_pushed : (octet a b : ℕ) (digits first second t u v : List ℕ) → octet < 256 → digits ≡ encode_lower (octet ∷ [])
+    → a ≡ slice_index digits 0 → b ≡ slice_index digits 1 → (a < 128 → first ≡ a ∷ []) → (b < 128 → second ≡ b ∷ [])
+    → u ≡ t ++ first → v ≡ u ++ second → v ≡ t ++ encode_lower (octet ∷ [])
+octet_pushed octet a b digits first second t u v small is at_a at_b one other up vp =
+    let two : digits ≡ digit (octet / 16) ∷ digit (octet % 16) ∷ [] = is ∙ two_digits octet in
+    let high : a ≡ digit (octet / 16) = at_a ∙ ap (λ (d : List ℕ). slice_index d 0) two in
+    let low : b ≡ digit (octet % 16) = at_b ∙ ap (λ (d : List ℕ). slice_index d 1) two in
+    let p = one (rw high (digit-ascii (octet / 16) (omega arith))) in
+    let q = other (rw low (digit-ascii (octet % 16) (omega arith))) in
+    vp ∙ rw (up, p, q, high, low, two_digits octet) (append_assoc t (digit (octet / 16) ∷ []) (digit (octet % 16) ∷ []))
 
 -- ---- what is read is an address
 

@@ -1,5 +1,6 @@
 //! Reading and printing a hardware address of six octets.
-ghost use Rattle.std.specs.Prelude.{◌≡◌, ◌↔◌, ℕ, List, Some, IfSome, IfOk, string_bytes};
+ghost use Rattle.std.specs.Prelude.{◌≡◌, ◌↔◌, ◌++◌, ◌∷◌, [], ℕ, List, Some, IfSome, IfOk, OnOk, string_bytes};
+ghost use Rattle.hex.specs.Hex.{encode_lower};
 ghost use Rattle.wire_mac.specs.MacText.{IsMacText, mac_of, mac_text, octet_of};
 
 use hex::FromHex;
@@ -57,21 +58,43 @@ pub fn read(text: &[u8]) -> Option<[u8; 6]>
     read_inner(text)
 }
 
+// One octet, as two digits in lower case.
+fn push_octet(text: &mut String, octet: u8) -> Result<(), AllocError>
+    ensures { OnOk result (string_bytes text.new ≡ string_bytes text.old ++ encode_lower (octet ∷ [])) }
+{
+    let mut digits = [0; 2];
+    let Ok(()) = hex::encode_to_slice([octet], &mut digits) else {
+        unreachable!()
+    };
+    text.push(char::from(digits[0]))?;
+    text.push(char::from(digits[1]))?;
+    Ok(())
+}
+
+/// Writes a hardware address after a text, as in `52:54:00:12:34:56`, with its digits in lower case. It takes
+/// no memory but the text's own.
+#[tactic(auto, using(crate::proofs::MacLemmas::print_steps))]
+pub fn push(text: &mut String, address: &[u8; 6]) -> Result<(), AllocError>
+    ensures { OnOk result (string_bytes text.new ≡ string_bytes text.old ++ mac_text address.now) }
+{
+    for (i, octet) in address.iter().enumerate() {
+        if i > 0 {
+            text.push(char::from(COLON))?;
+        }
+        push_octet(text, *octet)?;
+    }
+    Ok(())
+}
+
 /// Prints a hardware address, as in `52:54:00:12:34:56`, with its digits in lower case.
 ///
 /// The only error is that memory ran out.
-#[tactic(auto, using(crate::proofs::MacLemmas::print_steps))]
 pub fn print(alloc: Global, address: &[u8; 6]) -> Result<String, AllocError>
     ensures text { IfOk result (λ text. string_bytes text ≡ mac_text address.now) }
     // What is printed is read as the same address.
     ensures read { IfOk result (λ text. IsMacText (string_bytes text) address.now) }
 {
     let mut text = String::with_capacity(alloc, TEXT_LEN)?;
-    for (i, octet) in address.iter().enumerate() {
-        if i > 0 {
-            text.push(char::from(COLON))?;
-        }
-        text.push_str(hex::encode(alloc, [*octet])?.as_str())?;
-    }
+    push(&mut text, address)?;
     Ok(text)
 }

@@ -3,4 +3,4 @@
 
 mod address;
 
-pub use address::{one_reading, print, read};
+pub use address::{one_reading, print, push, read};

@@ -1,7 +1,6 @@
 use Rattle.std.proofs.Common.{◌<◌, ap, sym, subst, ◌∙◌}
-use Rattle.hall_types.specs.Lookup.{soonest}
+use Rattle.hall_types.specs.Lookup.{soonest, if_due}
 use Rattle.hall_types.specs.Rows.{listed}
-use Rattle.store_memory.specs.Expiry.{if_due}
 use Rattle.store_memory.specs.Held.{IsEarliest}
 use Rattle.store_memory.proofs.ExpiryLemmas.{earliest_empty, earliest_of, none_due, soonest_due}
 use Rattle.store_memory.proofs.HeldLemmas.{held_earliest}

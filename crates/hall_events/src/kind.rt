@@ -1,12 +1,11 @@
-//! The kinds of commands: their words, and which members each has.
+//! The kinds of commands, and the word of each.
 ghost use Rattle.std.specs.Prelude.{◌≡◌};
 ghost use Rattle.hall_types.specs.Kinds.{with_text};
-ghost use Rattle.http_bodies.specs.Body.{texts};
-ghost use Rattle.http_bodies.specs.Kind.{machine_word, kind_word, kinds, kind_of, common_members, machine_members, own_members, optional_members};
+ghost use Rattle.hall_events.specs.Kind.{machine_word, kind_word, kinds, kind_with_word};
 
 /// The kind of a command on a machine.
 #[derive(Clone, Copy)]
-pub(crate) enum MachineKind {
+pub enum MachineKind {
     AddInterface,
     RemoveInterface,
     SetPool,
@@ -28,7 +27,7 @@ pub(crate) enum MachineKind {
 
 /// The kind of a command.
 #[derive(Clone, Copy)]
-pub(crate) enum CommandKind {
+pub enum CommandKind {
     AddOperator,
     DisableOperator,
     AddPool,
@@ -70,8 +69,9 @@ const KINDS: [CommandKind; 25] = [
 ];
 
 impl MachineKind {
+    /// Its word in requests, in receipts and in a log.
     #[tactic(auto, unfolding(crate::specs::Kind::machine_word))]
-    fn word(self) -> &'static str
+    pub fn word(self) -> &'static str
         ensures { result.now ≡ machine_word self }
     {
         match self {
@@ -94,25 +94,12 @@ impl MachineKind {
             MachineKind::Break => "break",
         }
     }
-
-    // What a command of this kind must have beside what each command on a machine has.
-    fn own_members(self) -> &'static [&'static str]
-        ensures { texts result.now ≡ machine_members self }
-    {
-        match self {
-            MachineKind::AddInterface | MachineKind::RemoveInterface => &["mac"],
-            MachineKind::SetPool => &["pool"],
-            MachineKind::Commission => &["tests"],
-            MachineKind::Deploy => &["image"],
-            MachineKind::Release => &["erase"],
-            _ => &[],
-        }
-    }
 }
 
 impl CommandKind {
+    /// Its word in requests, in receipts and in a log.
     #[tactic(auto, unfolding(crate::specs::Kind::kind_word))]
-    fn word(self) -> &'static str
+    pub fn word(self) -> &'static str
         ensures { result.now ≡ kind_word self }
     {
         match self {
@@ -128,41 +115,12 @@ impl CommandKind {
         }
     }
 
-    // What each command must have.
-    pub(crate) fn common_members(self) -> &'static [&'static str]
-        ensures { texts result.now ≡ common_members self }
+    /// The kind that has this word.
+    #[tactic(auto, unfolding(crate::specs::Kind::kind_with_word))]
+    pub fn with_word(word: &str) -> Option<CommandKind>
+        ensures { result ≡ kind_with_word word.now }
     {
-        match self {
-            CommandKind::OnMachine(_) => &["key", "command", "machine"],
-            _ => &["key", "command"],
-        }
-    }
-
-    // What a command of this kind must have besides.
-    pub(crate) fn own_members(self) -> &'static [&'static str]
-        ensures { texts result.now ≡ own_members self }
-    {
-        match self {
-            CommandKind::AddOperator => &["operator", "role", "digest"],
-            CommandKind::DisableOperator => &["operator"],
-            CommandKind::AddPool => &["pool"],
-            CommandKind::Grant => &["pool", "operator"],
-            CommandKind::AddImage => &["image", "arch", "kernel", "initrd", "args"],
-            CommandKind::DeleteImage | CommandKind::SetLive => &["image"],
-            CommandKind::AddMachine => &["mac", "arch", "pool"],
-            CommandKind::OnMachine(kind) => kind.own_members(),
-        }
-    }
-
-    // What a command of this kind may have.
-    pub(crate) fn optional_members(self) -> &'static [&'static str]
-        ensures { texts result.now ≡ optional_members self }
-    {
-        match self {
-            CommandKind::AddMachine => &["uuid"],
-            CommandKind::OnMachine(_) => &["version"],
-            _ => &[],
-        }
+        kind_among(&KINDS, word)
     }
 }
 
@@ -171,12 +129,4 @@ fn kind_among(kinds: &[CommandKind], word: &str) -> Option<CommandKind>
     ensures { result ≡ with_text kind_word word.now kinds.now }
 {
     kinds.iter().copied().find(|kind| kind.word() == word)
-}
-
-/// The kind that has this word.
-#[tactic(auto, unfolding(crate::specs::Kind::kind_of))]
-pub(crate) fn kind_of(word: &str) -> Option<CommandKind>
-    ensures { result ≡ kind_of word.now }
-{
-    kind_among(&KINDS, word)
 }
