@@ -336,5 +336,18 @@ run --help
 [ "$status" = 0 ] && grep -q serve out || bad help
 kit=$(sed -n 's/.*Proved with `\(.*\)`.*/\1/p' "$here/../README.md")
 want 0 "hallboot 2, schema 2, $kit" '' --version
+
+# What hallctl says of itself and of refusals, by its sources.
+words=$here/../crates/hallctl_words/src
+grep -qF "\"2, $kit\"" "$words/command_line.rt" || bad "the kit of hallctl --version"
+python3 - "$here/../docs/OPERATING.md" "$words/refusal_texts.rt" << 'PYTHON' || bad 'the sentences of refusals'
+import re, sys
+guide, source = (open(name).read() for name in sys.argv[1:])
+table = guide.split("\n## Refusals\n")[1].split("\n## ")[0]
+means = {row[1]: row[3].replace("`", "") for line in table.splitlines() if len(row := re.split(r" *\| *", line)) == 6 and row[2].isdigit()}
+says = dict(re.findall(r'Refusal::(\w+) =>\s*"([^"]*)"', source))
+assert len(means) == 33 and means == says, set(means.items()) ^ set(says.items())
+PYTHON
+count=$((count + 2))
 for file in *-journal; do [ ! -e "$file" ] || bad "$file is left"; done
 echo "good: $count rows"

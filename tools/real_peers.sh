@@ -1,8 +1,9 @@
 #!/usr/bin/env bash
 # hallboot serve against programs of others: curl sends commands and asks for scripts, python3 sends datagrams, holds silent
-# connections and reads the export and the tables. Where the user is root and the programs are there, dhcrelay passes an OFFER on
-# to a client in another network namespace, and tshark decodes the replies.
-# Usage: tools/real_peers.sh     HALLBOOT=PROGRAM names a program that is built already.
+# connections and reads the export and the tables, and hallctl drives a machine's whole life, also over connections that are cut. Where
+# the user is root and the programs are there, dhcrelay passes an OFFER on to a client in another network namespace, and tshark decodes the
+# replies.
+# Usage: tools/real_peers.sh     HALLBOOT=PROGRAM and HALLCTL=PROGRAM name programs that are built already.
 set -euo pipefail
 here=$(cd "$(dirname "$0")" && pwd)
 has() { type -P "$1" > /dev/null; }
@@ -228,6 +229,8 @@ if has sqlite3; then
 else
     echo 'not tried: sqlite3 is missing'
 fi
+
+"$here/hallctl_peer.sh" || bad 'hallctl'
 
 [ "$(id -u)" = 0 ] && has ip && has unshare && has nsenter || { echo 'not tried: network namespaces need root, ip, unshare and nsenter'; exit 0; }
 has dhcrelay || { echo 'not tried: dhcrelay is missing (isc-dhcp-relay)'; exit 0; }

@@ -1,11 +1,10 @@
 -- Members that are put one after another, and the text of a command.
 use Rattle.std.proofs.Common.{◌≡◌, ℕ, false, List, [], ◌∷◌, ◌++◌, refl}
-use Rattle.std.specs.Prelude.{codes}
 use Rattle.serde_json.specs.Data.{Members, put}
 use Rattle.serde_json.specs.Written.{has_float}
-use Rattle.hall_events.specs.Object.{Member, object_of, put_all}
+use Rattle.hall_events.specs.Object.{Member, put_all}
 use Rattle.hall_events.specs.ObjectLaws.{no_float}
-use Rattle.hall_events.specs.Command.{command_data, members_of, uuid_data, IsCommand}
+use Rattle.hall_events.specs.Command.{command_data, request_data, IsCommand}
 use Rattle.hall_events.specs.CommandLaws.{IsPlain-command, IsPlain-request}
 use Rattle.hall_events.specs.declared.command.HallCommand.{HallCommand}
 
@@ -16,5 +15,5 @@ put_all_append (m ∷ ms) more old = put_all_append ms more (put m.0 m.1 old)
 pub command_no_float : (c : HallCommand) → IsCommand c → has_float (command_data c) ≡ false
 command_no_float c h = no_float (command_data c) 2 (IsPlain-command c h)
 
-pub request_no_float : (key : List ℕ) (c : HallCommand) → IsCommand c → has_float (object_of ((codes "key", uuid_data key) ∷ members_of c)) ≡ false
-request_no_float key c h = no_float (object_of ((codes "key", uuid_data key) ∷ members_of c)) 2 (IsPlain-request key c h)
+pub request_no_float : (key : List ℕ) (c : HallCommand) → IsCommand c → has_float (request_data key c) ≡ false
+request_no_float key c h = no_float (request_data key c) 2 (IsPlain-request key c h)

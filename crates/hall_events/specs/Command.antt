@@ -125,9 +125,13 @@ command_data c = object_of (members_of c)
 unfoldable pub command_text : HallCommand → List ℕ
 command_text c = compact_text (command_data c)
 
--- the text of the body of a request: a command, with the key of the request as one more member
+-- a request with a command as JSON: the key of the request is one more member
+abbrev pub request_data : List ℕ → HallCommand → Data
+request_data key c = object_of ((codes "key", uuid_data key) ∷ members_of c)
+
+-- the text of a request with a command
 unfoldable pub request_text : List ℕ → HallCommand → List ℕ
-request_text key c = compact_text (object_of ((codes "key", uuid_data key) ∷ members_of c))
+request_text key c = compact_text (request_data key c)
 
 -- ---- what commands are made of
 

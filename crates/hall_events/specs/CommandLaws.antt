@@ -23,9 +23,9 @@ use Rattle.hall_types.specs.declared.kinds.Role.{Role}
 use Rattle.hall_types.specs.declared.kinds.Role.TheVariants.{Admin}
 use Rattle.hall_types.specs.declared.kinds.Erase.{Erase}
 use Rattle.hall_types.specs.declared.kinds.Erase.TheVariants.{Quick, Full}
-use Rattle.hall_events.specs.Object.{Member, object_of, member_if, count}
+use Rattle.hall_events.specs.Object.{Member, member_if, count}
 use Rattle.hall_events.specs.ObjectLaws.{IsPlain, IsPlain-object, ItemsArePlain-texts, value_in, value_in-compact_text, text_in, texts_in, texts_of-texts, number_in}
-use Rattle.hall_events.specs.Command.{command_data, command_text, machine_kind, members_of, own_members, uuid_data, IsCommand, IsMachineCommand}
+use Rattle.hall_events.specs.Command.{command_data, command_text, request_data, machine_kind, members_of, own_members, uuid_data, IsCommand, IsMachineCommand}
 use Rattle.hall_events.specs.Kind.{kind_word, machine_word}
 use Rattle.hall_events.specs.declared.command.HallCommand.{HallCommand}
 use Rattle.hall_events.specs.declared.command.HallCommand.TheVariants.{AddOperator, DisableOperator, AddPool, Grant, AddImage, DeleteImage, SetLive, AddMachine, OnMachine}
@@ -76,7 +76,7 @@ unfolding ArePlain
 IsPlain-command c h = IsPlain-object (members_of c) 1 (members_plain c h)
 
 -- so is a command with the key of its request
-pub IsPlain-request : (key : List ℕ) (c : HallCommand) → IsCommand c → IsPlain (object_of ((codes "key", uuid_data key) ∷ members_of c)) 2
+pub IsPlain-request : (key : List ℕ) (c : HallCommand) → IsCommand c → IsPlain (request_data key c) 2
 unfolding ArePlain
 IsPlain-request key c h = IsPlain-object ((codes "key", uuid_data key) ∷ members_of c) 1 (tt, members_plain c h)
 

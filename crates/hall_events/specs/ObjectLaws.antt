@@ -93,7 +93,7 @@ mutual
 -- ---- its outline has numbers, and nests as deep
 
 mutual
-  numbers : (d : Data) (levels : ℕ) → IsPlain d levels → HasNumbers (outline d)
+  pub numbers : (d : Data) (levels : ℕ) → IsPlain d levels → HasNumbers (outline d)
   numbers null levels h = tt
   numbers (boolean b) levels h = tt
   numbers (number (unsigned n)) levels h = IsNumber-decimal n h
@@ -120,7 +120,7 @@ either_deep : (a b levels : ℕ) → a ≤ levels → b ≤ levels → max a b �
 either_deep a b levels h g = omega arith
 
 mutual
-  shallow : (d : Data) (levels : ℕ) → IsPlain d levels → depth (outline d) ≤ levels
+  pub shallow : (d : Data) (levels : ℕ) → IsPlain d levels → depth (outline d) ≤ levels
   shallow null levels h = omega arith
   shallow (boolean b) levels h = omega arith
   shallow (number n) levels h = omega arith

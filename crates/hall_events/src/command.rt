@@ -1,5 +1,6 @@
 //! The commands of operators.
 ghost use Rattle.std.specs.Prelude.{◌≡◌, IfOk, OnOk, string_bytes};
+ghost use Rattle.hall_types.specs.Octets.{AreOctets};
 ghost use Rattle.hall_events.specs.Command.{IsCommand, command_kind, command_text, machine_kind, request_text};
 
 use crate::command_value::{command_value, request_value};
@@ -134,6 +135,7 @@ impl HallCommand {
     pub fn request_text(&self, alloc: Global, key: RequestKey) -> Result<String, AllocError>
         ensures text { IfOk result (λ text. string_bytes text ≡ request_text key self.now) }
         ensures whole { OnOk result (IsCommand self.now) }
+        ensures key { OnOk result (AreOctets 16 key) }
     {
         request_value(alloc, key, self)?.to_string(alloc)
     }

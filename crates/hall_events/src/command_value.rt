@@ -5,8 +5,8 @@ ghost use Rattle.serde_json.specs.Data.{array, put as with, string};
 ghost use Rattle.serde_json.specs.View.{view, items_of, members_view};
 ghost use Rattle.hall_types.specs.Number.{IsNumber};
 ghost use Rattle.hall_types.specs.Octets.{AreOctets};
-ghost use Rattle.hall_events.specs.Object.{count, member_if, object_of, put_all};
-ghost use Rattle.hall_events.specs.Command.{IsCommand, IsMachineCommand, command_data, command_member, erase_data, mac_data, members_of, own_members, uuid_data};
+ghost use Rattle.hall_events.specs.Object.{count, member_if, put_all};
+ghost use Rattle.hall_events.specs.Command.{IsCommand, IsMachineCommand, command_data, command_member, erase_data, mac_data, members_of, own_members, request_data, uuid_data};
 ghost use Rattle.hall_events.specs.declared.command.HallCommand.{HallCommand};
 
 use crate::command::{HallCommand, MachineCommand};
@@ -293,7 +293,8 @@ fn put_key(
     members: &mut Map<String, Value>,
     key: RequestKey,
 ) -> Result<(), AllocError>
-    ensures { OnOk result (members_view members.new.entries ≡ with (codes "key") (uuid_data key) (members_view members.old.entries)) }
+    ensures members { OnOk result (members_view members.new.entries ≡ with (codes "key") (uuid_data key) (members_view members.old.entries)) }
+    ensures whole { OnOk result (AreOctets 16 key) }
 {
     let key = uuid_text(alloc, key.octets())?;
     put(members, alloc, "key", key)
@@ -304,8 +305,9 @@ pub(crate) fn request_value(
     key: RequestKey,
     command: &HallCommand,
 ) -> Result<Value, AllocError>
-    ensures value { IfOk result (λ value. view value ≡ object_of ((codes "key", uuid_data key) ∷ members_of command.now)) }
+    ensures value { IfOk result (λ value. view value ≡ request_data key command.now) }
     ensures whole { OnOk result (IsCommand command.now) }
+    ensures key { OnOk result (AreOctets 16 key) }
 {
     let mut members = Map::new(alloc);
     put_key(alloc, &mut members, key)?;

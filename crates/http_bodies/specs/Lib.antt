@@ -1,6 +1,9 @@
 pub mod Body
+pub mod BodyLaws
 pub mod Command
-pub mod Members
 pub mod Member
+pub mod Members
+pub mod Sendable
+pub mod SizeLaws
 pub mod Steps
 pub mod Value

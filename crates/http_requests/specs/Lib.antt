@@ -1,9 +1,12 @@
 pub mod Answer
 pub mod Decided
+pub mod DecimalLaws
 pub mod Demand
 pub mod Event
+pub mod EventLaws
 pub mod Fields
 pub mod Head
 pub mod Request
 pub mod Resource
+pub mod ResourceLaws
 pub mod Target

@@ -22,8 +22,8 @@ fn is_same_name(one: &[u8], other: &[u8]) -> bool
     one.eq_ignore_ascii_case(other)
 }
 
-// How many fields have this name, in either case.
-fn count(front: &[u8], headers: &[HeaderSpan], name: &str) -> usize
+/// How many fields have this name, in either case (RFC 9110 section 5.1).
+pub fn count(front: &[u8], headers: &[HeaderSpan], name: &str) -> usize
     requires { All (IsHeaderWithin (length front.now)) headers.now }
     ensures { result ≡ count name.now (map (header_bytes front.now) headers.now) }
 {
@@ -36,8 +36,8 @@ fn count(front: &[u8], headers: &[HeaderSpan], name: &str) -> usize
     count
 }
 
-// The value of the first field with this name, in either case.
-fn first_value<'f>(front: &'f [u8], headers: &[HeaderSpan], name: &str) -> Option<&'f [u8]>
+/// The value of the first field with this name, in either case.
+pub fn first_value<'f>(front: &'f [u8], headers: &[HeaderSpan], name: &str) -> Option<&'f [u8]>
     requires { All (IsHeaderWithin (length front.now)) headers.now }
     ensures { option_copied result ≡ first_value name.now (map (header_bytes front.now) headers.now) }
 {

@@ -13,4 +13,6 @@ mod target;
 
 pub use decided::is_decided;
 pub use fault::HttpFault;
+pub use fields::{count, first_value};
 pub use request::event_of;
+pub use slices::{prefix, suffix};

@@ -91,7 +91,7 @@ fn after_prefix<'t>(target: &'t [u8], prefix: &[u8]) -> Option<&'t [u8]>
 }
 
 // What the targets name that are asked for most, without a router.
-#[tactic(auto, using(crate::proofs::RouteLemmas::script_is, crate::proofs::RouteLemmas::commands_is))]
+#[tactic(auto, using(crate::specs::ResourceLaws::script_is, crate::proofs::RouteLemmas::commands_is))]
 fn known(target: &[u8]) -> Option<Resource>
     ensures { IfSome result (λ resource. resource_of target.now ≡ Some resource) }
 {

@@ -1,8 +1,8 @@
 //! Parts of slices.
 ghost use Rattle.std.specs.Prelude.{◌≡◌, ◌≤◌, length, take, drop};
 
-// The first octets, at most as many as the limit.
-pub(crate) fn prefix(octets: &[u8], limit: usize) -> &[u8]
+/// The first octets, at most as many as the limit.
+pub fn prefix(octets: &[u8], limit: usize) -> &[u8]
     ensures value { result.now ≡ take limit octets.now }
     ensures within { length result.now ≤ length octets.now }
 {
@@ -13,8 +13,8 @@ pub(crate) fn prefix(octets: &[u8], limit: usize) -> &[u8]
     }
 }
 
-// The octets from a place on.
-pub(crate) fn suffix(octets: &[u8], at: usize) -> &[u8]
+/// The octets from a place on.
+pub fn suffix(octets: &[u8], at: usize) -> &[u8]
     requires { at ≤ length octets.now }
     ensures { result.now ≡ drop at octets.now }
 {

@@ -1,0 +1,2 @@
+pub mod PushLemmas
+pub mod ReadingLemmas

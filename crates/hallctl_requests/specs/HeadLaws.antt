@@ -1,0 +1,247 @@
+-- Laws of the head that a client sends: it is a head of at most 8,192 octets with at most 64 fields.
+use Rattle.std.proofs.Common.{◌≡◌, ◌+◌, ◌-◌, ◌<◌, ◌≤◌, ◌^◌, ℕ, suc, true, List, [], ◌∷◌, ◌++◌, length, refl, ap, ◌∙◌, arith, length-append, lit<, lit≤}
+use Rattle.std.specs.Prelude.{codes, decimal, take, nat_le, ◌==◌, flat_map, All, IsUtf8}
+use Rattle.std.specs.List.{list_all}
+use Rattle.std.proofs.lemmas.Bool.{and_parts, leb-true, lt-ltb, false_from_ne_true, eqb-true}
+use Rattle.std.proofs.lemmas.Fmt.{length-decimal-le, IsAscii-decimal}
+use Rattle.std.proofs.lemmas.List.Elements.{All-from_recursion}
+use Rattle.std.proofs.lemmas.List.Sums.{AllPass-from_list_all}
+use Rattle.std.proofs.lemmas.Str.{IsUtf8-from_ascii, IsUtf8-append}
+use Rattle.std.proofs.Math.Seq.{take-append-add, drop-append_seam}
+use Rattle.json.proofs.Printed.Utf8.{IsUtf8-are_ascii}
+use Rattle.httparse.specs.Grammar.{Field, RequestHead, IsField, IsRequestHead, ReadsRequest, IsToken, crlf, print_request, print_field, is_token_byte, is_uri_byte, is_value_byte}
+use Rattle.hall_types.specs.Number.{IsNumber}
+use Rattle.hall_events.specs.Command.{request_text}
+use Rattle.http_bodies.specs.SizeLaws.{short-request_text}
+use Rattle.http_requests.specs.Request.{front, after_head}
+use Rattle.http_requests.specs.Fields.{is_visible}
+use Rattle.hallctl_requests.specs.FieldLaws.{visible_text, visible_is_value, visible-decimal, list_all_so}
+use Rattle.hallctl_requests.specs.Request.{Question, machines, machine, orders, command, IsAuthority, IsBearerToken, field, fields_of, method_of, target_of, head_of, body_of, request_of}
+use Rattle.hallctl_requests.specs.Sendable.{IsSendable}
+
+-- ---- the parts of the head
+
+visible_is_uri : (b : ℕ) → is_visible b ≡ true → is_uri_byte b ≡ true
+visible_is_uri b h =
+    let parts = and_parts (nat_le 33 b) (nat_le b 126) h in
+    let low = leb-true 33 b parts.0 in
+    let high = leb-true b 126 parts.1 in
+    rw (lt-ltb 32 b (omega (arith, low)), false_from_ne_true (b == 127) (λ e. omega (arith, high, eqb-true b 127 e))) refl
+
+pub value_passes : (text : List ℕ) → list_all is_visible text ≡ true → list_all is_value_byte text ≡ true
+value_passes text h = list_all_so is_visible is_value_byte visible_is_value text h
+
+-- a field whose name is a token and whose value has no control octets
+pub field_is : (name value : List ℕ) → 0 < length name → list_all is_token_byte name ≡ true → list_all is_value_byte value ≡ true → IsField (field name value)
+field_is name value some token passes = record {
+  name = (some, AllPass-from_list_all is_token_byte name token);
+  raw = AllPass-from_list_all is_value_byte (32 ∷ value) passes;
+}
+
+host_is : (authority : List ℕ) → IsAuthority authority → IsField (field (codes "Host") authority)
+unfolding is_token_byte
+host_is authority h = field_is (codes "Host") authority (lit< tt) refl (value_passes authority (visible_text 255 authority h).visible)
+
+bearer_field_is : (token : List ℕ) → IsBearerToken token → IsField (field (codes "Authorization") (codes "Bearer " ++ token))
+unfolding is_token_byte
+bearer_field_is token h = field_is (codes "Authorization") (codes "Bearer " ++ token) (lit< tt) refl (value_passes token (visible_text 128 token h).visible)
+
+close_is : IsField (field (codes "Connection") (codes "close"))
+unfolding is_token_byte
+close_is = field_is (codes "Connection") (codes "close") (lit< tt) refl refl
+
+type_is : IsField (field (codes "Content-Type") (codes "application/json"))
+unfolding is_token_byte
+type_is = field_is (codes "Content-Type") (codes "application/json") (lit< tt) refl refl
+
+length_is : (n : ℕ) → n < 2 ^ 64 → IsField (field (codes "Content-Length") (decimal n))
+unfolding is_token_byte
+length_is n h = field_is (codes "Content-Length") (decimal n) (lit< tt) refl (value_passes (decimal n) (visible-decimal n h))
+
+fields_are : (authority token : List ℕ) (question : Question) → IsAuthority authority → IsBearerToken token → IsSendable question
+    → All IsField (fields_of authority token question)
+fields_are authority token machines a t h = All-from_recursion IsField (fields_of authority token machines) (host_is authority a, (bearer_field_is token t, (close_is, tt)))
+fields_are authority token (machine id) a t h = All-from_recursion IsField (fields_of authority token machines) (host_is authority a, (bearer_field_is token t, (close_is, tt)))
+fields_are authority token orders a t h = All-from_recursion IsField (fields_of authority token machines) (host_is authority a, (bearer_field_is token t, (close_is, tt)))
+fields_are authority token (command key c) a t h =
+    All-from_recursion IsField (fields_of authority token (command key c))
+    (host_is authority a, (bearer_field_is token t, (close_is, (type_is, (length_is (length (request_text key c)) (fits (length (request_text key c)) (short-request_text key c h.whole h.parts)), tt)))))
+  where
+    fits : (n : ℕ) → n ≤ 16384 → n < 2 ^ 64
+    fits n h = omega arith
+
+method_is : (question : Question) → IsToken (method_of question)
+unfolding is_token_byte
+method_is machines = (lit< tt, AllPass-from_list_all is_token_byte (codes "GET") refl)
+method_is (machine id) = (lit< tt, AllPass-from_list_all is_token_byte (codes "GET") refl)
+method_is orders = (lit< tt, AllPass-from_list_all is_token_byte (codes "GET") refl)
+method_is (command key c) = (lit< tt, AllPass-from_list_all is_token_byte (codes "POST") refl)
+
+number_fits : (n : ℕ) → IsNumber n → n < 2 ^ 64
+number_fits n h = omega arith
+
+-- a target's characters
+target_passes : (question : Question) → IsSendable question → list_all is_uri_byte (target_of question) ≡ true
+target_passes machines h = refl
+target_passes (machine id) h = list_all_so is_visible is_uri_byte visible_is_uri (decimal id) (visible-decimal id (number_fits id h))
+target_passes orders h = refl
+target_passes (command key c) h = refl
+
+target_text : (question : Question) → IsSendable question → IsUtf8 (target_of question)
+target_text machines h = IsUtf8-are_ascii (codes "/machines") refl
+target_text (machine id) h =
+    IsUtf8-append (codes "/machines/") (decimal id) (IsUtf8-are_ascii (codes "/machines/") refl)
+    (IsUtf8-from_ascii (decimal id) (IsAscii-decimal id (number_fits id h)))
+target_text orders h = IsUtf8-are_ascii (codes "/orders") refl
+target_text (command key c) h = IsUtf8-are_ascii (codes "/commands") refl
+
+target_some : (question : Question) → 0 < length (target_of question)
+target_some machines = lit< tt
+target_some (machine id) = omega arith
+target_some orders = lit< tt
+target_some (command key c) = lit< tt
+
+head_is : (authority token : List ℕ) (question : Question) → IsAuthority authority → IsBearerToken token → IsSendable question
+    → IsRequestHead (head_of authority token question)
+head_is authority token question a t h = record {
+  method = method_is question;
+  target = (target_some question, AllPass-from_list_all is_uri_byte (target_of question) (target_passes question h));
+  target_text = target_text question h;
+  minor = lit≤ tt;
+  fields = fields_are authority token question a t h;
+}
+
+-- ---- its length
+
+pub length-field : (name value : List ℕ) → length (print_field (field name value)) ≡ length name + length value + 4
+length-field name value =
+    length-append (name ++ (58 ∷ 32 ∷ value)) (13 ∷ 10 ∷ [])
+    ∙ counted (length name) (length value) (length (name ++ (58 ∷ 32 ∷ value))) (length-append name (58 ∷ 32 ∷ value))
+  where
+    counted : (n v m : ℕ) → m ≡ n + suc (suc v) → m + 2 ≡ n + v + 4
+    counted n v m h = omega arith
+
+pub length-fields : (f : Field) (fs : List Field) → length (flat_map print_field (f ∷ fs)) ≡ length (print_field f) + length (flat_map print_field fs)
+length-fields f fs = length-append (print_field f) (flat_map print_field fs)
+
+-- the head of these parts
+abbrev head_with : List ℕ → List ℕ → List Field → RequestHead
+head_with method target fields = record {
+  blank = [];
+  method = method;
+  target = target;
+  minor = 1;
+  line_end = crlf;
+  fields = fields;
+  last = crlf;
+}
+
+length-head : (method target : List ℕ) (fields : List Field)
+    → length (print_request (head_with method target fields)) ≡ length method + length target + length (flat_map print_field fields) + 14
+unfolding print_request
+length-head method target fields =
+    let one = method ++ (32 ∷ target) in
+    let two = one ++ (32 ∷ codes "HTTP/1.1") in
+    let three = two ++ (13 ∷ 10 ∷ []) in
+    let section = flat_map print_field fields ++ (13 ∷ 10 ∷ []) in
+    length-append three section
+    ∙ counted (length method) (length target) (length (flat_map print_field fields)) (length one) (length two) (length three) (length section)
+    (length-append method (32 ∷ target)) (length-append one (32 ∷ codes "HTTP/1.1")) (length-append two (13 ∷ 10 ∷ [])) (length-append (flat_map print_field fields) (13 ∷ 10 ∷ []))
+  where
+    counted : (m t f one two three section : ℕ) → one ≡ m + suc t → two ≡ one + 9 → three ≡ two + 2 → section ≡ f + 2 → three + section ≡ m + t + f + 14
+    counted m t f one two three section a b c d = omega arith
+
+-- what the fields of each request take
+common_fields : (authority token : List ℕ) (more : List Field) → length authority ≤ 255 → length token ≤ 128 → length (flat_map print_field more) ≤ 200
+    → length (flat_map print_field (field (codes "Host") authority ∷ field (codes "Authorization") (codes "Bearer " ++ token) ∷ field (codes "Connection") (codes "close") ∷ more)) ≤ 1000
+common_fields authority token more a t m =
+    let host = field (codes "Host") authority in
+    let bearer = field (codes "Authorization") (codes "Bearer " ++ token) in
+    let close = field (codes "Connection") (codes "close") in
+    omega (
+      arith,
+      a,
+      t,
+      m,
+      length-fields host (bearer ∷ close ∷ more),
+      length-fields bearer (close ∷ more),
+      length-fields close more,
+      length-field (codes "Host") authority,
+      length-field (codes "Authorization") (codes "Bearer " ++ token),
+      length-field (codes "Connection") (codes "close"),
+    )
+
+body_fields_fit : (n : ℕ) → n ≤ 16384 → length (flat_map print_field (field (codes "Content-Type") (codes "application/json") ∷ field (codes "Content-Length") (decimal n) ∷ [])) ≤ 200
+body_fields_fit n h =
+    let kind = field (codes "Content-Type") (codes "application/json") in
+    let size = field (codes "Content-Length") (decimal n) in
+    omega (
+      arith,
+      length-fields kind (size ∷ []),
+      length-fields size [],
+      length-field (codes "Content-Type") (codes "application/json"),
+      length-field (codes "Content-Length") (decimal n),
+      length-decimal-le 5 n (omega arith) (omega arith) (omega arith),
+    )
+
+fields_fit : (authority token : List ℕ) (question : Question) → IsAuthority authority → IsBearerToken token → IsSendable question
+    → length (flat_map print_field (fields_of authority token question)) ≤ 1000
+fields_fit authority token machines a t h = common_fields authority token [] (visible_text 255 authority a).few (visible_text 128 token t).few (lit≤ tt)
+fields_fit authority token (machine id) a t h = common_fields authority token [] (visible_text 255 authority a).few (visible_text 128 token t).few (lit≤ tt)
+fields_fit authority token orders a t h = common_fields authority token [] (visible_text 255 authority a).few (visible_text 128 token t).few (lit≤ tt)
+fields_fit authority token (command key c) a t h =
+    common_fields authority token (field (codes "Content-Type") (codes "application/json") ∷ field (codes "Content-Length") (decimal (length (request_text key c))) ∷ [])
+    (visible_text 255 authority a).few (visible_text 128 token t).few (body_fields_fit (length (request_text key c)) (short-request_text key c h.whole h.parts))
+
+method_fits : (question : Question) → length (method_of question) ≤ 4
+method_fits machines = lit≤ tt
+method_fits (machine id) = lit≤ tt
+method_fits orders = lit≤ tt
+method_fits (command key c) = lit≤ tt
+
+target_fits : (question : Question) → IsSendable question → length (target_of question) ≤ 26
+target_fits machines h = lit≤ tt
+target_fits (machine id) h = omega (arith, length-decimal-le 16 id (omega arith) (omega arith) (number_fits id h))
+target_fits orders h = lit≤ tt
+target_fits (command key c) h = lit≤ tt
+
+head_fits : (authority token : List ℕ) (question : Question) → IsAuthority authority → IsBearerToken token → IsSendable question
+    → length (print_request (head_of authority token question)) ≤ 8192
+head_fits authority token question a t h =
+    omega (
+      arith,
+      length-head (method_of question) (target_of question) (fields_of authority token question),
+      method_fits question,
+      target_fits question h,
+      fields_fit authority token question a t h,
+    )
+
+pub few_fields : (authority token : List ℕ) (question : Question) → length (fields_of authority token question) ≤ 64
+few_fields authority token machines = lit≤ tt
+few_fields authority token (machine id) = lit≤ tt
+few_fields authority token orders = lit≤ tt
+few_fields authority token (command key c) = lit≤ tt
+
+-- ---- what the desk finds
+
+pub front_of : (n : ℕ) (head body : List ℕ) → length head ≤ n → take n (head ++ body) ≡ head ++ take (n - length head) body
+front_of n head body h =
+    let all : n ≡ length head + (n - length head) = omega arith in
+    ap (λ (m : ℕ). take m (head ++ body)) all ∙ take-append-add head body (n - length head)
+
+-- the head stands in the front
+pub reads_head : (authority token : List ℕ) (question : Question) → IsAuthority authority → IsBearerToken token → IsSendable question
+    → (rest : List ℕ) × ReadsRequest (front (request_of authority token question)) (head_of authority token question) rest
+unfolding request_of
+reads_head authority token question a t h = (
+  take (8192 - length (print_request (head_of authority token question))) (body_of question),
+  (
+    head_is authority token question a t h,
+    front_of 8192 (print_request (head_of authority token question)) (body_of question) (head_fits authority token question a t h),
+  ),
+)
+
+-- the body follows it
+pub after_head_is : (authority token : List ℕ) (question : Question) → after_head (head_of authority token question) (request_of authority token question) ≡ body_of question
+unfolding request_of
+after_head_is authority token question = drop-append_seam (print_request (head_of authority token question)) (body_of question)

@@ -1,0 +1,9 @@
+pub mod Ask
+pub mod FieldLaws
+pub mod HeadLaws
+pub mod PartLaws
+pub mod Request
+pub mod RequestLaws
+pub mod Response
+pub mod ResponseLaws
+pub mod Sendable

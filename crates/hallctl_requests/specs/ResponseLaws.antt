@@ -1,0 +1,208 @@
+-- Laws of responses: a client reads what the desk writes as its status and its body.
+use Rattle.std.proofs.Common.{◌≡◌, ◌+◌, ◌-◌, ◌<◌, ◌≤◌, ◌^◌, ℕ, suc, Bool, true, false, List, [], ◌∷◌, ◌++◌, Some, map, length, refl, ap, subst, ◌∙◌, arith, append_assoc, append-nil, length-append, lit≤, lit<}
+use Rattle.std.specs.Prelude.{codes, decimal, drop, take, flat_map, nat_le, nat_lt, ◌&&◌, ◌||◌, ◌==◌, All, Result, Ok}
+use Rattle.std.specs.Fmt.{digits}
+use Rattle.std.specs.List.{list_all, list_any}
+use Rattle.std.specs.Char.{is_ascii_digit}
+use Rattle.std.proofs.lemmas.Bool.{and_parts, le-leb, leb-true, eqb-true, false_from_ne_true, ltb-true}
+use Rattle.std.proofs.lemmas.Fmt.{decimal_nonempty, decimal_is_IsNumeral, length-decimal-le}
+use Rattle.std.proofs.lemmas.List.Elements.{All-from_recursion}
+use Rattle.std.proofs.lemmas.List.Sums.{AllPass-from_list_all}
+use Rattle.std.proofs.Math.Seq.{drop-append_seam}
+use Rattle.httparse.specs.Grammar.{Field, ResponseHead, IsField, IsResponseHead, ReadsResponse, crlf, print_response, print_field, status_code, is_token_byte, is_value_byte}
+use Rattle.httparse.specs.Spans.{name_and_value}
+use Rattle.hall_events.specs.declared.reply.BodyKind.{BodyKind}
+use Rattle.hall_events.specs.declared.reply.BodyKind.TheVariants.{Text, Json}
+use Rattle.hall_http.specs.Response.{IsStatus, statuses, phrase_of, kind_text, status_line, type_line, length_line, last_lines, response}
+use Rattle.http_requests.specs.DecimalLaws.{digits-decimal, decimal_value-decimal}
+use Rattle.http_requests.specs.Request.{front}
+use Rattle.hallctl_requests.specs.FieldLaws.{trims_decimal, visible-decimal}
+use Rattle.hallctl_requests.specs.HeadLaws.{field_is, value_passes, front_of, length-field, length-fields}
+use Rattle.hallctl_requests.specs.Request.{field}
+use Rattle.hallctl_requests.specs.Response.{IsReading, answer_of, size_of, sized}
+use Rattle.hallctl_requests.specs.declared.response.ResponseFault.{ResponseFault}
+
+-- ---- the statuses
+
+-- a status has three digits, and its phrase has no control octets
+is_good : ℕ → Bool
+is_good status = (length (decimal status) == 3) && list_all is_value_byte (phrase_of status) && nat_le (length (phrase_of status)) 40 && nat_lt status 1000
+
+good_statuses : list_all is_good statuses ≡ true
+unfolding is_good phrase_of digits
+good_statuses = refl
+
+one_of : (test : ℕ → Bool) (status : ℕ) (all : List ℕ) → list_any (λ one. one == status) all ≡ true → list_all test all ≡ true → test status ≡ true
+one_of test status [] h g = absurd cc
+one_of test status (one ∷ all) h g =
+    let both = and_parts (test one) (list_all test all) g in
+    by (one == status) refl h both.0 (one_of test status all) both.1
+  where
+    by : (b : Bool) → (one == status) ≡ b → (b || list_any (λ other. other == status) all) ≡ true → test one ≡ true
+        → (list_any (λ other. other == status) all ≡ true → list_all test all ≡ true → test status ≡ true) → list_all test all ≡ true → test status ≡ true
+    by true e h t later g = subst (λ (n : ℕ). test n ≡ true) (eqb-true one status e) t
+    by false e h t later g = later h g
+
+record IsGood (status : ℕ) : Type 0 where
+  three : length (decimal status) ≡ 3
+  phrase : list_all is_value_byte (phrase_of status) ≡ true
+  few : length (phrase_of status) ≤ 40
+  small : status < 1000
+
+status_is : (status : ℕ) → IsStatus status → IsGood status
+unfolding is_good
+status_is status h =
+    let all = one_of is_good status statuses h good_statuses in
+    let last = and_parts ((length (decimal status) == 3) && list_all is_value_byte (phrase_of status) && nat_le (length (phrase_of status)) 40) (nat_lt status 1000) all in
+    let third = and_parts ((length (decimal status) == 3) && list_all is_value_byte (phrase_of status)) (nat_le (length (phrase_of status)) 40) last.0 in
+    let second = and_parts (length (decimal status) == 3) (list_all is_value_byte (phrase_of status)) third.0 in
+    record {
+      three = eqb-true (length (decimal status)) 3 second.0;
+      phrase = second.1;
+      few = leb-true (length (phrase_of status)) 40 third.1;
+      small = ltb-true status 1000 last.1;
+    }
+
+-- ---- the head
+
+abbrev fields_of : BodyKind → List ℕ → List Field
+fields_of kind body =
+    field (codes "Content-Type") (kind_text kind) ∷ field (codes "Content-Length") (decimal (length body)) ∷ field (codes "Connection") (codes "close") ∷ []
+
+abbrev head_of : ℕ → BodyKind → List ℕ → ResponseHead
+head_of status kind body = record {
+  blank = [];
+  minor = 1;
+  digits = decimal status;
+  reason = Some (phrase_of status);
+  line_end = crlf;
+  fields = fields_of kind body;
+  last = crlf;
+}
+
+kind_passes : (kind : BodyKind) → list_all is_value_byte (kind_text kind) ≡ true
+unfolding kind_text
+kind_passes Text = refl
+kind_passes Json = refl
+
+kind_fits : (kind : BodyKind) → length (kind_text kind) ≤ 16
+unfolding kind_text
+kind_fits Text = lit≤ tt
+kind_fits Json = lit≤ tt
+
+fields_are : (kind : BodyKind) (body : List ℕ) → length body < 2 ^ 64 → All IsField (fields_of kind body)
+unfolding is_token_byte
+fields_are kind body h =
+    All-from_recursion IsField (fields_of kind body) (
+      field_is (codes "Content-Type") (kind_text kind) (lit< tt) refl (kind_passes kind),
+      (
+        field_is (codes "Content-Length") (decimal (length body)) (lit< tt) refl (value_passes (decimal (length body)) (visible-decimal (length body) h)),
+        (field_is (codes "Connection") (codes "close") (lit< tt) refl refl, tt),
+      ),
+    )
+
+head_is : (status : ℕ) (kind : BodyKind) (body : List ℕ) → IsGood status → length body < 2 ^ 64 → IsResponseHead (head_of status kind body)
+head_is status kind body good h = record {
+  minor = lit≤ tt;
+  digits = (good.three, AllPass-from_list_all is_ascii_digit (decimal status) (digits-decimal status (fits status good.small)));
+  reason = AllPass-from_list_all is_value_byte (phrase_of status) good.phrase;
+  fields = fields_are kind body h;
+}
+  where
+    fits : (n : ℕ) → n < 1000 → n < 2 ^ 64
+    fits n h = omega arith
+
+length-head : (digits phrase : List ℕ) (fields : List Field)
+    → length (print_response (record { blank = []; minor = 1; digits = digits; reason = Some phrase; line_end = crlf; fields = fields; last = crlf }))
+    ≡ length digits + length phrase + length (flat_map print_field fields) + 14
+unfolding print_response
+length-head digits phrase fields =
+    let one = codes "HTTP/1.1" ++ (32 ∷ digits) in
+    let two = one ++ (32 ∷ phrase) in
+    let three = two ++ (13 ∷ 10 ∷ []) in
+    let section = flat_map print_field fields ++ (13 ∷ 10 ∷ []) in
+    length-append three section
+    ∙ counted (length digits) (length phrase) (length (flat_map print_field fields)) (length one) (length two) (length three) (length section)
+    (length-append (codes "HTTP/1.1") (32 ∷ digits)) (length-append one (32 ∷ phrase)) (length-append two (13 ∷ 10 ∷ [])) (length-append (flat_map print_field fields) (13 ∷ 10 ∷ []))
+  where
+    counted : (d p f one two three section : ℕ) → one ≡ 8 + suc d → two ≡ one + suc p → three ≡ two + 2 → section ≡ f + 2 → three + section ≡ d + p + f + 14
+    counted d p f one two three section a b c e = omega arith
+
+fields_fit : (kind : BodyKind) (body : List ℕ) → length body < 10 ^ 15 → length (flat_map print_field (fields_of kind body)) ≤ 200
+fields_fit kind body h =
+    let type = field (codes "Content-Type") (kind_text kind) in
+    let size = field (codes "Content-Length") (decimal (length body)) in
+    let close = field (codes "Connection") (codes "close") in
+    omega (
+      arith,
+      length-fields type (size ∷ close ∷ []),
+      length-fields size (close ∷ []),
+      length-fields close [],
+      length-field (codes "Content-Type") (kind_text kind),
+      length-field (codes "Content-Length") (decimal (length body)),
+      length-field (codes "Connection") (codes "close"),
+      kind_fits kind,
+      length-decimal-le 15 (length body) (omega arith) h (omega arith),
+    )
+
+head_fits : (status : ℕ) (kind : BodyKind) (body : List ℕ) → IsGood status → length body < 10 ^ 15 → length (print_response (head_of status kind body)) ≤ 8192
+head_fits status kind body good h =
+    omega (arith, length-head (decimal status) (phrase_of status) (fields_of kind body), good.three, good.few, fields_fit kind body h)
+
+grouped : (version digits space phrase end type size close body : List ℕ)
+    → (((((((version ++ digits) ++ space) ++ phrase) ++ end) ++ type) ++ size) ++ (close ++ end)) ++ body
+    ≡ ((((version ++ digits) ++ (space ++ phrase)) ++ end) ++ ((type ++ (size ++ (close ++ []))) ++ end)) ++ body
+grouped version digits space phrase end type size close body = simp (append_assoc, append-nil)
+
+-- a response is its head and its body
+whole : (status : ℕ) (kind : BodyKind) (body : List ℕ) → response status kind body ≡ print_response (head_of status kind body) ++ body
+unfolding status_line type_line length_line last_lines print_response
+whole status kind body =
+    grouped (codes "HTTP/1.1 ") (decimal status) (codes " ") (phrase_of status) (codes "\r\n") (print_field (field (codes "Content-Type") (kind_text kind)))
+    (print_field (field (codes "Content-Length") (decimal (length body)))) (print_field (field (codes "Connection") (codes "close"))) body
+
+-- ---- what is read
+
+size_is : (n : ℕ) → n < 10 ^ 15 → size_of (Some (decimal n)) ≡ Some n
+size_is n h =
+    let small : n < 2 ^ 64 = omega arith in
+    rw (
+      le-leb 1 (length (decimal n)) (decimal_nonempty n small),
+      le-leb (length (decimal n)) 15 (length-decimal-le 15 n (omega arith) h small),
+      digits-decimal n small,
+      decimal_value-decimal n small,
+    ) refl
+
+exactly : (status : ℕ) (body : List ℕ) → sized status (Some (length body)) body ≡ Ok (status, body)
+exactly status body = rw (false_from_ne_true (nat_lt (length body) (length body)) (λ e. omega (arith, ltb-true (length body) (length body) e))) refl
+
+answer_is : (status : ℕ) (kind : BodyKind) (body : List ℕ) → IsGood status → length body < 10 ^ 15
+    → answer_of (status_code (head_of status kind body)) (map name_and_value (fields_of kind body)) body ≡ Ok (status, body)
+answer_is status kind body good h =
+    ap (λ (n : ℕ). answer_of n (map name_and_value (fields_of kind body)) body) (decimal_is_IsNumeral status (wide status good.small)).1
+    ∙ ap (λ (text : List ℕ). sized status (size_of (Some text)) body) (trims_decimal (length body) (fits (length body) h))
+    ∙ ap (λ size. sized status size body) (size_is (length body) h)
+    ∙ exactly status body
+  where
+    wide : (n : ℕ) → n < 1000 → n < 2 ^ 64
+    wide n h = omega arith
+
+    fits : (n : ℕ) → n < 10 ^ 15 → n < 2 ^ 64
+    fits n h = omega arith
+
+-- the response of the desk is read as its status and its body
+pub response_is_read : (octets : List ℕ) (result : Result (ℕ × List ℕ) ResponseFault) → IsReading octets result
+    → (status : ℕ) (kind : BodyKind) (body : List ℕ) → IsStatus status → length body < 10 ^ 15 → octets ≡ response status kind body → result ≡ Ok (status, body)
+response_is_read octets result is status kind body s h e =
+    let good = status_is status s in
+    let head = head_of status kind body in
+    let split : octets ≡ print_response head ++ body = e ∙ whole status kind body in
+    let reads : ReadsResponse (front octets) head (take (8192 - length (print_response head)) body) =
+    (head_is status kind body good (fits (length body) h), ap (λ (xs : List ℕ). take 8192 xs) split ∙ front_of 8192 (print_response head) body (head_fits status kind body good h)) in
+    is.head head (take (8192 - length (print_response head)) body) reads (lit≤ tt)
+    ∙ ap (λ (after : List ℕ). answer_of (status_code head) (map name_and_value (fields_of kind body)) after)
+    (ap (λ (xs : List ℕ). drop (length (print_response head)) xs) split ∙ drop-append_seam (print_response head) body)
+    ∙ answer_is status kind body good h
+  where
+    fits : (n : ℕ) → n < 10 ^ 15 → n < 2 ^ 64
+    fits n h = omega arith

@@ -1,0 +1,62 @@
+-- What an exchange with the desk sends, and what it makes known.
+use Rattle.std.specs.Prelude.{◌≡◌, ℕ, List, Option, Result, Ok, Err, if◌then◌else◌, ◌==◌}
+use Rattle.hallctl_requests.specs.declared.response.ResponseFault.{ResponseFault}
+use Rattle.hallctl_requests.specs.declared.response.ResponseFault.TheVariants.{Cut, NotHttp, TooLong}
+use Rattle.hallctl_requests.specs.Response.{IsReading}
+use Rattle.hallctl_tasks.specs.Hearing.{Hearing}
+use Rattle.hallctl_tasks.specs.Try.{Came, Octets, Endless, Silence, Try, adds}
+use Rattle.hallctl_tasks.specs.declared.answer.Exchanged.{Exchanged}
+use Rattle.hallctl_tasks.specs.declared.answer.Exchanged.TheVariants.{Answered, NotTheDesk, Unknown}
+
+-- what is known: a whole answer but 503, that what answers isn't the desk, or nothing
+pub data Known : Type 0 where
+  Heard : Hearing → Known
+  Foreign : Known
+  Unheard : Known
+
+-- 503 says nothing of what was asked for
+abbrev pub heard : ℕ → List ℕ → Known
+heard status body = if status == 503 then Unheard else Heard (record { status = status; body = body })
+
+-- a cut answer says nothing
+abbrev pub known_of : Result (ℕ × List ℕ) ResponseFault → Known
+known_of (Ok answer) = heard answer.0 answer.1
+known_of (Err Cut) = Unheard
+known_of (Err NotHttp) = Foreign
+known_of (Err TooLong) = Foreign
+
+-- octets are read as a response that makes this known
+pub record AreHeard (octets : List ℕ) (known : Known) : Type 0 where
+  pub answer : Result (ℕ × List ℕ) ResponseFault
+  pub reading : IsReading octets answer
+  pub same : known ≡ known_of answer
+
+-- what came makes this known
+abbrev pub MakesKnown : Came → Known → Type 0
+MakesKnown (Octets octets) known = AreHeard octets known
+MakesKnown Endless known = known ≡ Foreign
+MakesKnown (Silence why) known = known ≡ Unheard
+
+-- what an exchange says
+abbrev pub says : Exchanged → Known
+says (Answered answer) = Heard answer
+says (NotTheDesk strange) = Foreign
+says (Unknown why) = Unheard
+
+-- one try with these octets, which makes this known
+pub record IsTry (before : Option (List Try)) (octets : List ℕ) (known : Known) (after : Option (List Try)) : Type 0 where
+  pub one : Try
+  pub sent : one.sent ≡ octets
+  pub heard : MakesKnown one.came known
+  pub added : after ≡ adds before one
+
+-- no try or more, all of them with these octets, and none makes anything known
+pub data AreInVain (before : Option (List Try)) (octets : List ℕ) : Option (List Try) → Type 0 where
+  none : AreInVain before octets before
+  more : (last after : Option (List Try)) → AreInVain before octets last → IsTry last octets Unheard after → AreInVain before octets after
+
+-- tries with these octets alone: all but the last in vain, and the last one makes this known
+pub record IsExchange (before : Option (List Try)) (octets : List ℕ) (known : Known) (after : Option (List Try)) : Type 0 where
+  pub last : Option (List Try)
+  pub vain : AreInVain before octets last
+  pub one : IsTry last octets known after

@@ -1,0 +1,4 @@
+pub mod Exchange
+pub mod Hearing
+pub mod Seen
+pub mod Try

@@ -1,0 +1,185 @@
+//! The commands of a line, one after another.
+use crate::desk::Desk;
+use crate::fault::{Ended, TaskFault};
+use crate::keys::new_key;
+use crate::looks::{Found, Look, looked};
+use crate::saying::tell;
+use crate::sending::{Sending, sent};
+use crate::surroundings::Surroundings;
+use hall_events::HallCommand;
+use hall_types::{RequestKey, Version};
+use hallctl_words::with_version;
+use std::alloc::{AllocError, Global};
+
+/// How the commands of a line are sent.
+#[derive(Clone, Copy)]
+pub struct Manner {
+    /// The key of the one command, which is sent again.
+    pub key: Option<RequestKey>,
+    /// Whether a command that erases or deletes is sent without a question.
+    pub yes: bool,
+    /// Whether the desk's JSON is printed.
+    pub json: bool,
+}
+
+// The version that a command says.
+fn version_of(command: &HallCommand) -> Option<Version> {
+    match command {
+        HallCommand::OnMachine { version, .. } => *version,
+        _ => None,
+    }
+}
+
+// What has to be said beside the key when a command is said again.
+fn beside(alloc: Global, command: &HallCommand) -> Result<String, AllocError> {
+    match version_of(command) {
+        Some(version) => {
+            let version = version.get();
+            format!(in alloc; " --version {version}")
+        }
+        None => String::from_str(alloc, ""),
+    }
+}
+
+// The command with the version of the machine's listing, where it has none of its own.
+fn as_listed(command: &HallCommand, listed: Version) -> Option<HallCommand> {
+    match command {
+        HallCommand::OnMachine {
+            machine,
+            version,
+            command,
+        } => Some(with_version(
+            HallCommand::OnMachine {
+                machine: *machine,
+                version: *version,
+                command: *command,
+            },
+            listed,
+        )),
+        _ => None,
+    }
+}
+
+fn key_of<S: Surroundings>(surroundings: &mut S, manner: &Manner) -> Result<RequestKey, TaskFault> {
+    match manner.key {
+        Some(key) => Ok(key),
+        None => new_key(surroundings),
+    }
+}
+
+fn sent_as<S: Surroundings>(
+    alloc: Global,
+    surroundings: &mut S,
+    desk: &Desk,
+    manner: &Manner,
+    look: &Look,
+    command: &HallCommand,
+) -> Result<Ended, TaskFault> {
+    let key = key_of(surroundings, manner)?;
+    let beside = beside(alloc, command)?;
+    let before = match look {
+        Look::Listed { status, .. } => Some(*status),
+        Look::Unneeded | Look::Refused => None,
+    };
+    let json = manner.json;
+    let sending = Sending {
+        key,
+        command,
+        before,
+        beside: beside.as_str(),
+        json,
+    };
+    sent(alloc, surroundings, desk, &sending)
+}
+
+// Sends a command after the look at its machine.
+fn sent_after<S: Surroundings>(
+    alloc: Global,
+    surroundings: &mut S,
+    desk: &Desk,
+    manner: &Manner,
+    look: &Look,
+    command: &HallCommand,
+) -> Result<Ended, TaskFault> {
+    match look {
+        Look::Unneeded => sent_as(alloc, surroundings, desk, manner, look, command),
+        Look::Refused => Ok(Ended::Refused),
+        Look::Listed { version, .. } => match as_listed(command, *version) {
+            Some(command) => sent_as(alloc, surroundings, desk, manner, look, &command),
+            None => sent_as(alloc, surroundings, desk, manner, look, command),
+        },
+    }
+}
+
+// Tells how many commands weren't sent, after one that had no answer.
+fn tell_of_unsent<S: Surroundings>(
+    alloc: Global,
+    surroundings: &mut S,
+    unsent: usize,
+) -> Result<(), TaskFault> {
+    if unsent > 0 {
+        let line = format!(in alloc; "not sent: {unsent} more")?;
+        tell(alloc, surroundings, line.as_str())?;
+    }
+    Ok(())
+}
+
+// The look before the command at a place.
+fn look_of(looks: &[Look], place: usize) -> Look {
+    match looks.get(place) {
+        Some(look) => *look,
+        None => Look::Unneeded,
+    }
+}
+
+// How a line ends with one more command.
+fn after(end: Ended, one: Ended) -> Ended {
+    if one == Ended::Done { end } else { one }
+}
+
+// Sends the commands, each after the look at its machine. One without an answer is the last.
+fn sent_all<S: Surroundings>(
+    alloc: Global,
+    surroundings: &mut S,
+    desk: &Desk,
+    manner: &Manner,
+    commands: &[HallCommand],
+    looks: &[Look],
+) -> Result<Ended, TaskFault> {
+    let mut end = Ended::Done;
+    for (place, command) in commands.iter().enumerate() {
+        let look = look_of(looks, place);
+        end = after(
+            end,
+            sent_after(alloc, surroundings, desk, manner, &look, command)?,
+        );
+        if end == Ended::NoAnswer {
+            let unsent = commands.len().saturating_sub(place).saturating_sub(1);
+            tell_of_unsent(alloc, surroundings, unsent)?;
+            return Ok(end);
+        }
+    }
+    Ok(end)
+}
+
+/// Sends the commands of a line, and prints a line for each. Where one erases or deletes, the machines are looked at first, and the
+/// operator is asked. A refused command is no reason not to send the others; one without an answer is.
+pub(crate) fn change<S: Surroundings>(
+    alloc: Global,
+    surroundings: &mut S,
+    desk: &Desk,
+    manner: &Manner,
+    commands: &[HallCommand],
+) -> Result<Ended, TaskFault> {
+    match looked(alloc, surroundings, desk, manner, commands)? {
+        Found::Found(looks) => sent_all(
+            alloc,
+            surroundings,
+            desk,
+            manner,
+            commands,
+            looks.as_slice(),
+        ),
+        Found::Ended(end) => Ok(end),
+    }
+}

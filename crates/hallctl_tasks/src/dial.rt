@@ -1,0 +1,73 @@
+//! One try after another to have the desk's answer.
+ghost use Rattle.std.specs.Prelude.{◌≡◌};
+ghost use Rattle.hallctl_tasks.specs.Try.{came_of};
+
+use std::alloc::Global;
+
+/// Why a try had no answer.
+#[derive(Clone, Copy, PartialEq, Eq)]
+pub enum Why {
+    /// The desk's name has no address.
+    NoAddress,
+    /// Nothing takes connections there.
+    Refused,
+    /// There is no way there.
+    Unreachable,
+    /// The time of a try was over.
+    Late,
+    /// The connection was closed without an answer, or broke.
+    Closed,
+    /// The connection was closed amid the answer.
+    Cut,
+    /// The answer was 503 Unavailable.
+    Unavailable,
+    /// There was no memory for the answer.
+    Memory,
+}
+
+impl Why {
+    /// The words for it.
+    pub fn words(self) -> &'static str {
+        match self {
+            Why::NoAddress => "the name has no address",
+            Why::Refused => "connection refused",
+            Why::Unreachable => "the desk can't be reached",
+            Why::Late => "no answer in time",
+            Why::Closed => "the connection was closed",
+            Why::Cut => "the answer was cut",
+            Why::Unavailable => "503 Unavailable",
+            Why::Memory => "no memory for the answer",
+        }
+    }
+}
+
+/// What comes of one try.
+#[derive(Drop)]
+pub enum Attempt {
+    /// All octets that came until the connection was closed, or the time of the try was over; one at least.
+    Answer(Vec<u8>),
+    /// More octets than an answer may have.
+    TooLong,
+    Nothing(Why),
+}
+
+/// A way to the desk, over which a request is tried.
+pub trait Dial {
+    ghost use Rattle.std.specs.Prelude.{List, Option};
+    ghost use Rattle.hallctl_tasks.specs.Try.{Try, adds};
+
+    /// What was sent in each try so far and what came, where the type says it.
+    ghost tries: { Self → Option (List Try) };
+
+    /// One try: connects, sends all octets, and reads until the connection is closed.
+    fn attempt(&mut self, alloc: Global, octets: &[u8]) -> Attempt
+        ensures tried { tries self.new ≡ adds (tries self.old) (record { sent = octets.now; came = came_of result }) };
+
+    /// Waits for so many milliseconds.
+    fn pause(&mut self, milliseconds: u64)
+        ensures same { tries self.new ≡ tries self.old };
+
+    /// How many milliseconds have passed since some moment before the first try; the maximum where the clock fails.
+    fn passed(&mut self) -> u64
+        ensures same { tries self.new ≡ tries self.old };
+}

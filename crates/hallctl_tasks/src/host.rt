@@ -1,0 +1,149 @@
+//! The system that the program runs on: a socket to the desk, the terminal, files and random octets.
+use crate::address::DeskAddress;
+use crate::dial::{Attempt, Dial};
+use crate::socket::{connected, exchanged};
+use crate::surroundings::{FileFault, Surroundings};
+use rand::rngs::SysRng;
+use rand_core::TryRng;
+use std::alloc::Global;
+use std::fs::{File, OpenOptions};
+use std::io::{BufRead, BufReader, ErrorKind, IsTerminal, Read, Write};
+use std::os::unix::fs::OpenOptionsExt;
+use std::time::{Duration, Instant};
+use std::{io, thread};
+
+// The maximum of octets of a file that is read.
+const MAX_FILE_LEN: u64 = 16_777_216;
+
+// The maximum of octets of the operator's answer.
+const MAX_REPLY_LEN: u64 = 4_096;
+
+// Read and written by its owner alone.
+const OWNER_ONLY: u32 = 0o600;
+
+/// The system, and where the desk is.
+#[derive(Drop)]
+pub struct Host<'a> {
+    rt: &'a HostRuntime,
+    address: &'a DeskAddress,
+    start: Instant,
+}
+
+impl<'a> Host<'a> {
+    /// A way to the desk at the address. `None` where the system's clock fails.
+    pub fn new(rt: &'a HostRuntime, address: &'a DeskAddress) -> Option<Host<'a>> {
+        let start = Instant::now(rt).ok()?;
+        Some(Host { rt, address, start })
+    }
+}
+
+impl Dial for Host<'_> {
+    ghost use Rattle.std.specs.Prelude.{None};
+
+    // What goes over a socket, no contract knows.
+    ghost tries = { λ _. None };
+
+    fn attempt(&mut self, alloc: Global, octets: &[u8]) -> Attempt {
+        match connected(self.rt, self.address) {
+            Ok(stream) => exchanged(self.rt, alloc, stream, octets),
+            Err(why) => Attempt::Nothing(why),
+        }
+    }
+
+    fn pause(&mut self, milliseconds: u64) {
+        thread::sleep(self.rt, Duration::from_millis(milliseconds));
+    }
+
+    fn passed(&mut self) -> u64 {
+        match self.start.elapsed(self.rt) {
+            Ok(passed) => u64::try_from(passed.as_millis()).unwrap_or(u64::MAX),
+            Err(_) => u64::MAX,
+        }
+    }
+}
+
+fn file_fault(error: &io::Error) -> FileFault {
+    match error.kind() {
+        ErrorKind::OutOfMemory => FileFault::Memory,
+        ErrorKind::AlreadyExists => FileFault::Exists,
+        _ => FileFault::Io,
+    }
+}
+
+// Reads a file to its end, or until it is too long.
+fn read_short(file: File, octets: &mut Vec<u8>) -> Result<(), FileFault> {
+    let mut file = file.take(MAX_FILE_LEN + 1);
+    match file.read_to_end(octets) {
+        Ok(_) if octets.len() as u64 > MAX_FILE_LEN => Err(FileFault::TooLong),
+        Ok(_) => Ok(()),
+        Err(error) => Err(file_fault(&error)),
+    }
+}
+
+/// The octets of a file.
+pub fn file_octets(rt: &HostRuntime, path: &str) -> Result<Vec<u8>, FileFault> {
+    let mut octets = Vec::new(rt.alloc());
+    match File::open(rt, path) {
+        Ok(file) => read_short(file, &mut octets)?,
+        Err(error) => return Err(file_fault(&error)),
+    }
+    Ok(octets)
+}
+
+fn write_file(rt: &HostRuntime, path: &str, octets: &[u8]) -> io::Result<()> {
+    let mut file = OpenOptions::new()
+        .write(true)
+        .create_new(true)
+        .mode(OWNER_ONLY)
+        .open(rt, path)?;
+    file.write_all(octets)?;
+    file.sync_all()
+}
+
+// Whether the next line of standard input is `yes`.
+fn is_yes(rt: &HostRuntime, alloc: Global) -> io::Result<bool> {
+    let mut octets = Vec::new(alloc);
+    let mut reader = BufReader::new(alloc, rt.stdin().take(MAX_REPLY_LEN))?;
+    reader.read_until(b'\n', &mut octets)?;
+    Ok(octets.as_slice() == b"yes\n".as_slice())
+}
+
+impl Surroundings for Host<'_> {
+    fn print(&mut self, text: &str) -> bool {
+        self.rt.stdout().write_all(text.as_bytes()).is_ok()
+    }
+
+    fn tell(&mut self, text: &str) {
+        let _ = self.rt.stderr().write_all(text.as_bytes());
+    }
+
+    fn is_watched(&self) -> bool {
+        self.rt.stderr().is_terminal()
+    }
+
+    fn can_ask(&self) -> bool {
+        self.rt.stdin().is_terminal()
+    }
+
+    fn is_agreed(&mut self, alloc: Global) -> bool {
+        is_yes(self.rt, alloc).unwrap_or(false)
+    }
+
+    fn fresh(&mut self) -> Option<[u8; 32]> {
+        let mut octets = [0; 32];
+        let mut random = SysRng::new(self.rt);
+        random.try_fill_bytes(&mut octets).ok()?;
+        Some(octets)
+    }
+
+    fn octets_of(&mut self, _alloc: Global, path: &str) -> Result<Vec<u8>, FileFault> {
+        file_octets(self.rt, path)
+    }
+
+    fn make_file(&mut self, path: &str, octets: &[u8]) -> Result<(), FileFault> {
+        match write_file(self.rt, path, octets) {
+            Ok(()) => Ok(()),
+            Err(error) => Err(file_fault(&error)),
+        }
+    }
+}

@@ -1,0 +1,116 @@
+//! The machines of a file are added.
+use crate::desk::Desk;
+use crate::fault::{Ended, TaskFault};
+use crate::saying::{misused, tell};
+use crate::sending::{Sending, sent};
+use crate::surroundings::Surroundings;
+use hall_events::HallCommand;
+use hall_report::{ImportFault, ImportRow, import_rows};
+use std::alloc::Global;
+
+fn command_of(row: &ImportRow) -> HallCommand {
+    HallCommand::AddMachine {
+        mac: row.mac,
+        arch: row.arch,
+        pool: row.pool,
+        uuid: row.uuid,
+    }
+}
+
+// Tells how many rows are done, where somebody watches.
+fn count<S: Surroundings>(
+    alloc: Global,
+    surroundings: &mut S,
+    done: usize,
+    all: usize,
+) -> Result<(), TaskFault> {
+    if surroundings.is_watched() {
+        let end = if done == all { "\n" } else { "" };
+        let text = format!(in alloc; "\r{done} of {all}{end}")?;
+        surroundings.tell(text.as_str());
+    }
+    Ok(())
+}
+
+fn add_row<S: Surroundings>(
+    alloc: Global,
+    surroundings: &mut S,
+    desk: &Desk,
+    row: &ImportRow,
+    json: bool,
+) -> Result<Ended, TaskFault> {
+    let command = command_of(row);
+    let sending = Sending {
+        key: row.key,
+        command: &command,
+        before: None,
+        beside: ", or import the file again",
+        json,
+    };
+    sent(alloc, surroundings, desk, &sending)
+}
+
+// How an import ends with one more row.
+fn after(end: Ended, one: Ended) -> Ended {
+    if one == Ended::Done { end } else { one }
+}
+
+// Adds the machines of the rows. A row without an answer is the last.
+fn add_rows<S: Surroundings>(
+    alloc: Global,
+    surroundings: &mut S,
+    desk: &Desk,
+    rows: &[ImportRow],
+    json: bool,
+) -> Result<Ended, TaskFault> {
+    let mut end = Ended::Done;
+    for (place, row) in rows.iter().enumerate() {
+        end = after(end, add_row(alloc, surroundings, desk, row, json)?);
+        if end == Ended::NoAnswer {
+            return Ok(end);
+        }
+        count(alloc, surroundings, place.saturating_add(1), rows.len())?;
+    }
+    Ok(end)
+}
+
+/// Adds the machines of a file, each with the key of its row, so that the file may be imported again.
+pub(crate) fn import<S: Surroundings>(
+    alloc: Global,
+    surroundings: &mut S,
+    desk: &Desk,
+    path: &str,
+    json: bool,
+) -> Result<Ended, TaskFault> {
+    let octets = match surroundings.octets_of(alloc, path) {
+        Ok(octets) => octets,
+        Err(fault) => return unread(alloc, surroundings, path, fault.words()),
+    };
+    match import_rows(alloc, octets.as_slice()) {
+        Ok(rows) => add_rows(alloc, surroundings, desk, rows.as_slice(), json),
+        Err(ImportFault::BadHeader) => unread(
+            alloc,
+            surroundings,
+            path,
+            "its first line must be key,mac,arch,uuid,pool",
+        ),
+        Err(ImportFault::BadRow(number)) => {
+            let words = format!(in alloc;
+                "row {number} is bad: a key, an address, an architecture, a UUID or nothing, a pool"
+            )?;
+            unread(alloc, surroundings, path, words.as_str())
+        }
+        Err(ImportFault::Memory) => Err(TaskFault::Memory),
+    }
+}
+
+// A file that isn't imported, for this reason.
+fn unread<S: Surroundings>(
+    alloc: Global,
+    surroundings: &mut S,
+    path: &str,
+    words: &str,
+) -> Result<Ended, TaskFault> {
+    let reason = format!(in alloc; "{path}: {words}")?;
+    misused(alloc, surroundings, reason.as_str())
+}

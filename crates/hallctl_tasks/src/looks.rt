@@ -1,0 +1,249 @@
+//! Machines are looked at before something is done that can't be undone, and the operator is asked.
+use crate::answer::{Answer, Exchanged, Strange};
+use crate::changes::Manner;
+use crate::desk::{Desk, asked};
+use crate::fault::{Ended, TaskFault};
+use crate::saying::{misused, print_line, strange, tell, unanswered};
+use crate::seen::listed_in;
+use crate::surroundings::Surroundings;
+use crate::texts::refused_text;
+use hall_events::HallCommand;
+use hall_types::{Number, Status, Version};
+use hallctl_requests::Ask;
+use hallctl_words::{is_dangerous, warning};
+use std::alloc::{AllocError, Global};
+
+/// What comes of the look before a command.
+#[derive(Clone, Copy)]
+pub(crate) enum Look {
+    /// None was needed.
+    Unneeded,
+    /// The machine was listed so.
+    Listed { status: Status, version: Version },
+    /// The desk refused to list it: nothing is sent for it.
+    Refused,
+}
+
+/// Either what is looked for, or how the task has ended.
+#[derive(Drop)]
+pub(crate) enum Found<T> {
+    Found(T),
+    Ended(Ended),
+}
+
+// Tells what a command would do to a machine that the desk has listed.
+fn warned<S: Surroundings>(
+    alloc: Global,
+    surroundings: &mut S,
+    command: &HallCommand,
+    answer: &Answer,
+) -> Result<Option<Look>, TaskFault> {
+    let Some(machine) = listed_in(alloc, answer)? else {
+        return Ok(None);
+    };
+    if let Some(line) = warning(alloc, command, &machine)? {
+        tell(alloc, surroundings, line.as_str())?;
+    }
+    Ok(Some(Look::Listed {
+        status: machine.status,
+        version: machine.version,
+    }))
+}
+
+// Prints the line of a machine that the desk refuses to list.
+fn refused<S: Surroundings>(
+    alloc: Global,
+    surroundings: &mut S,
+    command: &HallCommand,
+    answer: &Answer,
+) -> Result<Option<Look>, TaskFault> {
+    let Some(line) = refused_text(alloc, Some(command), answer)? else {
+        return Ok(None);
+    };
+    print_line(alloc, surroundings, line.as_str())?;
+    Ok(Some(Look::Refused))
+}
+
+// Asks the desk for a machine and tells what the command would do to it. Nothing is sent yet.
+fn look_at<S: Surroundings>(
+    alloc: Global,
+    surroundings: &mut S,
+    desk: &Desk,
+    machine: Number,
+    command: &HallCommand,
+) -> Result<Found<Look>, TaskFault> {
+    let answer = match asked(alloc, surroundings, desk, &Ask::Machine(machine))? {
+        Exchanged::Answered(answer) => answer,
+        Exchanged::NotTheDesk(words) => {
+            return Ok(Found::Ended(strange(alloc, surroundings, words)?));
+        }
+        Exchanged::Unknown(why) => {
+            return Ok(Found::Ended(unanswered(alloc, surroundings, why)?));
+        }
+    };
+    let look = if answer.is_done() {
+        warned(alloc, surroundings, command, &answer)?
+    } else {
+        refused(alloc, surroundings, command, &answer)?
+    };
+    match look {
+        Some(look) => Ok(Found::Found(look)),
+        None => Ok(Found::Ended(strange(alloc, surroundings, Strange::OtherAnswer)?)),
+    }
+}
+
+// The machine of a command, if it has one.
+fn machine_of(command: &HallCommand) -> Option<Number> {
+    match command {
+        HallCommand::OnMachine { machine, .. } => Some(*machine),
+        _ => None,
+    }
+}
+
+// The look before a command: none where it does no harm.
+fn look_before<S: Surroundings>(
+    alloc: Global,
+    surroundings: &mut S,
+    desk: &Desk,
+    command: &HallCommand,
+) -> Result<Found<Look>, TaskFault> {
+    match machine_of(command) {
+        Some(machine) if is_dangerous(command) => {
+            look_at(alloc, surroundings, desk, machine, command)
+        }
+        _ => Ok(Found::Found(Look::Unneeded)),
+    }
+}
+
+fn add_look(looks: &mut Vec<Look>, look: Look) -> Result<(), AllocError> {
+    looks.push(look)?;
+    Ok(())
+}
+
+// Adds the look before each command, until one isn't answered.
+fn add_looks<S: Surroundings>(
+    alloc: Global,
+    surroundings: &mut S,
+    desk: &Desk,
+    commands: &[HallCommand],
+    looks: &mut Vec<Look>,
+) -> Result<Option<Ended>, TaskFault> {
+    for command in commands {
+        match look_before(alloc, surroundings, desk, command)? {
+            Found::Found(look) => add_look(looks, look)?,
+            Found::Ended(end) => return Ok(Some(end)),
+        }
+    }
+    Ok(None)
+}
+
+fn is_listed(look: &Look) -> bool {
+    matches!(look, Look::Listed { .. })
+}
+
+// Whether the operator agrees, and how the task ends where not.
+fn refusal_by_operator<S: Surroundings>(
+    alloc: Global,
+    surroundings: &mut S,
+    manner: &Manner,
+) -> Result<Option<Ended>, TaskFault> {
+    if manner.yes {
+        return Ok(None);
+    }
+    surroundings.tell("Type yes: ");
+    if surroundings.is_agreed(alloc) {
+        return Ok(None);
+    }
+    tell(alloc, surroundings, "nothing was sent")?;
+    Ok(Some(Ended::Refused))
+}
+
+fn has_version(command: &HallCommand) -> bool {
+    matches!(
+        command,
+        HallCommand::OnMachine {
+            version: Some(_),
+            ..
+        }
+    )
+}
+
+// Why commands of which one erases or deletes can't be sent in this manner.
+fn fault_of<S: Surroundings>(
+    surroundings: &S,
+    manner: &Manner,
+    commands: &[HallCommand],
+) -> Option<&'static str> {
+    if !manner.yes && !surroundings.can_ask() {
+        return Some("this erases or deletes: say --yes where nobody can be asked");
+    }
+    if manner.key.is_some() && !commands.iter().all(has_version) {
+        return Some(
+            "a command that erases or deletes is said again with its --key and its --version",
+        );
+    }
+    None
+}
+
+// The looks before commands, of which the machines are listed.
+fn listed<S: Surroundings>(
+    alloc: Global,
+    surroundings: &mut S,
+    desk: &Desk,
+    commands: &[HallCommand],
+) -> Result<Found<Vec<Look>>, TaskFault> {
+    let mut looks = Vec::new(alloc);
+    match add_looks(alloc, surroundings, desk, commands, &mut looks)? {
+        Some(end) => Ok(Found::Ended(end)),
+        None => Ok(Found::Found(looks)),
+    }
+}
+
+// The looks before commands that erase or delete, and whether the operator agrees.
+fn agreed<S: Surroundings>(
+    alloc: Global,
+    surroundings: &mut S,
+    desk: &Desk,
+    manner: &Manner,
+    commands: &[HallCommand],
+) -> Result<Found<Vec<Look>>, TaskFault> {
+    // What is said again may be done already, and its machine changed or gone: it was looked at when it was first said.
+    let found = if manner.key.is_some() {
+        tell(
+            alloc,
+            surroundings,
+            "this erases or deletes, and is said again",
+        )?;
+        Found::Found(Vec::new(alloc))
+    } else {
+        listed(alloc, surroundings, desk, commands)?
+    };
+    let Found::Found(looks) = found else {
+        return Ok(found);
+    };
+    if !looks.is_empty() && !looks.iter().any(is_listed) {
+        return Ok(Found::Found(looks));
+    }
+    match refusal_by_operator(alloc, surroundings, manner)? {
+        Some(end) => Ok(Found::Ended(end)),
+        None => Ok(Found::Found(looks)),
+    }
+}
+
+/// The look before each command. Where one erases or deletes, its machine's listing is read, what would be done to it is told, and the
+/// operator is asked, unless that isn't wanted.
+pub(crate) fn looked<S: Surroundings>(
+    alloc: Global,
+    surroundings: &mut S,
+    desk: &Desk,
+    manner: &Manner,
+    commands: &[HallCommand],
+) -> Result<Found<Vec<Look>>, TaskFault> {
+    if !commands.iter().any(|command| is_dangerous(command)) {
+        return Ok(Found::Found(Vec::new(alloc)));
+    }
+    if let Some(reason) = fault_of(surroundings, manner, commands) {
+        return Ok(Found::Ended(misused(alloc, surroundings, reason)?));
+    }
+    agreed(alloc, surroundings, desk, manner, commands)
+}

@@ -1,0 +1,105 @@
+//! An operator is added, with a token that is made.
+use crate::changes::Manner;
+use crate::desk::Desk;
+use crate::fault::{Ended, TaskFault};
+use crate::keys::new_key;
+use crate::saying::{misused, tell};
+use crate::sending::{Sending, sent};
+use crate::surroundings::Surroundings;
+use hall_events::HallCommand;
+use hall_types::{Digest, Name, RequestKey, Role};
+use sha2::{Digest as _, Sha256};
+use std::alloc::{AllocError, Global};
+
+/// An operator that is to be added, and the file for its token.
+#[derive(Clone, Copy)]
+pub(crate) struct NewOperator<'w> {
+    operator: Name,
+    role: Role,
+    path: &'w str,
+}
+
+impl<'w> NewOperator<'w> {
+    pub(crate) fn new(operator: Name, role: Role, path: &'w str) -> NewOperator<'w> {
+        NewOperator {
+            operator,
+            role,
+            path,
+        }
+    }
+}
+
+// A token: 32 random octets in hexadecimal.
+fn new_token<S: Surroundings>(alloc: Global, surroundings: &mut S) -> Result<String, TaskFault> {
+    match surroundings.fresh() {
+        Some(octets) => Ok(hex::encode(alloc, octets)?),
+        None => Err(TaskFault::Random),
+    }
+}
+
+// What has to be said beside the key when the command is said again: the token is in its file by then.
+fn beside(alloc: Global, path: &str, digest: Digest) -> Result<String, AllocError> {
+    let digest = hex::encode(alloc, digest.octets())?;
+    format!(in alloc; " and --digest {digest} in place of --new-token {path}")
+}
+
+fn key_of<S: Surroundings>(surroundings: &mut S, manner: &Manner) -> Result<RequestKey, TaskFault> {
+    match manner.key {
+        Some(key) => Ok(key),
+        None => new_key(surroundings),
+    }
+}
+
+// Sends the command, whose token is in its file.
+fn add<S: Surroundings>(
+    alloc: Global,
+    surroundings: &mut S,
+    desk: &Desk,
+    manner: &Manner,
+    new: &NewOperator<'_>,
+    digest: Digest,
+) -> Result<Ended, TaskFault> {
+    let command = HallCommand::AddOperator {
+        operator: new.operator,
+        role: new.role,
+        digest,
+    };
+    let beside = beside(alloc, new.path, digest)?;
+    let key = key_of(surroundings, manner)?;
+    let json = manner.json;
+    let sending = Sending {
+        key,
+        command: &command,
+        before: None,
+        beside: beside.as_str(),
+        json,
+    };
+    let end = sent(alloc, surroundings, desk, &sending)?;
+    if end == Ended::Refused {
+        let path = new.path;
+        let line = format!(in alloc; "the token in {path} is nobody's")?;
+        tell(alloc, surroundings, line.as_str())?;
+    }
+    Ok(end)
+}
+
+/// Makes a token, writes it to a new file, and adds the operator with its digest. Nothing is sent where the file can't be made.
+pub(crate) fn add_operator<S: Surroundings>(
+    alloc: Global,
+    surroundings: &mut S,
+    desk: &Desk,
+    manner: &Manner,
+    new: &NewOperator<'_>,
+) -> Result<Ended, TaskFault> {
+    let token = new_token(alloc, surroundings)?;
+    let digest = Digest::from(Sha256::digest(token.as_bytes()));
+    let text = format!(in alloc; "{token}\n")?;
+    match surroundings.make_file(new.path, text.as_bytes()) {
+        Ok(()) => add(alloc, surroundings, desk, manner, new, digest),
+        Err(fault) => {
+            let (path, words) = (new.path, fault.words());
+            let reason = format!(in alloc; "{path}: {words}")?;
+            misused(alloc, surroundings, reason.as_str())
+        }
+    }
+}

@@ -1,0 +1,54 @@
+//! What a task uses besides the desk: the operator's terminal, files and random octets.
+use crate::dial::Dial;
+use std::alloc::Global;
+
+/// Why a file can't be read or made.
+#[derive(Clone, Copy, PartialEq, Eq)]
+pub enum FileFault {
+    /// There is one already.
+    Exists,
+    /// It has more octets than are read.
+    TooLong,
+    /// The system refused.
+    Io,
+    Memory,
+}
+
+impl FileFault {
+    /// The words for it.
+    pub fn words(self) -> &'static str {
+        match self {
+            FileFault::Exists => "there is a file already, which isn't overwritten",
+            FileFault::TooLong => "it has more than 16 MiB",
+            FileFault::Io => "it can't be opened, read or written",
+            FileFault::Memory => "there is no memory for it",
+        }
+    }
+}
+
+/// What a task uses: the way to the desk, and what is about it.
+pub trait Surroundings: Dial {
+    /// Writes a text to standard output, and says whether all of it was written.
+    fn print(&mut self, text: &str) -> bool;
+
+    /// Writes a text to standard error, if that can be.
+    fn tell(&mut self, text: &str);
+
+    /// Whether standard error is a terminal.
+    fn is_watched(&self) -> bool;
+
+    /// Whether standard input is a terminal.
+    fn can_ask(&self) -> bool;
+
+    /// Whether the next line of standard input is `yes`.
+    fn is_agreed(&mut self, alloc: Global) -> bool;
+
+    /// Random octets. `None` where the system gives none.
+    fn fresh(&mut self) -> Option<[u8; 32]>;
+
+    /// The octets of a file.
+    fn octets_of(&mut self, alloc: Global, path: &str) -> Result<Vec<u8>, FileFault>;
+
+    /// Makes a file of the octets that only its owner may read.
+    fn make_file(&mut self, path: &str, octets: &[u8]) -> Result<(), FileFault>;
+}

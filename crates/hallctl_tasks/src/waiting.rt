@@ -1,0 +1,137 @@
+//! A machine is waited for.
+use crate::answer::{Answer, Exchanged, Strange};
+use crate::desk::{Desk, asked};
+use crate::fault::{Ended, TaskFault};
+use crate::listings::refused;
+use crate::saying::{print_line, strange, tell};
+use crate::seen::listed_in;
+use crate::surroundings::Surroundings;
+use hall_types::{Number, Status};
+use hallctl_requests::Ask;
+use hallctl_words::ListedMachine;
+use std::alloc::Global;
+
+// How long, in milliseconds, is waited before the machine is looked at again.
+const BETWEEN: u64 = 2_000;
+
+// The milliseconds of a second.
+const SECOND: u64 = 1_000;
+
+/// What is waited for: one of these statuses of a machine, for so many seconds.
+#[derive(Clone, Copy)]
+pub(crate) struct Awaited<'w> {
+    machine: Number,
+    statuses: &'w [Status],
+    patience: u64,
+}
+
+impl<'w> Awaited<'w> {
+    pub(crate) fn new(machine: Number, statuses: &'w [Status], patience: u64) -> Awaited<'w> {
+        Awaited {
+            machine,
+            statuses,
+            patience,
+        }
+    }
+}
+
+/// What one look says.
+enum Glance {
+    Listed(ListedMachine),
+    /// There was no answer: the machine is looked at again.
+    Nothing,
+    Ended(Ended),
+}
+
+fn glance_at<S: Surroundings>(
+    alloc: Global,
+    surroundings: &mut S,
+    answer: &Answer,
+) -> Result<Glance, TaskFault> {
+    if !answer.is_done() {
+        return Ok(Glance::Ended(refused(alloc, surroundings, answer)?));
+    }
+    match listed_in(alloc, answer)? {
+        Some(machine) => Ok(Glance::Listed(machine)),
+        None => Ok(Glance::Ended(strange(alloc, surroundings, Strange::OtherAnswer)?)),
+    }
+}
+
+fn glance_again<S: Surroundings>(
+    alloc: Global,
+    surroundings: &mut S,
+    desk: &Desk,
+    machine: Number,
+) -> Result<Glance, TaskFault> {
+    match asked(alloc, surroundings, desk, &Ask::Machine(machine))? {
+        Exchanged::Answered(answer) => glance_at(alloc, surroundings, &answer),
+        Exchanged::NotTheDesk(words) => { Ok(Glance::Ended(strange(alloc, surroundings, words)?)) }
+        Exchanged::Unknown(_) => Ok(Glance::Nothing),
+    }
+}
+
+// Prints the machine's status.
+fn found<S: Surroundings>(
+    alloc: Global,
+    surroundings: &mut S,
+    machine: &ListedMachine,
+) -> Result<Ended, TaskFault> {
+    let (id, status, version) = (
+        machine.id.get(),
+        machine.status.text(),
+        machine.version.get(),
+    );
+    let line = format!(in alloc; "machine {id}: {status}, version {version}")?;
+    print_line(alloc, surroundings, line.as_str())?;
+    Ok(Ended::Done)
+}
+
+// Tells what the machine was last, after so many seconds.
+fn in_vain<S: Surroundings>(
+    alloc: Global,
+    surroundings: &mut S,
+    awaited: &Awaited<'_>,
+    last: Option<Status>,
+) -> Result<Ended, TaskFault> {
+    let (id, patience) = (awaited.machine.get(), awaited.patience);
+    let last = match last {
+        Some(last) => last.text(),
+        None => "no answer",
+    };
+    let line = format!(in alloc; "machine {id}: {last}, after {patience} seconds")?;
+    tell(alloc, surroundings, line.as_str())?;
+    Ok(Ended::NoAnswer)
+}
+
+// Waits before the next look, and says whether there is time for one.
+fn has_time<S: Surroundings>(surroundings: &mut S, start: u64, patience: u64) -> bool {
+    let limit = patience.saturating_mul(SECOND);
+    let left = limit.saturating_sub(surroundings.passed().saturating_sub(start));
+    surroundings.pause(BETWEEN.min(left));
+    left > 0
+}
+
+/// Looks at a machine until it has one of the statuses, every two seconds.
+pub(crate) fn wait<S: Surroundings>(
+    alloc: Global,
+    surroundings: &mut S,
+    desk: &Desk,
+    awaited: &Awaited<'_>,
+) -> Result<Ended, TaskFault> {
+    let start = surroundings.passed();
+    let mut last = None;
+    for _ in 0..u64::MAX {
+        match glance_again(alloc, surroundings, desk, awaited.machine)? {
+            Glance::Listed(machine) if awaited.statuses.contains(&machine.status) => {
+                return found(alloc, surroundings, &machine);
+            }
+            Glance::Listed(machine) => last = Some(machine.status),
+            Glance::Nothing => last = None,
+            Glance::Ended(end) => return Ok(end),
+        }
+        if !has_time(surroundings, start, awaited.patience) {
+            break;
+        }
+    }
+    in_vain(alloc, surroundings, awaited, last)
+}

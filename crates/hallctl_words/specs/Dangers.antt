@@ -1,0 +1,31 @@
+-- Commands that erase disks or delete machines.
+use Rattle.std.specs.Prelude.{ℕ, Bool, true, false, Option, Some, None}
+use Rattle.hall_events.specs.declared.command.HallCommand.{HallCommand}
+use Rattle.hall_events.specs.declared.command.HallCommand.TheVariants.{OnMachine}
+use Rattle.hall_events.specs.declared.command.MachineCommand.{MachineCommand}
+use Rattle.hall_events.specs.declared.command.MachineCommand.TheVariants.{Delete, Release}
+
+-- the command on a machine deletes it, or erases its disks
+abbrev pub is_dangerous_on : MachineCommand → Bool
+is_dangerous_on Delete = true
+is_dangerous_on (Release (Some erase)) = true
+is_dangerous_on other = false
+
+-- the command deletes a machine, or erases its disks
+abbrev pub is_dangerous : HallCommand → Bool
+is_dangerous (OnMachine machine version command) = is_dangerous_on command
+is_dangerous other = false
+
+-- the machine of a command that names no version, and what is done to it
+abbrev pub unversioned : HallCommand → Option (ℕ × MachineCommand)
+unversioned (OnMachine machine None command) = Some (machine, command)
+unversioned other = None
+
+-- a command on a machine with a version, in place of one without
+abbrev pub versioned : HallCommand → ℕ → Option (ℕ × MachineCommand) → HallCommand
+versioned command version None = command
+versioned command version (Some on) = OnMachine on.0 (Some version) on.1
+
+-- the command with the version that the machine must have, unless it has one
+abbrev pub with_version : HallCommand → ℕ → HallCommand
+with_version command version = versioned command version (unversioned command)

@@ -1,0 +1,30 @@
+-- How long something may last.
+use Rattle.std.specs.Prelude.{ℕ, ◌*◌, ◌-◌, ◌==◌, nat_le, List, length, take, slice_index, Option, Some, None, if◌then◌else◌}
+use Rattle.hallctl_words.specs.Decimal.{count_in}
+
+-- a year of 365 days, in seconds
+abbrev pub max_seconds : ℕ
+max_seconds = 31536000
+
+-- so many units of this many seconds, if that is at most the maximum
+abbrev pub within : ℕ → Option ℕ → Option ℕ
+within unit None = None
+within unit (Some count) = if nat_le (count * unit) max_seconds then Some (count * unit) else None
+
+-- the time that is so many units
+abbrev pub times_at_most : ℕ → List ℕ → Option ℕ
+times_at_most unit text = within unit (count_in text)
+
+-- the time before a unit's letter: `s`, `m` or `h`; without one it is in seconds
+abbrev pub seconds_by : ℕ → List ℕ → List ℕ → Option ℕ
+seconds_by letter count text =
+    if letter == 115 then times_at_most 1 count
+    else if letter == 109 then times_at_most 60 count
+    else if letter == 104 then times_at_most 3600 count
+    else times_at_most 1 text
+
+-- the seconds of a time
+abbrev pub seconds_in : List ℕ → Option ℕ
+seconds_in text =
+    if length text == 0 then None
+    else seconds_by (slice_index text (length text - 1)) (take (length text - 1) text) text

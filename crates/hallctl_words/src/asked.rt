@@ -1,0 +1,76 @@
+//! What a command line of hallctl asks for.
+use hall_events::HallCommand;
+use hall_types::{MacAddress, Name, Number, RequestKey, Role, Status};
+
+/// What a command line says. Its texts are words of the command line.
+#[derive(Drop)]
+pub struct Line<'a> {
+    /// The desk's address, as in `http://desk.hall.example`.
+    pub desk: Option<&'a str>,
+    /// The file whose first line is the operator's bearer token.
+    pub token_file: Option<&'a str>,
+    /// How long an answer is tried for, in seconds.
+    pub timeout: u64,
+    /// The request key of the one command, which is sent again.
+    pub key: Option<RequestKey>,
+    /// Whether a command that erases or deletes is sent without a question.
+    pub yes: bool,
+    /// Whether the desk's JSON is printed.
+    pub json: bool,
+    pub wish: Wish<'a>,
+}
+
+/// What is asked for.
+#[derive(Drop)]
+pub enum Wish<'a> {
+    /// The machines that this filter lets through, in this form.
+    Machines(Filter, Form),
+    /// One machine, a line for each of its members.
+    Machine(Which),
+    /// The power orders that wait.
+    Orders,
+    /// The commands, which are sent one after another: one, or one for each machine.
+    Change(Vec<HallCommand>),
+    /// An operator with a token that is made and written to this file.
+    NewOperator {
+        operator: Name,
+        role: Role,
+        new_token: &'a str,
+    },
+    /// That the machine gets one of these statuses, for at most so many seconds.
+    Wait {
+        machine: Number,
+        statuses: Vec<Status>,
+        patience: u64,
+    },
+    /// The machines of this file of comma-separated values.
+    Import(&'a str),
+    /// The completion for bash.
+    Completion,
+}
+
+/// Which machines a list has: those that have each of the values that are given.
+#[derive(Clone, Copy)]
+pub struct Filter {
+    pub status: Option<Status>,
+    pub pool: Option<Name>,
+    pub owner: Option<Name>,
+}
+
+/// How a list of machines is printed.
+#[derive(Clone, Copy, PartialEq, Eq)]
+pub enum Form {
+    /// A table with a heading.
+    Table,
+    /// An object of JSON, as the desk's.
+    Json,
+    /// The machines' numbers, one a line.
+    Ids,
+}
+
+/// A machine, by its number or by a hardware address of it.
+#[derive(Clone, Copy)]
+pub enum Which {
+    Number(Number),
+    Address(MacAddress),
+}

@@ -1,0 +1,128 @@
+//! Commands on no machine, from the words of a command line.
+use crate::fault::{ValueFault, WordsFault};
+use crate::given::{arch_at, digest_if, mac_at, name_at, role_at, uri_at, uuid_if};
+use crate::lists::push;
+use crate::options::Word;
+use clap::ArgMatches;
+use hall_events::{CommandKind, HallCommand};
+use hall_types::Image;
+use ipxe_script::WordFault;
+use std::alloc::Global;
+
+// The argument of an image, which doesn't begin `hall.`.
+fn argument_of<'a>(alloc: Global, text: &'a str) -> Result<ipxe_script::Word, ValueFault<'a>> {
+    match ipxe_script::Word::new(alloc, text) {
+        Ok(word) if !word.is_hall_word() => Ok(word),
+        Ok(_) | Err(WordFault::BadWord) => {
+            Err(ValueFault::Words(WordsFault::of(Word::Arg, Some(text))))
+        }
+        Err(WordFault::Memory) => Err(ValueFault::Memory),
+    }
+}
+
+fn arguments_of<'a>(
+    alloc: Global,
+    texts: &[&'a str],
+) -> Result<Vec<ipxe_script::Word>, ValueFault<'a>> {
+    let mut words = Vec::new(alloc);
+    for text in texts {
+        push(&mut words, argument_of(alloc, text)?)?;
+    }
+    Ok(words)
+}
+
+fn arguments_at<'a>(
+    alloc: Global,
+    matches: &ArgMatches<'a>,
+) -> Result<Vec<ipxe_script::Word>, ValueFault<'a>> {
+    match matches.get_strs(Word::Arg.name()) {
+        Some(texts) => arguments_of(alloc, texts),
+        None => Ok(Vec::new(alloc)),
+    }
+}
+
+fn image_at<'a>(alloc: Global, matches: &ArgMatches<'a>) -> Result<Image, ValueFault<'a>> {
+    let name = name_at(matches, Word::ImageName)?;
+    let arch = arch_at(matches, Word::Arch)?;
+    let kernel = uri_at(alloc, matches, Word::Kernel)?;
+    let initrd = uri_at(alloc, matches, Word::Initrd)?;
+    let args = arguments_at(alloc, matches)?;
+    match Image::new(name, arch, kernel, initrd, args) {
+        Ok(image) => Ok(image),
+        Err(_) => Err(ValueFault::Words(WordsFault::of(Word::Arg, None))),
+    }
+}
+
+fn machine_at<'a>(matches: &ArgMatches<'a>) -> Result<HallCommand, WordsFault<'a>> {
+    let mac = mac_at(matches, Word::Mac)?;
+    let arch = arch_at(matches, Word::Arch)?;
+    let pool = name_at(matches, Word::Pool)?;
+    let uuid = uuid_if(matches, Word::Uuid)?;
+    Ok(HallCommand::AddMachine {
+        mac,
+        arch,
+        pool,
+        uuid,
+    })
+}
+
+// An operator whose token's digest is given.
+fn operator_at<'a>(matches: &ArgMatches<'a>) -> Result<HallCommand, WordsFault<'a>> {
+    let operator = name_at(matches, Word::OperatorName)?;
+    let role = role_at(matches, Word::Role)?;
+    match digest_if(matches, Word::Digest)? {
+        Some(digest) => Ok(HallCommand::AddOperator {
+            operator,
+            role,
+            digest,
+        }),
+        None => Err(WordsFault::of(Word::NewToken, None)),
+    }
+}
+
+// A command of names alone.
+fn named_at<'a>(
+    kind: CommandKind,
+    matches: &ArgMatches<'a>,
+) -> Result<HallCommand, WordsFault<'a>> {
+    match kind {
+        CommandKind::DisableOperator => {
+            let operator = name_at(matches, Word::OperatorName)?;
+            Ok(HallCommand::DisableOperator { operator })
+        }
+        CommandKind::AddPool => {
+            let pool = name_at(matches, Word::PoolName)?;
+            Ok(HallCommand::AddPool { pool })
+        }
+        CommandKind::DeleteImage => {
+            let image = name_at(matches, Word::ImageName)?;
+            Ok(HallCommand::DeleteImage { image })
+        }
+        CommandKind::SetLive => {
+            let image = name_at(matches, Word::ImageName)?;
+            Ok(HallCommand::SetLive { image })
+        }
+        _ => {
+            let pool = name_at(matches, Word::PoolName)?;
+            let operator = name_at(matches, Word::OperatorName)?;
+            Ok(HallCommand::Grant { pool, operator })
+        }
+    }
+}
+
+/// The command of this kind.
+pub(crate) fn hall_command<'a>(
+    alloc: Global,
+    kind: CommandKind,
+    matches: &ArgMatches<'a>,
+) -> Result<HallCommand, ValueFault<'a>> {
+    match kind {
+        CommandKind::AddImage => {
+            let image = image_at(alloc, matches)?;
+            Ok(HallCommand::AddImage { image })
+        }
+        CommandKind::AddMachine => Ok(machine_at(matches)?),
+        CommandKind::AddOperator => Ok(operator_at(matches)?),
+        _ => Ok(named_at(kind, matches)?),
+    }
+}

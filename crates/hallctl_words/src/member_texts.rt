@@ -1,0 +1,119 @@
+//! The texts of an answer's members, and of the list of orders.
+use crate::answer_fault::AnswerFault;
+use crate::listings::{addresses, is_listed, number_at, objects};
+use crate::table::Table;
+use serde_json::Value;
+use std::alloc::{AllocError, Global};
+
+// A text that is one line on a terminal, and no more.
+fn is_plain(text: &str) -> bool {
+    text.chars().all(|character| !character.is_control())
+}
+
+fn plain(value: &Value) -> Result<&str, AnswerFault> {
+    match value.as_str() {
+        Some(text) if is_plain(text) => Ok(text),
+        _ => Err(AnswerFault::NotTheDesk),
+    }
+}
+
+fn push_item(text: &mut String, item: &str) -> Result<(), AllocError> {
+    if !text.is_empty() {
+        text.push(',')?;
+    }
+    text.push_str(item)
+}
+
+// The texts of an array, a comma between each two.
+fn items_text(alloc: Global, items: &[Value]) -> Result<String, AnswerFault> {
+    let mut text = String::new(alloc);
+    for item in items {
+        push_item(&mut text, plain(item)?)?;
+    }
+    Ok(text)
+}
+
+// A dash stands for null.
+fn value_text(alloc: Global, value: &Value) -> Result<String, AnswerFault> {
+    match value {
+        Value::Null => Ok(String::from_str(alloc, "-")?),
+        Value::String(_) => Ok(String::from_str(alloc, plain(value)?)?),
+        Value::Array(items) => items_text(alloc, items),
+        Value::Bool(_) | Value::Number(_) => Ok(value.to_string(alloc)?),
+        Value::Object(_) => Err(AnswerFault::NotTheDesk),
+    }
+}
+
+fn push_line(
+    alloc: Global,
+    text: &mut String,
+    name: &str,
+    value: &Value,
+) -> Result<(), AnswerFault> {
+    if !is_plain(name) {
+        return Err(AnswerFault::NotTheDesk);
+    }
+    let value = value_text(alloc, value)?;
+    text.push_str(name)?;
+    text.push_str(": ")?;
+    text.push_str(value.as_str())?;
+    text.push('\n')?;
+    Ok(())
+}
+
+/// A machine (the answer to `GET /machines/ID`, or an object of a list), a line `name: value` for each of its members.
+///
+/// # Errors
+///
+/// `NotTheDesk` where the answer is no machine, and `Memory`.
+pub fn machine_lines(alloc: Global, object: &Value) -> Result<String, AnswerFault> {
+    addresses(object)?;
+    if !is_listed(object) {
+        return Err(AnswerFault::NotTheDesk);
+    }
+    let Some(members) = object.as_object() else {
+        return Err(AnswerFault::NotTheDesk);
+    };
+    let mut text = String::new(alloc);
+    for (name, value) in members.iter() {
+        push_line(alloc, &mut text, name.as_str(), value)?;
+    }
+    Ok(text)
+}
+
+const HEADING: [&str; 3] = ["NUMBER", "KIND", "MACHINE"];
+
+fn kind_at(order: &Value) -> Result<&str, AnswerFault> {
+    match order.get("kind") {
+        Some(kind) => plain(kind),
+        None => Err(AnswerFault::NotTheDesk),
+    }
+}
+
+fn number_text(alloc: Global, order: &Value, name: &str) -> Result<String, AnswerFault> {
+    match number_at(order, name) {
+        Some(number) => Ok(number.get().to_string(alloc)?),
+        None => Err(AnswerFault::NotTheDesk),
+    }
+}
+
+fn push_order(alloc: Global, table: &mut Table, order: &Value) -> Result<(), AnswerFault> {
+    table.push(number_text(alloc, order, "number")?)?;
+    table.push(String::from_str(alloc, kind_at(order)?)?)?;
+    table.push(number_text(alloc, order, "machine")?)?;
+    Ok(())
+}
+
+/// The orders that wait (the answer to `GET /orders`), as a table under a heading.
+///
+/// # Errors
+///
+/// `NotTheDesk` where the answer is no such list, and `Memory`.
+pub fn order_table(alloc: Global, answer: &Value) -> Result<String, AnswerFault> {
+    let orders = objects(answer, "orders")?;
+    let mut table = Table::new(alloc, &HEADING)?;
+    for order in orders {
+        push_order(alloc, &mut table, order)?;
+    }
+    Ok(table.text(alloc)?)
+}

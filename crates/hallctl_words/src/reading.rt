@@ -1,0 +1,240 @@
+//! What the words of a command line ask for.
+use crate::asked::{Filter, Form, Line, Wish};
+use crate::command_line::command_line;
+use crate::decimal::number_of;
+use crate::fault::{LineFault, ValueFault, WordsFault};
+use crate::given::{key_if, known, name_at, name_if, role_at, seconds_or, status_if, text_at};
+use crate::hall_commands::hall_command;
+use crate::lists::{one, push};
+use crate::machine_commands::machine_commands;
+use crate::options::Word;
+use crate::subcommands::{Subcommand, named};
+use crate::usage::Usage;
+use crate::values::{status_of, which_of};
+use clap::{ArgMatches, Error};
+use hall_events::{CommandKind, HallCommand};
+use hall_types::{RequestKey, Status};
+use std::alloc::{AllocError, Global};
+
+// How long an answer is tried for, in seconds, where nothing else is said.
+const TRIES: u64 = 60;
+
+// How long a status is waited for.
+const WAITS: u64 = 1800;
+
+fn filter_at<'a>(matches: &ArgMatches<'a>) -> Result<Filter, WordsFault<'a>> {
+    let status = status_if(matches, Word::Status)?;
+    let pool = name_if(matches, Word::InPool)?;
+    let owner = name_if(matches, Word::Owner)?;
+    Ok(Filter {
+        status,
+        pool,
+        owner,
+    })
+}
+
+fn form_at<'a>(matches: &ArgMatches<'a>, json: bool) -> Result<Form, WordsFault<'a>> {
+    match (matches.get_flag(Word::Ids.name()), json) {
+        (true, true) => Err(WordsFault::of(Word::Ids, None)),
+        (true, false) => Ok(Form::Ids),
+        (false, true) => Ok(Form::Json),
+        (false, false) => Ok(Form::Table),
+    }
+}
+
+fn machines_wish<'a>(matches: &ArgMatches<'a>, json: bool) -> Result<Wish<'a>, WordsFault<'a>> {
+    let filter = filter_at(matches)?;
+    let form = form_at(matches, json)?;
+    Ok(Wish::Machines(filter, form))
+}
+
+fn machine_wish<'a>(matches: &ArgMatches<'a>) -> Result<Wish<'a>, WordsFault<'a>> {
+    let text = text_at(matches, Word::Which)?;
+    let which = known(Word::Which, text, which_of(text))?;
+    Ok(Wish::Machine(which))
+}
+
+fn push_statuses<'a>(statuses: &mut Vec<Status>, texts: &[&'a str]) -> Result<(), ValueFault<'a>> {
+    for text in texts {
+        push(statuses, known(Word::Or, text, status_of(text))?)?;
+    }
+    Ok(())
+}
+
+fn statuses_at<'a>(alloc: Global, matches: &ArgMatches<'a>) -> Result<Vec<Status>, ValueFault<'a>> {
+    let text = text_at(matches, Word::For)?;
+    let first = known(Word::For, text, status_of(text))?;
+    let mut statuses = one(alloc, first)?;
+    if let Some(texts) = matches.get_strs(Word::Or.name()) {
+        push_statuses(&mut statuses, texts)?;
+    }
+    Ok(statuses)
+}
+
+fn wait_wish<'a>(alloc: Global, matches: &ArgMatches<'a>) -> Result<Wish<'a>, ValueFault<'a>> {
+    let text = text_at(matches, Word::Machine)?;
+    let machine = known(Word::Machine, text, number_of(text.as_bytes()))?;
+    let patience = seconds_or(
+        Word::Patience,
+        matches.get_str(Word::Patience.name()),
+        WAITS,
+    )?;
+    let statuses = statuses_at(alloc, matches)?;
+    Ok(Wish::Wait {
+        machine,
+        statuses,
+        patience,
+    })
+}
+
+fn new_operator<'a>(
+    matches: &ArgMatches<'a>,
+    new_token: &'a str,
+) -> Result<Wish<'a>, WordsFault<'a>> {
+    if matches.get_str(Word::Digest.name()).is_some() {
+        return Err(WordsFault::of(Word::NewToken, Some(new_token)));
+    }
+    let operator = name_at(matches, Word::OperatorName)?;
+    let role = role_at(matches, Word::Role)?;
+    Ok(Wish::NewOperator {
+        operator,
+        role,
+        new_token,
+    })
+}
+
+fn commands_at<'a>(
+    alloc: Global,
+    kind: CommandKind,
+    matches: &ArgMatches<'a>,
+) -> Result<Vec<HallCommand>, ValueFault<'a>> {
+    match kind {
+        CommandKind::OnMachine(kind) => machine_commands(alloc, kind, matches),
+        _ => Ok(one(alloc, hall_command(alloc, kind, matches)?)?),
+    }
+}
+
+fn change_wish<'a>(
+    alloc: Global,
+    kind: CommandKind,
+    matches: &ArgMatches<'a>,
+) -> Result<Wish<'a>, ValueFault<'a>> {
+    match (kind, matches.get_str(Word::NewToken.name())) {
+        (CommandKind::AddOperator, Some(file)) => Ok(new_operator(matches, file)?),
+        _ => Ok(Wish::Change(commands_at(alloc, kind, matches)?)),
+    }
+}
+
+fn wish_of<'a>(
+    alloc: Global,
+    subcommand: Subcommand,
+    matches: &ArgMatches<'a>,
+    json: bool,
+) -> Result<Wish<'a>, ValueFault<'a>> {
+    match subcommand {
+        Subcommand::Machines => Ok(machines_wish(matches, json)?),
+        Subcommand::Machine => Ok(machine_wish(matches)?),
+        Subcommand::Orders => Ok(Wish::Orders),
+        Subcommand::Change(kind) => change_wish(alloc, kind, matches),
+        Subcommand::Wait => wait_wish(alloc, matches),
+        Subcommand::Import => Ok(Wish::Import(text_at(matches, Word::File)?)),
+        Subcommand::Completion => Ok(Wish::Completion),
+    }
+}
+
+// How many requests have the one key, as far as the line says.
+fn is_one(wish: &Wish<'_>) -> bool {
+    match wish {
+        Wish::Change(commands) => commands.len() == 1,
+        Wish::NewOperator { .. } => true,
+        _ => false,
+    }
+}
+
+fn key_for<'a>(
+    matches: &ArgMatches<'a>,
+    wish: &Wish<'a>,
+) -> Result<Option<RequestKey>, WordsFault<'a>> {
+    match key_if(matches, Word::Key)? {
+        Some(key) if is_one(wish) => Ok(Some(key)),
+        Some(_) => Err(WordsFault::of(Word::Key, matches.get_str(Word::Key.name()))),
+        None => Ok(None),
+    }
+}
+
+// The word of an option that may stand before the subcommand or after it, where it counts.
+fn either<'a>(before: &ArgMatches<'a>, after: &ArgMatches<'a>, name: &str) -> Option<&'a str> {
+    match after.get_str(name) {
+        Some(text) => Some(text),
+        None => before.get_str(name),
+    }
+}
+
+// How long an answer is tried for. After `wait`, `--timeout` says how long is waited.
+fn timeout_of<'a>(
+    before: &ArgMatches<'a>,
+    after: &ArgMatches<'a>,
+    subcommand: Subcommand,
+) -> Result<u64, WordsFault<'a>> {
+    let text = match subcommand {
+        Subcommand::Wait => before.get_str(Word::Timeout.name()),
+        _ => either(before, after, Word::Timeout.name()),
+    };
+    seconds_or(Word::Timeout, text, TRIES)
+}
+
+fn line_of<'a>(
+    before: &ArgMatches<'a>,
+    after: &ArgMatches<'a>,
+    timeout: u64,
+    wish: Wish<'a>,
+) -> Result<Line<'a>, WordsFault<'a>> {
+    let key = key_for(after, &wish)?;
+    Ok(Line {
+        desk: either(before, after, Word::Desk.name()),
+        token_file: either(before, after, Word::TokenFile.name()),
+        timeout,
+        key,
+        yes: after.get_flag(Word::Yes.name()),
+        json: before.get_flag(Word::Json.name()) || after.get_flag(Word::Json.name()),
+        wish,
+    })
+}
+
+fn asked<'a>(
+    alloc: Global,
+    before: &ArgMatches<'a>,
+    after: &ArgMatches<'a>,
+    subcommand: Subcommand,
+) -> Result<Line<'a>, ValueFault<'a>> {
+    let timeout = timeout_of(before, after, subcommand)?;
+    let json = before.get_flag(Word::Json.name()) || after.get_flag(Word::Json.name());
+    let wish = wish_of(alloc, subcommand, after, json)?;
+    Ok(line_of(before, after, timeout, wish)?)
+}
+
+fn asked_by<'a>(alloc: Global, matches: &ArgMatches<'a>) -> Result<Line<'a>, ValueFault<'a>> {
+    if let Some((name, after)) = matches.subcommand()
+        && let Some(subcommand) = named(name)
+    {
+        return asked(alloc, matches, after, subcommand);
+    }
+    // The command line asks for a subcommand, and has those of the table alone.
+    Err(ValueFault::Words(WordsFault::of(Word::Which, None)))
+}
+
+fn matched<'a>(alloc: Global, words: &'a [String]) -> Result<ArgMatches<'a>, Error> {
+    command_line(alloc)?.try_get_matches_from(words)
+}
+
+/// What the words of a command line ask for, of which the first is the program's name.
+///
+/// # Errors
+///
+/// `Usage` where the words are none of the command line's or ask for help, `Words` where one of them isn't what it must be, and `Memory`.
+pub fn read<'a>(alloc: Global, words: &'a [String]) -> Result<Line<'a>, LineFault<'a>> {
+    match matched(alloc, words) {
+        Ok(matches) => Ok(asked_by(alloc, &matches)?),
+        Err(error) => Err(LineFault::Usage(Usage::of(error))),
+    }
+}

@@ -1,0 +1,146 @@
+//! What is printed of answers.
+use crate::cases::PlayFault;
+use crate::wishes::words_of;
+use hall_events::HallCommand;
+use hall_types::{MacAddress, Status};
+use hallctl_words::{
+    Filter, Form, Line, ListedMachine, Wish, answer_line, is_dangerous, listed, machine_ids,
+    machine_json, machine_lines, machine_table, machine_with, order_table, read, refusal_line,
+    refusal_of, warning, with_version,
+};
+use serde_json::Value;
+use std::alloc::Global;
+
+// The two parts of a case.
+fn parts(text: &str) -> Result<(&str, &str), PlayFault> {
+    text.split_once(" | ").ok_or(PlayFault::Case)
+}
+
+fn json_of(alloc: Global, text: &str) -> Result<Value, PlayFault> {
+    match Value::from_str(alloc, text) {
+        Ok(value) => Ok(value),
+        Err(_) => Err(PlayFault::NotTheDesk),
+    }
+}
+
+fn machines_text(
+    alloc: Global,
+    filter: &Filter,
+    form: Form,
+    answer: &Value,
+) -> Result<String, PlayFault> {
+    match form {
+        Form::Table => Ok(machine_table(alloc, answer, filter)?),
+        Form::Json => Ok(machine_json(alloc, answer, filter)?),
+        Form::Ids => Ok(machine_ids(alloc, answer, filter)?),
+    }
+}
+
+fn printed(alloc: Global, wish: &Wish<'_>, answer: &Value) -> Result<String, PlayFault> {
+    match wish {
+        Wish::Machines(filter, form) => machines_text(alloc, filter, *form, answer),
+        Wish::Orders => Ok(order_table(alloc, answer)?),
+        _ => Err(PlayFault::Case),
+    }
+}
+
+/// What `machines` or `orders` prints.
+pub(crate) fn list_text(alloc: Global, text: &str) -> Result<String, PlayFault> {
+    let (words, json) = parts(text)?;
+    let words = words_of(alloc, words)?;
+    let answer = json_of(alloc, json)?;
+    match read(alloc, words.as_slice()) {
+        Ok(line) => printed(alloc, &line.wish, &answer),
+        Err(_) => Err(PlayFault::Case),
+    }
+}
+
+fn with_address(alloc: Global, address: [u8; 6], answer: &Value) -> Result<String, PlayFault> {
+    match machine_with(answer, MacAddress::from(address))? {
+        Some(object) => Ok(machine_lines(alloc, object)?),
+        None => Ok(String::from_str(alloc, "none")?),
+    }
+}
+
+/// The members of one machine.
+pub(crate) fn lines_text(alloc: Global, text: &str) -> Result<String, PlayFault> {
+    let (machine, json) = parts(text)?;
+    let answer = json_of(alloc, json)?;
+    match wire_mac::read(machine.as_bytes()) {
+        Some(address) => with_address(alloc, address, &answer),
+        None => Ok(machine_lines(alloc, &answer)?),
+    }
+}
+
+// The first command of a command line.
+fn command_in(line: Line<'_>) -> Option<HallCommand> {
+    match line.wish {
+        Wish::Change(mut commands) => commands.pop(),
+        _ => None,
+    }
+}
+
+// The one command that a command line sends.
+fn command_of(alloc: Global, words: &str) -> Result<HallCommand, PlayFault> {
+    let words = words_of(alloc, words)?;
+    match read(alloc, words.as_slice()) {
+        Ok(line) => command_in(line).ok_or(PlayFault::Case),
+        Err(_) => Err(PlayFault::Case),
+    }
+}
+
+fn status_named(text: &str) -> Option<Status> {
+    (0..20u8)
+        .filter_map(|number| Status::try_from(number).ok())
+        .find(|status| status.text() == text)
+}
+
+/// What a command changed.
+pub(crate) fn answer_text(alloc: Global, text: &str) -> Result<String, PlayFault> {
+    let (words, rest) = parts(text)?;
+    let (before, json) = parts(rest)?;
+    let command = command_of(alloc, words)?;
+    let answer = json_of(alloc, json)?;
+    Ok(answer_line(alloc, &command, status_named(before), &answer)?)
+}
+
+/// Why a command was refused.
+pub(crate) fn refusal_text(alloc: Global, text: &str) -> Result<String, PlayFault> {
+    let (words, json) = parts(text)?;
+    let refusal = refusal_of(&json_of(alloc, json)?)?;
+    if words == "-" {
+        return Ok(refusal_line(alloc, None, refusal)?);
+    }
+    let command = command_of(alloc, words)?;
+    Ok(refusal_line(alloc, Some(&command), refusal)?)
+}
+
+fn warned(
+    alloc: Global,
+    command: &HallCommand,
+    machine: &ListedMachine,
+) -> Result<String, PlayFault> {
+    match warning(alloc, command, machine)? {
+        Some(line) if is_dangerous(command) => Ok(line),
+        None if !is_dangerous(command) => Ok(String::from_str(alloc, "safe")?),
+        _ => Err(PlayFault::Case),
+    }
+}
+
+// What a command will do to a machine, and the command as it is sent.
+fn sent(alloc: Global, command: HallCommand, machine: &ListedMachine) -> Result<String, PlayFault> {
+    let line = warned(alloc, &command, machine)?;
+    let text = with_version(command, machine.version).text(alloc)?;
+    Ok(format!(in alloc; "{line}; {text}")?)
+}
+
+/// What a command will do, and the command as it is sent.
+pub(crate) fn warning_text(alloc: Global, text: &str) -> Result<String, PlayFault> {
+    let (words, json) = parts(text)?;
+    let object = json_of(alloc, json)?;
+    let command = command_of(alloc, words)?;
+    match listed(&object) {
+        Ok(machine) => sent(alloc, command, &machine),
+        Err(fault) => Err(PlayFault::from(fault)),
+    }
+}

@@ -1,0 +1,115 @@
+#!/usr/bin/env bash
+# hallctl against hallboot serve: a machine's whole life, once over a straight way to the desk and once over a way on which half of the
+# connections are refused, lost or cut. Both halls must be alike afterwards: each command was done once.
+# Usage: tools/hallctl_peer.sh [SEED]     HALLBOOT=PROGRAM and HALLCTL=PROGRAM name programs that are built already.
+set -euo pipefail
+here=$(cd "$(dirname "$0")" && pwd)
+seed=${1:-1}
+. "$here/program.sh"
+if [ -z "${HALLCTL:-}" ]; then
+    HALLCTL=$(cd "$here/../crates/hallctl" && pwd)/out/hallctl
+    (cd "$here/../crates/hallctl" && rt run -- --help > /dev/null)
+fi
+umask 077
+work=$(mktemp -d)
+started=()
+ended() {
+    for process in "${started[@]}"; do
+        kill -KILL "$process" 2> /dev/null || true
+        wait "$process" 2> /dev/null || true
+    done
+    rm -rf "$work"
+}
+trap ended EXIT
+cd "$work"
+bad() { echo "BAD: $*" >&2; tail -n 3 said errors >&2 2> /dev/null || true; exit 1; }
+echo operators-secret-1 > ada
+echo powers-secret-1 > pow
+digest_of() { printf %s "$(cat "$1")" | sha256sum | cut -c1-64; }
+
+# Serves a new hall of this name, and sets `http` to its port.
+serve() {
+    read -r discover boot http < <(python3 -c '
+import socket
+kept = [socket.socket(socket.AF_INET, kind) for kind in (socket.SOCK_DGRAM, socket.SOCK_DGRAM, socket.SOCK_STREAM)]
+for s in kept: s.bind(("127.0.0.1", 0))
+print(*(s.getsockname()[1] for s in kept))')
+    "$HALLBOOT" init --db "$1.db" --admin ada --digest "$(digest_of ada)" > /dev/null
+    : > ready
+    "$HALLBOOT" serve --db "$1.db" --discover "127.0.0.1:$discover" --boot "127.0.0.1:$boot" --http "127.0.0.1:$http" \
+        --turns 1000000000000 --server 127.0.0.1 --next 127.0.0.1 --host desk.hall.example > ready & started+=($!)
+    until grep -q 'hall desk ready' ready; do sleep 0.1; done
+}
+
+# One command line of ada's, which must be done.
+ada() { "$HALLCTL" --desk "$desk" --token-file ada --timeout 120 "$@" >> said 2>> errors || bad "hallctl $*: status $?"; }
+# The machine does what its script says: this purpose, reported to the desk itself.
+machine() {
+    script=$(curl --silent --max-time 5 "http://127.0.0.1:$http/ipxe/52:54:00:12:34:56")
+    grep -q "hall.purpose=$1 " <<< "$script" || bad "the script is for $1: $script"
+    number=$(sed -n 's/.*hall\.boot=\([0-9]*\).*/\1/p' <<< "$script")
+    token=$(sed -n 's/.*hall\.token=\([0-9a-f]*\).*/\1/p' <<< "$script")
+    for stage in started done; do
+        curl --silent --max-time 5 --data "{\"stage\":\"$stage\"}" "http://127.0.0.1:$http/report/$number/$token" > /dev/null
+    done
+}
+# The power program answers each order that waits.
+power() {
+    curl --silent --max-time 5 -H "Authorization: Bearer $(cat pow)" "http://127.0.0.1:$http/orders" |
+        python3 -c 'import json, sys
+for order in json.load(sys.stdin)["orders"]: print(order["number"])' |
+        while read -r order; do
+            curl --silent --max-time 5 -H "Authorization: Bearer $(cat pow)" --data '{"outcome":"done"}' "http://127.0.0.1:$http/orders/$order" > /dev/null
+        done
+}
+
+# A machine's life over the way that `desk` names.
+life() {
+    : > said; : > errors
+    ada add-operator pow --role power --digest "$(digest_of pow)"
+    ada add-pool lab
+    ada grant lab pow
+    ada add-image live64 --arch uefi64 --kernel http://files.example/k --initrd http://files.example/i --arg initrd=i
+    ada add-image jammy --arch uefi64 --kernel http://files.example/jk --initrd http://files.example/ji --arg initrd=ji
+    ada set-live live64
+    ada add-machine --mac 52:54:00:12:34:56 --arch uefi64 --pool lab --uuid 33221100-5544-7766-8899-aabbccddeeff
+    ada add-interface 1 --mac 52:54:00:12:34:57
+    ada commission 1
+    machine commission
+    ada wait 1 --for Ready --timeout 30s
+    ada test 1; machine test; ada wait 1 --for Ready --timeout 30s
+    ada set-pool 1 --pool default; ada set-pool 1 --pool lab
+    ada allocate 1
+    ada deploy 1 --image jammy
+    machine deploy
+    ada wait 1 --for Deployed --timeout 30s
+    ada lock 1; ada unlock 1
+    ada rescue 1; machine rescue; ada exit-rescue 1; power; ada wait 1 --for Deployed --timeout 30s
+    ada release 1 --erase quick --yes
+    machine erase; power
+    ada wait 1 --for Ready --timeout 30s
+    ada break 1; ada fix 1
+    ada remove-interface 1 --mac 52:54:00:12:34:57
+    ada machines --json
+}
+
+serve straight
+desk=http://127.0.0.1:$http
+life
+tail -n 1 said > straight.json
+
+serve cut
+python3 "$here/cutting_proxy.py" "$http" "$seed" > proxy & proxy=$!
+started+=($proxy)
+until [ -s proxy ]; do sleep 0.1; done
+desk=http://127.0.0.1:$(head -n 1 proxy)
+life
+tail -n 1 said > cut.json
+kill -TERM $proxy; wait $proxy || true
+python3 - straight.json cut.json <<'PYTHON' || bad 'the halls are alike'
+import json, sys
+one, other = (json.load(open(name)) for name in sys.argv[1:])
+assert one == other, (one, other)
+assert len(one["machines"]) == 1 and one["machines"][0]["status"] == "Ready", one
+PYTHON
+echo "good: hallctl: a machine's whole life over cut connections is the same as over whole ones: $(tail -n 1 proxy)"
