@@ -35,13 +35,13 @@ print(*(s.getsockname()[1] for s in kept))')
 desk=http://127.0.0.1:$http
 
 # Serves with this log and this standard error, by a command that runs the program. log_time is how the log writes moments, log_format its lines.
-log_time=seconds log_format=text
+log_time=seconds log_format=text more=()
 serve() {
     local log=$1 errors=$2
     shift 2
     : > ready
     "$@" "$HALLBOOT" serve --db hall.db --discover 127.0.0.1:$discover --boot 127.0.0.1:$boot --http 127.0.0.1:$http \
-        --turns 1000000000000 --server 10.8.0.1 --next 10.8.0.2 --host 127.0.0.1:$http --log "$log" --log-time $log_time --log-format $log_format > ready 2> "$errors" & server=$!
+        --turns 1000000000000 --server 10.8.0.1 --next 10.8.0.2 --host 127.0.0.1:$http --log "$log" --log-time $log_time --log-format $log_format "${more[@]}" > ready 2> "$errors" & server=$!
     started+=($server)
     for ((i = 0; i < 600; i++)); do
         if grep -q 'hall desk ready' ready; then return; fi
@@ -179,6 +179,31 @@ if has strace; then
 else
     echo 'not tried: strace is missing'
 fi
+
+# A copy each second; then one that can't be written. more has further words of serve.
+more=(--backup kept.db --backup-every 1)
+serve desk.log err
+for ((i = 0; i < 100; i++)); do
+    if [ -e kept.db ]; then break; fi
+    sleep 0.1
+done
+stopped
+"$HALLBOOT" export --db hall.db > machines.csv || bad 'the export'
+"$HALLBOOT" export --db kept.db > kept.csv || bad 'the export of the copy'
+cmp machines.csv kept.csv || bad 'the copy has the same machines'
+[ "$(stat -c %a kept.db)" = 600 ] || bad 'the copy is for its owner alone'
+grep -qE '^[0-9]+ - backup of [0-9]+ octets in [0-9]+ ms$' desk.log || bad 'the line of a copy'
+more=(--backup nowhere/kept.db --backup-every 1)
+serve desk.log err
+for ((i = 0; i < 100; i++)); do
+    if grep -q ' - backup failed$' desk.log; then break; fi
+    sleep 0.1
+done
+grep -q ' - backup failed$' desk.log || bad 'the line of a copy that failed'
+is 'a command after it' "$(post 60 '"command":"add_pool","pool":"zone"')" '{} 200'
+stopped
+more=()
+good 'a copy that is made while the desk serves has all of its machines, and one that fails changes nothing'
 
 log_time=utc
 serve utc.log err

@@ -2,9 +2,9 @@
 # The service beside dnsmasq as a proxyDHCP server and a bare UDP loop in C, with 10,000 machines in the file: OFFERs one by
 # one and with 32 in flight, the processor's share at rest, and the median time of a DISCOVER and the time of 99 of 100 at rest, with 50
 # silent connections, and with a flood of commands; and how long a DISCOVER and a script request take beside 64 clients that ask for the
-# list of all machines without pause, 99 of 100. Clients are other machines in a hall: so each of the three programs has the first processor
-# for itself, and all clients have the others. COUNT is the number of OFFERs in one of five runs. Needs root, for network
-# namespaces of its own, and two processors; run it on a quiet machine.
+# list of all machines without pause, 99 of 100; and how long a copy of the hall's file holds the desk. Clients are other machines in a
+# hall: where 64 of them never pause, the desk has the first processor for itself, and they have the others. COUNT is the number of OFFERs
+# in one of five runs. Needs root, for network namespaces of its own, and two processors; run it on a quiet machine.
 # Usage: tools/serve_speed.sh [COUNT]     HALLBOOT=PROGRAM names a program that is built already.
 set -euo pipefail
 here=$(cd "$(dirname "$0")" && pwd)
@@ -21,6 +21,7 @@ if [ "${SERVE_SPEED_INSIDE:-}" != yes ]; then
 fi
 
 count=${1:-20000}
+umask 077    # the hall's file is for its owner alone: the desk would say otherwise
 work=$(mktemp -d)
 trap 'rm -rf "$work"' EXIT    # all processes of the namespace end with this one
 cd "$work"
@@ -38,9 +39,9 @@ ip link add desk type veth peer name client
 ip link set client netns "$other"
 ip address add 10.9.0.1/24 dev desk
 ip link set desk up
-others=1-$(($(nproc --all) - 1))
-alone="taskset -c 0"
-outside() { taskset -c "$others" nsenter --target "$other" --net "$@"; }
+all=0-$(($(nproc --all) - 1)) others=1-$(($(nproc --all) - 1))
+clients=$all    # the processors of clients
+outside() { taskset -c "$clients" nsenter --target "$other" --net "$@"; }
 outside ip link set lo up
 outside ip address add 10.9.0.2/24 dev client
 outside ip link set client up
@@ -64,7 +65,7 @@ share() {   # share PROCESS: of one processor, in percent, over twenty seconds, 
     awk -v t=$((after - before)) 'BEGIN { printf "%.3f\n", t / 2e8 }'
 }
 
-$alone ./peer echo 10.9.0.1 67 & server=$!
+./peer echo 10.9.0.1 67 & server=$!
 sleep 0.3
 read -r echo_one echo_median _ _ < <(offers "$count" 1 0)
 read -r echo_many _ < <(offers "$count" 32 0)
@@ -76,7 +77,7 @@ for ((i = 0; i < 10000; i++)); do
 done > hosts.conf
 # dnsmasq walks its list of hosts for each DISCOVER, so it is measured without one too: that is what the desk is held against.
 dnsmasq_with() {
-    $alone dnsmasq --conf-file="$1" --keep-in-foreground --port=0 --user=root --pid-file= --interface=desk --bind-interfaces \
+    dnsmasq --conf-file="$1" --keep-in-foreground --port=0 --user=root --pid-file= --interface=desk --bind-interfaces \
         --dhcp-range=10.9.0.0,proxy,255.255.255.0 --pxe-service=BC_EFI,hall,ipxe-x86_64.efi --dhcp-leasefile="$work/leases" \
         --quiet-dhcp --log-facility="$work/dnsmasq.log" & server=$!
     sleep 1
@@ -102,8 +103,9 @@ ended "$server"
 begin=$(date +%s%N)
 "$HALLBOOT" import --db hall.db --token abc --at 1000 machines.csv > import.log
 commit=$(awk -v t=$(($(date +%s%N) - begin)) 'BEGIN { printf "%.0f", t / 1e3 / 10000 }')
+cp hall.db copied.db
 
-$alone "$HALLBOOT" serve --db hall.db --discover 10.9.0.1:67 --boot 10.9.0.1:4011 --http 10.9.0.1:80 --turns 1000000000000 \
+"$HALLBOOT" serve --db hall.db --discover 10.9.0.1:67 --boot 10.9.0.1:4011 --http 10.9.0.1:80 --turns 1000000000000 \
     --server 10.9.0.1 --next 10.9.0.1 --host 10.9.0.1 > serve.log & server=$!
 for ((i = 0; i < 200; i++)); do
     if grep -q 'hall desk ready' serve.log; then break; fi
@@ -116,11 +118,15 @@ read -r desk_many _ < <(offers "$count" 32 0)
 read -r _ desk_rest desk_rest99 desk_middle99 < <(offers $rest)
 read -r script_rest script_rest99 < <(asks /ipxe/52:54:00:00:00:05 200 20000)
 read -r list_rest _ < <(asks /machines 20 100000)
+taskset -a -c -p 0 "$server" > affinity.log
+clients=$others
 outside setpriv --pdeathsig KILL ./peer list 10.9.0.1 80 64 abc & peer=$!
 sleep 0.5
 read -r _ _ listed99 listed_middle99 < <(offers $rest)
 read -r _ script_listed99 < <(asks /ipxe/52:54:00:00:00:05 200 20000)
 ended "$peer"
+taskset -a -c -p "$all" "$server" > affinity.log
+clients=$all
 sleep 1
 outside setpriv --pdeathsig KILL ./peer hold 10.9.0.1 80 50 & peer=$!
 sleep 0.5
@@ -131,6 +137,17 @@ sleep 0.5
 read -r _ flood_rest flood_rest99 flood_middle99 < <(offers $rest)
 ended "$peer"
 ended "$server"
+
+# A copy of the file, as it was with the 10,000 machines alone, each second, while clients ask on.
+"$HALLBOOT" serve --db copied.db --discover 10.9.0.1:67 --boot 10.9.0.1:4011 --http 10.9.0.1:80 --turns 1000000000000 \
+    --server 10.9.0.1 --next 10.9.0.1 --host 10.9.0.1 --log copies.log --backup copy.db --backup-every 1 > serve.log & server=$!
+for ((i = 0; i < 200; i++)); do
+    if grep -q 'hall desk ready' serve.log; then break; fi
+    sleep 0.1
+done
+outside ./peer offers 10.9.0.2 10.9.0.1 67 1000 1 10000 > offers.log
+ended "$server"
+copied=$(sed -n 's/.* - backup of [0-9]* octets in \([0-9]*\) ms$/\1/p' copies.log | sort -n | tail -n 1)
 
 row() { printf '%-34s %12s %12s %12s\n' "$@"; }
 row '' 'bare C loop' dnsmasq desk
@@ -147,6 +164,7 @@ echo "99 of 100 within: $held_rest99 us with silent connections, $flood_rest99 u
 echo "a script request: $script_rest us at the median at rest, 99 of 100 within $script_rest99 us; the list of all machines: $list_rest us"
 echo "beside 64 clients that list without pause, 99 of 100 within: $listed99 us a DISCOVER (middle one of five runs: $listed_middle99), $script_listed99 us a script request"
 echo "dnsmasq with the 10,000 machines as hosts: $hosts_one OFFERs a second, one by one"
+echo "a copy of the file holds the desk for $copied ms at most, of $(grep -c 'backup of' copies.log) copies of $(stat -c %s copy.db) octets"
 echo "a command of the import, with its durable commit: $commit us"
 
 status=0
@@ -161,6 +179,7 @@ want "$desk_rest99" "$(times 2 "$echo_rest99")" '99 of 100 at rest within twice 
 want "$desk_middle99" "$(times 2 "$echo_middle99")" 'the same in the middle one of five runs'
 want "$desk_share" 0.05 'at rest at most 0.05 percent of a processor'
 want "$desk_rest" 150 'at rest under 150 microseconds at the median'
+want "${copied:-none}" 100 'a copy of the file holds the desk for 100 milliseconds at most'
 want "$list_rest" 15000 'the list of 10,000 machines within 15 milliseconds'
 for time in "$listed99 $desk_rest99 DISCOVER" "$script_listed99 $script_rest99 script"; do
     read -r beside rest what <<< "$time"

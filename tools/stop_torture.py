@@ -20,13 +20,13 @@ def ports():
 
 
 class Desk:
-    """A service over the file, perhaps with one call of the system that fails."""
+    """A service over the file, perhaps with one call of the system that fails, or that makes a copy of its file each second."""
 
-    def __init__(self, fault=None):
+    def __init__(self, fault=None, backup=None):
         discover, boot, self.http = ports()
         words = [program, "serve", "--db", "hall.db", "--discover", f"127.0.0.1:{discover}", "--boot", f"127.0.0.1:{boot}",
                  "--http", f"127.0.0.1:{self.http}", "--turns", "1000000000000", "--server", "127.0.0.1", "--next", "127.0.0.1",
-                 "--host", f"127.0.0.1:{self.http}"]
+                 "--host", f"127.0.0.1:{self.http}"] + (["--backup", backup, "--backup-every", "1"] if backup else [])
         if fault:
             call, error, when = fault
             # (only calls on the hall's files, not those on sockets and libraries)
@@ -170,6 +170,22 @@ def snapshot(desk, clients, what):
         check_answers(receipts, answers, what)
 
 
+def look_at_backups(desk, clients, what):
+    """A copy that was begun after some answers has them, and is whole."""
+    for _ in range(2):
+        answered, seen = [dict(client.answers) for client in clients], set()
+        end = time.monotonic() + 30
+        while len(seen) < 3 and time.monotonic() < end:    # the second one after now was begun after now
+            if os.path.exists("kept.db"):
+                seen.add(os.stat("kept.db").st_mtime_ns)
+            time.sleep(0.002)
+        assert len(seen) >= 3 or not answered, (what, "no copies are made", seen)
+        shutil.copyfile("kept.db", "looked.db")
+        receipts = receipts_of("looked.db", what)
+        for answers in answered:
+            check_answers(receipts, answers, what)
+
+
 def repeat(clients, what):
     """Over a service without faults each open command is answered, and some earlier ones have their first answer."""
     desk = Desk()
@@ -223,6 +239,20 @@ with tempfile.TemporaryDirectory() as work:
         repeat(clients, what)
         seen["kills"] += 1
         seen["snapshots"] += 2
+    what = f"seed {seed}, backups"
+    desk = Desk(backup="kept.db")
+    assert desk.is_ready, (what, desk.running.stderr.read())
+    begun = [client.begin(desk, 0.0) for client in clients]
+    look_at_backups(desk, begun, what)
+    desk.kill()
+    for client in begun:
+        client.goes_on = False
+        client.join(20)
+    receipts_of("kept.db", what)
+    assert not os.path.exists("kept.db-wal"), what
+    clients = begun
+    check(clients, what)
+    repeat(clients, what)
     for turn in range(rounds):
         fault = (CALLS[turn % len(CALLS)], chance.choice(["EIO", "ENOSPC"]), chance.randint(1, 40))
         what = f"seed {seed}, fault {turn}: {fault}"

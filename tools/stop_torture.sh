@@ -3,7 +3,7 @@
 # after its files were copied twice at one moment; and as often one of its system calls on the hall's files fails, by strace, with EIO
 # or ENOSPC, after which the same program answers each client again. After each, the file is whole (PRAGMA integrity_check of a copy), every command that was answered is there once, and each
 # one that wasn't is sent again, octet for octet, until it is answered: it is done once, and every command that is sent again has its
-# first answer. The copies are whole, and have what was answered before.
+# first answer. The copies are whole, and have what was answered before, and so are those that the service itself makes each second.
 # Usage: tools/stop_torture.sh [ROUNDS [SEED]]     HALLBOOT=PROGRAM names a program that is built already.
 set -euo pipefail
 here=$(cd "$(dirname "$0")" && pwd)

@@ -1,9 +1,9 @@
 //! A benchmark of a hall: `FILE TIMES`, with a log on standard input. The first line is `ADMIN DIGEST`. The lines after it are
-//! played over the new hall that is made where there is no file, or in memory where FILE is `-`: they are those of play_store. What
-//! is measured stands after the line `== rounds`: arrivals, as play_log parses them, and calls of the store, as `calls.rt` says. It is
-//! parsed first, and then played so many times, each time the arrivals at a desk and then the calls. The sum of the octets that were
-//! answered and of what the calls found is printed. What is answered by a refusal or by silence, and a call that finds nothing, end
-//! it. Over a file each change is durable before its call returns.
+//! played over the new hall that is made where there is no file, or in memory where FILE is `-`: arrivals, as play_log parses them, and
+//! changes `apply ROW; ROW; ..`. What is measured stands after the line `== rounds`: arrivals, and calls of the store, as `calls.rt`
+//! says. It is parsed first, and then played so many times, each time the arrivals at a desk and then the calls. The sum of the octets
+//! that were answered and of what the calls found is printed. What is answered by a refusal or by silence, and a call that finds
+//! nothing, end it. Over a file each change is durable before its call returns.
 #![tactic(auto)]
 
 mod calls;

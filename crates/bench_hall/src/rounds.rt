@@ -1,37 +1,13 @@
 //! What is measured, over an open store, which is given back. The store's type stays open here, so that no proof looks into a file.
-use crate::calls::{Call, counted};
+use crate::calls::{Call, counted, parse_call};
 use crate::fault::Fault;
 use crate::log::Log;
 use hall_desk::{Answer, Arrival, Desk};
 use hall_store::HallStore;
-use play_store::{Asked, play_line};
+use play_log::arrival;
 use pxe_vendor::Place;
 use std::alloc::Global;
-
-// Plays a line of the new hall.
-fn make_line<S: HallStore>(alloc: Global, store: S, text: &str) -> (Result<(), Fault>, S) {
-    let mut answer = String::new(alloc);
-    let mut asked = Asked::NONE;
-    let (done, store) = play_line(alloc, store, text, &mut answer, &mut asked);
-    let is_made = answer.starts_with("200 ") || answer.as_str() == "applied\n";
-    let made = match done {
-        Ok(()) => if is_made { Ok(()) } else { Err(Fault::Hall) },
-        Err(fault) => Err(Fault::from(fault)),
-    };
-    (made, store)
-}
-
-fn make<S: HallStore>(alloc: Global, store: S, lines: &[String]) -> (Result<(), Fault>, S) {
-    let mut store = store;
-    for line in lines {
-        let (made, after) = make_line(alloc, store, line.as_str());
-        store = after;
-        if made.is_err() {
-            return (made, store);
-        }
-    }
-    (Ok(()), store)
-}
+use std::slice;
 
 // The number of octets that are answered, if they aren't a refusal.
 fn answered<S: HallStore>(
@@ -92,6 +68,42 @@ fn over_desk<S: HallStore>(
     let mut desk = Desk::new(store, place);
     let sum = answer_all(alloc, &mut desk, arrivals, times);
     (sum, desk.into_store())
+}
+
+// Makes a change of the new hall, which is a call of its store.
+fn change<S: HallStore>(alloc: Global, store: S, line: &str) -> (Result<u64, Fault>, S) {
+    let mut store = store;
+    let made = match parse_call(alloc, line) {
+        Ok(call) => counted(alloc, &mut store, &call),
+        Err(fault) => Err(fault),
+    };
+    (made, store)
+}
+
+fn arrive<S: HallStore>(alloc: Global, store: S, line: &str) -> (Result<u64, Fault>, S) {
+    match arrival(alloc, line) {
+        Ok(arrival) => over_desk(alloc, store, slice::from_ref(&arrival), 1),
+        Err(fault) => (Err(Fault::from(fault)), store),
+    }
+}
+
+// Plays the lines of a new hall, until one is refused.
+fn make<S: HallStore>(alloc: Global, store: S, lines: &[String]) -> (Result<(), Fault>, S) {
+    let mut store = store;
+    for line in lines {
+        let (made, after) = if line.starts_with("apply ") {
+            change(alloc, store, line.as_str())
+        } else {
+            arrive(alloc, store, line.as_str())
+        };
+        store = after;
+        match made {
+            Ok(_) => {}
+            Err(Fault::Refused) => return (Err(Fault::Hall), store),
+            Err(fault) => return (Err(fault), store),
+        }
+    }
+    (Ok(()), store)
 }
 
 // The sum over the arrivals, and over the calls.

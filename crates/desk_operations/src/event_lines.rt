@@ -61,6 +61,67 @@ pub(crate) fn event_line(
     }
 }
 
+/// What became of a copy of the hall's file.
+#[derive(Clone, Copy, PartialEq, Eq)]
+pub enum Backup {
+    /// It has so many octets, and nothing was served for so many milliseconds.
+    Made { octets: u64, milliseconds: u64 },
+    Failed,
+}
+
+// The nanoseconds of a millisecond.
+const NANOSECONDS: u64 = 1_000_000;
+
+fn backup_text(alloc: Global, backup: &Backup) -> Result<String, AllocError> {
+    match backup {
+        Backup::Made {
+            octets,
+            milliseconds,
+        } => format!(in alloc; "backup of {octets} octets in {milliseconds} ms"),
+        Backup::Failed => String::from_str(alloc, "backup failed"),
+    }
+}
+
+fn backup_object(
+    alloc: Global,
+    moment: Option<Moment>,
+    backup: &Backup,
+    words: &str,
+) -> Result<String, AllocError> {
+    let mut members = stamped(alloc, moment)?;
+    members.push_text("event.action", "backup")?;
+    match backup {
+        Backup::Made {
+            octets,
+            milliseconds,
+        } => {
+            members.push_text("event.outcome", "success")?;
+            members.push_number(
+                "event.duration",
+                (*milliseconds).saturating_mul(NANOSECONDS),
+            )?;
+            members.push_number("file.size", *octets)?;
+        }
+        Backup::Failed => members.push_text("event.outcome", "failure")?,
+    }
+    members.push_text("message", words)?;
+    members.into_line()
+}
+
+/// The line that says what became of a copy of the hall's file.
+pub fn backup_line(
+    alloc: Global,
+    format: LogFormat,
+    moment: Option<Moment>,
+    backup: &Backup,
+) -> Result<String, AllocError> {
+    let words = backup_text(alloc, backup)?;
+    match format {
+        LogFormat::Json => backup_object(alloc, moment, backup, words.as_str()),
+        LogFormat::Seconds | LogFormat::Utc => text_line(alloc, format, moment, words.as_str()),
+    }
+}
+
 /// The line where the service's clock or its source of random octets begins to fail. It has no moment.
 pub fn unstamped_line(alloc: Global, format: LogFormat) -> Result<String, AllocError> {
     let words = "the clock or the random source failed";

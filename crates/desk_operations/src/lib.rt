@@ -30,7 +30,7 @@ mod writing;
 pub use arrival_objects::arrival_members;
 pub use arrival_texts::{arrival_text, is_of_note};
 pub use bad_rows::bad_row;
-pub use event_lines::{lost_line, unstamped_line};
+pub use event_lines::{Backup, backup_line, lost_line, unstamped_line};
 pub use exports::export;
 pub use failures::Failures;
 pub use fault::Fault;

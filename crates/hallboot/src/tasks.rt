@@ -2,11 +2,16 @@
 use desk_operations::{Exit, Fault, frame_run};
 use hall_store::HallStore;
 use hall_types::{Digest, Name};
-use hallboot_tasks::{Asked, Serving, Suspended, Task, asked_by, carried_out, is_foreign, tell};
+use hallboot_tasks::{
+    Asked, Joining, Serving, Suspended, Task, asked_by, carried_out, is_foreign, tell,
+};
 use hallboot_words::Words;
+use sql_backup::one_file;
 use sql_file::{Ended, FileFault, StoreTask, create, migrate, over};
 use sql_tables::Migrated;
-use std::fs;
+use std::alloc::Global;
+use std::fs::{self, File};
+use std::io::{self, ErrorKind, Write};
 use std::os::unix::fs::PermissionsExt;
 
 // The rights of others than a file's owner, in its mode.
@@ -37,6 +42,19 @@ fn init(rt: &HostRuntime, path: &str, admin: Name, digest: Digest) -> Result<Exi
     Ok(Exit::Done)
 }
 
+// How a hall's file and its log become one file.
+struct Joined;
+
+impl Joining for Joined {
+    fn write(&self, alloc: Global, file: &[u8], log: &[u8], writer: &mut File) -> io::Result<u64> {
+        let Ok(one) = one_file(alloc, file, log) else {
+            return Err(io::Error::from(ErrorKind::InvalidData));
+        };
+        writer.write_all(one.bytes())?;
+        Ok(one.bytes().len() as u64)
+    }
+}
+
 // A task over the store of a hall's file.
 #[derive(Drop)]
 struct FileTask<'a> {
@@ -48,7 +66,7 @@ impl<'a> StoreTask for FileTask<'a> {
     type Outcome = Result<Exit, Fault>;
 
     fn over<S: HallStore>(self, store: S) -> (Result<Exit, Fault>, S) {
-        carried_out(self.rt, store, self.task)
+        carried_out(self.rt, store, self.task, &Joined)
     }
 }
 

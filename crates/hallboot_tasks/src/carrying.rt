@@ -1,4 +1,5 @@
 //! The tasks over an open store, which they give back. The store's type stays open here, so that no proof looks into a file.
+use crate::backups::Joining;
 use crate::serving::serve;
 use crate::tasks::Task;
 use desk_operations::{Exit, Fault, Imported, What};
@@ -7,6 +8,7 @@ use hall_http::Noted;
 use hall_store::HallStore;
 use hall_types::{Digest, Moment, Token};
 use pxe_vendor::Place;
+use store_cached::Cached;
 
 fn done(task: Result<(), Fault>) -> Result<Exit, Fault> {
     task?;
@@ -72,11 +74,11 @@ fn import<S: HallStore>(
     (imported(task), desk.into_store())
 }
 
-/// Carries a task out over a store.
-pub fn carried_out<S: HallStore>(
+fn carried_out_over<S: HallStore, J: Joining>(
     rt: &HostRuntime,
     store: S,
     task: Task<'_>,
+    joining: &J,
 ) -> (Result<Exit, Fault>, S) {
     match task {
         Task::Request {
@@ -93,8 +95,24 @@ pub fn carried_out<S: HallStore>(
             moment,
         } => import(rt, store, place, octets.as_slice(), bearer, moment),
         Task::Serve { serving, suspended } => {
-            let (task, store) = serve(rt, store, serving, suspended);
+            let (task, store) = serve(rt, store, serving, suspended, joining);
             (done(task), store)
         }
+    }
+}
+
+/// Carries a task out over a store. Addresses and lists are kept in memory meanwhile.
+pub fn carried_out<S: HallStore, J: Joining>(
+    rt: &HostRuntime,
+    store: S,
+    task: Task<'_>,
+    joining: &J,
+) -> (Result<Exit, Fault>, S) {
+    match Cached::new(rt.alloc(), store) {
+        Ok(cached) => {
+            let (exit, cached) = carried_out_over(rt, cached, task, joining);
+            (exit, cached.into_inner())
+        }
+        Err(store) => (Err(Fault::Memory), store),
     }
 }

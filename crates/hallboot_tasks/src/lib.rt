@@ -1,6 +1,7 @@
 //! What a command line asks for, and the tasks over the store of an open hall.
 #![tactic(auto)]
 
+mod backups;
 mod carrying;
 mod explaining;
 mod foreign_file;
@@ -16,6 +17,7 @@ mod tasks;
 mod values;
 mod wrong_options;
 
+pub use backups::{BackupPlan, Joining};
 pub use carrying::carried_out;
 pub use explaining::reason;
 pub use foreign_file::is_foreign;

@@ -1,7 +1,8 @@
 //! The log of a service's turns.
 use crate::outlet::Outlet;
 use desk_operations::{
-    Failures, LogFormat, arrival_members, arrival_text, is_of_note, turn_line, unstamped_line,
+    Backup, Failures, LogFormat, arrival_members, arrival_text, backup_line, is_of_note, turn_line,
+    unstamped_line,
 };
 use hall_desk::{Account, Answer, Arrival};
 use hall_types::Moment;
@@ -58,6 +59,27 @@ fn line_of(
     match arrival {
         Some(text) => turn_line(alloc, format, moment, turn, Some(text?.as_str())),
         None => turn_line(alloc, format, moment, turn, None),
+    }
+}
+
+/// A log of a service's turns and of the copies of its file.
+pub(crate) trait ServiceLog: TurnLog {
+    /// Whether anybody can read it.
+    fn is_kept(&self) -> bool;
+
+    fn backed_up(&mut self, moment: Moment, backup: &Backup);
+}
+
+impl ServiceLog for Lines {
+    fn is_kept(&self) -> bool {
+        self.outlet.is_some()
+    }
+
+    fn backed_up(&mut self, moment: Moment, backup: &Backup) {
+        if let Some(outlet) = &mut self.outlet {
+            let line = backup_line(self.alloc, outlet.format(), Some(moment), backup);
+            outlet.write(self.alloc, Some(moment), line);
+        }
     }
 }
 

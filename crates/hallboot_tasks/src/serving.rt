@@ -1,18 +1,17 @@
 //! The service over an open store.
-use crate::lines::Lines;
+use crate::backups::{BackupPlan, Backups, Joining};
+use crate::lines::{Lines, ServiceLog};
 use crate::outlet::tell;
 use crate::served_file::ServedFile;
-use crate::stamps::Stamps;
+use crate::stamps::{Stamps, now};
 use crate::suspended::{Bound, Suspended};
 use crate::tasks::Serving;
-use desk_operations::Fault;
+use desk_operations::{Backup, Fault};
 use hall_desk::Desk;
 use hall_store::HallStore;
 use pxe_vendor::{Place, PlaceFault};
-use serve_sockets::{Service, Source, TurnLog};
+use serve_sockets::{Service, Source};
 use std::alloc::Global;
-use std::time::Instant;
-use store_cached::Cached;
 
 /// After how many turns it is looked whether the hall's file is still there.
 const LOOK: u64 = 8;
@@ -28,22 +27,50 @@ enum Ended {
     Gone,
 }
 
-/// A file, and how many turns are to be served over its hall, with unknown clients enlisted or not.
+/// A file, how many turns are to be served over its hall, with unknown clients enlisted or not, and where its copies are put.
 #[derive(Drop)]
 struct Part<'a> {
     path: &'a str,
     file: ServedFile,
     turns: u64,
     enlists: bool,
+    plan: Option<&'a BackupPlan>,
+}
+
+// Says what became of a copy: in the log, or at standard error where there is none and it failed.
+fn tell_of_backup<L: ServiceLog>(rt: &HostRuntime, lines: &mut L, backup: &Backup, path: &str) {
+    if lines.is_kept() {
+        if let Some(moment) = now(rt) {
+            lines.backed_up(moment, backup);
+        }
+    } else if *backup == Backup::Failed {
+        tell(
+            rt,
+            format!(in rt.alloc(); "hallboot: the backup of {path} failed\n"),
+        );
+    }
+}
+
+// Makes a copy of the file, if it is time for one.
+fn back_up<J: Joining, L: ServiceLog>(
+    rt: &HostRuntime,
+    lines: &mut L,
+    part: &Part<'_>,
+    backups: &mut Backups<'_, J>,
+) {
+    if let Some(backup) = backups.made(rt, part.file, part.path) {
+        tell_of_backup(rt, lines, &backup, part.path);
+    }
 }
 
 // Serves a part's turns, and says how that ended and how many turns are left.
-fn serve_part<S: HallStore, C: Source, L: TurnLog>(
+fn serve_part<S: HallStore, C: Source, L: ServiceLog, J: Joining>(
     rt: &HostRuntime,
     service: &mut Service<S>,
     stamps: &mut C,
     lines: &mut L,
     part: &Part<'_>,
+    backups: &mut Backups<'_, J>,
 ) -> (Ended, u64) {
     let mut left = part.turns;
     for _ in 0..part.turns.div_ceil(LOOK) {
@@ -55,6 +82,7 @@ fn serve_part<S: HallStore, C: Source, L: TurnLog>(
         if part.file.is_gone(rt, part.path) {
             return (Ended::Gone, left);
         }
+        back_up(rt, lines, part, backups);
     }
     (Ended::Served, left)
 }
@@ -70,27 +98,42 @@ fn desk_over<S: HallStore>(store: S, place: Place, enlists: bool) -> Desk<S> {
 }
 
 // Serves a part over a store, and says how that ended and how many turns are left.
-fn serve_over<S: HallStore>(
+fn serve_over<S: HallStore, J: Joining>(
     rt: &HostRuntime,
     store: S,
     place: Place,
     bound: Bound,
     part: &Part<'_>,
+    joining: &J,
 ) -> ((Ended, u64), S, Bound) {
     let Bound {
         sockets,
         log,
         start,
+        backed_up,
     } = bound;
+    let mut backups = Backups {
+        plan: part.plan,
+        joining,
+        last: backed_up,
+    };
     let mut service = Service::new(rt.alloc(), desk_over(store, place, part.enlists), sockets);
     let mut stamps = Stamps::since(rt, start);
     let mut lines = Lines::new(rt.alloc(), log);
-    let ended = serve_part(rt, &mut service, &mut stamps, &mut lines, part);
+    let ended = serve_part(
+        rt,
+        &mut service,
+        &mut stamps,
+        &mut lines,
+        part,
+        &mut backups,
+    );
     let (desk, sockets) = service.into_parts();
     let bound = Bound {
         sockets,
         log: lines.into_outlet(),
         start,
+        backed_up: backups.last,
     };
     (ended, desk.into_store(), bound)
 }
@@ -156,28 +199,26 @@ fn prepared(
 }
 
 /// Serves the turns that are left over a store, or until a fault shuts it, or its file goes.
-pub(crate) fn serve<S: HallStore>(
+pub(crate) fn serve<S: HallStore, J: Joining>(
     rt: &HostRuntime,
     store: S,
     serving: &Serving,
     suspended: &mut Suspended,
+    joining: &J,
 ) -> (Result<(), Fault>, S) {
-    let cached = match Cached::new(rt.alloc(), store) {
-        Ok(cached) => cached,
-        Err(store) => return (Err(Fault::Memory), store),
-    };
     let (file, place, bound) = match prepared(rt, serving, suspended) {
         Ok(prepared) => prepared,
-        Err(fault) => return (Err(fault), cached.into_inner()),
+        Err(fault) => return (Err(fault), store),
     };
     let part = Part {
         path: serving.path.as_str(),
         file,
         turns: suspended.left(),
         enlists: serving.enlists,
+        plan: serving.backup.as_ref(),
     };
-    let ((ended, left), cached, bound) = serve_over(rt, cached, place, bound, &part);
+    let ((ended, left), store, bound) = serve_over(rt, store, place, bound, &part, joining);
     let outcome = told(rt, serving.path.as_str(), ended, &bound);
     suspended.keep(bound, left, ended == Ended::Shut);
-    (outcome, cached.into_inner())
+    (outcome, store)
 }

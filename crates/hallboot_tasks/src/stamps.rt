@@ -17,7 +17,7 @@ fn since_1970(clock: &impl Clock) -> Option<Duration> {
 }
 
 // The moment of the system's clock. None before 1970.
-fn now(clock: &impl Clock) -> Option<Moment> {
+pub(crate) fn now(clock: &impl Clock) -> Option<Moment> {
     Moment::new(since_1970(clock)?.as_secs()).ok()
 }
 

@@ -16,12 +16,14 @@ const PAUSES: [u64; 16] = [
 /// So many turns have a quiet moment among them for which the store was available.
 const WELL_SERVED: u64 = 16;
 
-/// What a service holds besides its hall: its sockets, with the connections that are open, its log, and when it began.
+/// What a service holds besides its hall: its sockets, with the connections that are open, its log, when it began, and when the last copy
+/// of its file was begun, or when the service began.
 #[derive(Drop)]
 pub(crate) struct Bound {
     pub sockets: Sockets,
     pub log: Option<Outlet>,
     pub start: Instant,
+    pub backed_up: Instant,
 }
 
 fn bind_fault(fault: BindFault) -> Fault {
@@ -65,6 +67,7 @@ impl Bound {
             sockets,
             log,
             start,
+            backed_up: start,
         })
     }
 }

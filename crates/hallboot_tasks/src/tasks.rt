@@ -1,5 +1,6 @@
 //! What the words of a command line ask for. Options are checked in the order in which they stand here, the place last, before
 //! anything is opened.
+use crate::backups::BackupPlan;
 use crate::reading::octets_of;
 use crate::suspended::Suspended;
 use crate::values;
@@ -47,6 +48,7 @@ pub struct Serving {
     pub format: LogFormat,
     pub enlists: bool,
     pub turns: u64,
+    pub backup: Option<BackupPlan>,
 }
 
 /// What a command line asks for.
@@ -117,12 +119,23 @@ fn copied(alloc: Global, text: Option<&str>) -> Result<Option<String>, AllocErro
     }
 }
 
+fn backup(alloc: Global, words: &Words<'_>) -> Result<Option<BackupPlan>, Fault> {
+    match values::backup(words)? {
+        Some((path, seconds)) => Ok(Some(BackupPlan {
+            path: String::from_str(alloc, path)?,
+            seconds,
+        })),
+        None => Ok(None),
+    }
+}
+
 fn serve<'a>(rt: &HostRuntime, words: &Words<'a>) -> Result<Asked<'a>, Fault> {
     let path = values::db(words)?;
     let addresses = values::addresses(words)?;
     let turns = values::turns(words)?;
     let format = values::log_format(words)?;
     let enlists = values::enlists(words)?;
+    let backup = backup(rt.alloc(), words)?;
     let place = values::place(rt.alloc(), words)?;
     let log = copied(rt.alloc(), words.log)?;
     Ok(Asked::Serve(Serving {
@@ -133,6 +146,7 @@ fn serve<'a>(rt: &HostRuntime, words: &Words<'a>) -> Result<Asked<'a>, Fault> {
         format,
         enlists,
         turns,
+        backup,
     }))
 }
 

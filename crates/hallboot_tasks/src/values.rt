@@ -67,6 +67,40 @@ pub(crate) fn log_format(words: &Words<'_>) -> Result<LogFormat, Fault> {
     }
 }
 
+// How many seconds it is from one backup to the next where nothing else is said.
+const HOUR: u64 = 3_600;
+
+/// The seconds of `--backup-every`: at least one.
+pub(crate) fn seconds_of(text: &str) -> Option<u64> {
+    match count_of(text) {
+        Some(0) | None => None,
+        Some(seconds) => Some(seconds),
+    }
+}
+
+fn backup_every(words: &Words<'_>) -> Result<u64, Fault> {
+    match words.backup_every {
+        Some(text) => seconds_of(text).ok_or(Fault::BadInput),
+        None => Ok(HOUR),
+    }
+}
+
+/// Whether a path can be a backup's: it isn't empty, and isn't that of the hall's file.
+pub(crate) fn is_another_file(path: &str, db: Option<&str>) -> bool {
+    !path.is_empty() && Some(path) != db
+}
+
+/// Where a copy of the hall's file is put, and how often, if it is.
+pub(crate) fn backup<'a>(words: &Words<'a>) -> Result<Option<(&'a str, u64)>, Fault> {
+    match (words.backup, words.backup_every) {
+        (Some(path), _) if is_another_file(path, words.db) => {
+            Ok(Some((path, backup_every(words)?)))
+        }
+        (None, None) => Ok(None),
+        _ => Err(Fault::BadInput),
+    }
+}
+
 /// Whether unknown clients are enlisted.
 pub(crate) fn enlists(words: &Words<'_>) -> Result<bool, Fault> {
     match text(words.enlist)? {

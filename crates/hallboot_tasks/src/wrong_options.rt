@@ -1,5 +1,5 @@
 //! Which option of a command line has a value that isn't of its form.
-use crate::values::is_socket;
+use crate::values::{is_another_file, is_socket, seconds_of};
 use desk_operations::{count_of, digest_of, fresh_of, is_bearer_token, moment_of, what_of};
 use hall_types::Name;
 use hallboot_words::Words;
@@ -26,6 +26,10 @@ const HOST: &str =
     "a host has 1 to 64 letters, digits, hyphens, dots and colons, the first a letter or a digit";
 
 const TOKEN: &str = "a token has 1 to 128 visible characters of ASCII";
+
+const SECONDS: &str = "it is a number of seconds without a leading zero, at least 1";
+
+const BACKUP: &str = "it is another file than the hall's";
 
 /// An option whose value isn't of its form, with the value, if that isn't a secret, and what the form is.
 #[derive(Clone, Copy)]
@@ -128,6 +132,21 @@ fn wrong_token<'a>(words: &Words<'a>) -> Option<Wrong<'a>> {
     }
 }
 
+// A backup is another file than the hall's, and how often it is made is said beside it.
+fn wrong_backup<'a>(words: &Words<'a>) -> Option<Wrong<'a>> {
+    let every = words.backup_every.and_then(seconds_of).is_some();
+    let path = is_another_file(words.backup.unwrap_or(""), words.db);
+    let alone = words.backup.is_some();
+    unless_good("--backup", words.backup, path, BACKUP)
+        .or(unless_good("--backup-every", words.backup_every, every, SECONDS))
+        .or(unless_good(
+            "--backup-every",
+            words.backup_every,
+            alone,
+            "it is given beside --backup",
+        ))
+}
+
 fn wrong_host<'a>(alloc: Global, words: &Words<'a>) -> Option<Wrong<'a>> {
     let place = Place::new(alloc, [0; 4], [0; 4], words.host.unwrap_or(""));
     unless_good("--host", words.host, place.is_ok(), HOST)
@@ -138,6 +157,7 @@ pub(crate) fn wrong_option<'a>(alloc: Global, words: &Words<'a>) -> Option<Wrong
     wrong_word(words)
         .or(wrong_record(words))
         .or(wrong_address(words))
+        .or(wrong_backup(words))
         .or(wrong_token(words))
         .or(wrong_host(alloc, words))
 }

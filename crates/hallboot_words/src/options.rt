@@ -127,6 +127,20 @@ pub(crate) const LOG: Word = Word {
     given: Given::Maybe,
 };
 
+pub(crate) const BACKUP: Word = Word {
+    name: "backup",
+    value: "FILE",
+    help: "Where a copy of the hall's file is put while it is served",
+    given: Given::Maybe,
+};
+
+pub(crate) const BACKUP_EVERY: Word = Word {
+    name: "backup-every",
+    value: "SECONDS",
+    help: "How long it is from one copy to the next, 3600 without it",
+    given: Given::Maybe,
+};
+
 pub(crate) const WHAT: Word = Word {
     name: "what",
     value: "WHAT",

@@ -1,7 +1,7 @@
 //! The subcommands.
 use crate::options::{
-    ADMIN, AT, BOOT, DB, DIGEST, DISCOVER, ENLIST, FILE, FRESH, HTTP, LOG, LOG_FORMAT, LOG_TIME,
-    ROLE, TOKEN, TOKEN_FILE, TURNS, WHAT, Word,
+    ADMIN, AT, BACKUP, BACKUP_EVERY, BOOT, DB, DIGEST, DISCOVER, ENLIST, FILE, FRESH, HTTP, LOG,
+    LOG_FORMAT, LOG_TIME, ROLE, TOKEN, TOKEN_FILE, TURNS, WHAT, Word,
 };
 
 /// What a command line asks for.
@@ -68,7 +68,17 @@ pub(crate) const ENTRIES: [Entry; 8] = [
         about: "Serves the hall to its machines and operators",
         example: "Example: hallboot serve --db hall.db --discover 10.0.0.5:67 --boot 10.0.0.5:4011 --http 10.0.0.5:80 --turns 1000000000000 --server 10.0.0.5 --next 10.0.0.6 --host desk.hall.example --log -",
         words: &[
-            DB, DISCOVER, BOOT, HTTP, TURNS, ENLIST, LOG, LOG_TIME, LOG_FORMAT,
+            DB,
+            DISCOVER,
+            BOOT,
+            HTTP,
+            TURNS,
+            ENLIST,
+            LOG,
+            LOG_TIME,
+            LOG_FORMAT,
+            BACKUP,
+            BACKUP_EVERY,
         ],
         has_place: true,
     },

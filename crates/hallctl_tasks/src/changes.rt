@@ -2,8 +2,8 @@
 use crate::desk::Desk;
 use crate::fault::{Ended, TaskFault};
 use crate::keys::new_key;
-use crate::looks::{Found, Look, looked};
-use crate::saying::tell;
+use crate::looks::{Before, Found, Look, glance, looked};
+use crate::saying::{progress, tell};
 use crate::sending::{Sending, sent};
 use crate::surroundings::Surroundings;
 use hall_events::HallCommand;
@@ -67,6 +67,25 @@ fn key_of<S: Surroundings>(surroundings: &mut S, manner: &Manner) -> Result<Requ
     }
 }
 
+// The machine before a command: as it was listed, or as a glance at it shows it, unless the answer is printed as it is or is that of a
+// command that was sent before.
+fn before<S: Surroundings>(
+    alloc: Global,
+    surroundings: &mut S,
+    desk: &Desk,
+    manner: &Manner,
+    look: &Look,
+    command: &HallCommand,
+) -> Result<Option<Before>, TaskFault> {
+    match look {
+        Look::Listed(before) => Ok(Some(*before)),
+        Look::Unneeded if !manner.json && manner.key.is_none() => {
+            glance(alloc, surroundings, desk, command)
+        }
+        Look::Unneeded | Look::Refused => Ok(None),
+    }
+}
+
 fn sent_as<S: Surroundings>(
     alloc: Global,
     surroundings: &mut S,
@@ -77,10 +96,7 @@ fn sent_as<S: Surroundings>(
 ) -> Result<Ended, TaskFault> {
     let key = key_of(surroundings, manner)?;
     let beside = beside(alloc, command)?;
-    let before = match look {
-        Look::Listed { status, .. } => Some(*status),
-        Look::Unneeded | Look::Refused => None,
-    };
+    let before = before(alloc, surroundings, desk, manner, look, command)?;
     let json = manner.json;
     let sending = Sending {
         key,
@@ -104,7 +120,7 @@ fn sent_after<S: Surroundings>(
     match look {
         Look::Unneeded => sent_as(alloc, surroundings, desk, manner, look, command),
         Look::Refused => Ok(Ended::Refused),
-        Look::Listed { version, .. } => match as_listed(command, *version) {
+        Look::Listed(before) => match as_listed(command, before.version) {
             Some(command) => sent_as(alloc, surroundings, desk, manner, look, &command),
             None => sent_as(alloc, surroundings, desk, manner, look, command),
         },
@@ -157,6 +173,9 @@ fn sent_all<S: Surroundings>(
             let unsent = commands.len().saturating_sub(place).saturating_sub(1);
             tell_of_unsent(alloc, surroundings, unsent)?;
             return Ok(end);
+        }
+        if commands.len() > 1 {
+            progress(alloc, surroundings, place.saturating_add(1), commands.len())?;
         }
     }
     Ok(end)

@@ -15,6 +15,20 @@ pub struct Desk {
     pub milliseconds: u64,
 }
 
+fn asked_for<D: Dial>(
+    alloc: Global,
+    dial: &mut D,
+    desk: &Desk,
+    ask: &Ask<'_>,
+    milliseconds: u64,
+) -> Result<Exchanged, TaskFault> {
+    match request(alloc, &desk.address.authority, &desk.token, ask) {
+        Ok(octets) => Ok(exchange(alloc, dial, octets.as_slice(), milliseconds)),
+        Err(RequestFault::BlankUuid) => Err(TaskFault::BlankUuid),
+        Err(RequestFault::Memory) => Err(TaskFault::Memory),
+    }
+}
+
 /// Asks the desk, again and again until there is an answer or the time is over.
 pub(crate) fn asked<D: Dial>(
     alloc: Global,
@@ -22,9 +36,15 @@ pub(crate) fn asked<D: Dial>(
     desk: &Desk,
     ask: &Ask<'_>,
 ) -> Result<Exchanged, TaskFault> {
-    match request(alloc, &desk.address.authority, &desk.token, ask) {
-        Ok(octets) => Ok(exchange(alloc, dial, octets.as_slice(), desk.milliseconds)),
-        Err(RequestFault::BlankUuid) => Err(TaskFault::BlankUuid),
-        Err(RequestFault::Memory) => Err(TaskFault::Memory),
-    }
+    asked_for(alloc, dial, desk, ask, desk.milliseconds)
+}
+
+/// Asks the desk once.
+pub(crate) fn asked_once<D: Dial>(
+    alloc: Global,
+    dial: &mut D,
+    desk: &Desk,
+    ask: &Ask<'_>,
+) -> Result<Exchanged, TaskFault> {
+    asked_for(alloc, dial, desk, ask, 0)
 }

@@ -1,7 +1,7 @@
 //! The machines of a file are added.
 use crate::desk::Desk;
 use crate::fault::{Ended, TaskFault};
-use crate::saying::{misused, tell};
+use crate::saying::{misused, progress};
 use crate::sending::{Sending, sent};
 use crate::surroundings::Surroundings;
 use hall_events::HallCommand;
@@ -15,21 +15,6 @@ fn command_of(row: &ImportRow) -> HallCommand {
         pool: row.pool,
         uuid: row.uuid,
     }
-}
-
-// Tells how many rows are done, where somebody watches.
-fn count<S: Surroundings>(
-    alloc: Global,
-    surroundings: &mut S,
-    done: usize,
-    all: usize,
-) -> Result<(), TaskFault> {
-    if surroundings.is_watched() {
-        let end = if done == all { "\n" } else { "" };
-        let text = format!(in alloc; "\r{done} of {all}{end}")?;
-        surroundings.tell(text.as_str());
-    }
-    Ok(())
 }
 
 fn add_row<S: Surroundings>(
@@ -69,7 +54,7 @@ fn add_rows<S: Surroundings>(
         if end == Ended::NoAnswer {
             return Ok(end);
         }
-        count(alloc, surroundings, place.saturating_add(1), rows.len())?;
+        progress(alloc, surroundings, place.saturating_add(1), rows.len())?;
     }
     Ok(end)
 }

@@ -1,7 +1,7 @@
 //! Machines are looked at before something is done that can't be undone, and the operator is asked.
 use crate::answer::{Answer, Exchanged, Strange};
 use crate::changes::Manner;
-use crate::desk::{Desk, asked};
+use crate::desk::{Desk, asked, asked_once};
 use crate::fault::{Ended, TaskFault};
 use crate::saying::{misused, print_line, strange, tell, unanswered};
 use crate::seen::listed_in;
@@ -10,8 +10,15 @@ use crate::texts::refused_text;
 use hall_events::HallCommand;
 use hall_types::{Number, Status, Version};
 use hallctl_requests::Ask;
-use hallctl_words::{is_dangerous, warning};
+use hallctl_words::{ListedMachine, is_dangerous, warning};
 use std::alloc::{AllocError, Global};
+
+/// A machine as it was listed before a command.
+#[derive(Clone, Copy)]
+pub(crate) struct Before {
+    pub(crate) status: Status,
+    pub(crate) version: Version,
+}
 
 /// What comes of the look before a command.
 #[derive(Clone, Copy)]
@@ -19,7 +26,7 @@ pub(crate) enum Look {
     /// None was needed.
     Unneeded,
     /// The machine was listed so.
-    Listed { status: Status, version: Version },
+    Listed(Before),
     /// The desk refused to list it: nothing is sent for it.
     Refused,
 }
@@ -29,6 +36,13 @@ pub(crate) enum Look {
 pub(crate) enum Found<T> {
     Found(T),
     Ended(Ended),
+}
+
+fn before_of(machine: ListedMachine) -> Before {
+    Before {
+        status: machine.status,
+        version: machine.version,
+    }
 }
 
 // Tells what a command would do to a machine that the desk has listed.
@@ -44,10 +58,7 @@ fn warned<S: Surroundings>(
     if let Some(line) = warning(alloc, command, &machine)? {
         tell(alloc, surroundings, line.as_str())?;
     }
-    Ok(Some(Look::Listed {
-        status: machine.status,
-        version: machine.version,
-    }))
+    Ok(Some(Look::Listed(before_of(machine))))
 }
 
 // Prints the line of a machine that the desk refuses to list.
@@ -115,6 +126,25 @@ fn look_before<S: Surroundings>(
     }
 }
 
+/// The machine of a command as one look shows it, which is asked for once: if it shows nothing, the command is sent all the same.
+pub(crate) fn glance<S: Surroundings>(
+    alloc: Global,
+    surroundings: &mut S,
+    desk: &Desk,
+    command: &HallCommand,
+) -> Result<Option<Before>, TaskFault> {
+    let Some(machine) = machine_of(command) else {
+        return Ok(None);
+    };
+    match asked_once(alloc, surroundings, desk, &Ask::Machine(machine))? {
+        Exchanged::Answered(answer) if answer.is_done() => match listed_in(alloc, &answer)? {
+            Some(machine) => Ok(Some(before_of(machine))),
+            None => Ok(None),
+        },
+        _ => Ok(None),
+    }
+}
+
 fn add_look(looks: &mut Vec<Look>, look: Look) -> Result<(), AllocError> {
     looks.push(look)?;
     Ok(())
@@ -138,7 +168,7 @@ fn add_looks<S: Surroundings>(
 }
 
 fn is_listed(look: &Look) -> bool {
-    matches!(look, Look::Listed { .. })
+    matches!(look, Look::Listed(_))
 }
 
 // Whether the operator agrees, and how the task ends where not.

@@ -14,6 +14,21 @@ pub(crate) fn print<S: Surroundings>(surroundings: &mut S, text: &str) -> Result
     }
 }
 
+/// Tells how many of several things are done, where somebody watches. What is printed next is written over it.
+pub(crate) fn progress<S: Surroundings>(
+    alloc: Global,
+    surroundings: &mut S,
+    done: usize,
+    all: usize,
+) -> Result<(), TaskFault> {
+    if surroundings.is_watched() {
+        let end = if done == all { "\n" } else { "\r" };
+        let text = format!(in alloc; "{done} of {all}{end}")?;
+        surroundings.tell(text.as_str());
+    }
+    Ok(())
+}
+
 /// Writes a line to standard output.
 pub(crate) fn print_line<S: Surroundings>(
     alloc: Global,

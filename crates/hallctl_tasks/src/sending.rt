@@ -3,11 +3,12 @@ use crate::answer::{Answer, Exchanged};
 use crate::desk::{Desk, asked};
 use crate::fault::{Ended, TaskFault};
 use crate::keys::key_text;
+use crate::looks::Before;
 use crate::saying::print_line;
 use crate::surroundings::Surroundings;
 use crate::texts::{done_text, refused_text};
 use hall_events::HallCommand;
-use hall_types::{RequestKey, Status};
+use hall_types::RequestKey;
 use hallctl_requests::Ask;
 use hallctl_words::subject;
 use std::alloc::{AllocError, Global};
@@ -17,8 +18,8 @@ use std::alloc::{AllocError, Global};
 pub(crate) struct Sending<'c> {
     pub(crate) key: RequestKey,
     pub(crate) command: &'c HallCommand,
-    /// The machine's status as it was listed before, where it was.
-    pub(crate) before: Option<Status>,
+    /// The machine as it was listed before, where it was.
+    pub(crate) before: Option<Before>,
     /// What has to be said beside the key when the command is said again.
     pub(crate) beside: &'c str,
     /// Whether the desk's JSON is printed.

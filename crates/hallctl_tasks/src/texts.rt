@@ -1,6 +1,7 @@
 //! The texts of answers. `None` is an answer that isn't one of the desk's to the request.
 use crate::answer::Answer;
 use crate::listings::Listing;
+use crate::looks::Before;
 use crate::seen::value_of;
 use hall_events::HallCommand;
 use hall_types::{MacAddress, Status};
@@ -20,15 +21,25 @@ fn known(text: Result<String, AnswerFault>) -> Result<Option<String>, AllocError
     }
 }
 
+// The machine's status just before it was changed: it is that of the listing only if nothing else has changed it since.
+fn status_before(before: Option<Before>, value: &Value) -> Option<Status> {
+    let before = before?;
+    let version = value.get("version")?.as_u64()?;
+    (version == before.version.get().saturating_add(1)).then_some(before.status)
+}
+
 /// The line of a command that was done.
 pub(crate) fn done_text(
     alloc: Global,
     command: &HallCommand,
-    before: Option<Status>,
+    before: Option<Before>,
     answer: &Answer,
 ) -> Result<Option<String>, AllocError> {
     match value_of(alloc, answer)? {
-        Some(value) => known(answer_line(alloc, command, before, &value)),
+        Some(value) => {
+            let status = status_before(before, &value);
+            known(answer_line(alloc, command, status, &value))
+        }
         None => Ok(None),
     }
 }

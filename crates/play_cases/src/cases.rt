@@ -100,6 +100,8 @@ fn play_log_line(alloc: Global, kind: &str, rest: &str, out: &mut Answer) -> Res
         "failures_object" => logs::failures(alloc, LogFormat::Json, rest, out),
         "lost" => logs::lost(alloc, LogFormat::Utc, rest, out),
         "lost_object" => logs::lost(alloc, LogFormat::Json, rest, out),
+        "backup" => logs::backup(alloc, LogFormat::Utc, rest, out),
+        "backup_object" => logs::backup(alloc, LogFormat::Json, rest, out),
         "utc" => logs::utc(alloc, rest, out),
         "unknown" => logs::unknown(alloc, rest, out),
         "takes" => ends::takes(rest, out),

@@ -6,7 +6,8 @@ use crate::printing::Answer;
 use crate::values::{halves, moment, number};
 use boot_desk::{FrameView, frame};
 use desk_operations::{
-    Failures, LogFormat, arrival_text, lost_line, moment_text, turn_line, unstamped_line,
+    Backup, Failures, LogFormat, arrival_text, backup_line, lost_line, moment_text, turn_line,
+    unstamped_line,
 };
 use dhcp_frame::read;
 use hall_desk::{Account, Arrival, Came, Input, Notes};
@@ -94,6 +95,20 @@ pub fn lost(alloc: Global, format: LogFormat, rest: &str, out: &mut Answer) -> R
     let moment = Some(moment(1_790_000_000)?);
     out.escaped(lost_line(alloc, format, moment, number(rest)?)?.as_bytes());
     out.escaped(unstamped_line(alloc, format)?.as_bytes());
+    Ok(())
+}
+
+/// The line of a backup at the moment 1,790,000,000, `OCTETS MILLISECONDS`, or of one that failed, `failed`.
+pub fn backup(alloc: Global, format: LogFormat, rest: &str, out: &mut Answer) -> Result<(), Cause> {
+    let backup = match rest.split_once(' ') {
+        Some((octets, milliseconds)) => Backup::Made {
+            octets: number(octets)?,
+            milliseconds: number(milliseconds)?,
+        },
+        None => Backup::Failed,
+    };
+    let moment = Some(moment(1_790_000_000)?);
+    out.escaped(backup_line(alloc, format, moment, &backup)?.as_bytes());
     Ok(())
 }
 

@@ -5,6 +5,16 @@ use crate::texts::{
 use hallboot_tasks::{Asked, Serving, Task};
 use std::alloc::{AllocError, Global};
 
+fn backup_text(alloc: Global, serving: &Serving) -> Result<String, AllocError> {
+    match &serving.backup {
+        Some(backup) => {
+            let (path, seconds) = (backup.path.as_str(), backup.seconds);
+            format!(in alloc; ", backup {path} every {seconds}")
+        }
+        None => Ok(String::new(alloc)),
+    }
+}
+
 fn serving_text(alloc: Global, serving: &Serving) -> Result<String, AllocError> {
     let path = serving.path.as_str();
     let addresses = addresses_text(alloc, &serving.addresses)?;
@@ -20,7 +30,10 @@ fn serving_text(alloc: Global, serving: &Serving) -> Result<String, AllocError> 
         Some(log) => log.as_str(),
         None => "none",
     };
-    format!(in alloc; "serve {path} {addresses} {turns} {format} {enlists} {place}, log {log}")
+    let backup = backup_text(alloc, serving)?;
+    format!(in alloc;
+        "serve {path} {addresses} {turns} {format} {enlists} {place}, log {log}{backup}"
+    )
 }
 
 fn task_text(alloc: Global, task: Task<'_>) -> Result<String, AllocError> {
