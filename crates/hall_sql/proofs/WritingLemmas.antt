@@ -15,7 +15,7 @@ use Rattle.hall_store.specs.Rules.{AllKeep, Keeps}
 use Rattle.hall_store.specs.Versions.{HaveVersions, HasVersion}
 use Rattle.sql_schema.specs.Holding.{IsHeld, Holds, Leaves}
 use Rattle.sql_schema.specs.Spelling.{SpellHall}
-use Rattle.sql_writes.specs.Within.{IsWithinHall}
+use Rattle.sql_writes.specs.Within.{IsWithinHall, IsRowWritten}
 use Rattle.hall_sql.specs.Applying.{IsTold}
 
 still : (s : State) → Survives s s (λ _. ⊥)
@@ -74,22 +74,20 @@ keeps_on : (s0 s t : State) → KeepsCommit s0 s → KeepsCommit s t → KeepsCo
 keeps_on s0 s t one two = record { was_open = λ live. one.was_open (two.was_open live); committed = λ live. two.committed live ∙ one.committed (two.was_open live) }
 
 -- one more row was written
-pub steps : (s0 s t : State) (w : RowWrite) (left all : List RowWrite) → Going s0 s (w ∷ left) all → Survives s t (λ _. ⊥)
-    → (HasCleanDisk t → IsTrue s.in_transaction → KeepsCommit s t) → (HasCleanDisk t → IsTrue s.in_transaction → t.in_transaction ≡ true)
-    → (HasCleanDisk t → (before h : Hall) → IsWithinHall s before h → Keeps w h → IsWithinHall t before (written w h))
-    → (HasCleanDisk t → (before h : Hall) → IsWithinHall s before h → Keeps w h → HasVersion w h) → Going s0 t left all
-steps s0 s t w left all going more kept mode made version = record {
+pub steps : {Y E : Type 0} (s0 s t : State) (y : Y) (w : RowWrite) (left all : List RowWrite) → Going s0 s (w ∷ left) all → Survives s t (λ _. ⊥) → (HasCleanDisk t → IsRowWritten s t {E = E} (Ok y) w) → Going s0 t left all
+steps s0 s t y w left all going more written_is = record {
   survives = survives_then s0 s t _ _ (λ _. ⊥) (λ _ db none. none) (λ _ db none. none) going.survives more;
-  kept = λ clean. keeps_on s0 s t (going.kept (omega (arith, more.clean))) (kept clean (rw (going.mode (omega (arith, more.clean))) refl));
-  mode = λ clean. mode clean (rw (going.mode (omega (arith, more.clean))) refl);
+  kept = λ clean. keeps_on s0 s t (going.kept (omega (arith, more.clean))) ((written_is clean).kept (going.mode (omega (arith, more.clean))));
+  mode = λ clean. (written_is clean).mode (going.mode (omega (arith, more.clean)));
   made = λ clean h held keep.
       let before = going.made (omega (arith, more.clean)) h held keep in
+      let it = (written_is clean).gives h before.now before.within before.keep.0 in
       record {
         now = written w before.now;
-        within = made clean h before.now before.within before.keep.0;
+        within = it.0;
         keep = before.keep.1;
         ends = before.ends;
-        versions = λ have. before.versions (version clean h before.now before.within before.keep.0, have);
+        versions = λ have. before.versions (it.1, have);
       };
 }
 

@@ -1,3 +1,1 @@
 pub mod CountLemmas
-pub mod CountLists
-pub mod ListingLemmas

@@ -2,7 +2,5 @@
 #![tactic(auto)]
 
 mod counts;
-mod listing;
 
-pub use counts::{count_down, count_up};
-pub use listing::list_counts;
+pub use counts::{count_down, count_up, list_counts};

@@ -1,3 +1,2 @@
 pub mod ImageLemmas
-pub mod LiveLemmas
 pub mod WordLemmas

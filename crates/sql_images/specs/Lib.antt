@@ -1,2 +1,3 @@
 pub mod Images
+pub mod LiveLaws
 pub mod Lives

@@ -1,162 +1,97 @@
--- What the query of the machine that expires next answers.
-use Rattle.std.proofs.Common.{◌≡◌, ◌⊎◌, inl, inr, ◌<◌, ℕ, pos, nat_le, int_cmp, List, [], ◌∷◌, map, filter, take, slice_get, Bool, true, false, cond, Option, Some, None, Ordering, Less, Equal, Greater, refl, sym, ap, subst, ◌∙◌, arith, IsPermutation}
+-- What the query of the machine that expires next asks.
+use Rattle.std.proofs.Common.{◌≡◌, inl, inr, ◌<◌, ℕ, pos, nat_le, nat_lt, int_cmp, List, [], ◌∷◌, map, filter, take, slice_get, Bool, true, false, cond, Option, Some, None, option_map, Less, Equal, Greater, refl, ap, ap₂, subst, ◌∙◌, arith, IsPermutation}
+use Rattle.std.specs.Prelude.{unwrap_or}
 use Rattle.std.specs.List.{AllByRecursion}
 use Rattle.std.specs.Option.{option_to_list}
-use Rattle.std.specs.Cmp.{int_cmp_is}
-use Rattle.std.specs.Ordering.{nat_cmp, is_le}
-use Rattle.std.proofs.lemmas.Int.{ints}
+use Rattle.std.specs.Ordering.{is_le, is_lt, match_ordering}
 use Rattle.std.proofs.lemmas.Bool.Decides.{nat_tests}
-use Rattle.std.proofs.lemmas.List.Sorted.{IsPermutation-refl, IsPermutation-cons, IsPermutation-trans, IsPermutation-middle}
+use Rattle.std.proofs.lemmas.List.Sorted.{IsPermutation-refl, IsPermutation-cons, IsPermutation-sym, IsPermutation-trans}
 use Rattle.sqlite.specs.Collation.TheVariants.{Binary}
 use Rattle.sqlite.specs.Ops.{binary, is_true, from_truth}
 use Rattle.sqlite.specs.Order.{Row}
-use Rattle.sqlite.specs.Query.{IsAnswer, Output}
-use Rattle.sqlite.specs.Program.{overlay}
-use Rattle.sqlite.specs.Tree.{Trees, IsAscending}
+use Rattle.sqlite.specs.Query.{Output}
+use Rattle.sqlite.specs.Tree.{IsAscending}
 use Rattle.sqlite_sql.specs.declared.ops.BinaryOp.TheVariants.{Compare}
 use Rattle.sqlite_sql.specs.declared.ops.CompareOp.TheVariants.{Le}
 use Rattle.sqlite_value.proofs.OrderLemmas.{value_cmp-Int}
 use Rattle.sqlite_keyed.proofs.ListLemmas.{ascending-filter, ascending_weaker}
-use Rattle.hall_types.specs.Rows.{numbers, at, listed}
+use Rattle.sqlite_trees.proofs.ListLemmas.{all-permutation}
+use Rattle.sqlite_rules.specs.Lists.{Has}
+use Rattle.hall_types.specs.Rows.{numbers, texts, listed}
 use Rattle.hall_types.specs.Hall.{Hall}
-use Rattle.hall_types.specs.Lookup.{has_come, is_before, is_due, next_expired, sooner, soonest}
+use Rattle.hall_types.specs.Lookup.{has_come, is_due, next_expired, sooner, soonest}
 use Rattle.hall_types.specs.LookupLaws.{next_expired-is}
 use Rattle.hall_types.specs.declared.machine.Machine.{Machine}
-use Rattle.sql_schema.specs.Queries.{at_most, cell, rising, IsBefore}
-use Rattle.sql_schema.specs.QueryLaws.{items_by}
-use Rattle.sql_schema.specs.ListLaws.{and_true, all_passed, IsPermutation-map}
-use Rattle.sql_schema.specs.MachineStatements.{find_expired_query}
 use Rattle.sql_schema.specs.Columns.{number, or_null, machine_columns, machine_values}
-use Rattle.sql_schema.specs.ListedLaws.{AreRising-listed}
+use Rattle.sql_schema.specs.ListLaws.{and_true, all_passed, IsPermutation-map}
+use Rattle.sql_schema.specs.ListedLaws.{AreRising, AreRising-put_in, put_in, put_in-permutes}
+use Rattle.sql_schema.specs.MachineStatements.{find_expired_query}
+use Rattle.sql_schema.specs.MachineStatementLaws.{find_expired_is}
 use Rattle.sql_schema.specs.NumberedLaws.{number_order}
-use Rattle.sql_schema.specs.Spelling.{SpellHall}
-use Rattle.sql_machine_parts.proofs.MachineLemmas.{machines_stand}
+use Rattle.sql_schema.specs.Queries.{at_most, rising, IsBefore}
+use Rattle.sql_schema.specs.QueryLaws.{items_by}
+use Rattle.sql_rows.specs.Numbered.{shown}
+use Rattle.sql_machine_parts.specs.MachineRows.{AsksMachine, row_of, row_values}
+use Rattle.sql_rows.specs.AskingLaws.{asks_by}
+use Rattle.sql_machine_parts.proofs.MachineLemmas.{in_number_order, machines_stand}
+use Rattle.sql_schema.specs.declared.machine_statements.TheConstants.{FIND_EXPIRED}
 
--- ---- machines in the order of their deadlines, those with the same one in the order in which they stand
-
-abbrev placed : Machine → List Machine → List Machine
-placed m [] = m ∷ []
-placed m (x ∷ xs) = cond (is_before x.deadline m.deadline) (x ∷ placed m xs) (m ∷ x ∷ xs)
-
-abbrev in_turn : List Machine → List Machine
-in_turn [] = []
-in_turn (m ∷ ms) = placed m (in_turn ms)
-
-first_placed : (m : Machine) (xs : List Machine) → slice_get (placed m xs) 0 ≡ Some (sooner m (slice_get xs 0))
-first_placed m [] = refl
-first_placed m (x ∷ xs) = go (is_before x.deadline m.deadline)
-  where
-    go : (b : Bool) → slice_get (cond b (x ∷ placed m xs) (m ∷ x ∷ xs)) 0 ≡ Some (cond b x m)
-    go true = refl
-    go false = refl
-
--- the first of them is the one that expires next
-first_is_soonest : (ms : List Machine) → slice_get (in_turn ms) 0 ≡ soonest ms
-first_is_soonest [] = refl
-first_is_soonest (m ∷ ms) = first_placed m (in_turn ms) ∙ ap (λ o. Some (sooner m o)) (first_is_soonest ms)
-
-placed_permutes : (m : Machine) (xs : List Machine) → IsPermutation (placed m xs) (m ∷ xs)
-placed_permutes m [] = IsPermutation-refl _
-placed_permutes m (x ∷ xs) = go (is_before x.deadline m.deadline) (placed_permutes m xs)
-  where
-    go : (b : Bool) → IsPermutation (placed m xs) (m ∷ xs) → IsPermutation (cond b (x ∷ placed m xs) (m ∷ x ∷ xs)) (m ∷ x ∷ xs)
-    go true more = IsPermutation-trans _ _ _ (IsPermutation-cons x _ _ more) (IsPermutation-middle (x ∷ []) m xs)
-    go false more = IsPermutation-refl _
-
-in_turn_permutes : (ms : List Machine) → IsPermutation (in_turn ms) ms
-in_turn_permutes [] = IsPermutation-refl _
-in_turn_permutes (m ∷ ms) = IsPermutation-trans _ _ _ (placed_permutes m (in_turn ms)) (IsPermutation-cons m _ _ (in_turn_permutes ms))
-
-all_placed : (P : Machine → Type 0) (m : Machine) (xs : List Machine) → P m → AllByRecursion P xs → AllByRecursion P (placed m xs)
-all_placed P m [] fits all = (fits, tt)
-all_placed P m (x ∷ xs) fits all = go (is_before x.deadline m.deadline) (all_placed P m xs fits all.1)
-  where
-    go : (b : Bool) → AllByRecursion P (placed m xs) → AllByRecursion P (cond b (x ∷ placed m xs) (m ∷ x ∷ xs))
-    go true more = (all.0, more)
-    go false more = (fits, all)
-
-all_in_turn : (P : Machine → Type 0) (ms : List Machine) → AllByRecursion P ms → AllByRecursion P (in_turn ms)
-all_in_turn P [] all = tt
-all_in_turn P (m ∷ ms) all = all_placed P m (in_turn ms) all.0 (all_in_turn P ms all.1)
-
--- ---- the order
+-- ---- machines with deadlines, in the order of these and then of their numbers
 
 abbrev HasDeadline : Machine → Type 0
 HasDeadline m = (d : ℕ) × (m.deadline ≡ Some d)
 
--- the first deadline is before the second one, or they are the same and the first number is the lower one
-abbrev Lower : ℕ → ℕ → ℕ → ℕ → Type 0
-Lower d e i j = (d < e) ⊎ ((d ≡ e) × (i < j))
+abbrev AreNumbered : List Machine → Type 0
+AreNumbered = IsAscending (λ (a b : Machine). a.id < b.id)
 
-record Before (a b : Machine) : Type 0 where
-  one : ℕ
-  other : ℕ
-  first : a.deadline ≡ Some one
-  second : b.deadline ≡ Some other
-  lower : Lower one other a.id b.id
+-- what a machine is ordered by
+abbrev turn : Machine → List ℕ
+turn m = unwrap_or m.deadline 0 ∷ m.id ∷ []
 
-lower_through : (d e f i j k : ℕ) → Lower d e i j → Lower e f j k → Lower d f i k
-lower_through d e f i j k (inl a) (inl b) = inl (omega (arith, a, b))
-lower_through d e f i j k (inl a) (inr b) = inl (let same = b.0 in omega (arith, a, same))
-lower_through d e f i j k (inr a) (inl b) = inl (let same = a.0 in omega (arith, b, same))
-lower_through d e f i j k (inr a) (inr b) = inr (a.0 ∙ b.0, let low = a.1 in let next = b.1 in omega (arith, low, next))
+abbrev in_turn : List Machine → List Machine
+in_turn [] = []
+in_turn (m ∷ ms) = put_in texts turn (in_turn ms) m
 
-through : (a b c : Machine) → Before a b → Before b c → Before a c
-through a b c l r =
-    let e : Some r.one ≡ Some l.other = sym r.first ∙ l.second in
-    let same : r.one ≡ l.other = cc in
-    record {
-      one = l.one;
-      other = r.other;
-      first = l.first;
-      second = r.second;
-      lower = lower_through l.one l.other r.other a.id b.id c.id l.lower (subst (λ d. Lower d r.other b.id c.id) same r.lower);
-    }
+in_turn_rises : (ms : List Machine) → AreRising texts turn (in_turn ms)
+in_turn_rises [] = tt
+in_turn_rises (m ∷ ms) = AreRising-put_in texts turn (in_turn ms) m (in_turn_rises ms)
 
-earlier : (d e i j : ℕ) → is_before (Some d) (Some e) ≡ true → Lower d e i j
-earlier d e i j is = inl (grind (arith, nat_tests))
+all_later : (m : Machine) (xs : List Machine) → AllByRecursion (λ (x : Machine). m.id < x.id) xs → (x : Machine) → Has xs x → turn x ≡ turn m → ⊥
+all_later m [] later x h same = h
+all_later m (y ∷ xs) later x (inl is) same = let e : x.id ≡ m.id = cc in let k : x.id ≡ y.id = ap (λ (z : Machine). z.id) is in let low = later.0 in omega (arith, e, k, low)
+all_later m (y ∷ xs) later x (inr h) same = all_later m xs later.1 x h same
 
-no_earlier : (d e i j : ℕ) → is_before (Some e) (Some d) ≡ false → i < j → Lower d e i j
-no_earlier d e i j is low = go (nat_cmp d e) refl
-  where
-    go : (o : Ordering) → nat_cmp d e ≡ o → Lower d e i j
-    go Less c = inl (grind (arith, nat_tests))
-    go Equal c = inr (grind (arith, nat_tests), low)
-    go Greater c = absurd (grind (arith, nat_tests))
+in_turn_permutes : (ms : List Machine) → AreNumbered ms → IsPermutation (in_turn ms) ms
+in_turn_permutes [] up = IsPermutation-refl _
+in_turn_permutes (m ∷ ms) up =
+    let same = in_turn_permutes ms up.1 in
+    IsPermutation-trans _ _ _ (put_in-permutes texts turn m (in_turn ms) (all_later m (in_turn ms) (all-permutation (λ (x : Machine). m.id < x.id) ms (in_turn ms) (IsPermutation-sym _ _ same) up.0)))
+    (IsPermutation-cons m _ _ same)
 
-placed_rises : (m : Machine) → HasDeadline m → (xs : List Machine) → AllByRecursion HasDeadline xs → AllByRecursion (λ x. m.id < x.id) xs → IsAscending Before xs → IsAscending Before (placed m xs)
-placed_rises m due [] all later up = (tt, tt)
-placed_rises m due (x ∷ xs) all later up = go (is_before x.deadline m.deadline) refl (placed_rises m due xs all.1 later.1 up.1)
-  where
-    after : Before m x → (ys : List Machine) → AllByRecursion (Before x) ys → AllByRecursion (Before m) ys
-    after low [] h = tt
-    after low (y ∷ ys) h = (through m x y low h.0, after low ys h.1)
+-- of two machines with deadlines the one with the higher number comes first only if its deadline is before the other's
+comes_first : (d e i j : ℕ) → j < i → is_lt (texts.cmp (d ∷ i ∷ []) (e ∷ j ∷ [])) ≡ nat_lt d e
+unfolding texts
+comes_first d e i j low = grind (arith, nat_tests)
 
-    go : (b : Bool) → is_before x.deadline m.deadline ≡ b → IsAscending Before (placed m xs) → IsAscending Before (cond b (x ∷ placed m xs) (m ∷ x ∷ xs))
-    go true e more =
-        let low : Before x m = record { one = all.0.0; other = due.0; first = all.0.1; second = due.1; lower = earlier all.0.0 due.0 x.id m.id (rw (all.0.1, due.1) at e) } in
-        (all_placed (Before x) m xs low up.0, more)
-    go false e more =
-        let low : Before m x = record { one = due.0; other = all.0.0; first = due.1; second = all.0.1; lower = no_earlier due.0 all.0.0 m.id x.id (rw (all.0.1, due.1) at e) later.0 } in
-        ((low, after low xs up.0), up)
+first_put : (m : Machine) (xs : List Machine) → HasDeadline m → AllByRecursion (λ (x : Machine). m.id < x.id) xs → AllByRecursion HasDeadline xs → slice_get (put_in texts turn xs m) 0 ≡ Some (sooner m (slice_get xs 0))
+first_put m [] due later all = refl
+first_put m (x ∷ xs) due later all =
+    elim (texts.cmp (turn x) (turn m)) as (λ o. slice_get (match_ordering o (x ∷ put_in texts turn xs m) (m ∷ xs) (m ∷ x ∷ xs)) 0 ≡ Some (cond (is_lt o) x m))
+    [ Less ↦ refl | Equal ↦ refl | Greater ↦ refl ]
+    ∙ ap (λ b. Some (cond b x m)) (rw (all.0.1, due.1) (comes_first all.0.0 due.0 x.id m.id later.0))
 
-in_turn_rises : (ms : List Machine) → AllByRecursion HasDeadline ms → IsAscending (λ (a b : Machine). a.id < b.id) ms → IsAscending Before (in_turn ms)
-in_turn_rises [] due up = tt
-in_turn_rises (m ∷ ms) due up =
-    placed_rises m due.0 (in_turn ms) (all_in_turn HasDeadline ms due.1) (all_in_turn (λ x. m.id < x.id) ms up.0) (in_turn_rises ms due.1 up.1)
+-- the first of them is the one that expires next
+first_is_soonest : (ms : List Machine) → AreNumbered ms → AllByRecursion HasDeadline ms → slice_get (in_turn ms) 0 ≡ soonest ms
+first_is_soonest [] up due = refl
+first_is_soonest (m ∷ ms) up due =
+    let back = IsPermutation-sym _ _ (in_turn_permutes ms up.1) in
+    first_put m (in_turn ms) due.0 (all-permutation (λ (x : Machine). m.id < x.id) ms (in_turn ms) back up.0) (all-permutation HasDeadline ms (in_turn ms) back due.1)
+    ∙ ap (λ o. Some (sooner m o)) (first_is_soonest ms up.1 due.1)
 
 -- ---- the query
 
 due_has_deadline : (moment : ℕ) (m : Machine) → is_due moment m ≡ true → HasDeadline m
-due_has_deadline moment m is = go m.deadline refl is
-  where
-    go : (o : Option ℕ) → m.deadline ≡ o → has_come moment o ≡ true → HasDeadline m
-    go None e h = absurd (let k = h in cc)
-    go (Some d) e h = (d, e)
-
-below : (a b : ℕ) → numbers.cmp a b ≡ Less → a < b
-unfolding numbers
-below a b is = grind (arith, nat_tests)
+due_has_deadline moment m = elim m.deadline as (λ o. has_come moment o ≡ true → (d : ℕ) × (o ≡ Some d)) [ None ↦ λ h. absurd (let k = h in cc) | Some d ↦ λ h. (d, refl) ]
 
 truth : (t : Bool) → is_true (from_truth (Some t)) ≡ t
 truth true = refl
@@ -171,39 +106,35 @@ unfolding binary
 due_test None moment = refl
 due_test (Some d) moment = rw (value_cmp-Int (pos d) (pos moment)) (truth (is_le (int_cmp (pos d) (pos moment))) ∙ at_most_is d moment)
 
+-- what a machine with a deadline is ordered by and shown as
 abbrev output_for : Machine → Output
-output_for m = (or_null number m.deadline ∷ number m.id ∷ [], machine_values m)
+output_for m = (map number (turn m), machine_values m)
 
-less_is : (a b : ℕ) → a < b → int_cmp (pos a) (pos b) ≡ Less
-less_is a b low = sym (int_cmp_is (pos a) (pos b) Less (omega (arith, ints, low)))
+outputs_are : (ms : List Machine) → AllByRecursion HasDeadline ms → map output_for ms ≡ map (λ (m : Machine). (or_null number m.deadline ∷ number m.id ∷ [], machine_values m)) ms
+outputs_are [] due = refl
+outputs_are (m ∷ ms) due = ap₂ (λ x xs. x ∷ xs) (rw due.0.1 refl) (outputs_are ms due.1)
 
-equal_is : (a b : ℕ) → a ≡ b → int_cmp (pos a) (pos b) ≡ Equal
-equal_is a b same = sym (int_cmp_is (pos a) (pos b) Equal (ap pos same))
+in_order : (d e i j : ℕ) (r s : Row) → texts.cmp (d ∷ i ∷ []) (e ∷ j ∷ []) ≡ Less → IsBefore find_expired_query (number d ∷ number i ∷ [], r) (number e ∷ number j ∷ [], s)
+unfolding texts numbers
+in_order d e i j r s low = rw (value_cmp-Int (pos d) (pos e), number_order d e, value_cmp-Int (pos i) (pos j), number_order i j) low
 
-keys_lower : (d e i j : ℕ) (r s : Row) → Lower d e i j → IsBefore find_expired_query (number d ∷ number i ∷ [], r) (number e ∷ number j ∷ [], s)
-keys_lower d e i j r s (inl low) = rw (value_cmp-Int (pos d) (pos e), less_is d e low) refl
-keys_lower d e i j r s (inr it) = rw (value_cmp-Int (pos d) (pos e), equal_is d e it.0, value_cmp-Int (pos i) (pos j), less_is i j it.1) refl
-
-output_before : (a b : Machine) → Before a b → IsBefore find_expired_query (output_for a) (output_for b)
-output_before a b low = rw (low.first, low.second) (keys_lower low.one low.other a.id b.id (machine_values a) (machine_values b) low.lower)
-
-one_shown : (ms : List Machine) → take 1 (map machine_values ms) ≡ map machine_values (option_to_list (slice_get ms 0))
+one_shown : (ms : List Machine) → take 1 (map machine_values ms) ≡ map row_values (option_to_list (option_map row_of (slice_get ms 0)))
 one_shown [] = refl
 one_shown (m ∷ ms) = refl
 
-pub finds_expired : (db : Trees) (h : Hall) → SpellHall db h → (moment : ℕ) (rows : List Row) → IsAnswer find_expired_query (overlay db []) (number moment ∷ []) rows
-    → rows ≡ map machine_values (option_to_list (next_expired h moment))
-finds_expired db h spells moment rows a =
-    let machines = spells.hall_rows.hall.machines in
-    let tables = spells.tables.machines in
-    let due = filter (is_due moment) (listed machines) in
-    items_by (λ (x : Machine). pos x.id) machine_columns (at_most 12 0 ∷ []) (number moment ∷ []) (is_due moment) (λ m. and_true _ ∙ due_test m.deadline moment) _ 11
-    (cell 0 ∷ cell 2 ∷ cell 3 ∷ cell 4 ∷ cell 5 ∷ cell 6 ∷ cell 7 ∷ cell 8 ∷ cell 9 ∷ cell 10 ∷ cell 11 ∷ cell 12 ∷ cell 13 ∷ cell 14 ∷ cell 15 ∷ []) (rising 12 ∷ rising 0 ∷ [])
-    (listed machines) db tables.spelt refl rows a output_for (in_turn due) (IsPermutation-map output_for _ _ (in_turn_permutes due))
-    (ascending_weaker Before _ output_before (in_turn due) (in_turn_rises due (all_passed HasDeadline (is_due moment) (due_has_deadline moment) (listed machines))
-    (ascending-filter _ (is_due moment) (listed machines) (ascending_weaker _ _ (λ x y low. below x.id y.id low) (listed machines) (AreRising-listed numbers (λ (m : Machine). m.id) machines tables.under)))))
-    ∙ one_shown (in_turn due) ∙ ap (λ o. map machine_values (option_to_list o)) (first_is_soonest due)
-    ∙ ap (λ (x : Hall). map machine_values (option_to_list (next_expired x moment))) spells.agrees.hall
-
-pub expired_recorded : (db : Trees) (h : Hall) → SpellHall db h → (moment : ℕ) (m : Machine) → next_expired h moment ≡ Some m → at h.machines m.id ≡ Some m
-expired_recorded db h spells moment m is = (next_expired-is h (machines_stand db h spells) moment m is).recorded
+pub finds_expired : (moment : ℕ) → AsksMachine FIND_EXPIRED.now (number moment ∷ []) (λ h. next_expired h moment)
+finds_expired moment = record {
+  asks = asks_by find_expired_is (λ db h spells rows a.
+      let machines = spells.hall_rows.hall.machines in
+      let due = filter (is_due moment) (listed machines) in
+      let has = all_passed HasDeadline (is_due moment) (due_has_deadline moment) (listed machines) in
+      let up = ascending-filter _ (is_due moment) (listed machines) (in_number_order machines spells.tables.machines.under) in
+      items_by (λ (x : Machine). pos x.id) machine_columns (at_most 12 0 ∷ []) (number moment ∷ []) (is_due moment) (λ m. and_true _ ∙ due_test m.deadline moment) _ 11
+      (shown 14) (rising 12 ∷ rising 0 ∷ [])
+      (listed machines) db spells.tables.machines.spelt refl rows a output_for (in_turn due)
+      (subst (IsPermutation (map output_for (in_turn due))) (outputs_are due has) (IsPermutation-map output_for _ _ (in_turn_permutes due up)))
+      (ascending_weaker _ _ (λ x y. in_order _ _ x.id y.id (machine_values x) (machine_values y)) (in_turn due) (in_turn_rises due))
+      ∙ one_shown (in_turn due) ∙ ap (λ o. map row_values (option_to_list (option_map row_of o))) (first_is_soonest due up has)
+      ∙ ap (λ (x : Hall). map row_values (option_to_list (option_map row_of (next_expired x moment)))) spells.agrees.hall);
+  recorded = λ db h spells m is. (next_expired-is h (machines_stand db h spells) moment m is).recorded;
+}

@@ -1,7 +1,5 @@
-pub mod AskedLemmas
 pub mod ExpiryLemmas
-pub mod InterfaceLemmas
 pub mod JoinLemmas
+pub mod ListLemmas
 pub mod MachineLemmas
-pub mod RowLemmas
 pub mod WipeLemmas

@@ -1,5 +1,5 @@
 -- How the disks of machines are erased.
-use Rattle.std.specs.Prelude.{ℕ, List, [], ◌∷◌, Option, Some, None, option_map, option_and_then}
+use Rattle.std.specs.Prelude.{ℕ, List, [], ◌∷◌, Option, Some, None, map, option_and_then}
 use Rattle.std.specs.List.{filter_map}
 use Rattle.sqlite.specs.Order.{Row}
 use Rattle.hall_types.specs.Kinds.{erase_number}
@@ -8,7 +8,7 @@ use Rattle.hall_types.specs.Hall.{Hall}
 use Rattle.hall_types.specs.declared.kinds.Erase.{Erase}
 use Rattle.hall_types.specs.declared.machine.Machine.{Machine}
 use Rattle.sql_schema.specs.Columns.{Wipe, number}
-use Rattle.sql_schema.specs.Spelling.{HallRows}
+use Rattle.sql_schema.specs.Spelling.{HallRows, wipe_of}
 use Rattle.sql_machine_parts.specs.declared.wipes.Erasing.{Erasing}
 
 -- this machine's disks are to be erased so, or not at all
@@ -28,13 +28,10 @@ erase_of h id = option_and_then (λ (m : Machine). m.erase) (at h.machines id)
 abbrev pub erasing_values : Erasing → Row
 erasing_values e = number e.machine ∷ number (erase_number e.erase) ∷ []
 
--- a machine's kind of erasing, if its disks are to be erased
-abbrev pub erasing_of : Machine → Option Erasing
-erasing_of m = option_map (λ erase. record { machine = m.id; erase = erase }) m.erase
-
-abbrev pub found_erasing : Hall → ℕ → Option Erasing
-found_erasing h id = option_and_then erasing_of (at h.machines id)
+-- what a row of the table is read as
+abbrev pub erasing : Wipe → Erasing
+erasing w = record { machine = w.machine; erase = w.erase }
 
 -- the machines whose disks are to be erased, by number
 abbrev pub erasings : Hall → List Erasing
-erasings h = filter_map erasing_of (listed h.machines)
+erasings h = map erasing (filter_map wipe_of (listed h.machines))

@@ -3,18 +3,16 @@
 #![tactic(auto)]
 
 mod columns;
-mod expiring;
-mod finding;
 mod interfaces;
 mod listing;
+mod machines;
 mod rows;
 mod wipes;
 
-pub use expiring::next_expired;
-pub use finding::{find_machine, find_uuid, has_machine_with_image};
 pub use interfaces::{
-    add_interface, find_interface, interfaces_of, list_interfaces, remove_interface,
+    Interfaces, add_interface, find_interface, interfaces_of, list_interfaces, remove_interface,
     remove_interfaces,
 };
 pub use listing::list_machines;
-pub use wipes::{Erasing, find_wipe, list_wipes, put_wipe};
+pub use machines::{find_machine, find_uuid, has_machine_with_image, next_expired};
+pub use wipes::{Erasing, Wipes, find_wipe, list_wipes, put_wipe};

@@ -1,3 +1,1 @@
-pub mod BootLemmas
 pub mod MachineLemmas
-pub mod OrderLemmas

@@ -32,7 +32,6 @@ use Rattle.sql_schema.specs.Queries.{parameter, equals, cell}
 use Rattle.sql_schema.specs.ListLaws.{and_true, any_along}
 use Rattle.sql_schema.specs.Rows.{Entry, row_of, rowid_of, item_of}
 use Rattle.sql_schema.specs.ValueLaws as value
-use Rattle.sql_schema.specs.MachineStatements.{add_machine_text, set_machine_text, remove_machine_text}
 use Rattle.sql_schema.specs.MachineStatementLaws.{add_machine_is, set_machine_is, remove_machine_is}
 use Rattle.sql_schema.specs.Tables.{hall_schema, machines_table, interfaces_table, boots_table, orders_table, wipes_table, belongs_to_machine}
 use Rattle.sql_schema.specs.CascadeLaws.{never_follows, machines_go_alone}
@@ -44,6 +43,7 @@ use Rattle.sql_schema.specs.Holding.{IsWithin}
 use Rattle.sql_schema.specs.HoldingLaws.{within, shown_within}
 use Rattle.sql_schema.specs.NumberedLaws.{adds_numbered, sets_numbered_if, removes_numbered, number_key}
 use Rattle.sql_machines.specs.Machines.{with_machine, without_row, checked_values, HasNoChild, HasVersion}
+use Rattle.sql_schema.specs.declared.machine_statements.TheConstants.{ADD_MACHINE, REMOVE_MACHINE, SET_MACHINE}
 
 -- ---- a column that may be NULL keeps its values
 
@@ -79,10 +79,10 @@ was_free rows id under free = none (at rows id) (sym (ap is_some found) ∙ free
     none None e = refl
     none (Some m) e = cc
 
-pub adds_machine : (old new : State) (before : Hall) (c : HallRows) → IsWithin old before c → (m : Machine) (count : ℕ) → ExecutesInside 0 add_machine_text (machine_values m) old new (Ok count)
+pub adds_machine : (old new : State) (before : Hall) (c : HallRows) → IsWithin old before c → (m : Machine) (count : ℕ) → ExecutesInside 0 ADD_MACHINE.now (machine_values m) old new (Ok count)
     → IsWithin new before (with_machine c m) × (at c.hall.machines m.id ≡ None)
 adds_machine old new before c held m count ran =
-    let it = adds_numbered (λ (x : Machine). x.id) machine_columns (old.now.trees 11) c.hall.machines held.spelt.tables.machines hall_schema 6 machines_table refl old new held.spelt.schema refl add_machine_text (machine_values m)
+    let it = adds_numbered (λ (x : Machine). x.id) machine_columns (old.now.trees 11) c.hall.machines held.spelt.tables.machines hall_schema 6 machines_table refl old new held.spelt.schema refl ADD_MACHINE.now (machine_values m)
     (parameter 0 ∷ lit Null ∷ parameter 1 ∷ parameter 2 ∷ parameter 3 ∷ parameter 4 ∷ parameter 5 ∷ parameter 6 ∷ parameter 7 ∷ parameter 8 ∷ parameter 9 ∷ parameter 10 ∷ parameter 11 ∷ parameter 12 ∷ parameter 13 ∷ parameter 14 ∷ []) 16 add_machine_is count ran.0 m (number m.id ∷ machine_columns m) refl
     (rw (
       value.cast-Int (pos m.id),
@@ -100,13 +100,13 @@ adds_machine old new before c held m count ran =
       value.cast-Int (pos m.boots),
       optional_number m.waiting,
     ) refl) in
-    (within add_machine_text (machine_values m) old new before c _ count held ran (sets_machines old.now new.now c held.spelt it.0 _ it.1 it.2), was_free c.hall.machines m.id held.spelt.tables.machines.under it.3)
+    (within ADD_MACHINE.now (machine_values m) old new before c _ count held ran (sets_machines old.now new.now c held.spelt it.0 _ it.1 it.2), was_free c.hall.machines m.id held.spelt.tables.machines.under it.3)
 
 -- the row is changed where its version is the one that was read, and one row comes back for it; else none comes back
-pub sets_machine : (old new : State) (before : Hall) (c : HallRows) → IsWithin old before c → (m : Machine) (was : ℕ) (rows : List Row) → Shown set_machine_text (checked_values m was) old new rows
+pub sets_machine : (old new : State) (before : Hall) (c : HallRows) → IsWithin old before c → (m : Machine) (was : ℕ) (rows : List Row) → Shown SET_MACHINE.now (checked_values m was) old new rows
     → (length rows ≡ 0) ⊎ ((length rows ≡ 1) × IsWithin new before (with_machine c m) × HasVersion c m.id was)
 sets_machine old new before c held m was rows shown =
-    let it = sets_numbered_if (λ (x : Machine). x.id) machine_columns (old.now.trees 11) c.hall.machines held.spelt.tables.machines hall_schema 6 machines_table refl old new held.spelt.schema refl set_machine_text (checked_values m was)
+    let it = sets_numbered_if (λ (x : Machine). x.id) machine_columns (old.now.trees 11) c.hall.machines held.spelt.tables.machines hall_schema 6 machines_table refl old new held.spelt.schema refl SET_MACHINE.now (checked_values m was)
     (equals 0 0 ∷ equals 11 15 ∷ []) refl (cell 0 ∷ lit Null ∷ parameter 1 ∷ parameter 2 ∷ parameter 3 ∷ parameter 4 ∷ parameter 5 ∷ parameter 6 ∷ parameter 7 ∷ parameter 8 ∷ parameter 9 ∷ parameter 10 ∷ parameter 11 ∷ parameter 12 ∷ parameter 13 ∷ parameter 14 ∷ []) never_follows m (λ y. same_key numbers y.id m.id && same_key numbers y.version was)
     (λ y. ap₂ (λ a b. a && (b && true)) (value.same_number (pos y.id) (pos m.id) ∙ number_key y.id m.id) (value.same_number (pos y.version) (pos was) ∙ number_key y.version was)
     ∙ ap (λ b. same_key numbers y.id m.id && b) (and_true (same_key numbers y.version was)))
@@ -129,7 +129,7 @@ sets_machine old new before c held m was rows shown =
     ) refl) _ _ 1 refl set_machine_is rows shown (λ y. same_key numbers y.version was) (λ y. refl) in
     elim it.2 [
       | inl none ↦ inl none
-      | inr one ↦ inr (one.0, shown_within set_machine_text (checked_values m was) _ _ set_machine_is old new before c _ rows held shown (sets_machines old.now new.now c held.spelt it.0 _ it.1 one.2), (one.1.0, one.1.1, key-same numbers one.1.0.version was one.1.2))
+      | inr one ↦ inr (one.0, shown_within SET_MACHINE.now (checked_values m was) _ _ set_machine_is old new before c _ rows held shown (sets_machines old.now new.now c held.spelt it.0 _ it.1 one.2), (one.1.0, one.1.1, key-same numbers one.1.0.version was one.1.2))
     ]
   where
     both_first : (a b : Bool) → (a && b) ≡ true → a ≡ true
@@ -150,10 +150,10 @@ mapped_any : {Y Z : Type 0} (p : Z → Bool) (g : Y → Z) (ys : List Y) → lis
 mapped_any p g [] = refl
 mapped_any p g (y ∷ ys) = ap (λ b. p (g y) || b) (mapped_any p g ys)
 
-pub removes_machine : (old new : State) (before : Hall) (c : HallRows) → IsWithin old before c → (id : ℕ) → HasNoChild c id → (count : ℕ) → ExecutesInside 0 remove_machine_text (number id ∷ []) old new (Ok count) → IsWithin new before (without_row c id)
+pub removes_machine : (old new : State) (before : Hall) (c : HallRows) → IsWithin old before c → (id : ℕ) → HasNoChild c id → (count : ℕ) → ExecutesInside 0 REMOVE_MACHINE.now (number id ∷ []) old new (Ok count) → IsWithin new before (without_row c id)
 removes_machine old new before c held id alone count ran =
     let tables = held.spelt.tables in
-    let it = removes_numbered (λ (x : Machine). x.id) machine_columns (old.now.trees 11) c.hall.machines tables.machines hall_schema 6 machines_table refl old new held.spelt.schema refl remove_machine_text (number id ∷ [])
+    let it = removes_numbered (λ (x : Machine). x.id) machine_columns (old.now.trees 11) c.hall.machines tables.machines hall_schema 6 machines_table refl old new held.spelt.schema refl REMOVE_MACHINE.now (number id ∷ [])
     (equals 0 0 ∷ []) refl remove_machine_is count ran.0 id (λ x. and_true _ ∙ value.same_number (pos x.id) (pos id) ∙ number_key x.id id)
     (λ mid ids same rest.
     let permuted = subst (λ l. IsPermutation (map (λ (x : Machine). pos x.id) l) ids) (filter_same _ _ (λ (x : Machine). sym (number_key x.id id)) (listed c.hall.machines)) same in
@@ -167,10 +167,10 @@ removes_machine old new before c held id alone count ran =
     orders_table (belongs_to_machine 2) refl (listed c.hall.orders) (rest.1.1.1.1.1.1.1.1.1.0 (λ e. cc) ∙ tables.orders.spelt) (none_in (λ (o : Order). o.machine) id (listed c.hall.orders) alone.orders))
     (no_row_points (λ (x : Machine). pos x.id) machine_columns (row_of (λ (w : Wipe). pos w.machine) wipe_columns) 0 (λ (w : Wipe). pos w.machine) (λ w. refl) 11 old.now.trees mid (listed c.hall.machines) tables.machines.spelt (pos id) ids permuted
     wipes_table (belongs_to_machine 0) refl (listed c.wipes) (rest.1.1.1.1.1.1.1.1.1.1.1.1.0 (λ e. cc) ∙ tables.wipes.spelt) (none_in (λ (w : Wipe). w.machine) id (listed c.wipes) alone.wipes))) in
-    within remove_machine_text (number id ∷ []) old new before c _ count held ran (sets_machines old.now new.now c held.spelt it.0 _ it.1 it.2)
+    within REMOVE_MACHINE.now (number id ∷ []) old new before c _ count held ran (sets_machines old.now new.now c held.spelt it.0 _ it.1 it.2)
 
 -- where one row was shown, it was changed
-pub changed_machine : (old new : State) (before : Hall) (c : HallRows) → IsWithin old before c → (m : Machine) (was : ℕ) (rows : List Row) → Shown set_machine_text (checked_values m was) old new rows → length rows ≡ 1
+pub changed_machine : (old new : State) (before : Hall) (c : HallRows) → IsWithin old before c → (m : Machine) (was : ℕ) (rows : List Row) → Shown SET_MACHINE.now (checked_values m was) old new rows → length rows ≡ 1
     → IsWithin new before (with_machine c m) × HasVersion c m.id was
 changed_machine old new before c held m was rows shown one =
     elim (sets_machine old new before c held m was rows shown) [ inl none ↦ absurd (let e = sym none ∙ one in omega (arith, e)) | inr it ↦ (it.1, it.2) ]

@@ -1,20 +1,21 @@
 //! The table of machines: a new row, a row that changes while it still has its version, and a row that goes after its children.
-ghost use Rattle.std.specs.Prelude.{◌≡◌, ◌⊎◌, ◌<◌, ◌≤◌, ◌^◌, length, take, IfOk, IfErr, IfSome, OnOk, IsTrue, [], ◌∷◌, None, true};
+ghost use Rattle.std.specs.Prelude.{◌≡◌, ◌⊎◌, ◌<◌, ◌≤◌, ◌^◌, length, take, IfOk, IfErr, IfSome, IsTrue, None};
 ghost use Rattle.sqlite.specs.declared.types.Value.TheVariants.{Blob, Text};
 ghost use Rattle.sqlite.specs.Held.{state};
-ghost use Rattle.sqlite.specs.State.{HasCleanDisk, ExecutesInside, KeepsCommit, Survives, Shown, FailsToQuery, IsTooLate};
+ghost use Rattle.sqlite.specs.State.{HasCleanDisk, ExecutesInside, Survives, Shown, FailsToQuery, IsTooLate};
 ghost use Rattle.sqlite.specs.Values.{bound};
 ghost use Rattle.sqlite_value.specs.Value.{owned};
 ghost use Rattle.hall_types.specs.Hall.{Hall};
 ghost use Rattle.hall_types.specs.Rows.{at};
 ghost use Rattle.hall_types.specs.Status.{status_number};
-ghost use Rattle.sql_schema.specs.MachineStatements.{add_machine_text, remove_machine_text, set_machine_text};
 ghost use Rattle.sql_schema.specs.Columns.{machine_values, number, or_null};
 ghost use Rattle.sql_schema.specs.Holding.{IsWithin};
 ghost use Rattle.sql_schema.specs.Spelling.{HallRows};
+ghost use Rattle.sql_rows.specs.Steps.{IsStep, IsWritten};
 ghost use Rattle.sql_machines.specs.Machines.{HasNoChild, HasVersion, checked_values, with_machine, without_row};
 
 use hall_types::{Machine, MachineUuid, Name, Number, Status, Version, arch_number};
+use sql_rows::write;
 use sql_schema::{
     ADD_MACHINE, REMOVE_MACHINE, SET_MACHINE, name_value, number_value, octets_value, small_value,
     truth_value,
@@ -119,7 +120,7 @@ fn row_params<'b, 'a>(checked: &'b [ValueRef<'a>]) -> &'b [ValueRef<'a>]
 fn add_raw<S: Alter>(tx: &mut Transaction<'_, S>, machine: &Machine) -> Result<usize, Error>
     requires { IfSome machine.now.deadline (λ moment. moment < 2 ^ 63) }
     ensures same_reference { tx.new.conn.ghost_name ≡ tx.old.conn.ghost_name }
-    ensures runs { HasCleanDisk (state S.Store tx.new.conn.now) → IsTrue (state S.Store tx.old.conn.now).in_transaction → ExecutesInside 0 add_machine_text (machine_values machine.now) (state S.Store tx.old.conn.now) (state S.Store tx.new.conn.now) result }
+    ensures runs { HasCleanDisk (state S.Store tx.new.conn.now) → IsTrue (state S.Store tx.old.conn.now).in_transaction → ExecutesInside 0 ADD_MACHINE.now (machine_values machine.now) (state S.Store tx.old.conn.now) (state S.Store tx.new.conn.now) result }
     ensures survives { Survives (state S.Store tx.old.conn.now) (state S.Store tx.new.conn.now) (λ _. ⊥) }
 {
     let uuid = uuid_octets(machine.uuid);
@@ -131,10 +132,7 @@ fn add_raw<S: Alter>(tx: &mut Transaction<'_, S>, machine: &Machine) -> Result<u
 pub fn add_machine<S: Alter>(tx: &mut Transaction<'_, S>, machine: &Machine) -> Result<usize, Error>
     requires { IfSome machine.now.deadline (λ moment. moment < 2 ^ 63) }
     ensures same_reference { tx.new.conn.ghost_name ≡ tx.old.conn.ghost_name }
-    ensures made { HasCleanDisk (state S.Store tx.new.conn.now) → OnOk result ((before : Hall) (c : HallRows) → IsWithin (state S.Store tx.old.conn.now) before c → IsWithin (state S.Store tx.new.conn.now) before (with_machine c machine.now)) }
-    ensures new { HasCleanDisk (state S.Store tx.new.conn.now) → OnOk result ((before : Hall) (c : HallRows) → IsWithin (state S.Store tx.old.conn.now) before c → at c.hall.machines machine.now.id ≡ None) }
-    ensures mode { HasCleanDisk (state S.Store tx.new.conn.now) → OnOk result (IsTrue (state S.Store tx.old.conn.now).in_transaction → (state S.Store tx.new.conn.now).in_transaction ≡ true) }
-    ensures kept { HasCleanDisk (state S.Store tx.new.conn.now) → IsTrue (state S.Store tx.old.conn.now).in_transaction → KeepsCommit (state S.Store tx.old.conn.now) (state S.Store tx.new.conn.now) }
+    ensures written { HasCleanDisk (state S.Store tx.new.conn.now) → IsStep (state S.Store tx.old.conn.now) (state S.Store tx.new.conn.now) result (λ _. (before : Hall) (c : HallRows) → IsWithin (state S.Store tx.old.conn.now) before c → IsWithin (state S.Store tx.new.conn.now) before (with_machine c machine.now) × (at c.hall.machines machine.now.id ≡ None)) }
     ensures survives { Survives (state S.Store tx.old.conn.now) (state S.Store tx.new.conn.now) (λ _. ⊥) }
 {
     add_raw(tx, machine)
@@ -148,8 +146,8 @@ fn set_raw<S: Alter>(
 ) -> Result<Vec<Row>, Error>
     requires { IfSome machine.now.deadline (λ moment. moment < 2 ^ 63) }
     ensures same_reference { tx.new.conn.ghost_name ≡ tx.old.conn.ghost_name }
-    ensures ok { HasCleanDisk (state S.Store tx.new.conn.now) → IfOk result (λ rows. Shown set_machine_text (checked_values machine.now was) (state S.Store tx.old.conn.now) (state S.Store tx.new.conn.now) rows.items) }
-    ensures err { HasCleanDisk (state S.Store tx.new.conn.now) → IfErr result (λ e. FailsToQuery set_machine_text (checked_values machine.now was) (state S.Store tx.old.conn.now) (state S.Store tx.new.conn.now) e ⊎ IsTooLate set_machine_text (checked_values machine.now was) (state S.Store tx.old.conn.now) (state S.Store tx.new.conn.now) e) }
+    ensures ok { HasCleanDisk (state S.Store tx.new.conn.now) → IfOk result (λ rows. Shown SET_MACHINE.now (checked_values machine.now was) (state S.Store tx.old.conn.now) (state S.Store tx.new.conn.now) rows.items) }
+    ensures err { HasCleanDisk (state S.Store tx.new.conn.now) → IfErr result (λ e. FailsToQuery SET_MACHINE.now (checked_values machine.now was) (state S.Store tx.old.conn.now) (state S.Store tx.new.conn.now) e ⊎ IsTooLate SET_MACHINE.now (checked_values machine.now was) (state S.Store tx.old.conn.now) (state S.Store tx.new.conn.now) e) }
     ensures survives { Survives (state S.Store tx.old.conn.now) (state S.Store tx.new.conn.now) (λ _. ⊥) }
 {
     let uuid = uuid_octets(machine.uuid);
@@ -166,10 +164,7 @@ pub fn set_machine<S: Alter>(
 ) -> Result<(), Error>
     requires { IfSome machine.now.deadline (λ moment. moment < 2 ^ 63) }
     ensures same_reference { tx.new.conn.ghost_name ≡ tx.old.conn.ghost_name }
-    ensures made { HasCleanDisk (state S.Store tx.new.conn.now) → OnOk result ((before : Hall) (c : HallRows) → IsWithin (state S.Store tx.old.conn.now) before c → IsWithin (state S.Store tx.new.conn.now) before (with_machine c machine.now)) }
-    ensures version { HasCleanDisk (state S.Store tx.new.conn.now) → OnOk result ((before : Hall) (c : HallRows) → IsWithin (state S.Store tx.old.conn.now) before c → HasVersion c machine.now.id was) }
-    ensures mode { HasCleanDisk (state S.Store tx.new.conn.now) → OnOk result (IsTrue (state S.Store tx.old.conn.now).in_transaction → (state S.Store tx.new.conn.now).in_transaction ≡ true) }
-    ensures kept { HasCleanDisk (state S.Store tx.new.conn.now) → IsTrue (state S.Store tx.old.conn.now).in_transaction → KeepsCommit (state S.Store tx.old.conn.now) (state S.Store tx.new.conn.now) }
+    ensures written { HasCleanDisk (state S.Store tx.new.conn.now) → IsStep (state S.Store tx.old.conn.now) (state S.Store tx.new.conn.now) result (λ _. (before : Hall) (c : HallRows) → IsWithin (state S.Store tx.old.conn.now) before c → IsWithin (state S.Store tx.new.conn.now) before (with_machine c machine.now) × HasVersion c machine.now.id was) }
     ensures survives { Survives (state S.Store tx.old.conn.now) (state S.Store tx.new.conn.now) (λ _. ⊥) }
 {
     match set_raw(tx, machine, was) {
@@ -184,22 +179,11 @@ pub fn set_machine<S: Alter>(
     }
 }
 
-// What the removal of a machine's row does.
-fn remove_raw<S: Alter>(tx: &mut Transaction<'_, S>, id: Number) -> Result<usize, Error>
-    ensures same_reference { tx.new.conn.ghost_name ≡ tx.old.conn.ghost_name }
-    ensures runs { HasCleanDisk (state S.Store tx.new.conn.now) → IsTrue (state S.Store tx.old.conn.now).in_transaction → ExecutesInside 0 remove_machine_text (number id ∷ []) (state S.Store tx.old.conn.now) (state S.Store tx.new.conn.now) result }
-    ensures survives { Survives (state S.Store tx.old.conn.now) (state S.Store tx.new.conn.now) (λ _. ⊥) }
-{
-    tx.execute(REMOVE_MACHINE, &[number_value(id.get())])
-}
-
 /// The row of the machine with this number goes, after its interfaces, boots, orders and kind of erasing went.
-pub fn remove_row<S: Alter>(tx: &mut Transaction<'_, S>, id: Number) -> Result<usize, Error>
+pub fn remove_row<S: Alter>(tx: &mut Transaction<'_, S>, id: Number) -> Result<(), Error>
     ensures same_reference { tx.new.conn.ghost_name ≡ tx.old.conn.ghost_name }
-    ensures made { HasCleanDisk (state S.Store tx.new.conn.now) → OnOk result ((before : Hall) (c : HallRows) → IsWithin (state S.Store tx.old.conn.now) before c → HasNoChild c id → IsWithin (state S.Store tx.new.conn.now) before (without_row c id)) }
-    ensures mode { HasCleanDisk (state S.Store tx.new.conn.now) → OnOk result (IsTrue (state S.Store tx.old.conn.now).in_transaction → (state S.Store tx.new.conn.now).in_transaction ≡ true) }
-    ensures kept { HasCleanDisk (state S.Store tx.new.conn.now) → IsTrue (state S.Store tx.old.conn.now).in_transaction → KeepsCommit (state S.Store tx.old.conn.now) (state S.Store tx.new.conn.now) }
+    ensures written { HasCleanDisk (state S.Store tx.new.conn.now) → IsWritten (state S.Store tx.old.conn.now) (state S.Store tx.new.conn.now) result (λ c. HasNoChild c id) (λ c. without_row c id) }
     ensures survives { Survives (state S.Store tx.old.conn.now) (state S.Store tx.new.conn.now) (λ _. ⊥) }
 {
-    remove_raw(tx, id)
+    write(tx, REMOVE_MACHINE, &[number_value(id.get())])
 }

@@ -7,8 +7,8 @@ mod operators;
 mod pools;
 mod receipts;
 
-pub use members::{add_member, find_member};
+pub use members::{Members, add_member, find_member};
 pub use numbers::{find_numbers, set_numbers};
-pub use operators::{find_operator, find_operator_with_digest, put_operator};
-pub use pools::{add_pool, find_pool};
-pub use receipts::{add_receipt, find_receipt};
+pub use operators::{Operators, find_operator, find_operator_with_digest, put_operator};
+pub use pools::{Pools, add_pool, find_pool};
+pub use receipts::{Receipts, add_receipt, find_receipt};

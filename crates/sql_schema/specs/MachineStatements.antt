@@ -14,16 +14,10 @@ use Rattle.sql_schema.specs.Queries.{parameter, cell, equals, at_most, rising, f
 use Rattle.sql_schema.specs.Statements.{only}
 
 -- a new machine
-abbrev pub add_machine_text : List ℕ
-add_machine_text = codes "INSERT INTO machines (id, arch, uuid, pool, status, owner, image, tests, back, locked, version, deadline, boot, boots, waiting) VALUES (?1, ?2, ?3, ?4, ?5, ?6, ?7, ?8, ?9, ?10, ?11, ?12, ?13, ?14, ?15)"
-
 abbrev pub add_machine_command : Command
 add_machine_command = Insert 6 (Values (parameter 0 ∷ lit Null ∷ parameter 1 ∷ parameter 2 ∷ parameter 3 ∷ parameter 4 ∷ parameter 5 ∷ parameter 6 ∷ parameter 7 ∷ parameter 8 ∷ parameter 9 ∷ parameter 10 ∷ parameter 11 ∷ parameter 12 ∷ parameter 13 ∷ parameter 14 ∷ []) 16)
 
 -- the machine with a number
-abbrev pub find_machine_text : List ℕ
-find_machine_text = codes "SELECT id, arch, uuid, pool, status, owner, image, tests, back, locked, version, deadline, boot, boots, waiting FROM machines WHERE id = ?1"
-
 abbrev pub find_machine_query : Query
 find_machine_query = from_one 11 (equals 0 0 ∷ []) (cell 0 ∷ cell 2 ∷ cell 3 ∷ cell 4 ∷ cell 5 ∷ cell 6 ∷ cell 7 ∷ cell 8 ∷ cell 9 ∷ cell 10 ∷ cell 11 ∷ cell 12 ∷ cell 13 ∷ cell 14 ∷ cell 15 ∷ []) []
 
@@ -31,9 +25,6 @@ abbrev pub find_machine_columns : List (List ℕ)
 find_machine_columns = codes "id" ∷ codes "arch" ∷ codes "uuid" ∷ codes "pool" ∷ codes "status" ∷ codes "owner" ∷ codes "image" ∷ codes "tests" ∷ codes "back" ∷ codes "locked" ∷ codes "version" ∷ codes "deadline" ∷ codes "boot" ∷ codes "boots" ∷ codes "waiting" ∷ []
 
 -- the machines with a UUID
-abbrev pub find_uuid_text : List ℕ
-find_uuid_text = codes "SELECT id FROM machines WHERE uuid = ?1 ORDER BY id"
-
 abbrev pub find_uuid_query : Query
 find_uuid_query = from_one 11 (equals 3 0 ∷ []) (cell 0 ∷ []) (rising 0 ∷ [])
 
@@ -41,9 +32,6 @@ abbrev pub find_uuid_columns : List (List ℕ)
 find_uuid_columns = codes "id" ∷ []
 
 -- the first machine that has an image
-abbrev pub find_machine_with_image_text : List ℕ
-find_machine_with_image_text = codes "SELECT id FROM machines WHERE image = ?1 ORDER BY id LIMIT 1"
-
 abbrev pub find_machine_with_image_query : Query
 find_machine_with_image_query = first_from 11 (equals 7 0 ∷ []) (cell 0 ∷ []) (rising 0 ∷ [])
 
@@ -51,9 +39,6 @@ abbrev pub find_machine_with_image_columns : List (List ℕ)
 find_machine_with_image_columns = codes "id" ∷ []
 
 -- the machine whose deadline comes first, at most at a moment
-abbrev pub find_expired_text : List ℕ
-find_expired_text = codes "SELECT id, arch, uuid, pool, status, owner, image, tests, back, locked, version, deadline, boot, boots, waiting FROM machines WHERE deadline <= ?1 ORDER BY deadline, id LIMIT 1"
-
 abbrev pub find_expired_query : Query
 find_expired_query = first_from 11 (at_most 12 0 ∷ []) (cell 0 ∷ cell 2 ∷ cell 3 ∷ cell 4 ∷ cell 5 ∷ cell 6 ∷ cell 7 ∷ cell 8 ∷ cell 9 ∷ cell 10 ∷ cell 11 ∷ cell 12 ∷ cell 13 ∷ cell 14 ∷ cell 15 ∷ []) (rising 12 ∷ rising 0 ∷ [])
 
@@ -61,9 +46,6 @@ abbrev pub find_expired_columns : List (List ℕ)
 find_expired_columns = codes "id" ∷ codes "arch" ∷ codes "uuid" ∷ codes "pool" ∷ codes "status" ∷ codes "owner" ∷ codes "image" ∷ codes "tests" ∷ codes "back" ∷ codes "locked" ∷ codes "version" ∷ codes "deadline" ∷ codes "boot" ∷ codes "boots" ∷ codes "waiting" ∷ []
 
 -- all machines
-abbrev pub list_machines_text : List ℕ
-list_machines_text = codes "SELECT id, arch, uuid, pool, status, owner, image, tests, back, locked, version, deadline, boot, boots, waiting FROM machines ORDER BY id"
-
 abbrev pub list_machines_query : Query
 list_machines_query = from_one 11 [] (cell 0 ∷ cell 2 ∷ cell 3 ∷ cell 4 ∷ cell 5 ∷ cell 6 ∷ cell 7 ∷ cell 8 ∷ cell 9 ∷ cell 10 ∷ cell 11 ∷ cell 12 ∷ cell 13 ∷ cell 14 ∷ cell 15 ∷ []) (rising 0 ∷ [])
 
@@ -71,9 +53,6 @@ abbrev pub list_machines_columns : List (List ℕ)
 list_machines_columns = codes "id" ∷ codes "arch" ∷ codes "uuid" ∷ codes "pool" ∷ codes "status" ∷ codes "owner" ∷ codes "image" ∷ codes "tests" ∷ codes "back" ∷ codes "locked" ∷ codes "version" ∷ codes "deadline" ∷ codes "boot" ∷ codes "boots" ∷ codes "waiting" ∷ []
 
 -- a machine, changed where it still has a version
-abbrev pub set_machine_text : List ℕ
-set_machine_text = codes "UPDATE machines SET arch = ?2, uuid = ?3, pool = ?4, status = ?5, owner = ?6, image = ?7, tests = ?8, back = ?9, locked = ?10, version = ?11, deadline = ?12, boot = ?13, boots = ?14, waiting = ?15 WHERE id = ?1 AND version = ?16 RETURNING version"
-
 abbrev pub set_machine_command : Command
 set_machine_command = Update 6 (only (from_one 11 (equals 0 0 ∷ equals 11 15 ∷ []) (cell 0 ∷ cell 0 ∷ lit Null ∷ parameter 1 ∷ parameter 2 ∷ parameter 3 ∷ parameter 4 ∷ parameter 5 ∷ parameter 6 ∷ parameter 7 ∷ parameter 8 ∷ parameter 9 ∷ parameter 10 ∷ parameter 11 ∷ parameter 12 ∷ parameter 13 ∷ parameter 14 ∷ []) []))
 
@@ -82,23 +61,14 @@ abbrev pub set_machine_shows : Returning
 set_machine_shows = record { names = codes "version" ∷ []; row = Values (parameter 28 ∷ []) 1 }
 
 -- the machine with a number goes
-abbrev pub remove_machine_text : List ℕ
-remove_machine_text = codes "DELETE FROM machines WHERE id = ?1"
-
 abbrev pub remove_machine_command : Command
 remove_machine_command = Delete 6 (only (from_one 11 (equals 0 0 ∷ []) (cell 0 ∷ []) []))
 
 -- how the disks of a machine are erased
-abbrev pub add_wipe_text : List ℕ
-add_wipe_text = codes "INSERT INTO wipes (machine, erase) VALUES (?1, ?2)"
-
 abbrev pub add_wipe_command : Command
 add_wipe_command = Insert 12 (Values (parameter 0 ∷ lit Null ∷ parameter 1 ∷ []) 3)
 
 -- how the disks of the machine with a number are erased
-abbrev pub find_wipe_text : List ℕ
-find_wipe_text = codes "SELECT machine, erase FROM wipes WHERE machine = ?1"
-
 abbrev pub find_wipe_query : Query
 find_wipe_query = from_one 24 (equals 0 0 ∷ []) (cell 0 ∷ cell 2 ∷ []) []
 
@@ -106,9 +76,6 @@ abbrev pub find_wipe_columns : List (List ℕ)
 find_wipe_columns = codes "machine" ∷ codes "erase" ∷ []
 
 -- how the disks of all machines are erased
-abbrev pub list_wipes_text : List ℕ
-list_wipes_text = codes "SELECT machine, erase FROM wipes ORDER BY machine"
-
 abbrev pub list_wipes_query : Query
 list_wipes_query = from_one 24 [] (cell 0 ∷ cell 2 ∷ []) (rising 0 ∷ [])
 
@@ -116,23 +83,14 @@ abbrev pub list_wipes_columns : List (List ℕ)
 list_wipes_columns = codes "machine" ∷ codes "erase" ∷ []
 
 -- the disks of the machine with a number are erased no more
-abbrev pub remove_wipe_text : List ℕ
-remove_wipe_text = codes "DELETE FROM wipes WHERE machine = ?1"
-
 abbrev pub remove_wipe_command : Command
 remove_wipe_command = Delete 12 (only (from_one 24 (equals 0 0 ∷ []) (cell 0 ∷ []) []))
 
 -- a new interface
-abbrev pub add_interface_text : List ℕ
-add_interface_text = codes "INSERT INTO interfaces (mac, machine) VALUES (?1, ?2)"
-
 abbrev pub add_interface_command : Command
 add_interface_command = Insert 7 (Values (lit Null ∷ parameter 0 ∷ parameter 1 ∷ []) 3)
 
 -- the interface with an address
-abbrev pub find_interface_text : List ℕ
-find_interface_text = codes "SELECT mac, machine FROM interfaces WHERE mac = ?1 ORDER BY mac"
-
 abbrev pub find_interface_query : Query
 find_interface_query = from_one 13 (equals 1 0 ∷ []) (cell 1 ∷ cell 2 ∷ []) (rising 1 ∷ [])
 
@@ -140,9 +98,6 @@ abbrev pub find_interface_columns : List (List ℕ)
 find_interface_columns = codes "mac" ∷ codes "machine" ∷ []
 
 -- the interfaces of a machine
-abbrev pub find_interfaces_text : List ℕ
-find_interfaces_text = codes "SELECT mac, machine FROM interfaces WHERE machine = ?1 ORDER BY mac"
-
 abbrev pub find_interfaces_query : Query
 find_interfaces_query = from_one 13 (equals 2 0 ∷ []) (cell 1 ∷ cell 2 ∷ []) (rising 1 ∷ [])
 
@@ -150,9 +105,6 @@ abbrev pub find_interfaces_columns : List (List ℕ)
 find_interfaces_columns = codes "mac" ∷ codes "machine" ∷ []
 
 -- all interfaces
-abbrev pub list_interfaces_text : List ℕ
-list_interfaces_text = codes "SELECT mac, machine FROM interfaces ORDER BY mac"
-
 abbrev pub list_interfaces_query : Query
 list_interfaces_query = from_one 13 [] (cell 1 ∷ cell 2 ∷ []) (rising 1 ∷ [])
 
@@ -160,30 +112,18 @@ abbrev pub list_interfaces_columns : List (List ℕ)
 list_interfaces_columns = codes "mac" ∷ codes "machine" ∷ []
 
 -- the interface with an address goes
-abbrev pub remove_interface_text : List ℕ
-remove_interface_text = codes "DELETE FROM interfaces WHERE mac = ?1"
-
 abbrev pub remove_interface_command : Command
 remove_interface_command = Delete 7 (only (from_one 13 (equals 1 0 ∷ []) (cell 0 ∷ []) []))
 
 -- the interfaces of a machine go
-abbrev pub remove_interfaces_text : List ℕ
-remove_interfaces_text = codes "DELETE FROM interfaces WHERE machine = ?1"
-
 abbrev pub remove_interfaces_command : Command
 remove_interfaces_command = Delete 7 (only (from_one 13 (equals 2 0 ∷ []) (cell 0 ∷ []) []))
 
 -- a new boot
-abbrev pub add_boot_text : List ℕ
-add_boot_text = codes "INSERT INTO boots (number, machine, purpose, token, stage) VALUES (?1, ?2, ?3, ?4, ?5)"
-
 abbrev pub add_boot_command : Command
 add_boot_command = Insert 8 (Values (parameter 0 ∷ lit Null ∷ parameter 1 ∷ parameter 2 ∷ parameter 3 ∷ parameter 4 ∷ []) 6)
 
 -- the boot with a number
-abbrev pub find_boot_text : List ℕ
-find_boot_text = codes "SELECT number, machine, purpose, token, stage FROM boots WHERE number = ?1"
-
 abbrev pub find_boot_query : Query
 find_boot_query = from_one 15 (equals 0 0 ∷ []) (cell 0 ∷ cell 2 ∷ cell 3 ∷ cell 4 ∷ cell 5 ∷ []) []
 
@@ -191,9 +131,6 @@ abbrev pub find_boot_columns : List (List ℕ)
 find_boot_columns = codes "number" ∷ codes "machine" ∷ codes "purpose" ∷ codes "token" ∷ codes "stage" ∷ []
 
 -- a boot, changed if it is there
-abbrev pub set_boot_text : List ℕ
-set_boot_text = codes "UPDATE boots SET machine = ?2, purpose = ?3, token = ?4, stage = ?5 WHERE number = ?1 RETURNING number"
-
 abbrev pub set_boot_command : Command
 set_boot_command = Update 8 (only (from_one 15 (equals 0 0 ∷ []) (cell 0 ∷ cell 0 ∷ lit Null ∷ parameter 1 ∷ parameter 2 ∷ parameter 3 ∷ parameter 4 ∷ []) []))
 
@@ -202,23 +139,14 @@ abbrev pub set_boot_shows : Returning
 set_boot_shows = record { names = codes "number" ∷ []; row = Values (parameter 7 ∷ []) 1 }
 
 -- the boots of a machine go
-abbrev pub remove_boots_text : List ℕ
-remove_boots_text = codes "DELETE FROM boots WHERE machine = ?1"
-
 abbrev pub remove_boots_command : Command
 remove_boots_command = Delete 8 (only (from_one 15 (equals 2 0 ∷ []) (cell 0 ∷ []) []))
 
 -- a new order
-abbrev pub add_order_text : List ℕ
-add_order_text = codes "INSERT INTO orders (number, machine, kind, stage) VALUES (?1, ?2, ?3, ?4)"
-
 abbrev pub add_order_command : Command
 add_order_command = Insert 9 (Values (parameter 0 ∷ lit Null ∷ parameter 1 ∷ parameter 2 ∷ parameter 3 ∷ []) 5)
 
 -- the order with a number
-abbrev pub find_order_text : List ℕ
-find_order_text = codes "SELECT number, machine, kind, stage FROM orders WHERE number = ?1"
-
 abbrev pub find_order_query : Query
 find_order_query = from_one 16 (equals 0 0 ∷ []) (cell 0 ∷ cell 2 ∷ cell 3 ∷ cell 4 ∷ []) []
 
@@ -226,9 +154,6 @@ abbrev pub find_order_columns : List (List ℕ)
 find_order_columns = codes "number" ∷ codes "machine" ∷ codes "kind" ∷ codes "stage" ∷ []
 
 -- the orders that wait
-abbrev pub list_waiting_orders_text : List ℕ
-list_waiting_orders_text = codes "SELECT number, machine, kind, stage FROM orders WHERE stage = 0 ORDER BY number"
-
 abbrev pub list_waiting_orders_query : Query
 list_waiting_orders_query = from_one 16 (op2 (Compare Eq Binary) (cell 4) (lit (Int (pos 0))) ∷ []) (cell 0 ∷ cell 2 ∷ cell 3 ∷ cell 4 ∷ []) (rising 0 ∷ [])
 
@@ -236,9 +161,6 @@ abbrev pub list_waiting_orders_columns : List (List ℕ)
 list_waiting_orders_columns = codes "number" ∷ codes "machine" ∷ codes "kind" ∷ codes "stage" ∷ []
 
 -- an order, changed if it is there
-abbrev pub set_order_text : List ℕ
-set_order_text = codes "UPDATE orders SET machine = ?2, kind = ?3, stage = ?4 WHERE number = ?1 RETURNING number"
-
 abbrev pub set_order_command : Command
 set_order_command = Update 9 (only (from_one 16 (equals 0 0 ∷ []) (cell 0 ∷ cell 0 ∷ lit Null ∷ parameter 1 ∷ parameter 2 ∷ parameter 3 ∷ []) []))
 
@@ -247,8 +169,5 @@ abbrev pub set_order_shows : Returning
 set_order_shows = record { names = codes "number" ∷ []; row = Values (parameter 6 ∷ []) 1 }
 
 -- the orders of a machine go
-abbrev pub remove_orders_text : List ℕ
-remove_orders_text = codes "DELETE FROM orders WHERE machine = ?1"
-
 abbrev pub remove_orders_command : Command
 remove_orders_command = Delete 9 (only (from_one 16 (equals 2 0 ∷ []) (cell 0 ∷ []) []))

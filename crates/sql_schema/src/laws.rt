@@ -13,6 +13,7 @@ use crate::machine_statements::*;
 use crate::name_statements::*;
 
 /// Each text on operators, pools, members, images, live images, receipts and the last numbers is the statement that its definition says.
+#[tactic(auto, using(crate::specs::NameStatementLaws::name_statements))]
 pub fn name_statements_mean_these()
     ensures first_numbers { IsCommandText hall_schema FIRST_NUMBERS.now first_numbers_command }
     ensures find_numbers { IsQueryText hall_schema FIND_NUMBERS.now find_numbers_query find_numbers_columns }
@@ -37,6 +38,7 @@ pub fn name_statements_mean_these()
 {}
 
 /// Each text on machines, kinds of erasing, interfaces, boots and orders is the statement that its definition says.
+#[tactic(auto, using(crate::specs::MachineStatementLaws::machine_statements))]
 pub fn machine_statements_mean_these()
     ensures add_machine { IsCommandText hall_schema ADD_MACHINE.now add_machine_command }
     ensures find_machine { IsQueryText hall_schema FIND_MACHINE.now find_machine_query find_machine_columns }
@@ -68,6 +70,7 @@ pub fn machine_statements_mean_these()
 {}
 
 /// Each text on how many machines there are of each pool and status is the statement that its definition says.
+#[tactic(auto, using(crate::specs::CountStatementLaws::count_statements))]
 pub fn count_statements_mean_these()
     ensures add_count { IsCommandText hall_schema ADD_COUNT.now add_count_command }
     ensures find_count { IsQueryText hall_schema FIND_COUNT.now find_count_query find_count_columns }
@@ -78,6 +81,7 @@ pub fn count_statements_mean_these()
 
 /// Each text of `creating`, run after those before it, makes its table or its index, and the last one leaves the schema of
 /// a hall.
+#[tactic(auto, using(crate::specs::CreatingLaws::creating))]
 pub fn texts_make_the_tables()
     ensures create_hall { MakesTable (stage 0 0) CREATE_HALL.now hall_table (stage 1 0) }
     ensures create_operators { MakesTable (stage 1 0) CREATE_OPERATORS.now operators_table (stage 2 2) }

@@ -1,24 +1,22 @@
 -- The tables that were carried over spell the hall that the old one becomes.
-use Rattle.std.proofs.Common.{◌≡◌, ◌⊎◌, inl, inr, ℕ, List, [], ◌∷◌, length, map, filter, Bool, true, false, Option, Some, None, Less, true≢false, refl, sym, ap, ap₂, subst, ◌∙◌, arith}
+use Rattle.std.proofs.Common.{◌≡◌, inl, inr, ℕ, List, [], ◌∷◌, length, map, filter, Bool, true, false, Option, Some, None, Less, true≢false, refl, sym, ap, subst, ◌∙◌}
 use Rattle.std.specs.Prelude.{option_map, option_and_then, if◌then◌else◌}
-use Rattle.std.specs.List.{AllByRecursion}
 use Rattle.std.proofs.lemmas.List.{length-map}
 use Rattle.sqlite.specs.Order.{Row}
 use Rattle.sqlite.specs.Effect.{Database}
-use Rattle.sqlite.specs.Tree.{Trees}
 use Rattle.sqlite_keyed.proofs.ListLemmas.{ascending-map, filter-map, map-map}
 use Rattle.sqlite_rules.specs.Lists.{Has}
 use Rattle.hall_types.specs.Hall.{Hall, second}
 use Rattle.hall_types.specs.Keyed.{StandUnder}
 use Rattle.hall_types.specs.ListLaws.{length-listed}
-use Rattle.hall_types.specs.Rows.{Rows, at, how_many, listed, no_rows, numbers, put, rows_where, same_key, size}
-use Rattle.hall_types.specs.RowLaws.{at-no_rows, at-put, at-put-other, at-put-same, key-same, same-key}
+use Rattle.hall_types.specs.Rows.{Rows, at, how_many, listed, no_rows, numbers, put, rows_where, same_key}
+use Rattle.hall_types.specs.RowLaws.{at-no_rows, at-put-other, at-put-same, key-same, same-key}
 use Rattle.hall_types.specs.declared.kinds.Erase.TheVariants.{Full}
 use Rattle.hall_types.specs.declared.machine.Machine.{Machine}
 use Rattle.sql_schema.specs.Columns.{Wipe, machine_columns}
-use Rattle.sql_schema.specs.ListedLaws.{AreRising, AreRising-listed, at_listed, listed-where, listed_at, same_lists}
+use Rattle.sql_schema.specs.ListedLaws.{AreRising-listed, at_listed, listed-where, listed_at, same_lists}
 use Rattle.sql_schema.specs.Rows.{row_of}
-use Rattle.sql_schema.specs.Spelling.{AreRowsOf, AreTables, HallRows, IsNumbered, SpellHall, Spells, is_in, wipe_of}
+use Rattle.sql_schema.specs.Spelling.{IsNumbered, SpellHall, Spells, is_in, wipe_of}
 use Rattle.sql_tables.specs.Migrating.{IsCarriedOver, carried_rows, is_erasing, kind_put, kinds_put, with_full}
 
 -- ---- the machines

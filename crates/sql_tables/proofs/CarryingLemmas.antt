@@ -1,5 +1,5 @@
 -- What each statement of the transaction makes of the tables that are carried over.
-use Rattle.std.proofs.Common.{◌≡◌, ◌++◌, ◌+◌, ◌<◌, ◌≤◌, ℕ, zero, suc, pos, List, [], ◌∷◌, length, map, take, filter, get_or, true, false, Option, Some, None, Ok, refl, sym, ap, subst, ◌∙◌, arith}
+use Rattle.std.proofs.Common.{◌≡◌, ◌++◌, ◌+◌, ◌<◌, ℕ, zero, suc, pos, List, [], ◌∷◌, length, map, take, get_or, true, false, Ok, refl, sym, ap, subst, ◌∙◌, arith}
 use Rattle.std.specs.Prelude.{if◌then◌else◌}
 use Rattle.std.proofs.lemmas.List.{take_more}
 use Rattle.sqlite.specs.declared.types.Value.TheVariants.{Null, Int}
@@ -15,9 +15,9 @@ use Rattle.sqlite_sql.specs.declared.ops.BinaryOp.TheVariants.{Compare}
 use Rattle.sqlite_sql.specs.declared.ops.CompareOp.TheVariants.{Eq}
 use Rattle.sqlite_value.proofs.OrderLemmas.{value_cmp-Int}
 use Rattle.sqlite_keyed.proofs.ListLemmas.{filter_all, all_of}
-use Rattle.hall_types.specs.Hall.{Hall, pair, second}
+use Rattle.hall_types.specs.Hall.{Hall, pair}
 use Rattle.hall_types.specs.Kinds.{arch_number, erase_number}
-use Rattle.hall_types.specs.Rows.{Rows, listed, no_rows, numbers, put}
+use Rattle.hall_types.specs.Rows.{Rows, listed, numbers, put}
 use Rattle.hall_types.specs.declared.kinds.Erase.TheVariants.{Full}
 use Rattle.hall_types.specs.declared.machine.Machine.{Machine}
 use Rattle.hall_types.specs.declared.number.Numbers.{Numbers}
@@ -27,10 +27,9 @@ use Rattle.sql_schema.specs.CascadeLaws.{never_follows}
 use Rattle.sql_schema.specs.ColumnLaws.{same_status}
 use Rattle.sql_schema.specs.Columns.{Wipe, number, operator_columns, pool_columns, member_columns, live_columns, machine_columns, machine_values, interface_columns, boot_columns, order_columns, receipt_columns, wipe_columns}
 use Rattle.sql_schema.specs.CreatingLaws as law
-use Rattle.sql_schema.specs.Creating.{create_wipes_text}
 use Rattle.sql_schema.specs.ListLaws.{and_true}
 use Rattle.sql_schema.specs.MachineStatementLaws.{add_wipe_is, list_machines_is}
-use Rattle.sql_schema.specs.MachineStatements.{add_wipe_text, list_machines_columns, list_machines_query, list_machines_text}
+use Rattle.sql_schema.specs.MachineStatements.{list_machines_columns, list_machines_query}
 use Rattle.sql_schema.specs.NumberedLaws.{adds_numbered, lists_numbered}
 use Rattle.sql_schema.specs.Queries.{cell, parameter, rising}
 use Rattle.sql_schema.specs.QueryLaws.{shown_answer}
@@ -43,6 +42,8 @@ use Rattle.sql_schema.specs.Tables.{hall_schema, hall_table, wipes_table}
 use Rattle.sql_schema.specs.ValueLaws as value
 use Rattle.sql_tables.specs.Migrating.{AreFirstRows, IsBetween, IsFirst, as_second, counts_of, first_schema, is_erasing, kind_put, kinds_put, set_schema_command, set_schema_text, with_kind_of, with_kinds_of}
 use Rattle.sql_tables.proofs.MakingLemmas.{no_numbered}
+use Rattle.sql_schema.specs.declared.creating.TheConstants.{CREATE_WIPES}
+use Rattle.sql_schema.specs.declared.machine_statements.TheConstants.{ADD_WIPE, LIST_MACHINES}
 
 -- ---- the table of kinds of erasing
 
@@ -65,9 +66,9 @@ rows_stay old new h was a b c d e f g i j k l = record {
   kinds = was.kinds;
 }
 
-pub wipes_made : (old new : State) (count : ℕ) → Executes create_wipes_text [] old new (Ok count) → (h : Hall) → IsFirst old.now h → IsBetween new.now h
+pub wipes_made : (old new : State) (count : ℕ) → Executes CREATE_WIPES.now [] old new (Ok count) → (h : Hall) → IsFirst old.now h → IsBetween new.now h
 wipes_made old new count ran h was =
-    let it = makes_table first_schema hall_schema create_wipes_text (record wipes_table { tree = 0 }) law.create_wipes_is law.create_wipes_defined law.create_wipes_next law.create_wipes_unlisted old new count was.schema ran in
+    let it = makes_table first_schema hall_schema CREATE_WIPES.now (record wipes_table { tree = 0 }) law.create_wipes.text law.create_wipes.defined law.create_wipes.next law.create_wipes.unlisted old new count was.schema ran in
     let kept = it.2 in
     record {
       schema = it.0;
@@ -118,24 +119,24 @@ schema_set old new count ran h was =
 
 -- ---- the rows of machines
 
-pub machines_shown : (old new : State) (rows : List Row) → Shown list_machines_text [] old new rows → (c : HallRows) → Spells old.now c
+pub machines_shown : (old new : State) (rows : List Row) → Shown LIST_MACHINES.now [] old new rows → (c : HallRows) → Spells old.now c
     → (rows ≡ map machine_values (listed c.hall.machines)) × Spells new.now c
 machines_shown old new rows got c was = (
   lists_numbered (λ (x : Machine). x.id) machine_columns (old.now.trees 11) c.hall.machines was.tables.machines _ 11 []
       (cell 0 ∷ cell 2 ∷ cell 3 ∷ cell 4 ∷ cell 5 ∷ cell 6 ∷ cell 7 ∷ cell 8 ∷ cell 9 ∷ cell 10 ∷ cell 11 ∷ cell 12 ∷ cell 13 ∷ cell 14 ∷ cell 15 ∷ []) (rising 0 ∷ []) [] old.now.trees refl refl rows
-      (shown_answer hall_schema list_machines_text list_machines_query list_machines_columns list_machines_is [] old new rows was.schema got)
+      (shown_answer hall_schema LIST_MACHINES.now list_machines_query list_machines_columns list_machines_is [] old new rows was.schema got)
       (λ _. true) (λ x. refl) (λ one other low. rw (value_cmp-Int _ _, low) refl)
       ∙ ap (map machine_values) (filter_all (λ _. true) _ (all_of (λ _. true ≡ true) (λ _. refl) _)),
-  let same = shown_same list_machines_text [] hall_schema list_machines_is.plain old new rows was.schema got in subst (λ (d : Database). Spells d c) (sym same.0.now_is) was,
+  let same = shown_same LIST_MACHINES.now [] hall_schema list_machines_is.plain old new rows was.schema got in subst (λ (d : Database). Spells d c) (sym same.0.now_is) was,
 )
 
 -- ---- kinds of erasing
 
-pub full_put : (old new : State) (id count : ℕ) → Executes add_wipe_text (number id ∷ number (erase_number Full) ∷ []) old new (Ok count) → (c : HallRows) → Spells old.now c
+pub full_put : (old new : State) (id count : ℕ) → Executes ADD_WIPE.now (number id ∷ number (erase_number Full) ∷ []) old new (Ok count) → (c : HallRows) → Spells old.now c
     → Spells new.now (record c { wipes = put id (record { machine = id; erase = Full }) c.wipes })
 full_put old new id count ran c was =
     let x : Wipe = record { machine = id; erase = Full } in
-    let it = adds_numbered (λ (w : Wipe). w.machine) wipe_columns (old.now.trees 24) c.wipes was.tables.wipes hall_schema 12 wipes_table refl old new was.schema refl add_wipe_text (number id ∷ number (erase_number Full) ∷ [])
+    let it = adds_numbered (λ (w : Wipe). w.machine) wipe_columns (old.now.trees 24) c.wipes was.tables.wipes hall_schema 12 wipes_table refl old new was.schema refl ADD_WIPE.now (number id ∷ number (erase_number Full) ∷ [])
     (parameter 0 ∷ lit Null ∷ parameter 1 ∷ []) 3 add_wipe_is count ran x (number id ∷ wipe_columns x) refl (rw (value.cast-Int, value.cast-Null, value.cast-Int) refl) in
     sets_wipes old.now new.now c was it.0 _ it.1 it.2
 

@@ -20,10 +20,11 @@ use Rattle.sql_schema.specs.Queries.{cell}
 use Rattle.sql_schema.specs.QueryLaws.{items_in_order, shown_answer}
 use Rattle.sql_schema.specs.Statements.{IsBack}
 use Rattle.sql_schema.specs.StatementLaws.{not_run_back, shown_same}
-use Rattle.sql_schema.specs.NameStatements.{find_numbers_text, find_numbers_query, find_numbers_columns}
+use Rattle.sql_schema.specs.NameStatements.{find_numbers_query, find_numbers_columns}
 use Rattle.sql_tables.specs.declared.fault.OpenFault.{OpenFault}
 use Rattle.sql_tables.specs.declared.fault.OpenFault.TheVariants.{NotAHall, OtherVersion, Unavailable}
 use Rattle.sql_tables.specs.Opening.{AreLookedFor, AreUnderstood, IsAnswerFor, IsStill, IsUnderstood, IsLookAtTables, IsSchemaRow, SaysSchema, TellsVersion}
+use Rattle.sql_schema.specs.declared.name_statements.TheConstants.{FIND_NUMBERS}
 
 -- an error in the text says that it isn't understood
 not_understood : (old new : State) (sql : List ℕ) (e : Error) (f : _) → e ≡ SqlInputError f → ((params : Row) → IsNotRun old new sql params e) → IsUnderstood old.now.schema sql → ⊥
@@ -146,7 +147,7 @@ survives_both a b c one two = survives_then a b c _ _ (λ _. ⊥) (λ _ db none.
 
 -- ---- the number of the schema
 
-module _ (old new : State) (n : ℤ) (rows : List Row) (says : SaysSchema old.now n) (got : Shown find_numbers_text [] old new rows) where
+module _ (old new : State) (n : ℤ) (rows : List Row) (says : SaysSchema old.now n) (got : Shown FIND_NUMBERS.now [] old new rows) where
   pub schema_row : IsSchemaRow n rows
   schema_row = (
     says.last.0,
@@ -154,17 +155,17 @@ module _ (old new : State) (n : ℤ) (rows : List Row) (says : SaysSchema old.no
     says.last.2,
     items_in_order (λ (x : Row). pos 1) (λ x. x) [] [] (λ x. true) (λ x. refl) _ 0 (cell 2 ∷ cell 3 ∷ cell 4 ∷ cell 5 ∷ []) []
         ((Null ∷ Int n ∷ Int says.last.0 ∷ Int says.last.1 ∷ Int says.last.2 ∷ []) ∷ []) old.now.trees says.last.3 refl rows
-        (shown_answer old.now.schema find_numbers_text find_numbers_query find_numbers_columns says.reads [] old new rows refl got) (tt, tt),
+        (shown_answer old.now.schema FIND_NUMBERS.now find_numbers_query find_numbers_columns says.reads [] old new rows refl got) (tt, tt),
   )
 
   pub schema_still : IsStill old new
-  schema_still = let same = shown_same find_numbers_text [] old.now.schema says.reads.plain old new rows refl got in record { now = same.0.now_is; mode = same.0.mode }
+  schema_still = let same = shown_same FIND_NUMBERS.now [] old.now.schema says.reads.plain old new rows refl got in record { now = same.0.now_is; mode = same.0.mode }
 
-pub schema_rows : {X : Type 0} (old new : State) (rows_of : X → List Row) (r : Result X Error) → IfOk r (λ x. Shown find_numbers_text [] old new (rows_of x)) → IfOk r (λ x. (n : ℤ) → SaysSchema old.now n → IsSchemaRow n (rows_of x))
+pub schema_rows : {X : Type 0} (old new : State) (rows_of : X → List Row) (r : Result X Error) → IfOk r (λ x. Shown FIND_NUMBERS.now [] old new (rows_of x)) → IfOk r (λ x. (n : ℤ) → SaysSchema old.now n → IsSchemaRow n (rows_of x))
 schema_rows old new rows_of (Ok x) ok = λ n says. schema_row old new n (rows_of x) says ok
 schema_rows old new rows_of (Err e) ok = tt
 
-pub schema_same : {X : Type 0} (old new : State) (rows_of : X → List Row) (r : Result X Error) → IfOk r (λ x. Shown find_numbers_text [] old new (rows_of x)) → OnOk r ((n : ℤ) → SaysSchema old.now n → IsStill old new)
+pub schema_same : {X : Type 0} (old new : State) (rows_of : X → List Row) (r : Result X Error) → IfOk r (λ x. Shown FIND_NUMBERS.now [] old new (rows_of x)) → OnOk r ((n : ℤ) → SaysSchema old.now n → IsStill old new)
 schema_same old new rows_of (Ok x) ok = λ n says. schema_still old new n (rows_of x) says ok
 schema_same old new rows_of (Err e) ok = tt
 
@@ -178,7 +179,7 @@ pub compiled_of : (r : Result Compiled CompileError) → IsPlain r → (c : Comp
 compiled_of (Ok c) plain = (c, refl)
 compiled_of (Err e) plain = absurd plain
 
-pub reads_hall : (db : Database) (n : ℤ) → SaysSchema db n → AreUnderstood db.schema (find_numbers_text ∷ [])
+pub reads_hall : (db : Database) (n : ℤ) → SaysSchema db n → AreUnderstood db.schema (FIND_NUMBERS.now ∷ [])
 reads_hall db n says = (compiled_of _ says.reads.plain, tt)
 
 says_on : (a b : State) (n : ℤ) → IsStill a b → SaysSchema a.now n → SaysSchema b.now n
@@ -192,7 +193,7 @@ module _ (wanted : ℤ) (texts : List (List ℕ)) where
   unavailable db = record { version = λ n says. tt; complete = λ n says. tt; whole = λ says has is. absurd (let e = is in cc) }
 
   -- `hall` isn't there, or it can't be said
-  pub look_early : (a b : State) (e : OpenFault) → AreLookedFor (find_numbers_text ∷ []) a b (Err e) → IsLookAtTables wanted texts a b (Err e)
+  pub look_early : (a b : State) (e : OpenFault) → AreLookedFor (FIND_NUMBERS.now ∷ []) a b (Err e) → IsLookAtTables wanted texts a b (Err e)
   look_early a b NotAHall one = record {
     kept = one.kept;
     answered = record {
@@ -205,7 +206,7 @@ module _ (wanted : ℤ) (texts : List (List ℕ)) where
   look_early a b Unavailable one = record { kept = one.kept; answered = unavailable a.now }
 
   -- its schema isn't the one that is wanted, or it can't be said
-  pub look_stopped : (a b c : State) (e : OpenFault) → AreLookedFor (find_numbers_text ∷ []) a b (Ok tt) → KeepsCommit b c → ((n : ℤ) → SaysSchema b.now n → TellsVersion wanted n (Err e)) → IsLookAtTables wanted texts a c (Err e)
+  pub look_stopped : (a b c : State) (e : OpenFault) → AreLookedFor (FIND_NUMBERS.now ∷ []) a b (Ok tt) → KeepsCommit b c → ((n : ℤ) → SaysSchema b.now n → TellsVersion wanted n (Err e)) → IsLookAtTables wanted texts a c (Err e)
   look_stopped a b c NotAHall one kept told = record {
     kept = keeps_then a b c one.kept kept;
     answered = record {
@@ -225,7 +226,7 @@ module _ (wanted : ℤ) (texts : List (List ℕ)) where
   look_stopped a b c Unavailable one kept told = record { kept = keeps_then a b c one.kept kept; answered = unavailable a.now }
 
   -- then the other tables
-  pub look_whole : (a b c d : State) (r : Result (Unit {0}) OpenFault) → AreLookedFor (find_numbers_text ∷ []) a b (Ok tt) → KeepsCommit b c → ((n : ℤ) → SaysSchema b.now n → TellsVersion wanted n (Ok tt)) → ((n : ℤ) → SaysSchema b.now n → IsStill b c)
+  pub look_whole : (a b c d : State) (r : Result (Unit {0}) OpenFault) → AreLookedFor (FIND_NUMBERS.now ∷ []) a b (Ok tt) → KeepsCommit b c → ((n : ℤ) → SaysSchema b.now n → TellsVersion wanted n (Ok tt)) → ((n : ℤ) → SaysSchema b.now n → IsStill b c)
       → AreLookedFor texts c d r → IsLookAtTables wanted texts a d r
   look_whole a b c d (Ok done) one kept told same all = record {
     kept = keeps_then a c d (keeps_then a b c one.kept kept) all.kept;

@@ -25,7 +25,6 @@ use Rattle.sql_schema.specs.StatementLaws.{makes_table, makes_index}
 use Rattle.sql_schema.specs.TableLaws.{inserts}
 use Rattle.sql_schema.specs.ValueLaws as value
 use Rattle.sql_schema.specs.Creating.{MakesTable, MakesIndex}
-use Rattle.sql_schema.specs.NameStatements.{add_operator_text, add_pool_text, first_numbers_text}
 use Rattle.sql_schema.specs.NameStatementLaws.{add_operator_is, add_pool_is, first_numbers_is}
 use Rattle.sql_schema.specs.Tables.{hall_schema, hall_table, operators_table, pools_table}
 use Rattle.sql_schema.specs.Columns.{operator_columns, pool_columns, numbers_row, number}
@@ -33,6 +32,7 @@ use Rattle.sql_schema.specs.NamedLaws.{adds_named}
 use Rattle.sql_schema.specs.Spelling.{IsNumbered, IsNamed, HallRows, Spells, SpellHall, AreRowsOf, is_in, wipe_of}
 use Rattle.sql_schema.specs.SpellingLaws.{sets_operators, sets_pools}
 use Rattle.sql_tables.specs.Creating.{HasNoRows, bare_hall, without_machines}
+use Rattle.sql_schema.specs.declared.name_statements.TheConstants.{ADD_OPERATOR, ADD_POOL, FIRST_NUMBERS}
 
 -- ---- tables and indexes
 
@@ -97,10 +97,10 @@ abbrev hall_columns : Numbers → Row
 hall_columns last = Null ∷ number 2 ∷ number last.machine ∷ number last.boot ∷ number last.order ∷ []
 
 -- the first row of `hall` makes the tables those of a hall without anything
-pub numbers_put : (old new : State) (count : ℕ) → Executes first_numbers_text [] old new (Ok count) → HasNoRows old.now hall_schema → Spells new.now (without_machines bare_hall)
+pub numbers_put : (old new : State) (count : ℕ) → Executes FIRST_NUMBERS.now [] old new (Ok count) → HasNoRows old.now hall_schema → Spells new.now (without_machines bare_hall)
 numbers_put old new count ran was =
     let none = was.empty in
-    let set = (inserts (λ (last : Numbers). pos 1) hall_columns hall_schema 0 hall_table refl old new was.schema [] none.0 first_numbers_text [] (lit (Int (pos 1)) ∷ lit Null ∷ lit (Int (pos 2)) ∷ lit (Int (pos 0)) ∷ lit (Int (pos 0)) ∷ lit (Int (pos 0)) ∷ []) 6 first_numbers_is count ran
+    let set = (inserts (λ (last : Numbers). pos 1) hall_columns hall_schema 0 hall_table refl old new was.schema [] none.0 FIRST_NUMBERS.now [] (lit (Int (pos 1)) ∷ lit Null ∷ lit (Int (pos 2)) ∷ lit (Int (pos 0)) ∷ lit (Int (pos 0)) ∷ lit (Int (pos 0)) ∷ []) 6 first_numbers_is count ran
     no_numbers (numbers_row no_numbers) refl (rw (value.cast-Int, value.cast-Null, value.cast-Int, value.cast-Int) refl)).0 in
     record {
       schema = set.same_schema;
@@ -124,18 +124,18 @@ numbers_put old new count ran was =
     }
 
 -- a pool in a database that spells such rows
-pub pool_put : (c : HallRows) (p : Pool) → at c.hall.pools p.name ≡ None → (old new : State) (count : ℕ) → Executes add_pool_text (Text p.name ∷ []) old new (Ok count) → Spells old.now c
+pub pool_put : (c : HallRows) (p : Pool) → at c.hall.pools p.name ≡ None → (old new : State) (count : ℕ) → Executes ADD_POOL.now (Text p.name ∷ []) old new (Ok count) → Spells old.now c
     → Spells new.now (record c { hall = record c.hall { pools = put p.name p c.hall.pools } })
 pool_put c p free old new count ran was =
-    let it = adds_named (λ (q : Pool). q.name) pool_columns (old.now.trees 4) c.hall.pools was.tables.pools hall_schema 2 pools_table refl old new was.schema refl add_pool_text (Text p.name ∷ []) count ran
+    let it = adds_named (λ (q : Pool). q.name) pool_columns (old.now.trees 4) c.hall.pools was.tables.pools hall_schema 2 pools_table refl old new was.schema refl ADD_POOL.now (Text p.name ∷ []) count ran
     (lit Null ∷ parameter 0 ∷ []) 2 add_pool_is p free (Null ∷ Text p.name ∷ []) refl (λ id is. rw (value.cast-Null, is) refl) in
     sets_pools old.now new.now c was it.0 _ it.1 it.2
 
 -- an operator in a database that spells such rows
-pub operator_put : (c : HallRows) (o : Operator) → at c.hall.operators o.name ≡ None → (old new : State) (count : ℕ) → Executes add_operator_text (operator_columns o) old new (Ok count) → Spells old.now c
+pub operator_put : (c : HallRows) (o : Operator) → at c.hall.operators o.name ≡ None → (old new : State) (count : ℕ) → Executes ADD_OPERATOR.now (operator_columns o) old new (Ok count) → Spells old.now c
     → Spells new.now (record c { hall = record c.hall { operators = put o.name o c.hall.operators } })
 operator_put c o free old new count ran was =
-    let it = adds_named (λ (q : Operator). q.name) operator_columns (old.now.trees 1) c.hall.operators was.tables.operators hall_schema 1 operators_table refl old new was.schema refl add_operator_text (operator_columns o) count ran
+    let it = adds_named (λ (q : Operator). q.name) operator_columns (old.now.trees 1) c.hall.operators was.tables.operators hall_schema 1 operators_table refl old new was.schema refl ADD_OPERATOR.now (operator_columns o) count ran
     (lit Null ∷ parameter 0 ∷ parameter 1 ∷ parameter 2 ∷ parameter 3 ∷ []) 5 add_operator_is o free (Null ∷ operator_columns o) refl (λ id is. rw (value.cast-Null, value.cast-Int, value.cast-Int, is) refl) in
     sets_operators old.now new.now c was it.0 _ it.1 it.2
 

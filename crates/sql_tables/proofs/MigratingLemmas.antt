@@ -1,80 +1,78 @@
 -- What is answered of tables that are to be carried over.
-use Rattle.std.proofs.Common.{◌≡◌, ◌≢◌, ◌⊎◌, inl, inr, pos, ℕ, ℤ, List, Bool, true, false, Ok, Err, Result, IfErr, IsTrue, refl, sym, ap, subst, ◌∙◌, true≢false}
+use Rattle.std.proofs.Common.{◌≡◌, ◌≢◌, inl, inr, pos, ℤ, true, false, Ok, Err, IsTrue, refl, sym, ap, subst, ◌∙◌, true≢false}
 use Rattle.std.specs.Prelude.{codes}
 use Rattle.sqlite.specs.Change.{is_used}
 use Rattle.sqlite.specs.Effect.{Database}
 use Rattle.sqlite.specs.Listing.{understood}
-use Rattle.sqlite.specs.Schema.{Schema}
 use Rattle.sqlite.specs.State.{State, HasCleanDisk, IsLive, Survives}
-use Rattle.sqlite.specs.Tree.{Trees}
 use Rattle.sqlite.proofs.Callers.{IsPlain}
 use Rattle.sqlite_catalog.specs.Listing.{IsSound}
 use Rattle.sqlite_catalog.proofs.ReadLemmas.{lists_once}
 use Rattle.sqlite_schema.specs.Names.{same_name}
 use Rattle.sqlite_tied.specs.Compute.{everything}
 use Rattle.hall_types.specs.Hall.{Hall}
-use Rattle.sql_schema.specs.CountStatements.{list_counts_text}
-use Rattle.sql_schema.specs.MachineStatements.{find_machine_text, find_interface_text, find_boot_text, find_order_text}
-use Rattle.sql_schema.specs.NameStatements.{find_operator_text, find_pool_text, find_member_text, find_image_text, find_live_text, find_receipt_text, find_numbers_text, find_numbers_query, find_numbers_columns}
+use Rattle.sql_schema.specs.NameStatements.{find_numbers_query, find_numbers_columns}
 use Rattle.sql_schema.specs.Spelling.{SpellHall}
 use Rattle.sql_schema.specs.Statements.{IsQueryText}
-use Rattle.sql_tables.specs.Creating.{KeepsTables, MayLeaveBesides}
+use Rattle.sql_tables.specs.Creating.{MayLeaveBesides}
 use Rattle.sql_tables.specs.Migrating.{BecomeHall, HasFirstTables, IsCarriedOver, IsFirst, IsReady, IsRightMigration, SpellFirst, first_rows, first_schema}
 use Rattle.sql_tables.specs.Opening.{AreUnderstood, IsAnswerFor, IsRightAnswer, SaysSchema}
 use Rattle.sql_tables.specs.declared.fault.OpenFault.{OpenFault}
 use Rattle.sql_tables.specs.declared.fault.OpenFault.TheVariants.{NotAHall, OtherVersion, Unavailable}
-use Rattle.sql_tables.specs.declared.migrating.Migrated.{Migrated}
 use Rattle.sql_tables.specs.declared.migrating.Migrated.TheVariants.{Already, Now}
 use Rattle.sql_tables.proofs.LookLemmas.{compiled_of}
 use Rattle.sql_tables.proofs.OpenLemmas.{says_second, schema_of}
+use Rattle.sql_schema.specs.declared.count_statements.TheConstants.{LIST_COUNTS}
+use Rattle.sql_schema.specs.declared.machine_statements.TheConstants.{FIND_BOOT, FIND_INTERFACE, FIND_MACHINE, FIND_ORDER}
+use Rattle.sql_schema.specs.declared.name_statements.TheConstants.{FIND_IMAGE, FIND_LIVE, FIND_MEMBER, FIND_NUMBERS, FIND_OPERATOR, FIND_POOL, FIND_RECEIPT}
 
 -- ---- the texts, over the first schema
 
-find_operator_plain : IsPlain (understood first_schema find_operator_text)
+find_operator_plain : IsPlain (understood first_schema FIND_OPERATOR.now)
 unfolding understood everything
 find_operator_plain = (refl, refl)
 
-find_pool_plain : IsPlain (understood first_schema find_pool_text)
+find_pool_plain : IsPlain (understood first_schema FIND_POOL.now)
 unfolding understood everything
 find_pool_plain = (refl, refl)
 
-find_member_plain : IsPlain (understood first_schema find_member_text)
+find_member_plain : IsPlain (understood first_schema FIND_MEMBER.now)
 unfolding understood everything
 find_member_plain = (refl, refl)
 
-find_image_plain : IsPlain (understood first_schema find_image_text)
+find_image_plain : IsPlain (understood first_schema FIND_IMAGE.now)
 unfolding understood everything
 find_image_plain = (refl, refl)
 
-find_live_plain : IsPlain (understood first_schema find_live_text)
+find_live_plain : IsPlain (understood first_schema FIND_LIVE.now)
 unfolding understood everything
 find_live_plain = (refl, refl)
 
-find_machine_plain : IsPlain (understood first_schema find_machine_text)
+find_machine_plain : IsPlain (understood first_schema FIND_MACHINE.now)
 unfolding understood everything
 find_machine_plain = (refl, refl)
 
-find_interface_plain : IsPlain (understood first_schema find_interface_text)
+find_interface_plain : IsPlain (understood first_schema FIND_INTERFACE.now)
 unfolding understood everything
 find_interface_plain = (refl, refl)
 
-find_boot_plain : IsPlain (understood first_schema find_boot_text)
+find_boot_plain : IsPlain (understood first_schema FIND_BOOT.now)
 unfolding understood everything
 find_boot_plain = (refl, refl)
 
-find_order_plain : IsPlain (understood first_schema find_order_text)
+find_order_plain : IsPlain (understood first_schema FIND_ORDER.now)
 unfolding understood everything
 find_order_plain = (refl, refl)
 
-find_receipt_plain : IsPlain (understood first_schema find_receipt_text)
+find_receipt_plain : IsPlain (understood first_schema FIND_RECEIPT.now)
 unfolding understood everything
 find_receipt_plain = (refl, refl)
 
-list_counts_plain : IsPlain (understood first_schema list_counts_text)
+list_counts_plain : IsPlain (understood first_schema LIST_COUNTS.now)
 unfolding understood everything
 list_counts_plain = (refl, refl)
 
-find_numbers_is_first : IsQueryText first_schema find_numbers_text find_numbers_query find_numbers_columns
+find_numbers_is_first : IsQueryText first_schema FIND_NUMBERS.now find_numbers_query find_numbers_columns
 unfolding understood everything
 find_numbers_is_first = record { is = refl; plain = (refl, refl); unlisted = refl }
 
@@ -95,7 +93,7 @@ pub first_schema_of : (db : Database) (h : Hall) → IsSound db.schema db.trees 
 first_schema_of db h sound spelt = lists_once _ db.schema first_schema sound.lists spelt.sound.lists
 
 pub says_first : (db : Database) (h : Hall) → db.schema ≡ first_schema → SpellFirst db.trees h → SaysSchema db (pos 1)
-says_first db h is spelt = record { reads = subst (λ s. IsQueryText s find_numbers_text find_numbers_query find_numbers_columns) (sym is) find_numbers_is_first; last = (_, _, _, spelt.last) }
+says_first db h is spelt = record { reads = subst (λ s. IsQueryText s FIND_NUMBERS.now find_numbers_query find_numbers_columns) (sym is) find_numbers_is_first; last = (_, _, _, spelt.last) }
 
 -- what a look at the first schema refuses of the tables of a hall, of either schema
 pub refused_early : (old : State) (h : Hall) (e : OpenFault) → IsLive old → IsTrue old.is_open → IsAnswerFor (pos 1) first_rows old.now (Err e) → e ≢ OtherVersion → BecomeHall old.now.trees h → e ≡ Unavailable

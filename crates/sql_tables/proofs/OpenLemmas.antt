@@ -14,7 +14,7 @@ use Rattle.hall_types.specs.Hall.{Hall}
 use Rattle.sql_schema.specs.CountStatementLaws.{list_counts_is}
 use Rattle.sql_schema.specs.MachineStatementLaws.{find_boot_is, find_interface_is, find_machine_is, find_order_is, find_wipe_is}
 use Rattle.sql_schema.specs.NameStatementLaws.{find_image_is, find_live_is, find_member_is, find_numbers_is, find_operator_is, find_pool_is, find_receipt_is}
-use Rattle.sql_schema.specs.NameStatements.{find_numbers_text, find_numbers_query, find_numbers_columns}
+use Rattle.sql_schema.specs.NameStatements.{find_numbers_query, find_numbers_columns}
 use Rattle.sql_schema.specs.Tables.{hall_schema}
 use Rattle.sql_schema.specs.Spelling.{SpellHall}
 use Rattle.sql_schema.specs.Holding.{IsHeld}
@@ -22,6 +22,7 @@ use Rattle.sql_tables.specs.declared.fault.OpenFault.{OpenFault}
 use Rattle.sql_tables.specs.declared.fault.OpenFault.TheVariants.{NotAHall, OtherVersion, Unavailable}
 use Rattle.sql_tables.specs.Creating.{IsFlat, KeepsTables}
 use Rattle.sql_tables.specs.Opening.{HasTables, IsRightAnswer, IsUnderstood, SaysSchema}
+use Rattle.sql_schema.specs.declared.name_statements.TheConstants.{FIND_NUMBERS}
 
 -- trees list one schema at most
 pub schema_of : (db : Database) (h : Hall) → IsSound db.schema db.trees → SpellHall db.trees h → db.schema ≡ hall_schema
@@ -39,7 +40,7 @@ has_all : HasTables hall_schema
 has_all = (known find_operator_is, (known find_pool_is, (known find_member_is, (known find_image_is, (known find_live_is, (known find_machine_is, (known find_interface_is, (known find_boot_is, (known find_order_is, (known find_receipt_is, (known list_counts_is, (known find_wipe_is, tt))))))))))))
 
 pub says_second : (db : Database) (h : Hall) → db.schema ≡ hall_schema → SpellHall db.trees h → SaysSchema db (pos 2)
-says_second db h is spelt = record { reads = subst (λ s. IsQueryText s find_numbers_text find_numbers_query find_numbers_columns) (sym is) find_numbers_is; last = (_, _, _, spelt.tables.last) }
+says_second db h is spelt = record { reads = subst (λ s. IsQueryText s FIND_NUMBERS.now find_numbers_query find_numbers_columns) (sym is) find_numbers_is; last = (_, _, _, spelt.tables.last) }
 
 -- tables that spell a hall are refused as Unavailable alone
 pub refused_as : (old : State) (h : Hall) (r : Result (Unit {0}) OpenFault) → IsLive old → IsTrue old.is_open → SpellHall old.now.trees h → IsRightAnswer old.now r → IfErr r (λ e. e ≡ Unavailable)

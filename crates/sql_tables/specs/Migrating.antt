@@ -1,6 +1,6 @@
 -- The tables of a hall of the first schema, and the hall that they become. The first schema knows one kind of erasing, full, and has no
 -- table for it.
-use Rattle.std.specs.Prelude.{◌≡◌, ◌≢◌, ◌⊎◌, ℕ, ℤ, pos, Bool, true, false, IsTrue, List, [], ◌∷◌, Option, Some, None, option_map, ⊤, Result, Ok, Err, codes, if◌then◌else◌}
+use Rattle.std.specs.Prelude.{◌≡◌, ◌≢◌, ◌⊎◌, ℕ, ℤ, pos, Bool, true, false, IsTrue, List, [], ◌∷◌, Some, None, option_map, ⊤, Result, Ok, Err, codes, if◌then◌else◌}
 use Rattle.sqlite.specs.declared.types.Value.TheVariants.{Null, Int}
 use Rattle.sqlite.specs.Change.{is_used}
 use Rattle.sqlite.specs.Collation.TheVariants.{Binary}
@@ -24,9 +24,6 @@ use Rattle.hall_types.specs.declared.number.Numbers.{Numbers}
 use Rattle.hall_types.specs.declared.status.Status.{Status}
 use Rattle.hall_types.specs.declared.status.Status.TheVariants.{DiskErasing, FailedDiskErasing}
 use Rattle.sql_schema.specs.Columns.{Wipe, number, operator_columns, pool_columns, member_columns, live_columns, machine_columns, interface_columns, boot_columns, order_columns, receipt_columns}
-use Rattle.sql_schema.specs.CountStatements.{list_counts_text}
-use Rattle.sql_schema.specs.MachineStatements.{find_machine_text, find_interface_text, find_boot_text, find_order_text}
-use Rattle.sql_schema.specs.NameStatements.{find_operator_text, find_pool_text, find_member_text, find_image_text, find_live_text, find_receipt_text}
 use Rattle.sql_schema.specs.Queries.{cell, from_one}
 use Rattle.sql_schema.specs.Spelling.{AreCounts, AreImages, Counts, HallRows, IsNamed, IsNumbered, SpellHall, is_in}
 use Rattle.sql_schema.specs.Statements.{only}
@@ -36,6 +33,9 @@ use Rattle.sql_tables.specs.declared.fault.OpenFault.{OpenFault}
 use Rattle.sql_tables.specs.declared.fault.OpenFault.TheVariants.{NotAHall, OtherVersion, Unavailable}
 use Rattle.sql_tables.specs.declared.migrating.Migrated.{Migrated}
 use Rattle.sql_tables.specs.declared.migrating.Migrated.TheVariants.{Already, Now}
+use Rattle.sql_schema.specs.declared.count_statements.TheConstants.{LIST_COUNTS}
+use Rattle.sql_schema.specs.declared.machine_statements.TheConstants.{FIND_BOOT, FIND_INTERFACE, FIND_MACHINE, FIND_ORDER}
+use Rattle.sql_schema.specs.declared.name_statements.TheConstants.{FIND_IMAGE, FIND_LIVE, FIND_MEMBER, FIND_OPERATOR, FIND_POOL, FIND_RECEIPT}
 
 -- ---- the first schema
 
@@ -100,7 +100,7 @@ BecomeHall db h = SpellHall db h ⊎ ((g : Hall) × SpellFirst db g × IsCarried
 
 -- queries that name all columns of each table of the first schema but `hall`
 abbrev pub first_rows : List (List ℕ)
-first_rows = find_operator_text ∷ find_pool_text ∷ find_member_text ∷ find_image_text ∷ find_live_text ∷ find_machine_text ∷ find_interface_text ∷ find_boot_text ∷ find_order_text ∷ find_receipt_text ∷ list_counts_text ∷ []
+first_rows = FIND_OPERATOR.now ∷ FIND_POOL.now ∷ FIND_MEMBER.now ∷ FIND_IMAGE.now ∷ FIND_LIVE.now ∷ FIND_MACHINE.now ∷ FIND_INTERFACE.now ∷ FIND_BOOT.now ∷ FIND_ORDER.now ∷ FIND_RECEIPT.now ∷ LIST_COUNTS.now ∷ []
 
 -- each table of the first schema but `hall` is there with its columns, and nothing has the name of the table that the second has more
 pub record HasFirstTables (schema : Schema) : Type 0 where

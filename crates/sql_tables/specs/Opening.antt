@@ -9,17 +9,18 @@ use Rattle.sqlite.specs.Schema.{Schema}
 use Rattle.sqlite.specs.State.{State, KeepsCommit}
 use Rattle.sqlite_resolve.specs.declared.compiled.Compiled.{Compiled}
 use Rattle.sql_schema.specs.Statements.{IsQueryText}
-use Rattle.sql_schema.specs.NameStatements.{find_numbers_text, find_numbers_query, find_numbers_columns, find_operator_text, find_pool_text, find_member_text, find_image_text, find_live_text, find_receipt_text}
-use Rattle.sql_schema.specs.MachineStatements.{find_machine_text, find_interface_text, find_boot_text, find_order_text, find_wipe_text}
-use Rattle.sql_schema.specs.CountStatements.{list_counts_text}
+use Rattle.sql_schema.specs.NameStatements.{find_numbers_query, find_numbers_columns}
 use Rattle.sql_tables.specs.declared.fault.OpenFault.{OpenFault}
 use Rattle.sql_tables.specs.declared.fault.OpenFault.TheVariants.{NotAHall, OtherVersion, Unavailable}
 use Rattle.sql_tables.specs.declared.looking.Wanted.{Wanted}
 use Rattle.sql_tables.specs.declared.looking.Wanted.TheVariants.{First, Second}
+use Rattle.sql_schema.specs.declared.count_statements.TheConstants.{LIST_COUNTS}
+use Rattle.sql_schema.specs.declared.machine_statements.TheConstants.{FIND_BOOT, FIND_INTERFACE, FIND_MACHINE, FIND_ORDER, FIND_WIPE}
+use Rattle.sql_schema.specs.declared.name_statements.TheConstants.{FIND_IMAGE, FIND_LIVE, FIND_MEMBER, FIND_NUMBERS, FIND_OPERATOR, FIND_POOL, FIND_RECEIPT}
 
 -- queries that name all columns of each table but `hall`
 abbrev pub whole_rows : List (List ℕ)
-whole_rows = find_operator_text ∷ find_pool_text ∷ find_member_text ∷ find_image_text ∷ find_live_text ∷ find_machine_text ∷ find_interface_text ∷ find_boot_text ∷ find_order_text ∷ find_receipt_text ∷ list_counts_text ∷ find_wipe_text ∷ []
+whole_rows = FIND_OPERATOR.now ∷ FIND_POOL.now ∷ FIND_MEMBER.now ∷ FIND_IMAGE.now ∷ FIND_LIVE.now ∷ FIND_MACHINE.now ∷ FIND_INTERFACE.now ∷ FIND_BOOT.now ∷ FIND_ORDER.now ∷ FIND_RECEIPT.now ∷ LIST_COUNTS.now ∷ FIND_WIPE.now ∷ []
 
 -- the text is a statement over these tables
 abbrev pub IsUnderstood : Schema → List ℕ → Type 0
@@ -34,7 +35,7 @@ HasTables schema = AreUnderstood schema whole_rows
 
 -- the table `hall` is there with its columns, and its one row says that the schema has this number
 pub record SaysSchema (db : Database) (n : ℤ) : Type 0 where
-  pub reads : IsQueryText db.schema find_numbers_text find_numbers_query find_numbers_columns
+  pub reads : IsQueryText db.schema FIND_NUMBERS.now find_numbers_query find_numbers_columns
   pub last : (machine : ℤ) × (boot : ℤ) × (order : ℤ) × (db.trees 0 ≡ (Int (pos 1) ∷ Null ∷ Int n ∷ Int machine ∷ Int boot ∷ Int order ∷ []) ∷ [])
 
 -- what is answered of tables whose schema has a number, where this one is wanted: a want of memory or of the disk can be answered of any

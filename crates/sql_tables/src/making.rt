@@ -8,7 +8,6 @@ ghost use Rattle.sqlite_schema.specs.declared.schema.Index.{Index};
 ghost use Rattle.hall_types.specs.Hall.{Hall, new_hall, second};
 ghost use Rattle.hall_types.specs.Rows.{at, put};
 ghost use Rattle.sql_schema.specs.Creating.{MakesIndex, MakesTable};
-ghost use Rattle.sql_schema.specs.NameStatements.{add_operator_text};
 ghost use Rattle.sql_schema.specs.Tables.{hall_schema, no_schema, stage};
 ghost use Rattle.sql_schema.specs.Columns.{operator_columns};
 ghost use Rattle.sql_schema.specs.Spelling.{Spells};
@@ -132,7 +131,7 @@ fn put_default_pool<S: Alter>(tx: &mut Transaction<'_, S>) -> Result<usize, Erro
 fn add_raw<S: Alter>(tx: &mut Transaction<'_, S>, operator: &Operator) -> Result<usize, Error>
     ensures same_reference { tx.new.conn.ghost_name ≡ tx.old.conn.ghost_name }
     ensures ended { (state S.Store tx.old.conn.now).in_transaction ≡ false → (result ≡ Err (Error.SqliteFailure ErrorCode.TransactionState)) × (tx.new.conn.now ≡ tx.old.conn.now) }
-    ensures runs { HasCleanDisk (state S.Store tx.new.conn.now) → IsTrue (state S.Store tx.old.conn.now).in_transaction → ExecutesInside 0 add_operator_text (operator_columns operator.now) (state S.Store tx.old.conn.now) (state S.Store tx.new.conn.now) result }
+    ensures runs { HasCleanDisk (state S.Store tx.new.conn.now) → IsTrue (state S.Store tx.old.conn.now).in_transaction → ExecutesInside 0 ADD_OPERATOR.now (operator_columns operator.now) (state S.Store tx.old.conn.now) (state S.Store tx.new.conn.now) result }
     ensures survives { Survives (state S.Store tx.old.conn.now) (state S.Store tx.new.conn.now) (λ _. ⊥) }
 {
     let digest = operator.digest.octets();

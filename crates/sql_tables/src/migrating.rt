@@ -10,7 +10,6 @@ ghost use Rattle.hall_types.specs.declared.kinds.Erase.TheVariants.{Full};
 ghost use Rattle.hall_types.specs.declared.machine.Machine.{Machine};
 ghost use Rattle.sql_schema.specs.Columns.{machine_values, number};
 ghost use Rattle.sql_schema.specs.Holding.{IsHeld, Leaves};
-ghost use Rattle.sql_schema.specs.MachineStatements.{add_wipe_text};
 ghost use Rattle.sql_schema.specs.Spelling.{HallRows, Spells};
 ghost use Rattle.sql_tables.specs.Creating.{IsFlat, KeepsTables, MayLeaveBesides};
 ghost use Rattle.sql_tables.specs.Opening.{IsAnswerFor};
@@ -73,7 +72,7 @@ fn machine_rows<S: Alter>(tx: &mut Transaction<'_, S>) -> Result<Vec<Row>, Error
 // What the insertion of a machine's kind of erasing does.
 fn add_full<S: Alter>(tx: &mut Transaction<'_, S>, id: Number) -> Result<usize, Error>
     ensures same_reference { tx.new.conn.ghost_name ≡ tx.old.conn.ghost_name }
-    ensures runs { HasCleanDisk (state S.Store tx.new.conn.now) → IsTrue (state S.Store tx.old.conn.now).in_transaction → ExecutesInside 0 add_wipe_text (number id ∷ number (erase_number Full) ∷ []) (state S.Store tx.old.conn.now) (state S.Store tx.new.conn.now) result }
+    ensures runs { HasCleanDisk (state S.Store tx.new.conn.now) → IsTrue (state S.Store tx.old.conn.now).in_transaction → ExecutesInside 0 ADD_WIPE.now (number id ∷ number (erase_number Full) ∷ []) (state S.Store tx.old.conn.now) (state S.Store tx.new.conn.now) result }
     ensures survives { Survives (state S.Store tx.old.conn.now) (state S.Store tx.new.conn.now) (λ _. ⊥) }
 {
     tx.execute(

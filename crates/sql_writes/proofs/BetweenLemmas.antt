@@ -13,7 +13,7 @@ use Rattle.sql_schema.specs.ListLaws.{and_true}
 use Rattle.sql_schema.specs.QueryLaws.{shown_answer}
 use Rattle.sql_schema.specs.StatementLaws.{shown_same}
 use Rattle.sql_schema.specs.ValueLaws as value
-use Rattle.sql_schema.specs.MachineStatements.{find_machine_text, find_machine_query, find_machine_columns}
+use Rattle.sql_schema.specs.MachineStatements.{find_machine_query, find_machine_columns}
 use Rattle.sql_schema.specs.MachineStatementLaws.{find_machine_is}
 use Rattle.sql_schema.specs.Tables.{hall_schema}
 use Rattle.sql_schema.specs.Columns.{number, machine_columns, machine_values}
@@ -29,15 +29,16 @@ use Rattle.sql_writes.specs.Groups.{group_of}
 use Rattle.sql_writes.specs.Within.{IsWithinHall}
 use Rattle.sql_writes.specs.declared.groups.Group.{Group}
 use Rattle.sql_writes.proofs.CountLemmas.{counted_new, counted_gone, counted_same}
+use Rattle.sql_schema.specs.declared.machine_statements.TheConstants.{FIND_MACHINE}
 
 -- a read of a machine's row
-pub finds_machine : (old new : State) (before h : Hall) → IsWithinHall old before h → (id : ℕ) (rows : List Row) → Shown find_machine_text (number id ∷ []) old new rows
+pub finds_machine : (old new : State) (before h : Hall) → IsWithinHall old before h → (id : ℕ) (rows : List Row) → Shown FIND_MACHINE.now (number id ∷ []) old new rows
     → (rows ≡ map machine_values (option_to_list (at h.machines id))) × IsWithinHall new before h
 finds_machine old new before h held id rows shown =
     let c = held.hall_rows in
     let within = held.within in
-    let answer = shown_answer hall_schema find_machine_text find_machine_query find_machine_columns find_machine_is (number id ∷ []) old new rows within.spelt.schema shown in
-    let same = shown_same find_machine_text (number id ∷ []) hall_schema find_machine_is.plain old new rows within.spelt.schema shown in (
+    let answer = shown_answer hall_schema FIND_MACHINE.now find_machine_query find_machine_columns find_machine_is (number id ∷ []) old new rows within.spelt.schema shown in
+    let same = shown_same FIND_MACHINE.now (number id ∷ []) hall_schema find_machine_is.plain old new rows within.spelt.schema shown in (
       finds_numbered (λ (x : Machine). x.id) machine_columns (old.now.trees 11) c.hall.machines within.spelt.tables.machines _ 11 (equals 0 0 ∷ [])
           (cell 0 ∷ cell 2 ∷ cell 3 ∷ cell 4 ∷ cell 5 ∷ cell 6 ∷ cell 7 ∷ cell 8 ∷ cell 9 ∷ cell 10 ∷ cell 11 ∷ cell 12 ∷ cell 13 ∷ cell 14 ∷ cell 15 ∷ []) [] (number id ∷ []) old.now.trees refl refl rows answer id
           (λ x. and_true _ ∙ value.same_number (pos x.id) (pos id) ∙ number_key x.id id)

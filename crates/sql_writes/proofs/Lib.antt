@@ -2,5 +2,4 @@ pub mod BetweenLemmas
 pub mod CountLemmas
 pub mod MachineLemmas
 pub mod RemovalLemmas
-pub mod ResultLemmas
 pub mod WriteLemmas

@@ -1,15 +1,13 @@
 //! Where a machine is counted, and its count.
-ghost use Rattle.std.specs.Prelude.{◌≡◌, ◌⊎◌, ℕ, IfOk, IfErr, OnOk, IsTrue, map, option_map, [], ◌∷◌, Option, None, Some, true};
+ghost use Rattle.std.specs.Prelude.{◌≡◌, ℕ, IfOk, map, option_map, Option, None, Some};
 ghost use Rattle.std.specs.Option.{option_to_list};
 ghost use Rattle.sqlite.specs.Held.{state};
-ghost use Rattle.sqlite.specs.State.{HasCleanDisk, KeepsCommit, Survives, Shown, FailsToQuery, IsTooLate};
+ghost use Rattle.sqlite.specs.State.{HasCleanDisk, Survives};
 ghost use Rattle.hall_types.specs.Hall.{Hall};
 ghost use Rattle.hall_types.specs.Rows.{Rows, numbers, at, put, gone};
 ghost use Rattle.hall_types.specs.declared.machine.Machine.{Machine};
-ghost use Rattle.sql_schema.specs.MachineStatements.{find_machine_text};
-ghost use Rattle.sql_schema.specs.Columns.{machine_values, number};
-ghost use Rattle.sql_schema.specs.Holding.{IsWithin};
-ghost use Rattle.sql_schema.specs.Spelling.{HallRows};
+ghost use Rattle.sql_schema.specs.Columns.{machine_values};
+ghost use Rattle.sql_rows.specs.Steps.{IsStep};
 ghost use Rattle.sql_writes.specs.Between.{IsBetween};
 ghost use Rattle.sql_writes.specs.Groups.{group_of};
 ghost use Rattle.sql_writes.specs.Within.{IsWithinHall};
@@ -27,24 +25,15 @@ pub(crate) struct Group {
 }
 
 // What the query of the machine with a number shows.
-fn machine_rows<S: Alter>(tx: &mut Transaction<'_, S>, id: Number) -> Result<Vec<Row>, Error>
-    ensures same_reference { tx.new.conn.ghost_name ≡ tx.old.conn.ghost_name }
-    ensures ok { HasCleanDisk (state S.Store tx.new.conn.now) → IfOk result (λ rows. Shown find_machine_text (number id ∷ []) (state S.Store tx.old.conn.now) (state S.Store tx.new.conn.now) rows.items) }
-    ensures err { HasCleanDisk (state S.Store tx.new.conn.now) → IfErr result (λ e. FailsToQuery find_machine_text (number id ∷ []) (state S.Store tx.old.conn.now) (state S.Store tx.new.conn.now) e ⊎ IsTooLate find_machine_text (number id ∷ []) (state S.Store tx.old.conn.now) (state S.Store tx.new.conn.now) e) }
-    ensures survives { Survives (state S.Store tx.old.conn.now) (state S.Store tx.new.conn.now) (λ _. ⊥) }
-{
-    tx.query_all(FIND_MACHINE, &[number_value(id.get())])
-}
-
-// The same, in the words of the hall.
 fn rows_of_machine<S: Alter>(tx: &mut Transaction<'_, S>, id: Number) -> Result<Vec<Row>, Error>
     ensures same_reference { tx.new.conn.ghost_name ≡ tx.old.conn.ghost_name }
-    ensures found { HasCleanDisk (state S.Store tx.new.conn.now) → IfOk result (λ rows. (before h : Hall) → IsWithinHall (state S.Store tx.old.conn.now) before h → (rows.items ≡ map machine_values (option_to_list (at h.machines id))) × IsWithinHall (state S.Store tx.new.conn.now) before h) }
-    ensures mode { HasCleanDisk (state S.Store tx.new.conn.now) → OnOk result (IsTrue (state S.Store tx.old.conn.now).in_transaction → (state S.Store tx.new.conn.now).in_transaction ≡ true) }
-    ensures kept { HasCleanDisk (state S.Store tx.new.conn.now) → IsTrue (state S.Store tx.old.conn.now).in_transaction → KeepsCommit (state S.Store tx.old.conn.now) (state S.Store tx.new.conn.now) }
+    ensures found { HasCleanDisk (state S.Store tx.new.conn.now) → IsStep (state S.Store tx.old.conn.now) (state S.Store tx.new.conn.now) result (λ rows. (before h : Hall) → IsWithinHall (state S.Store tx.old.conn.now) before h → (rows.items ≡ map machine_values (option_to_list (at h.machines id))) × IsWithinHall (state S.Store tx.new.conn.now) before h) }
     ensures survives { Survives (state S.Store tx.old.conn.now) (state S.Store tx.new.conn.now) (λ _. ⊥) }
 {
-    machine_rows(tx, id)
+    match tx.query_all(FIND_MACHINE, &[number_value(id.get())]) {
+        Ok(rows) => Ok(rows),
+        Err(error) => Err(error),
+    }
 }
 
 fn group_in(row: &Row) -> Result<Group, Error>
@@ -70,9 +59,7 @@ pub(crate) fn find_group<S: Alter>(
     id: Number,
 ) -> Result<Option<Group>, Error>
     ensures same_reference { tx.new.conn.ghost_name ≡ tx.old.conn.ghost_name }
-    ensures found { HasCleanDisk (state S.Store tx.new.conn.now) → IfOk result (λ group. (before h : Hall) → IsWithinHall (state S.Store tx.old.conn.now) before h → (group ≡ option_map group_of (at h.machines id)) × IsWithinHall (state S.Store tx.new.conn.now) before h) }
-    ensures mode { HasCleanDisk (state S.Store tx.new.conn.now) → OnOk result (IsTrue (state S.Store tx.old.conn.now).in_transaction → (state S.Store tx.new.conn.now).in_transaction ≡ true) }
-    ensures kept { HasCleanDisk (state S.Store tx.new.conn.now) → IsTrue (state S.Store tx.old.conn.now).in_transaction → KeepsCommit (state S.Store tx.old.conn.now) (state S.Store tx.new.conn.now) }
+    ensures found { HasCleanDisk (state S.Store tx.new.conn.now) → IsStep (state S.Store tx.old.conn.now) (state S.Store tx.new.conn.now) result (λ group. (before h : Hall) → IsWithinHall (state S.Store tx.old.conn.now) before h → (group ≡ option_map group_of (at h.machines id)) × IsWithinHall (state S.Store tx.new.conn.now) before h) }
     ensures survives { Survives (state S.Store tx.old.conn.now) (state S.Store tx.new.conn.now) (λ _. ⊥) }
 {
     match rows_of_machine(tx, id) {
@@ -87,29 +74,19 @@ pub(crate) fn count_in<S: Alter>(
     machine: &Machine,
 ) -> Result<(), Error>
     ensures same_reference { tx.new.conn.ghost_name ≡ tx.old.conn.ghost_name }
-    ensures made { HasCleanDisk (state S.Store tx.new.conn.now) → OnOk result ((before h : Hall) (counted wiped : Rows numbers Machine) → IsBetween (state S.Store tx.old.conn.now) before h counted wiped → at counted machine.now.id ≡ None → IsBetween (state S.Store tx.new.conn.now) before h (put machine.now.id machine.now counted) wiped) }
-    ensures mode { HasCleanDisk (state S.Store tx.new.conn.now) → OnOk result (IsTrue (state S.Store tx.old.conn.now).in_transaction → (state S.Store tx.new.conn.now).in_transaction ≡ true) }
-    ensures kept { HasCleanDisk (state S.Store tx.new.conn.now) → IsTrue (state S.Store tx.old.conn.now).in_transaction → KeepsCommit (state S.Store tx.old.conn.now) (state S.Store tx.new.conn.now) }
+    ensures written { HasCleanDisk (state S.Store tx.new.conn.now) → IsStep (state S.Store tx.old.conn.now) (state S.Store tx.new.conn.now) result (λ _. (before h : Hall) (counted wiped : Rows numbers Machine) → IsBetween (state S.Store tx.old.conn.now) before h counted wiped → at counted machine.now.id ≡ None → IsBetween (state S.Store tx.new.conn.now) before h (put machine.now.id machine.now counted) wiped) }
     ensures survives { Survives (state S.Store tx.old.conn.now) (state S.Store tx.new.conn.now) (λ _. ⊥) }
 {
-    match count_up(tx, &machine.pool, machine.status) {
-        Ok(_) => Ok(()),
-        Err(error) => Err(error),
-    }
+    count_up(tx, &machine.pool, machine.status)
 }
 
 /// A machine that was counted at its group is counted no more.
 pub(crate) fn count_out<S: Alter>(tx: &mut Transaction<'_, S>, group: &Group) -> Result<(), Error>
     ensures same_reference { tx.new.conn.ghost_name ≡ tx.old.conn.ghost_name }
-    ensures made { HasCleanDisk (state S.Store tx.new.conn.now) → OnOk result ((before h : Hall) (counted wiped : Rows numbers Machine) → IsBetween (state S.Store tx.old.conn.now) before h counted wiped → (id : ℕ) (machine : Machine) → at counted id ≡ Some machine → group.now ≡ group_of machine → IsBetween (state S.Store tx.new.conn.now) before h (gone id counted) wiped) }
-    ensures mode { HasCleanDisk (state S.Store tx.new.conn.now) → OnOk result (IsTrue (state S.Store tx.old.conn.now).in_transaction → (state S.Store tx.new.conn.now).in_transaction ≡ true) }
-    ensures kept { HasCleanDisk (state S.Store tx.new.conn.now) → IsTrue (state S.Store tx.old.conn.now).in_transaction → KeepsCommit (state S.Store tx.old.conn.now) (state S.Store tx.new.conn.now) }
+    ensures written { HasCleanDisk (state S.Store tx.new.conn.now) → IsStep (state S.Store tx.old.conn.now) (state S.Store tx.new.conn.now) result (λ _. (before h : Hall) (counted wiped : Rows numbers Machine) → IsBetween (state S.Store tx.old.conn.now) before h counted wiped → (id : ℕ) (machine : Machine) → at counted id ≡ Some machine → group.now ≡ group_of machine → IsBetween (state S.Store tx.new.conn.now) before h (gone id counted) wiped) }
     ensures survives { Survives (state S.Store tx.old.conn.now) (state S.Store tx.new.conn.now) (λ _. ⊥) }
 {
-    match count_down(tx, &group.pool, group.status) {
-        Ok(_) => Ok(()),
-        Err(error) => Err(error),
-    }
+    count_down(tx, &group.pool, group.status)
 }
 
 /// A machine that was counted at a group is counted where it is now.
@@ -119,9 +96,7 @@ pub(crate) fn move_count<S: Alter>(
     machine: &Machine,
 ) -> Result<(), Error>
     ensures same_reference { tx.new.conn.ghost_name ≡ tx.old.conn.ghost_name }
-    ensures made { HasCleanDisk (state S.Store tx.new.conn.now) → OnOk result ((before h : Hall) (counted wiped : Rows numbers Machine) → IsBetween (state S.Store tx.old.conn.now) before h counted wiped → (was : Machine) → at counted machine.now.id ≡ Some was → from.now ≡ group_of was → IsBetween (state S.Store tx.new.conn.now) before h (put machine.now.id machine.now counted) wiped) }
-    ensures mode { HasCleanDisk (state S.Store tx.new.conn.now) → OnOk result (IsTrue (state S.Store tx.old.conn.now).in_transaction → (state S.Store tx.new.conn.now).in_transaction ≡ true) }
-    ensures kept { HasCleanDisk (state S.Store tx.new.conn.now) → IsTrue (state S.Store tx.old.conn.now).in_transaction → KeepsCommit (state S.Store tx.old.conn.now) (state S.Store tx.new.conn.now) }
+    ensures written { HasCleanDisk (state S.Store tx.new.conn.now) → IsStep (state S.Store tx.old.conn.now) (state S.Store tx.new.conn.now) result (λ _. (before h : Hall) (counted wiped : Rows numbers Machine) → IsBetween (state S.Store tx.old.conn.now) before h counted wiped → (was : Machine) → at counted machine.now.id ≡ Some was → from.now ≡ group_of was → IsBetween (state S.Store tx.new.conn.now) before h (put machine.now.id machine.now counted) wiped) }
     ensures survives { Survives (state S.Store tx.old.conn.now) (state S.Store tx.new.conn.now) (λ _. ⊥) }
 {
     if from.pool == machine.pool && from.status.number() == machine.status.number() {

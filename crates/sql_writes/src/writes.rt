@@ -1,12 +1,9 @@
 //! One row write, by its kind.
-ghost use Rattle.std.specs.Prelude.{◌≡◌, OnOk, IsTrue, true};
+ghost use Rattle.std.specs.Prelude.{◌≡◌};
 ghost use Rattle.sqlite.specs.Held.{state};
-ghost use Rattle.sqlite.specs.State.{HasCleanDisk, KeepsCommit, Survives};
-ghost use Rattle.hall_types.specs.Hall.{Hall, written};
+ghost use Rattle.sqlite.specs.State.{HasCleanDisk, Survives};
 ghost use Rattle.hall_types.specs.declared.change.RowWrite.TheVariants.{PutMachine};
-ghost use Rattle.hall_store.specs.Rules.{Keeps};
-ghost use Rattle.hall_store.specs.Versions.{HasVersion};
-ghost use Rattle.sql_writes.specs.Within.{IsWithinHall};
+ghost use Rattle.sql_writes.specs.Within.{IsRowWritten};
 
 use crate::machines::{add_whole, set_whole};
 use crate::removal::remove_machine;
@@ -25,10 +22,7 @@ fn put_machine<S: Alter>(
     was: Option<Version>,
 ) -> Result<(), Error>
     ensures same_reference { tx.new.conn.ghost_name ≡ tx.old.conn.ghost_name }
-    ensures made { HasCleanDisk (state S.Store tx.new.conn.now) → OnOk result ((before h : Hall) → IsWithinHall (state S.Store tx.old.conn.now) before h → IsWithinHall (state S.Store tx.new.conn.now) before (written (PutMachine machine.now was) h)) }
-    ensures version { HasCleanDisk (state S.Store tx.new.conn.now) → OnOk result ((before h : Hall) → IsWithinHall (state S.Store tx.old.conn.now) before h → HasVersion (PutMachine machine.now was) h) }
-    ensures mode { HasCleanDisk (state S.Store tx.new.conn.now) → OnOk result (IsTrue (state S.Store tx.old.conn.now).in_transaction → (state S.Store tx.new.conn.now).in_transaction ≡ true) }
-    ensures kept { HasCleanDisk (state S.Store tx.new.conn.now) → IsTrue (state S.Store tx.old.conn.now).in_transaction → KeepsCommit (state S.Store tx.old.conn.now) (state S.Store tx.new.conn.now) }
+    ensures written { HasCleanDisk (state S.Store tx.new.conn.now) → IsRowWritten (state S.Store tx.old.conn.now) (state S.Store tx.new.conn.now) result (PutMachine machine.now was) }
     ensures survives { Survives (state S.Store tx.old.conn.now) (state S.Store tx.new.conn.now) (λ _. ⊥) }
 {
     match was {
@@ -46,27 +40,23 @@ pub fn write_row<S: Alter>(
     write: &RowWrite,
 ) -> Result<(), Error>
     ensures same_reference { tx.new.conn.ghost_name ≡ tx.old.conn.ghost_name }
-    ensures made { HasCleanDisk (state S.Store tx.new.conn.now) → OnOk result ((before h : Hall) → IsWithinHall (state S.Store tx.old.conn.now) before h → Keeps write.now h → IsWithinHall (state S.Store tx.new.conn.now) before (written write.now h)) }
-    ensures version { HasCleanDisk (state S.Store tx.new.conn.now) → OnOk result ((before h : Hall) → IsWithinHall (state S.Store tx.old.conn.now) before h → Keeps write.now h → HasVersion write.now h) }
-    ensures mode { HasCleanDisk (state S.Store tx.new.conn.now) → OnOk result (IsTrue (state S.Store tx.old.conn.now).in_transaction → (state S.Store tx.new.conn.now).in_transaction ≡ true) }
-    ensures kept { HasCleanDisk (state S.Store tx.new.conn.now) → IsTrue (state S.Store tx.old.conn.now).in_transaction → KeepsCommit (state S.Store tx.old.conn.now) (state S.Store tx.new.conn.now) }
+    ensures written { HasCleanDisk (state S.Store tx.new.conn.now) → IsRowWritten (state S.Store tx.old.conn.now) (state S.Store tx.new.conn.now) result write.now }
     ensures survives { Survives (state S.Store tx.old.conn.now) (state S.Store tx.new.conn.now) (λ _. ⊥) }
 {
     match write {
-        RowWrite::PutOperator(operator) => put_operator(tx, operator)?,
-        RowWrite::PutPool(pool) => _ = add_pool(tx, pool)?,
-        RowWrite::PutMember(member) => _ = add_member(tx, member)?,
-        RowWrite::PutImage(image) => _ = add_image(alloc, tx, image)?,
-        RowWrite::ImageGone(name) => _ = remove_image(tx, name)?,
-        RowWrite::PutLive(live) => put_live(tx, live)?,
-        RowWrite::PutMachine { machine, was } => put_machine(tx, machine, *was)?,
-        RowWrite::MachineGone(id) => remove_machine(tx, *id)?,
-        RowWrite::PutInterface(interface) => _ = add_interface(tx, interface)?,
-        RowWrite::InterfaceGone(mac) => _ = remove_interface(tx, *mac)?,
-        RowWrite::PutBoot(boot) => put_boot(tx, boot)?,
-        RowWrite::PutOrder(order) => put_order(tx, order)?,
-        RowWrite::PutReceipt(receipt) => _ = add_receipt(tx, receipt)?,
-        RowWrite::PutNumbers(numbers) => _ = set_numbers(tx, *numbers)?,
+        RowWrite::PutOperator(operator) => put_operator(tx, operator),
+        RowWrite::PutPool(pool) => add_pool(tx, pool),
+        RowWrite::PutMember(member) => add_member(tx, member),
+        RowWrite::PutImage(image) => add_image(alloc, tx, image),
+        RowWrite::ImageGone(name) => remove_image(tx, name),
+        RowWrite::PutLive(live) => put_live(tx, live),
+        RowWrite::PutMachine { machine, was } => put_machine(tx, machine, *was),
+        RowWrite::MachineGone(id) => remove_machine(tx, *id),
+        RowWrite::PutInterface(interface) => add_interface(tx, interface),
+        RowWrite::InterfaceGone(mac) => remove_interface(tx, *mac),
+        RowWrite::PutBoot(boot) => put_boot(tx, boot),
+        RowWrite::PutOrder(order) => put_order(tx, order),
+        RowWrite::PutReceipt(receipt) => add_receipt(tx, receipt),
+        RowWrite::PutNumbers(numbers) => set_numbers(tx, *numbers),
     }
-    Ok(())
 }

@@ -17,9 +17,9 @@ writes-preserved g c =
     let here : drop c.writes.write-index c.args.writes.now ≡ c.write-item.result ∷ drop (c.writes.write-index + 1) c.args.writes.now =
     next_item c.args.writes.now c.writes.write-index c.write-item.result c.writes-test.true c.write-item.is in (
       c.write_row.ensures.same_reference ∙ c.writes.invariant.0,
-      steps s0 s (state g.S.Store c.write_row.new.tx.conn.now) c.write-item.result _ c.args.writes.now
+      steps s0 s (state g.S.Store c.write_row.new.tx.conn.now) _ c.write-item.result _ c.args.writes.now
           (subst (λ l. Going s0 s l c.args.writes.now) here c.writes.invariant.1)
-          c.write_row.ensures.survives c.write_row.ensures.kept c.in_ok-write_row.ensures.mode c.in_ok-write_row.ensures.made c.in_ok-write_row.ensures.version,
+          c.write_row.ensures.survives c.in_ok-write_row.ensures.written,
     )
 
 pub returns-in_err-write_row-clause-told : goal.returns-in_err-write_row-clause-told
@@ -31,7 +31,7 @@ returns-in_err-write_row-clause-told g c =
     let bad : IsErr c.from_residual.result = search rules in
     subst (λ t. HasCleanDisk (state g.S.Store t) → IsTold s0 (state g.S.Store t) c.from_residual.result c.args.writes.now) same
     (λ clean. refused s0 s (state g.S.Store c.write_row.new.tx.conn.now) (state g.S.Store end) c.from_residual.result _ c.args.writes.now bad c.writes.invariant.1
-    c.write_row.ensures.survives c.write_row.ensures.kept c.drop-tx.ensures.survives clean c.drop-tx.ensures.undone)
+    c.write_row.ensures.survives (λ clean. (c.write_row.ensures.written clean).kept) c.drop-tx.ensures.survives clean c.drop-tx.ensures.undone)
 
 pub returns-clause-told : goal.returns-clause-told
 returns-clause-told g c =

@@ -1,28 +1,21 @@
-use Rattle.std.proofs.Common.{◌≡◌, ◌+◌, ◌<◌, subst, sym, arith}
+use Rattle.std.proofs.Common.{◌+◌, subst, arith}
 use Rattle.sqlite.specs.Held.{state}
 use Rattle.sqlite.specs.State.{HasCleanDisk}
 use Rattle.hall_types.specs.Status.{status_number}
 use Rattle.sql_schema.specs.Holding.{IsWithin}
+use Rattle.sql_rows.specs.StepLaws.{next}
 use Rattle.sql_counts.specs.Counts.{with_count}
-use Rattle.sql_counts.proofs.CountLemmas.{on_ok}
+use Rattle.sql_counts.proofs.CountLemmas.{counts_up}
 use Rattle.sql_counts.proofs.counts.count_up.Goals as goal
 
-pub returns-then-count-eq0-clause-made : goal.returns-then-count-eq0-clause-made
-returns-then-count-eq0-clause-made g c clean =
+pub returns-in-Ok-clause-written : goal.returns-in-Ok-clause-written
+returns-in-Ok-clause-written g c clean =
     let pool = c.args.pool.now in
     let status = status_number c.args.status in
-    let mid : HasCleanDisk (state g.S.Store c.count_of.new.tx.conn.now) = omega (arith, c.add_count.ensures.survives.clean, clean) in
-    on_ok c.add_count.result (c.add_count.ensures.made clean) (λ made before was held.
-    let it = c.in-Ok.ensures.counted mid before was held in
-    let none : was.counts pool status ≡ 0 = omega (arith, it.0, c.if-count-eq0.true) in
-    subst (λ n. IsWithin (state g.S.Store c.add_count.new.tx.conn.now) before (with_count was pool status (n + 1))) (sym none) (made before was it.1 none))
-
-pub returns-else-count-eq-MAX_COUNT-clause-made : goal.returns-else-count-eq-MAX_COUNT-clause-made
-returns-else-count-eq-MAX_COUNT-clause-made g c clean =
-    let pool = c.args.pool.now in
-    let status = status_number c.args.status in
-    let mid : HasCleanDisk (state g.S.Store c.count_of.new.tx.conn.now) = omega (arith, c.set_count.ensures.survives.clean, clean) in
-    on_ok c.set_count.result (c.set_count.ensures.made clean) (λ made before was held.
-    let it = c.in-Ok.ensures.counted mid before was held in
-    let some : 0 < was.counts pool status = omega (arith, it.0, c.if-count-eq0.false) in
-    subst (λ n. IsWithin (state g.S.Store c.set_count.new.tx.conn.now) before (with_count was pool status (n + 1))) it.0 (made before was it.1 some (omega arith)))
+    let mid : HasCleanDisk (state g.S.Store c.count_of.new.tx.conn.now) = omega (arith, c.write.ensures.survives.clean, clean) in
+    next _ _ c.write.result (c.in-Ok.ensures.counted mid)
+    (rw (c.statement_up.ensures, c.name_value.ensures, c.small_value.ensures, c.number_value.ensures, c.number.ensures.number) at (c.write.ensures.written clean))
+    (λ done counted wrote before rows held may.
+    let it = counted before rows held in
+    subst (λ n. IsWithin (state g.S.Store c.write.new.tx.conn.now) before (with_count rows pool status (n + 1))) it.0
+    (wrote before rows (with_count rows pool status (c.in-Ok.count + 1)) (counts_up pool status (state g.S.Store) c.in-Ok.count before rows it.0) it.1))

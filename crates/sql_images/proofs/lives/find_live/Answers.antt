@@ -1,14 +1,7 @@
-use Rattle.sqlite.specs.Held.{state}
 use Rattle.hall_types.specs.Kinds.{arch_number}
 use Rattle.hall_types.specs.Rows.{at}
-use Rattle.sql_schema.specs.StatementLaws.{if_ok}
-use Rattle.sql_schema.specs.HoldingLaws.{asked_then, asked_failed}
+use Rattle.sql_images.specs.LiveLaws.{finds_live}
 use Rattle.sql_images.proofs.lives.find_live.Goals as goal
 
-pub returns-in-Ok-clause-asked : goal.returns-in-Ok-clause-asked
-returns-in-Ok-clause-asked g c clean =
-    asked_then (state g.S.Store c.args.conn.now) (state g.S.Store c.rows_of_live.new.conn) _ _ c.in-Ok.rows c.first_live.result (c.in-Ok.ensures.asked clean)
-    (if_ok _ _ c.first_live.result c.first_live.ensures (λ found first h is. first (at h.lives (arch_number c.args.arch)) is))
-
-pub returns-in-Err-clause-asked : goal.returns-in-Err-clause-asked
-returns-in-Err-clause-asked g c clean = asked_failed (state g.S.Store c.args.conn.now) (state g.S.Store c.rows_of_live.new.conn) _ _ c.in-Err.error (c.in-Err.ensures.asked clean)
+pub returns-clause-asked : goal.returns-clause-asked
+returns-clause-asked g c clean = c.ask_one.ensures.asked clean (λ h. at h.lives (arch_number c.args.arch)) (rw (c.small_value.ensures, c.arch_number.ensures) (finds_live (arch_number c.args.arch)))

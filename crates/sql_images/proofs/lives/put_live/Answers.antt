@@ -1,10 +1,8 @@
-use Rattle.std.proofs.Common.{arith}
 use Rattle.sqlite.specs.Held.{state}
-use Rattle.sqlite.specs.State.{HasCleanDisk}
+use Rattle.sql_images.specs.Lives.{with_live}
+use Rattle.sql_images.specs.LiveLaws.{puts_live}
 use Rattle.sql_images.proofs.lives.put_live.Goals as goal
 
-pub returns-in-Ok-clause-made : goal.returns-in-Ok-clause-made
-returns-in-Ok-clause-made g c clean before was held =
-    let mid : HasCleanDisk (state g.S.Store c.set_live.new.tx.conn.now) = omega (arith, c.add_live.ensures.survives.clean, clean) in
-    let none = rw c.in-Ok-false.field-0-test at (c.in-Ok-false.ensures.made mid before was held) in
-    c.in-Ok.ensures.made clean before was none.0
+pub returns-clause-written : goal.returns-clause-written
+returns-clause-written g c clean =
+    c.put.ensures.written clean (λ rows. with_live rows c.args.live.now) (rw (c.small_value.ensures, c.name_value.ensures, c.arch_number.ensures) (puts_live (state g.S.Store) c.args.live.now))

@@ -1,20 +1,9 @@
-use Rattle.std.proofs.Common.{refl}
 use Rattle.sqlite.specs.Held.{state}
-use Rattle.sql_schema.specs.StatementLaws.{execute_keeps, execute_mode, on_made}
-use Rattle.sql_schema.specs.MachineStatements.{add_interface_text}
-use Rattle.sql_schema.specs.Columns.{interface_columns}
-use Rattle.sql_machine_parts.proofs.InterfaceLemmas.{adds_interface}
+use Rattle.sql_rows.specs.StepLaws.{writes}
+use Rattle.sql_machine_parts.specs.InterfaceLaws.{adds_interface}
 use Rattle.sql_machine_parts.proofs.interfaces.add_interface.Goals as goal
 
-pub returns-clause-made : goal.returns-clause-made
-returns-clause-made g c clean =
-    let old = state g.S.Store c.args.tx.now.conn.now in
-    let new = state g.S.Store c.add_raw.new.tx.conn.now in
-    on_made add_interface_text (interface_columns c.args.interface.now) old new c.add_raw.result _ (c.add_raw.ensures.runs clean)
-    (λ count ran. λ before was held free. adds_interface old new before was held c.args.interface.now free count (ran (rw held.mode refl)))
-
-pub returns-clause-mode : goal.returns-clause-mode
-returns-clause-mode g c clean = execute_mode (state g.S.Store c.args.tx.now.conn.now) (state g.S.Store c.add_raw.new.tx.conn.now) _ _ c.add_raw.result (c.add_raw.ensures.runs clean)
-
-pub returns-clause-kept : goal.returns-clause-kept
-returns-clause-kept g c clean = execute_keeps (state g.S.Store c.args.tx.now.conn.now) (state g.S.Store c.add_raw.new.tx.conn.now) _ _ c.add_raw.result (c.add_raw.ensures.runs clean)
+pub returns-clause-written : goal.returns-clause-written
+returns-clause-written g c clean =
+    writes (state g.S.Store) _ _ _ _ c.write.result
+    (rw (c.octets_value.ensures, c.number_value.ensures, c.get.ensures.number, c.octets-octets.ensures.octets) at (c.write.ensures.written clean)) (adds_interface (state g.S.Store) c.args.interface.now)

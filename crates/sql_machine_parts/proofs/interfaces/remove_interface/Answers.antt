@@ -1,20 +1,9 @@
-use Rattle.std.proofs.Common.{[], ◌∷◌, refl}
-use Rattle.sqlite.specs.declared.types.Value.TheVariants.{Blob}
 use Rattle.sqlite.specs.Held.{state}
-use Rattle.sql_schema.specs.StatementLaws.{execute_keeps, execute_mode, on_made}
-use Rattle.sql_schema.specs.MachineStatements.{remove_interface_text}
-use Rattle.sql_machine_parts.proofs.InterfaceLemmas.{removes_interface}
+use Rattle.sql_rows.specs.StepLaws.{writes}
+use Rattle.sql_machine_parts.specs.InterfaceLaws.{removes_interface}
 use Rattle.sql_machine_parts.proofs.interfaces.remove_interface.Goals as goal
 
-pub returns-clause-made : goal.returns-clause-made
-returns-clause-made g c clean =
-    let old = state g.S.Store c.args.tx.now.conn.now in
-    let new = state g.S.Store c.remove_raw.new.tx.conn.now in
-    on_made remove_interface_text (Blob c.args.mac ∷ []) old new c.remove_raw.result _ (c.remove_raw.ensures.runs clean)
-    (λ count ran. λ before was held. removes_interface old new before was held c.args.mac count (ran (rw held.mode refl)))
-
-pub returns-clause-mode : goal.returns-clause-mode
-returns-clause-mode g c clean = execute_mode (state g.S.Store c.args.tx.now.conn.now) (state g.S.Store c.remove_raw.new.tx.conn.now) _ _ c.remove_raw.result (c.remove_raw.ensures.runs clean)
-
-pub returns-clause-kept : goal.returns-clause-kept
-returns-clause-kept g c clean = execute_keeps (state g.S.Store c.args.tx.now.conn.now) (state g.S.Store c.remove_raw.new.tx.conn.now) _ _ c.remove_raw.result (c.remove_raw.ensures.runs clean)
+pub returns-clause-written : goal.returns-clause-written
+returns-clause-written g c clean =
+    writes (state g.S.Store) _ _ _ _ c.write.result
+    (rw (c.octets_value.ensures, c.octets-octets.ensures.octets) at (c.write.ensures.written clean)) (λ before rows may. removes_interface (state g.S.Store) c.args.mac before rows)

@@ -1,12 +1,17 @@
-use Rattle.sqlite.specs.Held.{state}
-use Rattle.sql_schema.specs.StatementLaws.{if_ok}
+use Rattle.std.proofs.Common.{Ok, option_map, ap, ◌∙◌}
+use Rattle.hall_types.specs.Rows.{at}
 use Rattle.sql_schema.specs.HoldingLaws.{asked_then, asked_failed}
+use Rattle.sql_machine_parts.specs.declared.wipes.Erasing.{Erasing}
+use Rattle.sql_machine_parts.proofs.WipeLemmas.{finds_wipe, found_erase}
 use Rattle.sql_machine_parts.proofs.wipes.find_wipe.Goals as goal
 
 pub returns-in-Ok-clause-asked : goal.returns-in-Ok-clause-asked
 returns-in-Ok-clause-asked g c clean =
-    asked_then (state g.S.Store c.args.conn.now) (state g.S.Store c.rows_of_wipe.new.conn) _ _ c.in-Ok.rows c.first_erase.result (c.in-Ok.ensures.asked clean)
-    (if_ok _ _ c.first_erase.result c.first_erase.ensures (λ found first h is. first h c.args.id is))
+    let asked = rw (c.number_value.ensures, c.get.ensures.number) at (c.in-Ok.ensures.asked clean) in
+    asked_then _ _ _ _ c.in-Ok.found (Ok c.kind_found.result) (asked _ (finds_wipe c.args.id))
+    (λ h is. c.kind_found.ensures ∙ ap (option_map (λ (e : Erasing). e.erase)) is ∙ found_erase (at h.machines c.args.id))
 
 pub returns-in-Err-clause-asked : goal.returns-in-Err-clause-asked
-returns-in-Err-clause-asked g c clean = asked_failed (state g.S.Store c.args.conn.now) (state g.S.Store c.rows_of_wipe.new.conn) _ _ c.in-Err.error (c.in-Err.ensures.asked clean)
+returns-in-Err-clause-asked g c clean =
+    let asked = rw (c.number_value.ensures, c.get.ensures.number) at (c.in-Err.ensures.asked clean) in
+    asked_failed _ _ _ _ c.in-Err.error (asked _ (finds_wipe c.args.id))

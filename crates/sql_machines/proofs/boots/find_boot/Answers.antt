@@ -1,13 +1,6 @@
-use Rattle.sqlite.specs.Held.{state}
 use Rattle.hall_types.specs.Rows.{at}
-use Rattle.sql_schema.specs.StatementLaws.{if_ok}
-use Rattle.sql_schema.specs.HoldingLaws.{asked_then, asked_failed}
+use Rattle.sql_machines.specs.BootLaws.{finds_boot}
 use Rattle.sql_machines.proofs.boots.find_boot.Goals as goal
 
-pub returns-in-Ok-clause-asked : goal.returns-in-Ok-clause-asked
-returns-in-Ok-clause-asked g c clean =
-    asked_then (state g.S.Store c.args.conn.now) (state g.S.Store c.rows_of_boot.new.conn) _ _ c.in-Ok.rows c.first_boot.result (c.in-Ok.ensures.asked clean)
-    (if_ok _ _ c.first_boot.result c.first_boot.ensures (λ found first h is. first (at h.boots c.args.id) is))
-
-pub returns-in-Err-clause-asked : goal.returns-in-Err-clause-asked
-returns-in-Err-clause-asked g c clean = asked_failed (state g.S.Store c.args.conn.now) (state g.S.Store c.rows_of_boot.new.conn) _ _ c.in-Err.error (c.in-Err.ensures.asked clean)
+pub returns-clause-asked : goal.returns-clause-asked
+returns-clause-asked g c clean = c.ask_one.ensures.asked clean (λ h. at h.boots c.args.id) (rw (c.number_value.ensures, c.get.ensures.number) (finds_boot c.args.id))

@@ -1,10 +1,9 @@
-use Rattle.std.proofs.Common.{arith}
 use Rattle.sqlite.specs.Held.{state}
-use Rattle.sqlite.specs.State.{HasCleanDisk}
+use Rattle.sql_machines.specs.Orders.{with_order}
+use Rattle.sql_machines.specs.OrderLaws.{puts_order}
 use Rattle.sql_machines.proofs.orders.put_order.Goals as goal
 
-pub returns-in-Ok-clause-made : goal.returns-in-Ok-clause-made
-returns-in-Ok-clause-made g c clean before was held =
-    let mid : HasCleanDisk (state g.S.Store c.set_order.new.tx.conn.now) = omega (arith, c.add_order.ensures.survives.clean, clean) in
-    let none = rw c.in-Ok-false.field-0-test at (c.in-Ok-false.ensures.made mid before was held) in
-    c.in-Ok.ensures.made clean before was none.0
+pub returns-clause-written : goal.returns-clause-written
+returns-clause-written g c clean =
+    c.put.ensures.written clean (λ rows. with_order rows c.args.order.now)
+    (rw (c.number_value.ensures, c.number_value-2.ensures, c.small_value.ensures, c.small_value-2.ensures, c.get.ensures.number, c.get-2.ensures.number, c.number.ensures, c.number-2.ensures) (puts_order (state g.S.Store) c.args.order.now))

@@ -1,16 +1,5 @@
-use Rattle.std.proofs.Common.{◌∙◌}
-use Rattle.std.specs.Option.{option_to_list}
-use Rattle.sqlite.specs.Held.{state}
-use Rattle.hall_types.specs.Rows.{at}
-use Rattle.sql_schema.specs.StatementLaws.{if_ok}
-use Rattle.sql_schema.specs.HoldingLaws.{asked_then, asked_failed}
-use Rattle.sql_operators.proofs.OperatorLemmas.{only_item}
+use Rattle.sql_operators.specs.TableLaws.{finds_operator}
 use Rattle.sql_operators.proofs.operators.find_operator.Goals as goal
 
-pub returns-in-Ok-clause-asked : goal.returns-in-Ok-clause-asked
-returns-in-Ok-clause-asked g c clean =
-    asked_then (state g.S.Store c.args.conn.now) (state g.S.Store c.rows_of_operator.new.conn) _ _ c.in-Ok.rows c.first_operator.result (c.in-Ok.ensures.asked clean)
-    (if_ok _ _ c.first_operator.result c.first_operator.ensures (λ found first h is. first (option_to_list (at h.operators c.args.name.now)) is ∙ only_item (at h.operators c.args.name.now)))
-
-pub returns-in-Err-clause-asked : goal.returns-in-Err-clause-asked
-returns-in-Err-clause-asked g c clean = asked_failed (state g.S.Store c.args.conn.now) (state g.S.Store c.rows_of_operator.new.conn) _ _ c.in-Err.error (c.in-Err.ensures.asked clean)
+pub returns-clause-asked : goal.returns-clause-asked
+returns-clause-asked g c clean = c.ask_one.ensures.asked clean _ (rw c.name_value.ensures (finds_operator c.args.name.now))

@@ -1,13 +1,5 @@
-use Rattle.sqlite.specs.Held.{state}
-use Rattle.hall_types.specs.Rows.{at}
-use Rattle.sql_schema.specs.StatementLaws.{if_ok}
-use Rattle.sql_schema.specs.HoldingLaws.{asked_then, asked_failed}
+use Rattle.sql_operators.specs.TableLaws.{finds_pool}
 use Rattle.sql_operators.proofs.pools.find_pool.Goals as goal
 
-pub returns-in-Ok-clause-asked : goal.returns-in-Ok-clause-asked
-returns-in-Ok-clause-asked g c clean =
-    asked_then (state g.S.Store c.args.conn.now) (state g.S.Store c.rows_of_pool.new.conn) _ _ c.in-Ok.rows c.first_pool.result (c.in-Ok.ensures.asked clean)
-    (if_ok _ _ c.first_pool.result c.first_pool.ensures (λ found first h is. first (at h.pools c.args.name.now) is))
-
-pub returns-in-Err-clause-asked : goal.returns-in-Err-clause-asked
-returns-in-Err-clause-asked g c clean = asked_failed (state g.S.Store c.args.conn.now) (state g.S.Store c.rows_of_pool.new.conn) _ _ c.in-Err.error (c.in-Err.ensures.asked clean)
+pub returns-clause-asked : goal.returns-clause-asked
+returns-clause-asked g c clean = c.ask_one.ensures.asked clean _ (rw c.name_value.ensures (finds_pool c.args.name.now))

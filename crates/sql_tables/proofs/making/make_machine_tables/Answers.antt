@@ -12,7 +12,7 @@ returns-clause-made g c clean =
     let second : HasCleanDisk (state g.S.Store c.make_table-2.new.tx.conn.now) = omega (arith, c.make_table-3.ensures.survives.clean, third) in
     let first : HasCleanDisk (state g.S.Store c.make_table.new.tx.conn.now) = omega (arith, c.make_table-2.ensures.survives.clean, second) in
     on_ok _ _ c.make_table-4.result (c.make_table-4.ensures.made clean) (λ made was.
-    let made1 = c.in_ok-make_table.ensures.made first (stage 4 4) (stage 5 5) images_table (record { text = law.create_images_is; defined = law.create_images_defined; next = law.create_images_next; unlisted = law.create_images_unlisted }) was in
-    let made2 = c.in_ok-make_table-2.ensures.made second (stage 5 5) (stage 6 5) lives_table (record { text = law.create_lives_is; defined = law.create_lives_defined; next = law.create_lives_next; unlisted = law.create_lives_unlisted }) made1.0 in
-    let made3 = c.in_ok-make_table-3.ensures.made third (stage 6 5) (stage 7 6) machines_table (record { text = law.create_machines_is; defined = law.create_machines_defined; next = law.create_machines_next; unlisted = law.create_machines_unlisted }) made2.0 in
-    made (stage 7 6) (stage 8 7) interfaces_table (record { text = law.create_interfaces_is; defined = law.create_interfaces_defined; next = law.create_interfaces_next; unlisted = law.create_interfaces_unlisted }) made3.0)
+    let made1 = c.in_ok-make_table.ensures.made first (stage 4 4) (stage 5 5) images_table law.create_images was in
+    let made2 = c.in_ok-make_table-2.ensures.made second (stage 5 5) (stage 6 5) lives_table law.create_lives made1.0 in
+    let made3 = c.in_ok-make_table-3.ensures.made third (stage 6 5) (stage 7 6) machines_table law.create_machines made2.0 in
+    made (stage 7 6) (stage 8 7) interfaces_table law.create_interfaces made3.0)

@@ -12,7 +12,7 @@ returns-clause-made g c clean =
     let second : HasCleanDisk (state g.S.Store c.make_table-2.new.tx.conn.now) = omega (arith, c.make_table-3.ensures.survives.clean, third) in
     let first : HasCleanDisk (state g.S.Store c.make_table.new.tx.conn.now) = omega (arith, c.make_table-2.ensures.survives.clean, second) in
     on_ok _ _ c.make_table-4.result (c.make_table-4.ensures.made clean) (λ made was.
-    let made1 = c.in_ok-make_table.ensures.made first (stage 0 0) (stage 1 0) hall_table (record { text = law.create_hall_is; defined = law.create_hall_defined; next = law.create_hall_next; unlisted = law.create_hall_unlisted }) was in
-    let made2 = c.in_ok-make_table-2.ensures.made second (stage 1 0) (stage 2 2) operators_table (record { text = law.create_operators_is; defined = law.create_operators_defined; next = law.create_operators_next; unlisted = law.create_operators_unlisted }) made1.0 in
-    let made3 = c.in_ok-make_table-3.ensures.made third (stage 2 2) (stage 3 3) pools_table (record { text = law.create_pools_is; defined = law.create_pools_defined; next = law.create_pools_next; unlisted = law.create_pools_unlisted }) made2.0 in
-    made (stage 3 3) (stage 4 4) members_table (record { text = law.create_members_is; defined = law.create_members_defined; next = law.create_members_next; unlisted = law.create_members_unlisted }) made3.0)
+    let made1 = c.in_ok-make_table.ensures.made first (stage 0 0) (stage 1 0) hall_table law.create_hall was in
+    let made2 = c.in_ok-make_table-2.ensures.made second (stage 1 0) (stage 2 2) operators_table law.create_operators made1.0 in
+    let made3 = c.in_ok-make_table-3.ensures.made third (stage 2 2) (stage 3 3) pools_table law.create_pools made2.0 in
+    made (stage 3 3) (stage 4 4) members_table law.create_members made3.0)

@@ -12,7 +12,7 @@ returns-clause-made g c clean =
     let second : HasCleanDisk (state g.S.Store c.make_table-2.new.tx.conn.now) = omega (arith, c.make_table-3.ensures.survives.clean, third) in
     let first : HasCleanDisk (state g.S.Store c.make_table.new.tx.conn.now) = omega (arith, c.make_table-2.ensures.survives.clean, second) in
     on_ok _ _ c.make_table-4.result (c.make_table-4.ensures.made clean) (λ made was.
-    let made1 = c.in_ok-make_table.ensures.made first (stage 8 7) (stage 9 7) boots_table (record { text = law.create_boots_is; defined = law.create_boots_defined; next = law.create_boots_next; unlisted = law.create_boots_unlisted }) was in
-    let made2 = c.in_ok-make_table-2.ensures.made second (stage 9 7) (stage 10 7) orders_table (record { text = law.create_orders_is; defined = law.create_orders_defined; next = law.create_orders_next; unlisted = law.create_orders_unlisted }) made1.0 in
-    let made3 = c.in_ok-make_table-3.ensures.made third (stage 10 7) (stage 11 8) receipts_table (record { text = law.create_receipts_is; defined = law.create_receipts_defined; next = law.create_receipts_next; unlisted = law.create_receipts_unlisted }) made2.0 in
-    made (stage 11 8) (stage 12 9) counts_table (record { text = law.create_counts_is; defined = law.create_counts_defined; next = law.create_counts_next; unlisted = law.create_counts_unlisted }) made3.0)
+    let made1 = c.in_ok-make_table.ensures.made first (stage 8 7) (stage 9 7) boots_table law.create_boots was in
+    let made2 = c.in_ok-make_table-2.ensures.made second (stage 9 7) (stage 10 7) orders_table law.create_orders made1.0 in
+    let made3 = c.in_ok-make_table-3.ensures.made third (stage 10 7) (stage 11 8) receipts_table law.create_receipts made2.0 in
+    made (stage 11 8) (stage 12 9) counts_table law.create_counts made3.0)

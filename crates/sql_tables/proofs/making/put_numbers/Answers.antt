@@ -1,17 +1,17 @@
 use Rattle.std.proofs.Common.{[]}
 use Rattle.sqlite.specs.Held.{state}
-use Rattle.sql_schema.specs.NameStatements.{first_numbers_text}
 use Rattle.sql_tables.proofs.MakingLemmas.{numbers_put}
 use Rattle.sql_tables.proofs.TransactionLemmas.{inside, inside_keeps}
 use Rattle.sql_tables.proofs.making.put_numbers.Goals as goal
+use Rattle.sql_schema.specs.declared.name_statements.TheConstants.{FIRST_NUMBERS}
 
 pub returns-clause-made : goal.returns-clause-made
 returns-clause-made g c clean =
     let old = state g.S.Store c.args.tx.now.conn.now in
     let new = state g.S.Store c.execute.new.self.conn.now in
-    inside first_numbers_text [] old new c.execute.result _ (c.execute.ensures.runs clean) (λ out. (c.execute.ensures.ended out).0)
+    inside FIRST_NUMBERS.now [] old new c.execute.result _ (c.execute.ensures.runs clean) (λ out. (c.execute.ensures.ended out).0)
     (λ count ran going. λ was. (numbers_put old new count ran was, going))
 
 pub returns-clause-kept : goal.returns-clause-kept
 returns-clause-kept g c clean =
-    inside_keeps g.S.Store first_numbers_text [] c.args.tx.now.conn.now c.execute.new.self.conn.now c.execute.result (c.execute.ensures.runs clean) c.execute.ensures.ended
+    inside_keeps g.S.Store FIRST_NUMBERS.now [] c.args.tx.now.conn.now c.execute.new.self.conn.now c.execute.result (c.execute.ensures.runs clean) c.execute.ensures.ended

@@ -1,6 +1,5 @@
 use Rattle.std.proofs.Common.{◌≢◌, Err, ap, rules}
 use Rattle.sqlite.specs.Held.{state}
-use Rattle.sqlite.specs.State.{HasCleanDisk}
 use Rattle.sql_tables.specs.declared.fault.OpenFault.TheVariants.{OtherVersion}
 use Rattle.sql_tables.proofs.MigratingLemmas.{answered_already, answered_carry, answered_early, answered_now, answered_second, first_of, left_before, left_same, refused_carry, refused_early, second_of, told_other}
 use Rattle.sql_tables.proofs.TransactionLemmas.{settles}

@@ -1,19 +1,23 @@
 use Rattle.sqlite.specs.Held.{state}
-use Rattle.sql_schema.specs.StatementLaws.{query_keeps, query_mode, if_ok}
-use Rattle.sql_schema.specs.MachineStatements.{find_machine_text}
+use Rattle.sql_schema.specs.StatementLaws.{query_keeps, query_mode}
 use Rattle.sql_writes.proofs.BetweenLemmas.{finds_machine}
-use Rattle.sql_writes.proofs.ResultLemmas.{on_shown}
 use Rattle.sql_writes.proofs.groups.rows_of_machine.Goals as goal
+use Rattle.sql_schema.specs.declared.machine_statements.TheConstants.{FIND_MACHINE}
 
-pub returns-clause-found : goal.returns-clause-found
-returns-clause-found g c clean =
-    if_ok _ _ c.machine_rows.result (c.machine_rows.ensures.ok clean)
-    (λ rows shown before h held. finds_machine (state g.S.Store c.args.tx.now.conn.now) (state g.S.Store c.machine_rows.new.tx.conn.now) before h held c.args.id rows.items shown)
+pub returns-in-Ok-clause-found : goal.returns-in-Ok-clause-found
+returns-in-Ok-clause-found g c clean =
+    let old = state g.S.Store c.args.tx.now.conn.now in
+    let new = state g.S.Store c.query_all.new.self.conn.now in
+    let shown = rw (c.number_value.ensures, c.get.ensures.number) at (c.in-Ok.ensures.ok clean) in
+    record {
+      gives = λ before h held. finds_machine old new before h held c.args.id c.in-Ok.rows.items shown;
+      mode = query_mode old new FIND_MACHINE.now _ c.in-Ok.rows.items shown;
+      kept = query_keeps old new FIND_MACHINE.now _ (λ rows. rows.items) c.query_all.result (c.query_all.ensures.ok clean) (c.query_all.ensures.err clean);
+    }
 
-pub returns-clause-mode : goal.returns-clause-mode
-returns-clause-mode g c clean =
-    on_shown _ _ c.machine_rows.result (c.machine_rows.ensures.ok clean) (λ rows shown inside. query_mode (state g.S.Store c.args.tx.now.conn.now) (state g.S.Store c.machine_rows.new.tx.conn.now) find_machine_text _ rows.items shown inside)
-
-pub returns-clause-kept : goal.returns-clause-kept
-returns-clause-kept g c clean =
-    query_keeps (state g.S.Store c.args.tx.now.conn.now) (state g.S.Store c.machine_rows.new.tx.conn.now) find_machine_text _ (λ rows. rows.items) c.machine_rows.result (c.machine_rows.ensures.ok clean) (c.machine_rows.ensures.err clean)
+pub returns-in-Err-clause-found : goal.returns-in-Err-clause-found
+returns-in-Err-clause-found g c clean = record {
+  gives = tt;
+  mode = tt;
+  kept = query_keeps (state g.S.Store c.args.tx.now.conn.now) (state g.S.Store c.query_all.new.self.conn.now) FIND_MACHINE.now _ (λ rows. rows.items) c.query_all.result (c.query_all.ensures.ok clean) (c.query_all.ensures.err clean);
+}

@@ -1,99 +1,101 @@
 use Rattle.std.proofs.Common.{◌≡◌, None, refl, subst, sym}
 use Rattle.sqlite.specs.Held.{state}
-use Rattle.hall_types.specs.Hall.{Hall, pair, written}
+use Rattle.hall_types.specs.Hall.{Hall, pair}
 use Rattle.hall_types.specs.Rows.{at}
 use Rattle.hall_types.specs.declared.change.RowWrite.TheVariants.{PutOperator, PutPool, PutMember, PutImage, ImageGone, PutLive, PutInterface, InterfaceGone, PutBoot, PutOrder, PutReceipt, PutNumbers}
-use Rattle.hall_store.specs.Rules.{Keeps}
-use Rattle.hall_store.specs.Versions.{HasVersion}
-use Rattle.sql_writes.specs.Within.{IsWithinHall}
-use Rattle.sql_writes.proofs.WriteLemmas.{moved}
+use Rattle.sql_rows.specs.StepLaws.{gives}
+use Rattle.sql_writes.specs.Within.{IsRowWritten}
+use Rattle.sql_writes.proofs.WriteLemmas.{writes_row}
 use Rattle.sql_writes.proofs.writes.write_row.Goals as goal
 
-pub returns-in_ok-put_operator-in-PutOperator-clause-made : goal.returns-in_ok-put_operator-in-PutOperator-clause-made
-returns-in_ok-put_operator-in-PutOperator-clause-made g c clean before h held keeps =
+pub returns-in-PutOperator-clause-written : goal.returns-in-PutOperator-clause-written
+returns-in-PutOperator-clause-written g c clean =
+    let old = state g.S.Store c.args.tx.now.conn.now in
     let new = state g.S.Store c.put_operator.new.tx.conn.now in
-    subst (λ w. IsWithinHall new before (written w h)) (sym c.in-PutOperator.is)
-    (moved (state g.S.Store c.args.tx.now.conn.now) new before h held (written (PutOperator c.in-PutOperator.operator)) (λ x. refl) (λ hall_rows within same. c.in_ok-put_operator-in-PutOperator.ensures.made clean before hall_rows within))
+    subst (IsRowWritten old new c.put_operator.result) (sym c.in-PutOperator.is)
+    (writes_row old new c.put_operator.result (PutOperator c.in-PutOperator.operator) _ (c.put_operator.ensures.written clean) (λ x. refl) (λ h. tt) (λ h rows same keeps. tt))
 
-pub returns-in_ok-add_pool-in-PutPool-clause-made : goal.returns-in_ok-add_pool-in-PutPool-clause-made
-returns-in_ok-add_pool-in-PutPool-clause-made g c clean before h held keeps =
+pub returns-in-PutPool-clause-written : goal.returns-in-PutPool-clause-written
+returns-in-PutPool-clause-written g c clean =
+    let old = state g.S.Store c.args.tx.now.conn.now in
     let new = state g.S.Store c.add_pool.new.tx.conn.now in
-    let kept = subst (λ w. Keeps w h) c.in-PutPool.is keeps in
-    subst (λ w. IsWithinHall new before (written w h)) (sym c.in-PutPool.is)
-    (moved (state g.S.Store c.args.tx.now.conn.now) new before h held (written (PutPool c.in-PutPool.pool)) (λ x. refl) (λ hall_rows within same. c.in_ok-add_pool-in-PutPool.ensures.made clean before hall_rows within (subst (λ (x : Hall). at x.pools c.in-PutPool.pool.name ≡ None) (sym same) kept)))
+    subst (IsRowWritten old new c.add_pool.result) (sym c.in-PutPool.is)
+    (writes_row old new c.add_pool.result (PutPool c.in-PutPool.pool) _ (c.add_pool.ensures.written clean) (λ x. refl) (λ h. tt) (λ h rows same keeps. subst (λ (x : Hall). at x.pools c.in-PutPool.pool.name ≡ None) (sym same) keeps))
 
-pub returns-in_ok-add_member-in-PutMember-clause-made : goal.returns-in_ok-add_member-in-PutMember-clause-made
-returns-in_ok-add_member-in-PutMember-clause-made g c clean before h held keeps =
+pub returns-in-PutMember-clause-written : goal.returns-in-PutMember-clause-written
+returns-in-PutMember-clause-written g c clean =
+    let old = state g.S.Store c.args.tx.now.conn.now in
     let new = state g.S.Store c.add_member.new.tx.conn.now in
-    let kept = subst (λ w. Keeps w h) c.in-PutMember.is keeps in
-    subst (λ w. IsWithinHall new before (written w h)) (sym c.in-PutMember.is)
-    (moved (state g.S.Store c.args.tx.now.conn.now) new before h held (written (PutMember c.in-PutMember.member)) (λ x. refl) (λ hall_rows within same. c.in_ok-add_member-in-PutMember.ensures.made clean before hall_rows within (subst (λ (x : Hall). at x.members (pair c.in-PutMember.member.pool c.in-PutMember.member.operator) ≡ None) (sym same) kept.new)))
+    subst (IsRowWritten old new c.add_member.result) (sym c.in-PutMember.is)
+    (writes_row old new c.add_member.result (PutMember c.in-PutMember.member) _ (c.add_member.ensures.written clean) (λ x. refl) (λ h. tt) (λ h rows same keeps. subst (λ (x : Hall). at x.members (pair c.in-PutMember.member.pool c.in-PutMember.member.operator) ≡ None) (sym same) keeps.new))
 
-pub returns-in_ok-add_image-in-PutImage-clause-made : goal.returns-in_ok-add_image-in-PutImage-clause-made
-returns-in_ok-add_image-in-PutImage-clause-made g c clean before h held keeps =
+pub returns-in-PutImage-clause-written : goal.returns-in-PutImage-clause-written
+returns-in-PutImage-clause-written g c clean =
+    let old = state g.S.Store c.args.tx.now.conn.now in
     let new = state g.S.Store c.add_image.new.tx.conn.now in
-    let kept = subst (λ w. Keeps w h) c.in-PutImage.is keeps in
-    subst (λ w. IsWithinHall new before (written w h)) (sym c.in-PutImage.is)
-    (moved (state g.S.Store c.args.tx.now.conn.now) new before h held (written (PutImage c.in-PutImage.image)) (λ x. refl) (λ hall_rows within same. c.in_ok-add_image-in-PutImage.ensures.made clean before hall_rows within (subst (λ (x : Hall). at x.images c.in-PutImage.image.name ≡ None) (sym same) kept)))
+    subst (IsRowWritten old new c.add_image.result) (sym c.in-PutImage.is)
+    (writes_row old new c.add_image.result (PutImage c.in-PutImage.image) _ (c.add_image.ensures.written clean) (λ x. refl) (λ h. tt) (λ h rows same keeps. subst (λ (x : Hall). at x.images c.in-PutImage.image.name ≡ None) (sym same) keeps))
 
-pub returns-in_ok-remove_image-in-ImageGone-clause-made : goal.returns-in_ok-remove_image-in-ImageGone-clause-made
-returns-in_ok-remove_image-in-ImageGone-clause-made g c clean before h held keeps =
+pub returns-in-ImageGone-clause-written : goal.returns-in-ImageGone-clause-written
+returns-in-ImageGone-clause-written g c clean =
+    let old = state g.S.Store c.args.tx.now.conn.now in
     let new = state g.S.Store c.remove_image.new.tx.conn.now in
-    subst (λ w. IsWithinHall new before (written w h)) (sym c.in-ImageGone.is)
-    (moved (state g.S.Store c.args.tx.now.conn.now) new before h held (written (ImageGone c.in-ImageGone.name)) (λ x. refl) (λ hall_rows within same. c.in_ok-remove_image-in-ImageGone.ensures.made clean before hall_rows within))
+    subst (IsRowWritten old new c.remove_image.result) (sym c.in-ImageGone.is)
+    (writes_row old new c.remove_image.result (ImageGone c.in-ImageGone.name) _ (c.remove_image.ensures.written clean) (λ x. refl) (λ h. tt) (λ h rows same keeps. tt))
 
-pub returns-in_ok-put_live-in-PutLive-clause-made : goal.returns-in_ok-put_live-in-PutLive-clause-made
-returns-in_ok-put_live-in-PutLive-clause-made g c clean before h held keeps =
+pub returns-in-PutLive-clause-written : goal.returns-in-PutLive-clause-written
+returns-in-PutLive-clause-written g c clean =
+    let old = state g.S.Store c.args.tx.now.conn.now in
     let new = state g.S.Store c.put_live.new.tx.conn.now in
-    subst (λ w. IsWithinHall new before (written w h)) (sym c.in-PutLive.is)
-    (moved (state g.S.Store c.args.tx.now.conn.now) new before h held (written (PutLive c.in-PutLive.live)) (λ x. refl) (λ hall_rows within same. c.in_ok-put_live-in-PutLive.ensures.made clean before hall_rows within))
+    subst (IsRowWritten old new c.put_live.result) (sym c.in-PutLive.is)
+    (writes_row old new c.put_live.result (PutLive c.in-PutLive.live) _ (c.put_live.ensures.written clean) (λ x. refl) (λ h. tt) (λ h rows same keeps. tt))
 
-pub returns-in_ok-add_interface-in-PutInterface-clause-made : goal.returns-in_ok-add_interface-in-PutInterface-clause-made
-returns-in_ok-add_interface-in-PutInterface-clause-made g c clean before h held keeps =
+pub returns-in-PutInterface-clause-written : goal.returns-in-PutInterface-clause-written
+returns-in-PutInterface-clause-written g c clean =
+    let old = state g.S.Store c.args.tx.now.conn.now in
     let new = state g.S.Store c.add_interface.new.tx.conn.now in
-    let kept = subst (λ w. Keeps w h) c.in-PutInterface.is keeps in
-    subst (λ w. IsWithinHall new before (written w h)) (sym c.in-PutInterface.is)
-    (moved (state g.S.Store c.args.tx.now.conn.now) new before h held (written (PutInterface c.in-PutInterface.interface)) (λ x. refl) (λ hall_rows within same. c.in_ok-add_interface-in-PutInterface.ensures.made clean before hall_rows within (subst (λ (x : Hall). at x.interfaces c.in-PutInterface.interface.mac ≡ None) (sym same) kept.new)))
+    subst (IsRowWritten old new c.add_interface.result) (sym c.in-PutInterface.is)
+    (writes_row old new c.add_interface.result (PutInterface c.in-PutInterface.interface) _ (c.add_interface.ensures.written clean) (λ x. refl) (λ h. tt) (λ h rows same keeps. subst (λ (x : Hall). at x.interfaces c.in-PutInterface.interface.mac ≡ None) (sym same) keeps.new))
 
-pub returns-in_ok-remove_interface-in-InterfaceGone-clause-made : goal.returns-in_ok-remove_interface-in-InterfaceGone-clause-made
-returns-in_ok-remove_interface-in-InterfaceGone-clause-made g c clean before h held keeps =
+pub returns-in-InterfaceGone-clause-written : goal.returns-in-InterfaceGone-clause-written
+returns-in-InterfaceGone-clause-written g c clean =
+    let old = state g.S.Store c.args.tx.now.conn.now in
     let new = state g.S.Store c.remove_interface.new.tx.conn.now in
-    subst (λ w. IsWithinHall new before (written w h)) (sym c.in-InterfaceGone.is)
-    (moved (state g.S.Store c.args.tx.now.conn.now) new before h held (written (InterfaceGone c.in-InterfaceGone.mac)) (λ x. refl) (λ hall_rows within same. c.in_ok-remove_interface-in-InterfaceGone.ensures.made clean before hall_rows within))
+    subst (IsRowWritten old new c.remove_interface.result) (sym c.in-InterfaceGone.is)
+    (writes_row old new c.remove_interface.result (InterfaceGone c.in-InterfaceGone.mac) _ (c.remove_interface.ensures.written clean) (λ x. refl) (λ h. tt) (λ h rows same keeps. tt))
 
-pub returns-in_ok-put_boot-in-PutBoot-clause-made : goal.returns-in_ok-put_boot-in-PutBoot-clause-made
-returns-in_ok-put_boot-in-PutBoot-clause-made g c clean before h held keeps =
+pub returns-in-PutBoot-clause-written : goal.returns-in-PutBoot-clause-written
+returns-in-PutBoot-clause-written g c clean =
+    let old = state g.S.Store c.args.tx.now.conn.now in
     let new = state g.S.Store c.put_boot.new.tx.conn.now in
-    subst (λ w. IsWithinHall new before (written w h)) (sym c.in-PutBoot.is)
-    (moved (state g.S.Store c.args.tx.now.conn.now) new before h held (written (PutBoot c.in-PutBoot.boot)) (λ x. refl) (λ hall_rows within same. c.in_ok-put_boot-in-PutBoot.ensures.made clean before hall_rows within))
+    subst (IsRowWritten old new c.put_boot.result) (sym c.in-PutBoot.is)
+    (writes_row old new c.put_boot.result (PutBoot c.in-PutBoot.boot) _ (c.put_boot.ensures.written clean) (λ x. refl) (λ h. tt) (λ h rows same keeps. tt))
 
-pub returns-in_ok-put_order-in-PutOrder-clause-made : goal.returns-in_ok-put_order-in-PutOrder-clause-made
-returns-in_ok-put_order-in-PutOrder-clause-made g c clean before h held keeps =
+pub returns-in-PutOrder-clause-written : goal.returns-in-PutOrder-clause-written
+returns-in-PutOrder-clause-written g c clean =
+    let old = state g.S.Store c.args.tx.now.conn.now in
     let new = state g.S.Store c.put_order.new.tx.conn.now in
-    subst (λ w. IsWithinHall new before (written w h)) (sym c.in-PutOrder.is)
-    (moved (state g.S.Store c.args.tx.now.conn.now) new before h held (written (PutOrder c.in-PutOrder.order)) (λ x. refl) (λ hall_rows within same. c.in_ok-put_order-in-PutOrder.ensures.made clean before hall_rows within))
+    subst (IsRowWritten old new c.put_order.result) (sym c.in-PutOrder.is)
+    (writes_row old new c.put_order.result (PutOrder c.in-PutOrder.order) _ (c.put_order.ensures.written clean) (λ x. refl) (λ h. tt) (λ h rows same keeps. tt))
 
-pub returns-in_ok-add_receipt-in-PutReceipt-clause-made : goal.returns-in_ok-add_receipt-in-PutReceipt-clause-made
-returns-in_ok-add_receipt-in-PutReceipt-clause-made g c clean before h held keeps =
+pub returns-in-PutReceipt-clause-written : goal.returns-in-PutReceipt-clause-written
+returns-in-PutReceipt-clause-written g c clean =
+    let old = state g.S.Store c.args.tx.now.conn.now in
     let new = state g.S.Store c.add_receipt.new.tx.conn.now in
-    let kept = subst (λ w. Keeps w h) c.in-PutReceipt.is keeps in
-    subst (λ w. IsWithinHall new before (written w h)) (sym c.in-PutReceipt.is)
-    (moved (state g.S.Store c.args.tx.now.conn.now) new before h held (written (PutReceipt c.in-PutReceipt.receipt)) (λ x. refl) (λ hall_rows within same. c.in_ok-add_receipt-in-PutReceipt.ensures.made clean before hall_rows within (subst (λ (x : Hall). at x.receipts (pair c.in-PutReceipt.receipt.operator c.in-PutReceipt.receipt.key) ≡ None) (sym same) kept.new)))
+    subst (IsRowWritten old new c.add_receipt.result) (sym c.in-PutReceipt.is)
+    (writes_row old new c.add_receipt.result (PutReceipt c.in-PutReceipt.receipt) _ (c.add_receipt.ensures.written clean) (λ x. refl) (λ h. tt) (λ h rows same keeps. subst (λ (x : Hall). at x.receipts (pair c.in-PutReceipt.receipt.operator c.in-PutReceipt.receipt.key) ≡ None) (sym same) keeps.new))
 
-pub returns-in_ok-set_numbers-in-PutNumbers-clause-made : goal.returns-in_ok-set_numbers-in-PutNumbers-clause-made
-returns-in_ok-set_numbers-in-PutNumbers-clause-made g c clean before h held keeps =
+pub returns-in-PutNumbers-clause-written : goal.returns-in-PutNumbers-clause-written
+returns-in-PutNumbers-clause-written g c clean =
+    let old = state g.S.Store c.args.tx.now.conn.now in
     let new = state g.S.Store c.set_numbers.new.tx.conn.now in
-    subst (λ w. IsWithinHall new before (written w h)) (sym c.in-PutNumbers.is)
-    (moved (state g.S.Store c.args.tx.now.conn.now) new before h held (written (PutNumbers c.in-PutNumbers.numbers)) (λ x. refl) (λ hall_rows within same. c.in_ok-set_numbers-in-PutNumbers.ensures.made clean before hall_rows within))
+    subst (IsRowWritten old new c.set_numbers.result) (sym c.in-PutNumbers.is)
+    (writes_row old new c.set_numbers.result (PutNumbers c.in-PutNumbers.numbers) _ (c.set_numbers.ensures.written clean) (λ x. refl) (λ h. tt) (λ h rows same keeps. tt))
 
-pub returns-in_ok-put_machine-in-PutMachine-clause-made : goal.returns-in_ok-put_machine-in-PutMachine-clause-made
-returns-in_ok-put_machine-in-PutMachine-clause-made g c clean before h held keeps =
-    subst (λ w. IsWithinHall (state g.S.Store c.put_machine.new.tx.conn.now) before (written w h)) (sym c.in-PutMachine.is) (c.in_ok-put_machine-in-PutMachine.ensures.made clean before h held)
+pub returns-in-PutMachine-clause-written : goal.returns-in-PutMachine-clause-written
+returns-in-PutMachine-clause-written g c clean = subst (IsRowWritten (state g.S.Store c.args.tx.now.conn.now) (state g.S.Store c.put_machine.new.tx.conn.now) c.put_machine.result) (sym c.in-PutMachine.is) (c.put_machine.ensures.written clean)
 
-pub returns-in_ok-put_machine-in-PutMachine-clause-version : goal.returns-in_ok-put_machine-in-PutMachine-clause-version
-returns-in_ok-put_machine-in-PutMachine-clause-version g c clean before h held keeps =
-    subst (λ w. HasVersion w h) (sym c.in-PutMachine.is) (c.in_ok-put_machine-in-PutMachine.ensures.version clean before h held)
-
-pub returns-in_ok-remove_machine-in-MachineGone-clause-made : goal.returns-in_ok-remove_machine-in-MachineGone-clause-made
-returns-in_ok-remove_machine-in-MachineGone-clause-made g c clean before h held keeps =
-    subst (λ w. IsWithinHall (state g.S.Store c.remove_machine.new.tx.conn.now) before (written w h)) (sym c.in-MachineGone.is) (c.in_ok-remove_machine-in-MachineGone.ensures.made clean before h held)
+pub returns-in-MachineGone-clause-written : goal.returns-in-MachineGone-clause-written
+returns-in-MachineGone-clause-written g c clean =
+    subst (IsRowWritten (state g.S.Store c.args.tx.now.conn.now) (state g.S.Store c.remove_machine.new.tx.conn.now) c.remove_machine.result) (sym c.in-MachineGone.is)
+    (gives _ c.remove_machine.result (c.remove_machine.ensures.written clean) (λ done gone before h held keeps. (gone before h held, tt)))

@@ -1,0 +1,9 @@
+pub mod Asking
+pub mod AskingLaws
+pub mod Named
+pub mod NamedLaws
+pub mod Numbered
+pub mod NumberedLaws
+pub mod StepLaws
+pub mod Steps
+pub mod Writing
