@@ -6,7 +6,7 @@ use Rattle.std.proofs.lemmas.Option.{none-some}
 use Rattle.hall_types.specs.Number.{next_number}
 use Rattle.hall_types.specs.Rows.{numbers, Rows, at, put}
 use Rattle.hall_types.specs.RowLaws.{at-put-same, put_same}
-use Rattle.hall_types.specs.Hall.{Schema, first, second, Hall}
+use Rattle.hall_types.specs.Hall.{Hall}
 use Rattle.hall_types.specs.declared.boot.Boot.{Boot}
 use Rattle.hall_types.specs.declared.kinds.Purpose.{Purpose}
 use Rattle.hall_types.specs.declared.kinds.Stage.{Stage}
@@ -20,14 +20,9 @@ use Rattle.boot_desk.specs.Class.{class_of}
 use Rattle.boot_desk.specs.Fetch.{booted, boots_after, is_fourth, is_rescue_mode, new_boot}
 use Rattle.boot_desk.specs.OrderAnswer.{idle}
 use Rattle.boot_desk.specs.Views.{row_at, view_of}
-use Rattle.boot_desk.specs.Sound.{KeepsErase, IsSoundMachine, IsSound}
-use Rattle.boot_desk.specs.SoundLaws.{some_is, own_more, own_put, boots_same, orders_same, waits_same, OwnBoots, OwnOrders, WaitsFor, moved_to, image_for-same, moved_sound}
+use Rattle.boot_desk.specs.Sound.{IsSoundMachine, IsSound}
+use Rattle.boot_desk.specs.SoundLaws.{some_is, own_more, own_put, boots_same, orders_same, waits_same, OwnBoots, OwnOrders, WaitsFor, moved_to, stayed_sound}
 use Rattle.boot_desk.specs.EntryLaws.{next_is}
-
--- how the disks are erased is kept with the status
-erase_same : (schema : Schema) (m n : Machine) → n.erase ≡ m.erase → n.status ≡ m.status → KeepsErase schema m → KeepsErase schema n
-erase_same first m n erase status keeps = erase ∙ keeps
-erase_same second m n erase status keeps = rw (erase, status) keeps
 
 -- before the fourth boot there is room for one more
 few_boots : (status : Status) (boots : ℕ) → boots ≤ 3 → ((boots == 3) && not (is_rescue_mode status)) ≡ false → boots_after status boots ≤ 3
@@ -53,35 +48,12 @@ module _ (h : Hall) (m : Machine) (s : IsSound h) (was : at h.machines m.id ≡ 
   pub issue_sound : (number : ℕ) (p : Purpose) (fresh : List ℕ) → next_number h.last.boot ≡ Some number → class_of m ≡ Work p → is_fourth m ≡ false
       → IsSound (moved_to h (booted number m) (put number (new_boot number m p fresh) h.boots) h.orders (record h.last { boot = number }))
   issue_sound number p fresh next works few =
-      moved_sound h m (booted number m) (put number new h.boots) h.orders (record h.last { boot = number }) s (record {
-        was = was;
-        id = refl;
-        uuid = refl;
-        pool = s.machine_pools m.id m was;
-        owner = s.machine_owners m.id m was;
-        image = s.machine_images m.id m was;
-        own_boots = own_put (λ (b : Boot). b.number) (λ (b : Boot). b.machine) m.id h.boots number h.boots new
-            (own_more (λ (b : Boot). b.number) (λ (b : Boot). b.machine) m.id h.boots h.last.boot number h.boots (omega (arith, above)) (boots_same h m s))
-            refl (omega arith) (λ b is. absurd (unused b is));
-        own_orders = orders_same h m s;
-        waits = waits_same h m s was;
-        last_machine = refl;
-        last_boot = omega (arith, above);
-        last_order = omega arith;
-        machine = record {
-          boot = λ n is. (new, at-put-same h.boots number new, refl, inl refl, works);
-          order = v.order;
-          deployed = v.deployed;
-          boots = few_boots m.status m.boots v.boots few;
-          rescue = λ is. no_boots m.status m.boots is (v.rescue is);
-          locked = v.locked;
-          deadline = v.deadline;
-          back = v.back;
-          remembered = v.remembered;
-          image = λ q is. ap (λ o. is_some o) (image_for-same q (view_of (moved_to h (booted number m) (put number new h.boots) h.orders (record h.last { boot = number })) (booted number m)) (view_of h m) refl refl) ∙ v.image q is;
-        };
-        erase = erase_same h.schema m (booted number m) refl refl (s.erasing m.id m was);
-      })
+      stayed_sound h m s was (booted number m) (put number new h.boots) h.orders number (s.machine_pools m.id m was) v.locked
+      (own_put (λ (b : Boot). b.number) (λ (b : Boot). b.machine) m.id h.boots number h.boots new
+      (own_more (λ (b : Boot). b.number) (λ (b : Boot). b.machine) m.id h.boots h.last.boot number h.boots (omega (arith, above)) (boots_same h m s))
+      refl (omega arith) (λ b is. absurd (unused b is)))
+      (omega (arith, above)) (λ n is. (new, at-put-same h.boots number new, refl, inl refl, works)) (few_boots m.status m.boots v.boots few) (λ is. no_boots m.status m.boots is (v.rescue is))
+      (orders_same h m s) (waits_same h m s was) v.order v.deployed
     where
       new : Boot
       new = new_boot number m p fresh
@@ -103,33 +75,10 @@ module _ (h : Hall) (m : Machine) (s : IsSound h) (was : at h.machines m.id ≡ 
   pub start_sound : (b : Boot) → at h.boots b.number ≡ Some b → b.machine ≡ m.id → m.boot ≡ Some b.number → class_of m ≡ Work b.purpose → IsSound (record h { boots = put b.number (record b { stage = Started }) h.boots })
   start_sound b is its current works =
       subst (λ machines. IsSound (record h { machines = machines; boots = boots })) (put_same h.machines m.id m was)
-      (moved_sound h m m boots h.orders h.last s (record {
-        was = was;
-        id = refl;
-        uuid = refl;
-        pool = s.machine_pools m.id m was;
-        owner = s.machine_owners m.id m was;
-        image = s.machine_images m.id m was;
-        own_boots = boots_staged b Started is its;
-        own_orders = orders_same h m s;
-        waits = waits_same h m s was;
-        last_machine = refl;
-        last_boot = omega arith;
-        last_order = omega arith;
-        machine = record {
-          boot = λ n is. (record b { stage = Started }, ap (row_at boots) current ∙ at-put-same h.boots b.number (record b { stage = Started }), its, inr refl, works);
-          order = v.order;
-          deployed = v.deployed;
-          boots = v.boots;
-          rescue = v.rescue;
-          locked = v.locked;
-          deadline = v.deadline;
-          back = v.back;
-          remembered = v.remembered;
-          image = λ q is. ap (λ o. is_some o) (image_for-same q (view_of (moved_to h m boots h.orders h.last) m) (view_of h m) refl refl) ∙ v.image q is;
-        };
-        erase = s.erasing m.id m was;
-      }))
+      (stayed_sound h m s was m boots h.orders h.last.boot (s.machine_pools m.id m was) v.locked
+      (boots_staged b Started is its) (omega arith)
+      (λ n is. (record b { stage = Started }, ap (row_at boots) current ∙ at-put-same h.boots b.number (record b { stage = Started }), its, inr refl, works)) v.boots v.rescue
+      (orders_same h m s) (waits_same h m s was) v.order v.deployed)
     where
       boots : Rows numbers Boot
       boots = put b.number (record b { stage = Started }) h.boots
@@ -138,30 +87,5 @@ module _ (h : Hall) (m : Machine) (s : IsSound h) (was : at h.machines m.id ≡ 
 
   pub idle_sound : (orders : Rows numbers Order) → OwnOrders h m.id h.last.order orders → WaitsFor m.id None orders → IsSound (moved_to h (idle m) h.boots orders h.last)
   idle_sound orders own waits =
-      moved_sound h m (idle m) h.boots orders h.last s (record {
-        was = was;
-        id = refl;
-        uuid = refl;
-        pool = s.machine_pools m.id m was;
-        owner = s.machine_owners m.id m was;
-        image = s.machine_images m.id m was;
-        own_boots = boots_same h m s;
-        own_orders = own;
-        waits = waits;
-        last_machine = refl;
-        last_boot = omega arith;
-        last_order = omega arith;
-        machine = record {
-          boot = v.boot;
-          order = λ n is. absurd (none-some n is);
-          deployed = λ is. refl;
-          boots = v.boots;
-          rescue = v.rescue;
-          locked = v.locked;
-          deadline = v.deadline;
-          back = v.back;
-          remembered = v.remembered;
-          image = λ q is. ap (λ o. is_some o) (image_for-same q (view_of (moved_to h (idle m) h.boots orders h.last) (idle m)) (view_of h m) refl refl) ∙ v.image q is;
-        };
-        erase = erase_same h.schema m (idle m) refl refl (s.erasing m.id m was);
-      })
+      stayed_sound h m s was (idle m) h.boots orders h.last.boot (s.machine_pools m.id m was) v.locked
+      (boots_same h m s) (omega arith) v.boot v.boots v.rescue own waits (λ n is. absurd (none-some n is)) (λ is. refl)

@@ -12,13 +12,13 @@ use Rattle.hall_types.specs.declared.machine.TheConstants.{MAX_MACHINES}
 use Rattle.hall_types.specs.declared.number.Numbers.{Numbers}
 use Rattle.hall_types.specs.declared.port.Port.{Port}
 use Rattle.hall_types.specs.declared.port.Port.TheVariants as port
-use Rattle.hall_types.specs.declared.status.Status.TheVariants.{New}
 use Rattle.hall_types.specs.declared.change.RowWrite.{RowWrite}
 use Rattle.hall_types.specs.declared.change.RowWrite.TheVariants.{PutMachine, PutInterface, PutNumbers}
 use Rattle.boot_desk.specs.declared.frames.Decision.{Decision}
 use Rattle.boot_desk.specs.declared.frames.Decision.TheVariants.{Loader, ScriptUrl, Enlist, Silent}
 use Rattle.boot_desk.specs.declared.frames.Silence.TheVariants.{WrongPort, EchoTooLong, KnownUuid, Full, Exhausted}
 use Rattle.boot_desk.specs.declared.frames.FrameView.{FrameView}
+use Rattle.boot_desk.specs.NewMachine.{blank_machine}
 
 -- ---- the view
 
@@ -86,24 +86,7 @@ frame_decision v port client =
 
 -- a new machine of the default pool with the client's architecture and UUID
 abbrev pub new_machine : ℕ → Client → Machine
-new_machine id client = record {
-  id = id;
-  arch = client.arch;
-  uuid = client.uuid;
-  pool = default_pool;
-  status = New;
-  owner = None;
-  image = None;
-  tests = false;
-  back = None;
-  erase = None;
-  locked = false;
-  version = 1;
-  deadline = None;
-  boot = None;
-  boots = 0;
-  waiting = None;
-}
+new_machine id client = blank_machine id client.arch default_pool client.uuid
 
 -- the machine with its one interface
 abbrev pub enlisted_as : Option ℕ → Client → Numbers → List RowWrite

@@ -6,6 +6,8 @@ pub mod Expiry
 pub mod Fetch
 pub mod Following
 pub mod FrameEvent
+pub mod NewMachine
+pub mod NewMachineLaws
 pub mod OrderAnswer
 pub mod Promises
 pub mod PurposeLaws

@@ -1,12 +1,13 @@
 -- A hall stays sound if the rows of only one machine change, and are as they have to be afterwards.
-use Rattle.std.specs.Prelude.{◌≡◌, ◌≢◌, ◌≤◌, ◌⊎◌, ◌==◌, ℕ, Bool, true, false, Option, Some, None, is_some, IsSome, if◌then◌else◌}
+use Rattle.std.specs.Prelude.{◌≡◌, ◌≢◌, ◌≤◌, ◌⊎◌, ◌==◌, ℕ, Bool, true, false, Option, Some, None, is_some, IsSome, IsTrue, if◌then◌else◌}
 use Rattle.std.proofs.Common.{refl, sym, ap, subst, inl, inr, arith, ◌∙◌}
 use Rattle.std.proofs.lemmas.Bool.{eqb-true, eqb-false}
 use Rattle.hall_types.specs.Rows.{Keys, numbers, Rows, at, put, size, one_if, same_key}
 use Rattle.hall_types.specs.RowLaws.{at-put, at-put-same, at-put-other, put_cases, size-put}
-use Rattle.hall_types.specs.Hall.{Hall}
+use Rattle.hall_types.specs.Hall.{Schema, first, second, Hall}
 use Rattle.hall_types.specs.Keyed.{StandUnder, IsKeyed}
 use Rattle.hall_types.specs.declared.boot.Boot.{Boot}
+use Rattle.hall_types.specs.declared.boot.TheConstants.{MAX_BOOTS}
 use Rattle.hall_types.specs.declared.kinds.OrderStage.TheVariants.{Waiting}
 use Rattle.hall_types.specs.declared.kinds.Purpose.{Purpose}
 use Rattle.hall_types.specs.declared.kinds.Purpose.TheVariants as purpose
@@ -14,6 +15,7 @@ use Rattle.hall_types.specs.declared.kinds.Stage.TheVariants.{Offered, Started}
 use Rattle.hall_types.specs.declared.machine.Machine.{Machine}
 use Rattle.hall_types.specs.declared.number.Numbers.{Numbers}
 use Rattle.hall_types.specs.declared.order.Order.{Order}
+use Rattle.hall_types.specs.declared.status.Status.TheVariants.{Deployed, Rescue}
 use Rattle.boot_desk.specs.declared.class.ScriptClass.TheVariants.{Work}
 use Rattle.boot_desk.specs.declared.views.BootView.{BootView}
 use Rattle.boot_desk.specs.Class.{class_of}
@@ -115,10 +117,47 @@ has-put {keys = keys} rows key row other has = ap (λ o. is_some o) (at-put rows
     by true = refl
     by false = has
 
+module _ {K X : Type 0} {keys : Keys K} where
+  -- a row that is put under its own key leaves each row under its own
+  pub stand_put : (key_of : X → K) (rows : Rows keys X) (row : X) → StandUnder key_of rows → StandUnder key_of (put (key_of row) row rows)
+  stand_put key_of rows row under key x is = elim (put_cases rows (key_of row) row key x is) [ inl w ↦ ap key_of w.1 ∙ sym w.0 | inr w ↦ under key x w.1 ]
+
+  -- what holds of the row that is put, and of each row before, holds of each row
+  pub each_put : (P : X → Type 0) (rows : Rows keys X) (key : K) (row : X) → P row → ((other : K) (x : X) → at rows other ≡ Some x → P x)
+      → (other : K) (x : X) → at (put key row rows) other ≡ Some x → P x
+  each_put P rows key row new old other x is = elim (put_cases rows key row other x is) [ inl w ↦ subst P (sym w.1) new | inr w ↦ old other x w.1 ]
+
 -- which image a machine works with follows from its own image and the live image
 pub image_for-same : (p : Purpose) (v w : BootView) → v.image ≡ w.image → v.live ≡ w.live → image_for p v ≡ image_for p w
 image_for-same purpose.Deploy v w image live = image
 image_for-same other v w image live = live
+
+-- a machine stays sound among other boots and orders, if its own are among them, and with other last numbers
+pub sound_among : (h : Hall) (m : Machine) (boots : Rows numbers Boot) (orders : Rows numbers Order) (last : Numbers)
+    → ((n : ℕ) (b : Boot) → at h.boots n ≡ Some b → b.machine ≡ m.id → at boots n ≡ Some b) → ((n : ℕ) (o : Order) → at h.orders n ≡ Some o → o.machine ≡ m.id → at orders n ≡ Some o)
+    → IsSoundMachine (view_of h m) → IsSoundMachine (view_of (record h { boots = boots; orders = orders; last = last }) m)
+sound_among h m boots orders last boots_stay orders_stay v = record {
+  boot = own_boot;
+  order = own_order;
+  deployed = v.deployed;
+  boots = v.boots;
+  rescue = v.rescue;
+  locked = v.locked;
+  deadline = v.deadline;
+  back = v.back;
+  remembered = v.remembered;
+  image = λ p works. ap (λ o. is_some o) (image_for-same p (view_of (record h { boots = boots; orders = orders; last = last }) m) (view_of h m) refl refl) ∙ v.image p works;
+}
+  where
+    own_boot : (number : ℕ) → m.boot ≡ Some number → (b : Boot) × (row_at boots m.boot ≡ Some b) × (b.machine ≡ m.id) × ((b.stage ≡ Offered) ⊎ (b.stage ≡ Started)) × (class_of m ≡ Work b.purpose)
+    own_boot number is =
+        let b = v.boot number is in
+        (b.0, ap (row_at boots) is ∙ boots_stay number b.0 (ap (row_at h.boots) (sym is) ∙ b.1) b.2, b.2, b.3, b.4)
+
+    own_order : (number : ℕ) → m.waiting ≡ Some number → (o : Order) × (row_at orders m.waiting ≡ Some o) × (o.machine ≡ m.id) × (o.stage ≡ Waiting)
+    own_order number is =
+        let o = v.order number is in
+        (o.0, ap (row_at orders) is ∙ orders_stay number o.0 (ap (row_at h.orders) (sym is) ∙ o.1) o.2, o.2, o.3)
 
 module _ (h : Hall) (m m' : Machine) (boots : Rows numbers Boot) (orders : Rows numbers Order) (last : Numbers) (s : IsSound h) (moved : Moved h m m' boots orders last) where
   abbrev after : Hall
@@ -149,40 +188,14 @@ module _ (h : Hall) (m m' : Machine) (boots : Rows numbers Boot) (orders : Rows 
 
   -- another machine's rows are as they were
   other_machine : (x : Machine) → x.id ≢ m.id → IsSoundMachine (view_of h x) → IsSoundMachine (view_of after x)
-  other_machine x apart v = record {
-    boot = λ number is. own_boot number is;
-    order = λ number is. own_order number is;
-    deployed = v.deployed;
-    boots = v.boots;
-    rescue = v.rescue;
-    locked = v.locked;
-    deadline = v.deadline;
-    back = v.back;
-    remembered = v.remembered;
-    image = λ p works. ap (λ o. is_some o) (image_for-same p (view_of after x) (view_of h x) refl refl) ∙ v.image p works;
-  }
-    where
-      own_boot : (number : ℕ) → x.boot ≡ Some number → (b : Boot) × (row_at boots x.boot ≡ Some b) × (b.machine ≡ x.id) × ((b.stage ≡ Offered) ⊎ (b.stage ≡ Started)) × (class_of x ≡ Work b.purpose)
-      own_boot number is =
-          let o = v.boot number is in
-          let stood : at h.boots number ≡ Some o.0 = ap (row_at h.boots) (sym is) ∙ o.1 in
-          (o.0, ap (row_at boots) is ∙ moved.own_boots.others number o.0 stood (λ e. apart (sym o.2 ∙ e)), o.2, o.3, o.4)
-
-      own_order : (number : ℕ) → x.waiting ≡ Some number → (o : Order) × (row_at orders x.waiting ≡ Some o) × (o.machine ≡ x.id) × (o.stage ≡ Waiting)
-      own_order number is =
-          let o = v.order number is in
-          let stood : at h.orders number ≡ Some o.0 = ap (row_at h.orders) (sym is) ∙ o.1 in
-          (o.0, ap (row_at orders) is ∙ moved.own_orders.others number o.0 stood (λ e. apart (sym o.2 ∙ e)), o.2, o.3)
+  other_machine x apart =
+      sound_among h x boots orders last (λ n b is its. moved.own_boots.others n b is (λ e. apart (sym its ∙ e))) (λ n o is its. moved.own_orders.others n o is (λ e. apart (sym its ∙ e)))
 
   machine_after : (id : ℕ) (x : Machine) → at after.machines id ≡ Some x → IsSoundMachine (view_of after x)
   machine_after id x is = elim (cases id x is) [
     | inl w ↦ subst (λ y. IsSoundMachine (view_of after y)) (sym w.1) moved.machine
     | inr w ↦ other_machine x (λ e. w.0 (sym (s.keyed.machines id x w.1) ∙ e)) (s.machines id x w.1)
   ]
-
-  -- what holds of the row that was written, and of each row before, holds of each row
-  each : (P : Machine → Type 0) → P m' → ((id : ℕ) (x : Machine) → at h.machines id ≡ Some x → P x) → (id : ℕ) (x : Machine) → at after.machines id ≡ Some x → P x
-  each P new old id x is = elim (cases id x is) [ inl w ↦ subst P (sym w.1) new | inr w ↦ old id x w.1 ]
 
   keyed : IsKeyed after
   keyed = record {
@@ -191,7 +204,7 @@ module _ (h : Hall) (m m' : Machine) (boots : Rows numbers Boot) (orders : Rows 
     members = s.keyed.members;
     images = s.keyed.images;
     lives = s.keyed.lives;
-    machines = λ id x is. elim (cases id x is) [ inl w ↦ ap (λ y. y.id) w.1 ∙ (moved.id ∙ sym w.0) | inr w ↦ s.keyed.machines id x w.1 ];
+    machines = stand_put (λ (x : Machine). x.id) h.machines m' s.keyed.machines;
     interfaces = s.keyed.interfaces;
     boots = λ n b is. elim (moved.own_boots.back n b is) [ inl w ↦ s.keyed.boots n b w.1 | inr w ↦ w.0 ];
     orders = λ n o is. elim (moved.own_orders.back n o is) [ inl w ↦ s.keyed.orders n o w.1 | inr w ↦ w.0 ];
@@ -232,9 +245,9 @@ module _ (h : Hall) (m m' : Machine) (boots : Rows numbers Boot) (orders : Rows 
     member_pools = s.member_pools;
     member_operators = s.member_operators;
     live_images = s.live_images;
-    machine_pools = each (λ x. HasRow h.pools x.pool) moved.pool s.machine_pools;
-    machine_owners = each (λ x. HasRowIf h.operators x.owner) moved.owner s.machine_owners;
-    machine_images = each (λ x. HasRowIf h.images x.image) moved.image s.machine_images;
+    machine_pools = each_put (λ x. HasRow h.pools x.pool) h.machines m'.id m' moved.pool s.machine_pools;
+    machine_owners = each_put (λ x. HasRowIf h.operators x.owner) h.machines m'.id m' moved.owner s.machine_owners;
+    machine_images = each_put (λ x. HasRowIf h.images x.image) h.machines m'.id m' moved.image s.machine_images;
     interface_machines = λ mac i is. has i.machine (s.interface_machines mac i is);
     boot_machines = λ n b is. elim (moved.own_boots.back n b is) [ inl w ↦ has b.machine (s.boot_machines n b w.1) | inr w ↦ has_own b.machine w.2 ];
     order_machines = λ n o is. elim (moved.own_orders.back n o is) [ inl w ↦ has o.machine (s.order_machines n o w.1) | inr w ↦ has_own o.machine w.2 ];
@@ -249,7 +262,7 @@ module _ (h : Hall) (m m' : Machine) (boots : Rows numbers Boot) (orders : Rows 
     some_interfaces = λ id is. s.some_interfaces id (had id is);
     few_interfaces = λ id is. s.few_interfaces id (had id is);
     machines = machine_after;
-    erasing = each (λ x. KeepsErase h.schema x) moved.erase s.erasing;
+    erasing = each_put (λ x. KeepsErase h.schema x) h.machines m'.id m' moved.erase s.erasing;
     waiting = waiting_after;
     last_machine = λ id is. omega (arith, s.last_machine id (had id is), moved.last_machine);
     last_boot = last_boot_after;
@@ -270,3 +283,55 @@ module _ (h : Hall) (m : Machine) (s : IsSound h) where
       let x = s.waiting n o is wait in
       let same : x.0 ≡ m = some_is x.0 m (sym x.1 ∙ (ap (at h.machines) its ∙ was)) in
       ap (λ y. y.waiting) (sym same) ∙ x.2
+
+-- ---- a machine that stays in its status
+
+module _ (h : Hall) (m : Machine) (s : IsSound h) (was : at h.machines m.id ≡ Some m) (x : Machine) (boots : Rows numbers Boot) (orders : Rows numbers Order) (last_boot : ℕ) where
+  -- its version, its pool, its lock, its boot, how many boots are counted, and its order may be others
+  abbrev stayed : Machine
+  stayed = record m { version = x.version; pool = x.pool; locked = x.locked; boot = x.boot; boots = x.boots; waiting = x.waiting }
+
+  v : IsSoundMachine (view_of h m)
+  v = s.machines m.id m was
+
+  erase_stays : (schema : Schema) → KeepsErase schema m → KeepsErase schema stayed
+  erase_stays first keeps = keeps
+  erase_stays second keeps = keeps
+
+  -- the hall stays sound if they are as they have to be
+  pub stayed_sound : HasRow h.pools x.pool → (IsTrue x.locked → m.status ≡ Deployed)
+      → OwnBoots h m.id last_boot boots → h.last.boot ≤ last_boot
+      → ((n : ℕ) → x.boot ≡ Some n → (b : Boot) × (row_at boots x.boot ≡ Some b) × (b.machine ≡ m.id) × ((b.stage ≡ Offered) ⊎ (b.stage ≡ Started)) × (class_of m ≡ Work b.purpose))
+      → x.boots ≤ MAX_BOOTS → (m.status ≡ Rescue → x.boots ≡ 0)
+      → OwnOrders h m.id h.last.order orders → WaitsFor m.id x.waiting orders
+      → ((n : ℕ) → x.waiting ≡ Some n → (o : Order) × (row_at orders x.waiting ≡ Some o) × (o.machine ≡ m.id) × (o.stage ≡ Waiting))
+      → (m.status ≡ Deployed → x.waiting ≡ None)
+      → IsSound (moved_to h stayed boots orders (record h.last { boot = last_boot }))
+  stayed_sound pool locked own_boots later boot few none own_orders waits order deployed =
+      moved_sound h m stayed boots orders (record h.last { boot = last_boot }) s (record {
+        was = was;
+        id = refl;
+        uuid = refl;
+        pool = pool;
+        owner = s.machine_owners m.id m was;
+        image = s.machine_images m.id m was;
+        own_boots = own_boots;
+        own_orders = own_orders;
+        waits = waits;
+        last_machine = refl;
+        last_boot = later;
+        last_order = omega arith;
+        machine = record {
+          boot = boot;
+          order = order;
+          deployed = deployed;
+          boots = few;
+          rescue = none;
+          locked = locked;
+          deadline = v.deadline;
+          back = v.back;
+          remembered = v.remembered;
+          image = λ q is. ap (λ o. is_some o) (image_for-same q (view_of (moved_to h stayed boots orders (record h.last { boot = last_boot })) stayed) (view_of h m) refl refl) ∙ v.image q is;
+        };
+        erase = erase_stays h.schema (s.erasing m.id m was);
+      })

@@ -1,6 +1,6 @@
 -- A hall stays sound without a machine: its interfaces, boots and orders go with it.
-use Rattle.std.specs.Prelude.{◌≡◌, ◌≢◌, ◌⊎◌, ◌≤◌, ◌==◌, not, ℕ, true, List, Some, is_some}
-use Rattle.std.proofs.Common.{refl, sym, ap, arith, ◌∙◌}
+use Rattle.std.specs.Prelude.{◌≡◌, ◌≢◌, ◌≤◌, ◌==◌, not, ℕ, true, List, Some, is_some}
+use Rattle.std.proofs.Common.{sym, ap, arith, ◌∙◌}
 use Rattle.std.proofs.lemmas.Bool.{both_ways, eqb-true, eq-eqb, ne_eqb}
 use Rattle.hall_types.specs.CountLaws.{how_many-split, none_pass}
 use Rattle.hall_types.specs.Hall.{Hall, without_machine}
@@ -8,16 +8,13 @@ use Rattle.hall_types.specs.Rows.{Keys, Rows, at, how_many, rows_where, size}
 use Rattle.hall_types.specs.RowLaws.{at-gone-other, gone_found, size-gone, where_found, where_kept}
 use Rattle.hall_types.specs.declared.boot.Boot.{Boot}
 use Rattle.hall_types.specs.declared.kinds.OrderStage.TheVariants.{Waiting}
-use Rattle.hall_types.specs.declared.kinds.Stage.TheVariants.{Offered, Started}
 use Rattle.hall_types.specs.declared.machine.Interface.{Interface}
 use Rattle.hall_types.specs.declared.machine.Machine.{Machine}
 use Rattle.hall_types.specs.declared.order.Order.{Order}
-use Rattle.boot_desk.specs.Class.{class_of}
 use Rattle.hall_types.specs.Lookup.{HasRow}
 use Rattle.boot_desk.specs.Sound.{IsSoundMachine, IsSound}
-use Rattle.boot_desk.specs.SoundLaws.{image_for-same, some_of}
-use Rattle.boot_desk.specs.Views.{row_at, view_of}
-use Rattle.boot_desk.specs.declared.class.ScriptClass.TheVariants.{Work}
+use Rattle.boot_desk.specs.SoundLaws.{some_of, sound_among}
+use Rattle.boot_desk.specs.Views.{view_of}
 
 not_eq : (a b : ℕ) → not (a == b) ≡ true → a ≢ b
 not_eq a b t e = let same = ap not (eq-eqb a b e) in both_ways (not (a == b)) same t
@@ -53,36 +50,13 @@ module _ (h : Hall) (s : IsSound h) (id : ℕ) where
   order_left n o is = left_of (λ (x : Order). x.machine) id h.orders n o is
 
   machine_after : (q : ℕ) (m : Machine) → at after.machines q ≡ Some m → IsSoundMachine (view_of after m)
-  machine_after q m is = record {
-    boot = own_boot;
-    order = own_order;
-    deployed = v.deployed;
-    boots = v.boots;
-    rescue = v.rescue;
-    locked = v.locked;
-    deadline = v.deadline;
-    back = v.back;
-    remembered = v.remembered;
-    image = λ p works. ap (λ o. is_some o) (image_for-same p (view_of after m) (view_of h m) refl refl) ∙ v.image p works;
-  }
-    where
-      v : IsSoundMachine (view_of h m)
-      v = s.machines q m (gone_found h.machines id q m is).1
-
-      apart : m.id ≢ id
-      apart same = (gone_found h.machines id q m is).0 (sym (s.keyed.machines q m (gone_found h.machines id q m is).1) ∙ same)
-
-      own_boot : (number : ℕ) → m.boot ≡ Some number → (b : Boot) × (row_at after.boots m.boot ≡ Some b) × (b.machine ≡ m.id) × ((b.stage ≡ Offered) ⊎ (b.stage ≡ Started)) × (class_of m ≡ Work b.purpose)
-      own_boot number its =
-          let b = v.boot number its in
-          let stood : at h.boots number ≡ Some b.0 = ap (row_at h.boots) (sym its) ∙ b.1 in
-          (b.0, ap (row_at after.boots) its ∙ stays_of (λ (x : Boot). x.machine) id h.boots number b.0 stood (λ e. apart (sym b.2 ∙ e)), b.2, b.3, b.4)
-
-      own_order : (number : ℕ) → m.waiting ≡ Some number → (o : Order) × (row_at after.orders m.waiting ≡ Some o) × (o.machine ≡ m.id) × (o.stage ≡ Waiting)
-      own_order number its =
-          let o = v.order number its in
-          let stood : at h.orders number ≡ Some o.0 = ap (row_at h.orders) (sym its) ∙ o.1 in
-          (o.0, ap (row_at after.orders) its ∙ stays_of (λ (x : Order). x.machine) id h.orders number o.0 stood (λ e. apart (sym o.2 ∙ e)), o.2, o.3)
+  machine_after q m is =
+      let found = gone_found h.machines id q m is in
+      let apart : m.id ≢ id = λ same. found.0 (sym (s.keyed.machines q m found.1) ∙ same) in
+      sound_among h m after.boots after.orders h.last
+      (λ n b there its. stays_of (λ (x : Boot). x.machine) id h.boots n b there (λ e. apart (sym its ∙ e)))
+      (λ n o there its. stays_of (λ (x : Order). x.machine) id h.orders n o there (λ e. apart (sym its ∙ e)))
+      (s.machines q m found.1)
 
   -- each other machine has as many interfaces as before
   counted : (q : ℕ) → q ≢ id → how_many (λ (i : Interface). i.machine == q) after.interfaces ≡ how_many (λ (i : Interface). i.machine == q) h.interfaces

@@ -22,15 +22,15 @@ use Rattle.hall_events.specs.Reply.{Content}
 use Rattle.hall_events.specs.declared.command.MachineCommand.TheVariants as on
 use Rattle.boot_desk.specs.Following.{machine_row}
 use Rattle.hall_types.specs.Lookup.{HasRow}
-use Rattle.boot_desk.specs.Sound.{IsSoundMachine, IsSound, KeepsErase}
-use Rattle.boot_desk.specs.SoundLaws.{boots_same, image_for-same, moved_sound, moved_to, orders_same, waits_same}
+use Rattle.boot_desk.specs.Sound.{IsSoundMachine, IsSound}
+use Rattle.boot_desk.specs.SoundLaws.{boots_same, each_put, orders_same, stand_put, stayed_sound, waits_same}
 use Rattle.boot_desk.specs.Views.{view_of}
 use Rattle.desk_command.specs.Causes.{is_deployed, is_number, when}
 use Rattle.desk_command.specs.Effect.{Effect, about, edited, moved_to_pool, raised}
 use Rattle.desk_command.specs.View.{by_mac, with_interfaces}
 use Rattle.desk_command.proofs.ActionLemmas.{same_rows_of}
 use Rattle.desk_command.specs.AllowedLaws.{IsAllowed, first_none, unless_none, when_none}
-use Rattle.desk_command.proofs.OtherRowLemmas.{each_put, stand_gone, stand_put}
+use Rattle.desk_command.proofs.OtherRowLemmas.{stand_gone}
 
 -- ---- a machine's lock and pool
 
@@ -45,33 +45,8 @@ module _ (h : Hall) (s : IsSound h) (in_second : h.schema ≡ second) (m : Machi
   -- a pool that is recorded, and a lock of a Deployed machine alone
   pub edit_sound : (pool : List ℕ) (locked : Bool) → HasRow h.pools pool → (locked ≡ true → m.status ≡ Deployed) → IsSound (written (machine_row m (edit m pool locked)) h)
   edit_sound pool locked has deployed =
-      moved_sound h m (edit m pool locked) h.boots h.orders h.last s (record {
-        was = was;
-        id = refl;
-        uuid = refl;
-        pool = has;
-        owner = s.machine_owners m.id m was;
-        image = s.machine_images m.id m was;
-        own_boots = boots_same h m s;
-        own_orders = orders_same h m s;
-        waits = waits_same h m s was;
-        last_machine = refl;
-        last_boot = omega arith;
-        last_order = omega arith;
-        machine = record {
-          boot = v.boot;
-          order = v.order;
-          deployed = v.deployed;
-          boots = v.boots;
-          rescue = v.rescue;
-          locked = deployed;
-          deadline = v.deadline;
-          back = v.back;
-          remembered = v.remembered;
-          image = λ q is. ap (λ o. is_some o) (image_for-same q (view_of (moved_to h (edit m pool locked) h.boots h.orders h.last) (edit m pool locked)) (view_of h m) refl refl) ∙ v.image q is;
-        };
-        erase = subst (λ x. KeepsErase x (edit m pool locked)) (sym in_second) (subst (λ x. KeepsErase x m) in_second (s.erasing m.id m was));
-      })
+      stayed_sound h m s was (edit m pool locked) h.boots h.orders h.last.boot has deployed
+      (boots_same h m s) (omega arith) v.boot v.boots v.rescue (orders_same h m s) (waits_same h m s was) v.order v.deployed
 
   own_pool : HasRow h.pools m.pool
   own_pool = s.machine_pools m.id m was
@@ -136,18 +111,7 @@ module _ (h : Hall) (s : IsSound h) where
     few_machines = s.few_machines;
     some_interfaces = some;
     few_interfaces = few;
-    machines = λ id m is. let v = s.machines id m is in record {
-      boot = v.boot;
-      order = v.order;
-      deployed = v.deployed;
-      boots = v.boots;
-      rescue = v.rescue;
-      locked = v.locked;
-      deadline = v.deadline;
-      back = v.back;
-      remembered = v.remembered;
-      image = λ q works. ap (λ o. is_some o) (image_for-same q (view_of (record h { interfaces = interfaces }) m) (view_of h m) refl refl) ∙ v.image q works;
-    };
+    machines = s.machines;
     erasing = s.erasing;
     waiting = s.waiting;
     last_machine = s.last_machine;

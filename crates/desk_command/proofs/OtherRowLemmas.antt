@@ -1,6 +1,6 @@
 -- A hall stays sound if only its operators, pools, members, images, live images and receipts change, and still have
 -- what its machines refer to.
-use Rattle.std.specs.Prelude.{◌≡◌, ◌≢◌, ℕ, List, Option, Some, None, is_some, IsSome}
+use Rattle.std.specs.Prelude.{◌≡◌, ◌≢◌, ◌⊎◌, ⊤, ℕ, List, Option, Some, None, is_some, IsSome}
 use Rattle.std.proofs.Common.{refl, sym, ap, subst, inl, inr, ◌∙◌}
 use Rattle.hall_types.specs.Hall.{Hall, default_pool, pair, written}
 use Rattle.hall_types.specs.Image.{BootImage}
@@ -20,50 +20,62 @@ use Rattle.hall_types.specs.declared.receipt.Receipt.{Receipt}
 use Rattle.boot_desk.specs.Fetch.{image_for}
 use Rattle.hall_types.specs.Lookup.{HasRow, HasRowIf}
 use Rattle.boot_desk.specs.Sound.{IsSoundMachine, IsSound}
-use Rattle.boot_desk.specs.SoundLaws.{has-put, some_of}
+use Rattle.boot_desk.specs.SoundLaws.{has-put, some_of, stand_put}
 use Rattle.boot_desk.specs.Views.{image_named, live_image, row_at, view_of}
 
--- ---- rows under their keys
+-- ---- rows that stay or grow
 
-module _ {K X : Type 0} {keys : Keys K} (key_of : X → K) (rows : Rows keys X) where
-  pub stand_put : (row : X) → StandUnder key_of rows → StandUnder key_of (put (key_of row) row rows)
-  stand_put row under key x is = elim (put_cases rows (key_of row) row key x is) [ inl w ↦ ap key_of w.1 ∙ sym w.0 | inr w ↦ under key x w.1 ]
+-- a row that goes leaves each other one under its own key
+pub stand_gone : {K X : Type 0} {keys : Keys K} (key_of : X → K) (rows : Rows keys X) (key : K) → StandUnder key_of rows → StandUnder key_of (gone key rows)
+stand_gone key_of rows key under other x is = under other x (gone_found rows key other x is).1
 
-  pub stand_gone : (key : K) → StandUnder key_of rows → StandUnder key_of (gone key rows)
-  stand_gone key under other x is = under other x (gone_found rows key other x is).1
+-- each key still has a row, and each row was there before, or stands under its own key and this holds of it
+record Grown {K X : Type 0} {keys : Keys K} (key_of : X → K) (P : X → Type 0) (before after : Rows keys X) : Type 0 where
+  stay : (key : K) → HasRow before key → HasRow after key
+  rows : (key : K) (x : X) → at after key ≡ Some x → (at before key ≡ Some x) ⊎ ((key_of x ≡ key) × P x)
 
--- what holds of the row that is put, and of each row before, holds of each row
-pub each_put : {K X : Type 0} {keys : Keys K} (P : X → Type 0) (rows : Rows keys X) (key : K) (row : X) → P row → ((other : K) (x : X) → at rows other ≡ Some x → P x)
-    → (other : K) (x : X) → at (put key row rows) other ≡ Some x → P x
-each_put P rows key row new old other x is = elim (put_cases rows key row other x is) [ inl w ↦ subst P (sym w.1) new | inr w ↦ old other x w.1 ]
+module _ {K X : Type 0} {keys : Keys K} {key_of : X → K} {P : X → Type 0} where
+  same : {rows : Rows keys X} → Grown key_of P rows rows
+  same = record { stay = λ key has. has; rows = λ key x is. inl is }
+
+  one_more : {rows : Rows keys X} (row : X) → P row → Grown key_of P rows (put (key_of row) row rows)
+  one_more {rows = rows} row holds = record {
+    stay = has-put rows (key_of row) row;
+    rows = λ key x is. elim (put_cases rows (key_of row) row key x is) [ inl w ↦ inr (ap key_of w.1 ∙ sym w.0, subst P (sym w.1) holds) | inr w ↦ inl w.1 ];
+  }
+
+  module _ {before after : Rows keys X} (grown : Grown key_of P before after) where
+    stand_grown : StandUnder key_of before → StandUnder key_of after
+    stand_grown under key x is = elim (grown.rows key x is) [ inl old ↦ under key x old | inr new ↦ new.0 ]
+
+    -- what holds of each row before, and of each new one, holds of each row
+    each_grown : (Q : X → Type 0) → ((key : K) (x : X) → at before key ≡ Some x → Q x) → ((x : X) → P x → Q x) → (key : K) (x : X) → at after key ≡ Some x → Q x
+    each_grown Q old new key x is = elim (grown.rows key x is) [ inl w ↦ old key x w | inr w ↦ new x w.1 ]
 
 -- ---- other rows than those of machines
 
 -- the hall with other operators, pools, members, images, live images and receipts
-abbrev pub renewed : Hall → Rows texts Operator → Rows texts Pool → Rows pairs Member → Rows texts BootImage → Rows numbers Live → Rows pairs Receipt → Hall
+abbrev renewed : Hall → Rows texts Operator → Rows texts Pool → Rows pairs Member → Rows texts BootImage → Rows numbers Live → Rows pairs Receipt → Hall
 renewed h operators pools members images lives receipts =
     record h { operators = operators; pools = pools; members = members; images = images; lives = lives; receipts = receipts }
 
--- operators, pools and live images stay, the images that are referred to stay, and each new row is as a sound hall
--- needs it
-pub record Renewed (h : Hall) (operators : Rows texts Operator) (pools : Rows texts Pool) (members : Rows pairs Member) (images : Rows texts BootImage) (lives : Rows numbers Live) (receipts : Rows pairs Receipt) : Type 0 where
-  pub keyed_operators : StandUnder (λ (o : Operator). o.name) operators
-  pub keyed_pools : StandUnder (λ (p : Pool). p.name) pools
-  pub keyed_members : StandUnder (λ (m : Member). pair m.pool m.operator) members
-  pub keyed_images : StandUnder (λ (i : BootImage). i.name) images
-  pub keyed_lives : StandUnder (λ (l : Live). arch_number l.arch) lives
-  pub keyed_receipts : StandUnder (λ (r : Receipt). pair r.operator r.key) receipts
-  pub operators_stay : (name : List ℕ) → HasRow h.operators name → HasRow operators name
-  pub pools_stay : (name : List ℕ) → HasRow h.pools name → HasRow pools name
-  pub lives_stay : (arch : ℕ) → HasRow h.lives arch → HasRow lives arch
-  pub member_pools : (key : List (List ℕ)) (m : Member) → at members key ≡ Some m → HasRow pools m.pool
-  pub member_operators : (key : List (List ℕ)) (m : Member) → at members key ≡ Some m → HasRow operators m.operator
-  pub live_images : (arch : ℕ) (l : Live) → at lives arch ≡ Some l → HasRow images l.image
-  pub machine_images : (id : ℕ) (m : Machine) → at h.machines id ≡ Some m → HasRowIf images m.image
-  pub receipt_operators : (key : List (List ℕ)) (r : Receipt) → at receipts key ≡ Some r → HasRow operators r.operator
-  pub digests : (name other : List ℕ) (o p : Operator) → at operators name ≡ Some o → at operators other ≡ Some p → o.digest ≡ p.digest → name ≡ other
+-- images that are referred to stay
+record KeepsImages (h : Hall) (images : Rows texts BootImage) : Type 0 where
+  keyed : StandUnder (λ (i : BootImage). i.name) images
+  lives : (arch : ℕ) (l : Live) → at h.lives arch ≡ Some l → HasRow images l.image
+  machines : (id : ℕ) (m : Machine) → at h.machines id ≡ Some m → HasRowIf images m.image
 
-module _ (h : Hall) (operators : Rows texts Operator) (pools : Rows texts Pool) (members : Rows pairs Member) (images : Rows texts BootImage) (lives : Rows numbers Live) (receipts : Rows pairs Receipt) (s : IsSound h) (new : Renewed h operators pools members images lives receipts) where
+-- the other tables grow by rows whose references are to rows, and no two operators have one digest
+record Renewed (h after : Hall) : Type 0 where
+  operators : Grown (λ (o : Operator). o.name) (λ o. ⊤) h.operators after.operators
+  pools : Grown (λ (p : Pool). p.name) (λ p. ⊤) h.pools after.pools
+  members : Grown (λ (m : Member). pair m.pool m.operator) (λ m. HasRow after.pools m.pool × HasRow after.operators m.operator) h.members after.members
+  images : KeepsImages h after.images
+  lives : Grown (λ (l : Live). arch_number l.arch) (λ l. HasRow after.images l.image) h.lives after.lives
+  receipts : Grown (λ (r : Receipt). pair r.operator r.key) (λ r. HasRow after.operators r.operator) h.receipts after.receipts
+  digests : (name other : List ℕ) (o p : Operator) → at after.operators name ≡ Some o → at after.operators other ≡ Some p → o.digest ≡ p.digest → name ≡ other
+
+module _ (h : Hall) (operators : Rows texts Operator) (pools : Rows texts Pool) (members : Rows pairs Member) (images : Rows texts BootImage) (lives : Rows numbers Live) (receipts : Rows pairs Receipt) (s : IsSound h) (new : Renewed h (renewed h operators pools members images lives receipts)) where
   abbrev after : Hall
   after = renewed h operators pools members images lives receipts
 
@@ -71,10 +83,13 @@ module _ (h : Hall) (operators : Rows texts Operator) (pools : Rows texts Pool) 
   has_live_before None is = is
   has_live_before (Some l) is = refl
 
+  lives_have : (arch : ℕ) (l : Live) → at lives arch ≡ Some l → HasRow images l.image
+  lives_have = each_grown new.lives (λ l. HasRow images l.image) new.images.lives (λ l has. has)
+
   live_after : (arch : ℕ) → IsSome (live_image h arch) → IsSome (live_image after arch)
   live_after arch is =
-      let l = some_of (at lives arch) (new.lives_stay arch (has_live_before (at h.lives arch) is)) in
-      ap (λ o. is_some (image_named after o)) l.1 ∙ new.live_images arch l.0 l.1
+      let l = some_of (at lives arch) (new.lives.stay arch (has_live_before (at h.lives arch) is)) in
+      ap (λ o. is_some (image_named after o)) l.1 ∙ lives_have arch l.0 l.1
 
   own_after : (o : Option (List ℕ)) → HasRowIf images o → IsSome (row_at h.images o) → IsSome (row_at images o)
   own_after None has is = is
@@ -97,34 +112,34 @@ module _ (h : Hall) (operators : Rows texts Operator) (pools : Rows texts Pool) 
         deadline = v.deadline;
         back = v.back;
         remembered = v.remembered;
-        image = λ p works. image_after p m (new.machine_images id m is) (v.image p works);
+        image = λ p works. image_after p m (new.images.machines id m is) (v.image p works);
       }
 
-  pub renewed_sound : IsSound after
+  renewed_sound : IsSound after
   renewed_sound = record {
     keyed = record {
-      operators = new.keyed_operators;
-      pools = new.keyed_pools;
-      members = new.keyed_members;
-      images = new.keyed_images;
-      lives = new.keyed_lives;
+      operators = stand_grown new.operators s.keyed.operators;
+      pools = stand_grown new.pools s.keyed.pools;
+      members = stand_grown new.members s.keyed.members;
+      images = new.images.keyed;
+      lives = stand_grown new.lives s.keyed.lives;
       machines = s.keyed.machines;
       interfaces = s.keyed.interfaces;
       boots = s.keyed.boots;
       orders = s.keyed.orders;
-      receipts = new.keyed_receipts;
+      receipts = stand_grown new.receipts s.keyed.receipts;
     };
-    member_pools = new.member_pools;
-    member_operators = new.member_operators;
-    live_images = new.live_images;
-    machine_pools = λ id m is. new.pools_stay m.pool (s.machine_pools id m is);
-    machine_owners = λ id m is name owns. new.operators_stay name (s.machine_owners id m is name owns);
-    machine_images = new.machine_images;
+    member_pools = each_grown new.members (λ m. HasRow pools m.pool) (λ key m is. new.pools.stay m.pool (s.member_pools key m is)) (λ m has. has.0);
+    member_operators = each_grown new.members (λ m. HasRow operators m.operator) (λ key m is. new.operators.stay m.operator (s.member_operators key m is)) (λ m has. has.1);
+    live_images = lives_have;
+    machine_pools = λ id m is. new.pools.stay m.pool (s.machine_pools id m is);
+    machine_owners = λ id m is name owns. new.operators.stay name (s.machine_owners id m is name owns);
+    machine_images = new.images.machines;
     interface_machines = s.interface_machines;
     boot_machines = s.boot_machines;
     order_machines = s.order_machines;
-    receipt_operators = new.receipt_operators;
-    default = new.pools_stay default_pool s.default;
+    receipt_operators = each_grown new.receipts (λ r. HasRow operators r.operator) (λ key r is. new.operators.stay r.operator (s.receipt_operators key r is)) (λ r has. has);
+    default = new.pools.stay default_pool s.default;
     uuids = s.uuids;
     digests = new.digests;
     few_machines = s.few_machines;
@@ -141,125 +156,48 @@ module _ (h : Hall) (operators : Rows texts Operator) (pools : Rows texts Pool) 
 -- ---- one row of another table
 
 module _ (h : Hall) (s : IsSound h) where
+  images_same : KeepsImages h h.images
+  images_same = record { keyed = s.keyed.images; lives = s.live_images; machines = s.machine_images }
+
   pub pool_sound : (p : Pool) → IsSound (written (write.PutPool p) h)
-  pool_sound p = renewed_sound h h.operators (put p.name p h.pools) h.members h.images h.lives h.receipts s (record {
-    keyed_operators = s.keyed.operators;
-    keyed_pools = stand_put (λ (x : Pool). x.name) h.pools p s.keyed.pools;
-    keyed_members = s.keyed.members;
-    keyed_images = s.keyed.images;
-    keyed_lives = s.keyed.lives;
-    keyed_receipts = s.keyed.receipts;
-    operators_stay = λ name has. has;
-    pools_stay = λ name has. has-put h.pools p.name p name has;
-    lives_stay = λ arch has. has;
-    member_pools = λ key m is. has-put h.pools p.name p m.pool (s.member_pools key m is);
-    member_operators = s.member_operators;
-    live_images = s.live_images;
-    machine_images = s.machine_images;
-    receipt_operators = s.receipt_operators;
-    digests = s.digests;
-  })
+  pool_sound p =
+      renewed_sound h h.operators (put p.name p h.pools) h.members h.images h.lives h.receipts s
+      (record { operators = same; pools = one_more p tt; members = same; images = images_same; lives = same; receipts = same; digests = s.digests })
 
   pub member_sound : (m : Member) → HasRow h.pools m.pool → HasRow h.operators m.operator → IsSound (written (write.PutMember m) h)
-  member_sound m pool operator = renewed_sound h h.operators h.pools (put (pair m.pool m.operator) m h.members) h.images h.lives h.receipts s (record {
-    keyed_operators = s.keyed.operators;
-    keyed_pools = s.keyed.pools;
-    keyed_members = stand_put (λ (x : Member). pair x.pool x.operator) h.members m s.keyed.members;
-    keyed_images = s.keyed.images;
-    keyed_lives = s.keyed.lives;
-    keyed_receipts = s.keyed.receipts;
-    operators_stay = λ name has. has;
-    pools_stay = λ name has. has;
-    lives_stay = λ arch has. has;
-    member_pools = each_put (λ x. HasRow h.pools x.pool) h.members (pair m.pool m.operator) m pool s.member_pools;
-    member_operators = each_put (λ x. HasRow h.operators x.operator) h.members (pair m.pool m.operator) m operator s.member_operators;
-    live_images = s.live_images;
-    machine_images = s.machine_images;
-    receipt_operators = s.receipt_operators;
-    digests = s.digests;
-  })
+  member_sound m pool operator =
+      renewed_sound h h.operators h.pools (put (pair m.pool m.operator) m h.members) h.images h.lives h.receipts s
+      (record { operators = same; pools = same; members = one_more m (pool, operator); images = images_same; lives = same; receipts = same; digests = s.digests })
 
   pub image_sound : (i : BootImage) → IsSound (written (write.PutImage i) h)
-  image_sound i = renewed_sound h h.operators h.pools h.members (put i.name i h.images) h.lives h.receipts s (record {
-    keyed_operators = s.keyed.operators;
-    keyed_pools = s.keyed.pools;
-    keyed_members = s.keyed.members;
-    keyed_images = stand_put (λ (x : BootImage). x.name) h.images i s.keyed.images;
-    keyed_lives = s.keyed.lives;
-    keyed_receipts = s.keyed.receipts;
-    operators_stay = λ name has. has;
-    pools_stay = λ name has. has;
-    lives_stay = λ arch has. has;
-    member_pools = s.member_pools;
-    member_operators = s.member_operators;
-    live_images = λ arch l is. has-put h.images i.name i l.image (s.live_images arch l is);
-    machine_images = λ id m is name its. has-put h.images i.name i name (s.machine_images id m is name its);
-    receipt_operators = s.receipt_operators;
-    digests = s.digests;
-  })
+  image_sound i =
+      renewed_sound h h.operators h.pools h.members (put i.name i h.images) h.lives h.receipts s
+      (record { operators = same; pools = same; members = same; images = one_image_more; lives = same; receipts = same; digests = s.digests })
+    where
+      one_image_more : KeepsImages h (put i.name i h.images)
+      one_image_more = record {
+        keyed = stand_put (λ (x : BootImage). x.name) h.images i s.keyed.images;
+        lives = λ arch l is. has-put h.images i.name i l.image (s.live_images arch l is);
+        machines = λ id m is name its. has-put h.images i.name i name (s.machine_images id m is name its);
+      }
 
   pub live_sound : (l : Live) → HasRow h.images l.image → IsSound (written (write.PutLive l) h)
-  live_sound l image = renewed_sound h h.operators h.pools h.members h.images (put (arch_number l.arch) l h.lives) h.receipts s (record {
-    keyed_operators = s.keyed.operators;
-    keyed_pools = s.keyed.pools;
-    keyed_members = s.keyed.members;
-    keyed_images = s.keyed.images;
-    keyed_lives = stand_put (λ (x : Live). arch_number x.arch) h.lives l s.keyed.lives;
-    keyed_receipts = s.keyed.receipts;
-    operators_stay = λ name has. has;
-    pools_stay = λ name has. has;
-    lives_stay = λ arch has. has-put h.lives (arch_number l.arch) l arch has;
-    member_pools = s.member_pools;
-    member_operators = s.member_operators;
-    live_images = each_put (λ x. HasRow h.images x.image) h.lives (arch_number l.arch) l image s.live_images;
-    machine_images = s.machine_images;
-    receipt_operators = s.receipt_operators;
-    digests = s.digests;
-  })
+  live_sound l image =
+      renewed_sound h h.operators h.pools h.members h.images (put (arch_number l.arch) l h.lives) h.receipts s
+      (record { operators = same; pools = same; members = same; images = images_same; lives = one_more l image; receipts = same; digests = s.digests })
 
   -- a receipt of an operator who is recorded
   pub receipt_sound : (r : Receipt) → HasRow h.operators r.operator → IsSound (written (write.PutReceipt r) h)
-  receipt_sound r operator = renewed_sound h h.operators h.pools h.members h.images h.lives (put (pair r.operator r.key) r h.receipts) s (record {
-    keyed_operators = s.keyed.operators;
-    keyed_pools = s.keyed.pools;
-    keyed_members = s.keyed.members;
-    keyed_images = s.keyed.images;
-    keyed_lives = s.keyed.lives;
-    keyed_receipts = stand_put (λ (x : Receipt). pair x.operator x.key) h.receipts r s.keyed.receipts;
-    operators_stay = λ name has. has;
-    pools_stay = λ name has. has;
-    lives_stay = λ arch has. has;
-    member_pools = s.member_pools;
-    member_operators = s.member_operators;
-    live_images = s.live_images;
-    machine_images = s.machine_images;
-    receipt_operators = each_put (λ x. HasRow h.operators x.operator) h.receipts (pair r.operator r.key) r operator s.receipt_operators;
-    digests = s.digests;
-  })
+  receipt_sound r operator =
+      renewed_sound h h.operators h.pools h.members h.images h.lives (put (pair r.operator r.key) r h.receipts) s
+      (record { operators = same; pools = same; members = same; images = images_same; lives = same; receipts = one_more r operator; digests = s.digests })
 
   -- an operator whose digest no other operator has
   pub operator_sound : (o : Operator) → ((name : List ℕ) (p : Operator) → at h.operators name ≡ Some p → p.digest ≡ o.digest → name ≡ o.name) → IsSound (written (write.PutOperator o) h)
-  operator_sound o alone = renewed_sound h (put o.name o h.operators) h.pools h.members h.images h.lives h.receipts s (record {
-    keyed_operators = stand_put (λ (x : Operator). x.name) h.operators o s.keyed.operators;
-    keyed_pools = s.keyed.pools;
-    keyed_members = s.keyed.members;
-    keyed_images = s.keyed.images;
-    keyed_lives = s.keyed.lives;
-    keyed_receipts = s.keyed.receipts;
-    operators_stay = stay;
-    pools_stay = λ name has. has;
-    lives_stay = λ arch has. has;
-    member_pools = s.member_pools;
-    member_operators = λ key m is. stay m.operator (s.member_operators key m is);
-    live_images = s.live_images;
-    machine_images = s.machine_images;
-    receipt_operators = λ key r is. stay r.operator (s.receipt_operators key r is);
-    digests = digests;
-  })
+  operator_sound o alone =
+      renewed_sound h (put o.name o h.operators) h.pools h.members h.images h.lives h.receipts s
+      (record { operators = one_more o tt; pools = same; members = same; images = images_same; lives = same; receipts = same; digests = digests })
     where
-      stay : (name : List ℕ) → HasRow h.operators name → HasRow (put o.name o h.operators) name
-      stay name has = has-put h.operators o.name o name has
-
       digests : (name other : List ℕ) (a b : Operator) → at (put o.name o h.operators) name ≡ Some a → at (put o.name o h.operators) other ≡ Some b → a.digest ≡ b.digest → name ≡ other
       digests name other a b is_a is_b same = elim (put_cases h.operators o.name o name a is_a) [
         | inl w ↦ elim (put_cases h.operators o.name o other b is_b) [
@@ -275,23 +213,16 @@ module _ (h : Hall) (s : IsSound h) where
   -- an image goes that no live image and no machine refers to
   pub image_gone_sound : (name : List ℕ) → ((arch : ℕ) (l : Live) → at h.lives arch ≡ Some l → l.image ≢ name) → ((id : ℕ) (m : Machine) → at h.machines id ≡ Some m → m.image ≢ Some name)
       → IsSound (written (write.ImageGone name) h)
-  image_gone_sound name no_live no_machine = renewed_sound h h.operators h.pools h.members (gone name h.images) h.lives h.receipts s (record {
-    keyed_operators = s.keyed.operators;
-    keyed_pools = s.keyed.pools;
-    keyed_members = s.keyed.members;
-    keyed_images = stand_gone (λ (x : BootImage). x.name) h.images name s.keyed.images;
-    keyed_lives = s.keyed.lives;
-    keyed_receipts = s.keyed.receipts;
-    operators_stay = λ name has. has;
-    pools_stay = λ name has. has;
-    lives_stay = λ arch has. has;
-    member_pools = s.member_pools;
-    member_operators = s.member_operators;
-    live_images = λ arch l is. stays l.image (no_live arch l is) (s.live_images arch l is);
-    machine_images = λ id m is key its. stays key (λ same. no_machine id m is (its ∙ ap (λ x. Some x) same)) (s.machine_images id m is key its);
-    receipt_operators = s.receipt_operators;
-    digests = s.digests;
-  })
+  image_gone_sound name no_live no_machine =
+      renewed_sound h h.operators h.pools h.members (gone name h.images) h.lives h.receipts s
+      (record { operators = same; pools = same; members = same; images = image_gone; lives = same; receipts = same; digests = s.digests })
     where
       stays : (key : List ℕ) → key ≢ name → HasRow h.images key → HasRow (gone name h.images) key
       stays key apart has = ap (λ o. is_some o) (at-gone-other h.images name key apart) ∙ has
+
+      image_gone : KeepsImages h (gone name h.images)
+      image_gone = record {
+        keyed = stand_gone (λ (x : BootImage). x.name) h.images name s.keyed.images;
+        lives = λ arch l is. stays l.image (no_live arch l is) (s.live_images arch l is);
+        machines = λ id m is key its. stays key (λ same. no_machine id m is (its ∙ ap (λ x. Some x) same)) (s.machine_images id m is key its);
+      }

@@ -9,7 +9,6 @@ use Rattle.hall_types.specs.declared.machine.Machine.{Machine}
 use Rattle.hall_types.specs.declared.operator.Operator.{Operator}
 use Rattle.hall_types.specs.declared.refusal.Refusal.{Refusal}
 use Rattle.hall_types.specs.declared.refusal.Refusal.TheVariants as cause
-use Rattle.hall_types.specs.declared.status.Status.TheVariants.{New}
 use Rattle.hall_events.specs.Reply.{Content, machine_is, machine_gone, done}
 use Rattle.hall_events.specs.declared.command.HallCommand.{HallCommand}
 use Rattle.hall_events.specs.declared.command.HallCommand.TheVariants.{AddOperator, DisableOperator, AddPool, Grant, AddImage, DeleteImage, SetLive, AddMachine, OnMachine}
@@ -23,6 +22,7 @@ use Rattle.life_cycle.specs.declared.entering.Entered.{Entered}
 use Rattle.life_cycle.specs.declared.signal.Signal.TheVariants.{By}
 use Rattle.life_cycle.specs.declared.step.Step.{Step}
 use Rattle.boot_desk.specs.Following.{entry_rows, machine_row}
+use Rattle.boot_desk.specs.NewMachine.{blank_machine}
 use Rattle.boot_desk.specs.declared.fault.DeskFault.{DeskFault}
 use Rattle.boot_desk.specs.declared.fault.DeskFault.TheVariants.{Refused, Memory}
 use Rattle.desk_command.specs.Causes.{release_action}
@@ -104,24 +104,7 @@ machine_effect_if (Some m) v o command moment = machine_effect v o m command mom
 
 -- a machine that an operator adds is New
 abbrev pub added_machine : ℕ → Arch → List ℕ → Option (List ℕ) → Machine
-added_machine id arch pool uuid = record {
-  id = id;
-  arch = arch;
-  uuid = uuid;
-  pool = pool;
-  status = New;
-  owner = None;
-  image = None;
-  tests = false;
-  back = None;
-  erase = None;
-  locked = false;
-  version = 1;
-  deadline = None;
-  boot = None;
-  boots = 0;
-  waiting = None;
-}
+added_machine id arch pool uuid = blank_machine id arch pool uuid
 
 -- it has one interface, and the next number
 abbrev pub added : CommandView → List ℕ → Arch → List ℕ → Option (List ℕ) → Option ℕ → Effect

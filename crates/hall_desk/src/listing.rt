@@ -1,5 +1,5 @@
 //! The list of all machines.
-ghost use Rattle.std.specs.Prelude.{◌≡◌, ◌==◌, filter, fold, map, IfOk, OnOk, ℕ};
+ghost use Rattle.std.specs.Prelude.{◌≡◌, ◌==◌, filter, map, IfOk};
 ghost use Rattle.std.specs.List.Sorted.{IsNonDecreasingBy};
 ghost use Rattle.hall_types.specs.Hall.{second};
 ghost use Rattle.hall_types.specs.Rows.{listed as rows_of};
@@ -11,28 +11,8 @@ ghost use Rattle.hall_desk.specs.Plan.{Plans};
 use crate::requests::said;
 use hall_events::{MachineList, Reply};
 use hall_store::{HallStore, Unavailable};
-use hall_types::{Change, Interface, Machine, Number};
+use hall_types::{Change, Interface, Machine, own_interfaces, sort_by_machine};
 use std::alloc::{AllocError, Global};
-
-// Sorts interfaces by machine; those of one machine keep their order.
-fn sort_by_machine(interfaces: &mut Vec<Interface>) -> Result<(), AllocError>
-    ensures sorted { OnOk result (IsNonDecreasingBy (λ i. i.machine) interfaces.new.items) }
-    ensures same { OnOk result ((id : ℕ) → filter (λ i. i.machine == id) interfaces.new.items ≡ filter (λ i. i.machine == id) interfaces.old.items) }
-{
-    interfaces.sort_by_key(|interface| interface.machine.get())
-}
-
-// The interfaces of a machine among those that are sorted by machine.
-fn own_interfaces(interfaces: &[Interface], id: Number) -> &[Interface]
-    requires { IsNonDecreasingBy (λ i. i.machine) interfaces.now }
-    ensures { result.now ≡ filter (λ i. i.machine == id) interfaces.now }
-{
-    let first = interfaces.partition_point(|interface| interface.machine.get() < id.get());
-    let (_, rest) = interfaces.split_at(first);
-    let count = rest.partition_point(|interface| interface.machine.get() <= id.get());
-    let (own, _) = rest.split_at(count);
-    own
-}
 
 // The answer with machines, each with its interfaces, which are sorted by machine.
 fn sorted_reply(

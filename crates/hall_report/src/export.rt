@@ -9,11 +9,10 @@ ghost use Rattle.hall_report.specs.Export.{HasWritten, export_text, hardware_fie
 
 use crate::columns::digits;
 use crate::fault::ReportFault;
-use crate::interfaces::{own_interfaces, sort_by_machine};
 use crate::member::{macs_text, uuid_text, yes_no};
 use csv::{StringRecord, Writer, WriterBuilder};
 use hall_store::HallStore;
-use hall_types::{Interface, Machine, MachineUuid, Name};
+use hall_types::{Interface, Machine, MachineUuid, Name, own_interfaces, sort_by_machine};
 use std::alloc::{AllocError, Global};
 
 // Writes a record. An error over octets in memory is want of it.

@@ -6,7 +6,6 @@ mod counts;
 mod export;
 mod fault;
 mod import;
-mod interfaces;
 mod machine_lines;
 mod member;
 mod orders;

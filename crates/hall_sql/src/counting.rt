@@ -7,7 +7,7 @@ ghost use Rattle.hall_types.specs.Rows.{size};
 ghost use Rattle.sql_schema.specs.Holding.{IsTableRead};
 
 use hall_store::Count;
-use sql_counts::list_counts;
+use sql_machines::list_counts;
 use sqlite::{Alter, Connection, Error};
 use std::alloc::Global;
 

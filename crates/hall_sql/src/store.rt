@@ -15,12 +15,13 @@ use hall_types::{
     Name, Number, Numbers, Operator, Order, Pool, Receipt, RequestKey,
 };
 use pxe_vendor::Arch;
-use sql_counts::list_counts;
-use sql_images::{find_image, find_live};
-use sql_machine_parts::{find_machine, find_uuid, interfaces_of, list_interfaces, list_machines};
-use sql_machines::{find_boot, find_order, waiting_orders};
-use sql_operators::{
-    find_member, find_numbers, find_operator, find_operator_with_digest, find_pool, find_receipt,
+use sql_machines::{
+    find_boot, find_machine, find_order, find_uuid, interfaces_of, list_counts, list_interfaces,
+    list_machines, waiting_orders,
+};
+use sql_names::{
+    find_image, find_live, find_member, find_numbers, find_operator, find_operator_with_digest,
+    find_pool, find_receipt,
 };
 use sqlite::{Alter, Connection};
 use std::alloc::Global;

@@ -8,6 +8,7 @@ mod boot;
 mod change;
 mod digest;
 mod image;
+mod interfaces;
 mod kinds;
 mod laws;
 mod machine;
@@ -32,6 +33,7 @@ pub use boot::{BadBootCount, Boot, BootCount, MAX_BOOTS};
 pub use change::{Change, RowWrite};
 pub use digest::Digest;
 pub use image::{Image, ImageFault, Live, MAX_ARGS};
+pub use interfaces::{own_interfaces, sort_by_machine};
 pub use kinds::{
     Erase, OrderKind, OrderStage, Outcome, Progress, Purpose, Role, Stage, UnknownNumber,
     UnknownWord,

@@ -11,7 +11,7 @@ use hall_events::{MachineList, Reply};
 use hall_http::{UNAVAILABLE, bytes_of};
 use hall_types::{
     Arch, BootCount, Erase, Interface, MacAddress, Machine, MachineUuid, Name, Number, Order,
-    OrderKind, OrderStage, Status, Version,
+    OrderKind, OrderStage, Refusal, Status, Version,
 };
 use ipxe_script::read;
 use std::alloc::{AllocError, Global};
@@ -41,13 +41,25 @@ fn print_response(alloc: Global, out: &mut Answer, reply: &Reply) -> Result<(), 
     Ok(())
 }
 
+fn print_refusal(out: &mut Answer, refusal: Refusal) {
+    out.show(refusal.number());
+    out.push(" ");
+    out.push(refusal.name());
+    out.push(" ");
+    out.show(refusal.status());
+    out.push(" ");
+}
+
+fn print_refused(alloc: Global, out: &mut Answer, refusal: Refusal) -> Result<(), AllocError> {
+    let reply = Reply::refused(alloc, refusal)?;
+    print_response(alloc, out, &reply)
+}
+
 /// The number, the name and the status of a refusal, and the response with it.
 pub fn refused(alloc: Global, rest: &str, out: &mut Answer) -> Result<(), Cause> {
     let refusal = refusal(rest)?;
-    let (number, name, status) = (refusal.number(), refusal.name(), refusal.status());
-    out.show(format_args!("{number} {name} {status} "));
-    let reply = Reply::refused(alloc, refusal)?;
-    print_response(alloc, out, &reply)?;
+    print_refusal(out, refusal);
+    print_refused(alloc, out, refusal)?;
     Ok(())
 }
 

@@ -1,1 +1,7 @@
+pub mod CountLemmas
+pub mod ExpiryLemmas
+pub mod FindingLemmas
+pub mod JoinLemmas
+pub mod ListLemmas
 pub mod MachineLemmas
+pub mod WipeLemmas

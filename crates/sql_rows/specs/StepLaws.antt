@@ -1,5 +1,4 @@
 -- Laws of steps inside a transaction, for the proofs of callers: what follows from a step, and one step after another.
-use Rattle.std.specs.Prelude.{IsErrAnd}
 use Rattle.std.proofs.Common.{◌≡◌, ℕ, List, true, Ok, Err, Result, IfOk, OnOk, IsTrue, refl, ◌∙◌}
 use Rattle.sqlite.specs.Order.{Row}
 use Rattle.sqlite.specs.State.{State, KeepsCommit}
@@ -41,26 +40,10 @@ reads_on D y (Err e) step follows = record { gives = tt; mode = tt; kept = step.
 pub fails : {Y Z E F : Type 0} {old new : State} {A : Y → Type 0} (B : Z → Type 0) (e : E) (f : F) → IsStep old new {Y = Y} (Err e) A → IsStep old new {Y = Z} (Err f) B
 fails B e f s = record { gives = tt; mode = tt; kept = s.kept }
 
--- where a step failed and its fault is passed on, whatever was to be given
-pub ends : {X Z E F : Type 0} {old new : State} {A : X → Type 0} (D : Z → Type 0) (r : Result Z F) (P : F → Type 0) → IsErrAnd r P → (s : Result X E) → IsStep old new s A → IsStep old new r D
-ends D (Ok z) P none s step = absurd none
-ends D (Err f) P is s step = record { gives = tt; mode = tt; kept = step.kept }
-
--- a step that answers, and then one that fails and whose fault is passed on
-pub next_ends : {X Y Z D E F : Type 0} {old mid new : State} {A : X → Type 0} {B : Y → Type 0} (Gives : Z → Type 0) (r : Result Z F) (P : F → Type 0) → IsErrAnd r P → (x : X) (s : Result Y E) → IsStep old mid {E = D} (Ok x) A
-    → IsStep mid new s B → IsStep old new r Gives
-next_ends Gives (Ok z) P none x s first second = absurd none
-next_ends Gives (Err f) P is x s first second = record { gives = tt; mode = tt; kept = keeps first.kept first.mode second.kept }
-
 -- no step at all
 pub stays : {Y E : Type 0} (s : State) (B : Y → Type 0) (r : Result Y E) → IfOk r B → IsStep s s r B
 stays s B (Ok y) b = record { gives = b; mode = λ inside. inside; kept = λ inside. record { was_open = λ live. live; committed = λ live. refl } }
 stays s B (Err e) b = record { gives = tt; mode = tt; kept = λ inside. record { was_open = λ live. live; committed = λ live. refl } }
-
--- where no step was made and a fault is passed on
-pub none_ends : {Z F : Type 0} {s : State} (D : Z → Type 0) (r : Result Z F) (P : F → Type 0) → IsErrAnd r P → IsStep s s r D
-none_ends D (Ok z) P none = absurd none
-none_ends D (Err f) P is = stays _ D (Err f) tt
 
 -- a write, and then another one
 pub and : {Y Z E F : Type 0} {old mid new : State} {first second : HallRows → HallRows} (y : Y) (r : Result Z F) → IsWritten old mid {E = E} (Ok y) always first → IsWritten mid new r always second

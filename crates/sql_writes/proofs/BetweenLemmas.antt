@@ -20,9 +20,9 @@ use Rattle.sql_schema.specs.Columns.{number, machine_columns, machine_values}
 use Rattle.sql_schema.specs.Spelling.{HallRows, Spells, SpellHall}
 use Rattle.sql_schema.specs.Holding.{IsWithin}
 use Rattle.sql_schema.specs.NumberedLaws.{finds_numbered, number_key}
-use Rattle.sql_counts.specs.Counts.{with_count}
-use Rattle.sql_machine_parts.specs.Wipes.{with_wipe}
-use Rattle.sql_machine_parts.specs.WipeLaws.{put-gone, wipes_put}
+use Rattle.sql_machines.specs.Counts.{with_count}
+use Rattle.sql_machines.specs.Wipes.{with_wipe}
+use Rattle.sql_machines.specs.WipeLaws.{put-gone, wipes_put}
 use Rattle.sql_machines.specs.Machines.{with_machine}
 use Rattle.sql_writes.specs.Between.{IsBetween, with_row}
 use Rattle.sql_writes.specs.Groups.{group_of}

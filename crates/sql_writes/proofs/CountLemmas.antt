@@ -9,7 +9,7 @@ use Rattle.hall_types.specs.CountLaws.{how_many-new}
 use Rattle.hall_types.specs.Status.{status_number}
 use Rattle.hall_types.specs.declared.machine.Machine.{Machine}
 use Rattle.sql_schema.specs.Spelling.{Counts, is_in}
-use Rattle.sql_counts.specs.Counts.{counting}
+use Rattle.sql_machines.specs.Counts.{counting}
 use Rattle.sql_writes.specs.Groups.{group_of}
 use Rattle.sql_writes.specs.declared.groups.Group.{Group}
 

@@ -12,7 +12,7 @@ use Rattle.sql_schema.specs.Columns.{Wipe}
 use Rattle.sql_schema.specs.Spelling.{HallRows}
 use Rattle.sql_schema.specs.Holding.{IsWithin}
 use Rattle.sql_schema.specs.ListedLaws.{listed_at}
-use Rattle.sql_machine_parts.specs.WipeLaws.{wipes_gone}
+use Rattle.sql_machines.specs.WipeLaws.{wipes_gone}
 use Rattle.sql_machines.specs.Machines.{NonePointTo, HasNoChild, without_row}
 use Rattle.sql_writes.specs.Between.{IsBetween, childless}
 use Rattle.sql_writes.specs.Within.{IsWithinHall}

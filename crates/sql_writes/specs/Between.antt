@@ -6,8 +6,8 @@ use Rattle.hall_types.specs.Hall.{Hall}
 use Rattle.hall_types.specs.declared.machine.Machine.{Machine}
 use Rattle.sql_schema.specs.Holding.{IsWithin}
 use Rattle.sql_schema.specs.Spelling.{HallRows, is_in, wipe_of}
-use Rattle.sql_machine_parts.specs.Interfaces.{without_interfaces}
-use Rattle.sql_machine_parts.specs.Wipes.{with_wipe}
+use Rattle.sql_machines.specs.Interfaces.{without_interfaces}
+use Rattle.sql_machines.specs.Wipes.{with_wipe}
 use Rattle.sql_machines.specs.Boots.{without_boots}
 use Rattle.sql_machines.specs.Orders.{without_orders}
 

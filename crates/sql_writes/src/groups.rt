@@ -13,7 +13,7 @@ ghost use Rattle.sql_writes.specs.Groups.{group_of};
 ghost use Rattle.sql_writes.specs.Within.{IsWithinHall};
 
 use hall_types::{Machine, Name, Number, Status};
-use sql_counts::{count_down, count_up};
+use sql_machines::{count_down, count_up};
 use sql_schema::{FIND_MACHINE, name_in, number_value, status_in};
 use sqlite::{Alter, Error, Row, Transaction};
 

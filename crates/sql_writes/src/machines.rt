@@ -11,8 +11,7 @@ ghost use Rattle.sql_writes.specs.Within.{IsWithinHall};
 
 use crate::groups::{count_in, find_group, move_count};
 use hall_types::{Machine, Version};
-use sql_machine_parts::put_wipe;
-use sql_machines::{add_machine, set_machine};
+use sql_machines::{add_machine, put_wipe, set_machine};
 use sqlite::{Alter, Error, Transaction};
 
 // The greatest number that a column has.

@@ -11,8 +11,7 @@ ghost use Rattle.sql_writes.specs.Within.{IsWithinHall};
 
 use crate::groups::{Group, count_out, find_group};
 use hall_types::Number;
-use sql_machine_parts::{put_wipe, remove_interfaces};
-use sql_machines::{remove_boots, remove_orders, remove_row};
+use sql_machines::{put_wipe, remove_boots, remove_interfaces, remove_orders, remove_row};
 use sqlite::{Alter, Error, Transaction};
 
 // All rows that point to a machine go: interfaces, boots, orders and its kind of erasing.

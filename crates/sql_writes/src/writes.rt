@@ -8,10 +8,10 @@ ghost use Rattle.sql_writes.specs.Within.{IsRowWritten};
 use crate::machines::{add_whole, set_whole};
 use crate::removal::remove_machine;
 use hall_types::{Machine, RowWrite, Version};
-use sql_images::{add_image, put_live, remove_image};
-use sql_machine_parts::{add_interface, remove_interface};
-use sql_machines::{put_boot, put_order};
-use sql_operators::{add_member, add_pool, add_receipt, put_operator, set_numbers};
+use sql_machines::{add_interface, put_boot, put_order, remove_interface};
+use sql_names::{
+    add_image, add_member, add_pool, add_receipt, put_live, put_operator, remove_image, set_numbers,
+};
 use sqlite::{Alter, Error, Transaction};
 use std::alloc::Global;
 

@@ -1,0 +1,174 @@
+-- A sound hall stays sound with a new machine and its interface.
+use Rattle.std.specs.Prelude.{◌≡◌, ◌≢◌, ◌<◌, ◌≤◌, ◌⊎◌, ◌==◌, ℕ, ◌+◌, List, Option, Some, None, is_some}
+use Rattle.std.proofs.Common.{refl, sym, ap, inl, inr, arith, ◌∙◌}
+use Rattle.std.proofs.lemmas.Bool.{both_ways, eq-eqb, ne_eqb}
+use Rattle.std.proofs.lemmas.Option.{none-some}
+use Rattle.std.proofs.lemmas.Slice.Eq.{bytes_eq-Decides}
+use Rattle.pxe_vendor.specs.declared.arch.Arch.{Arch}
+use Rattle.hall_types.specs.Number.{next_number}
+use Rattle.hall_types.specs.Rows.{at, put, one_if, size, how_many}
+use Rattle.hall_types.specs.RowLaws.{at-put-same, at-put-other, put_cases, size-put}
+use Rattle.hall_types.specs.CountLaws.{how_many-new, none_pass}
+use Rattle.hall_types.specs.Hall.{Schema, first, second, Hall}
+use Rattle.hall_types.specs.Lookup.{HasRow, HasRowIf, has_uuid}
+use Rattle.hall_types.specs.LookupLaws.{none_listed}
+use Rattle.hall_types.specs.declared.machine.Interface.{Interface}
+use Rattle.hall_types.specs.declared.machine.Machine.{Machine}
+use Rattle.hall_types.specs.declared.machine.TheConstants.{MAX_MACHINES, MAX_INTERFACES}
+use Rattle.life_cycle.specs.Entering.{limit_of, is_rescue, keeps_erase}
+use Rattle.boot_desk.specs.Class.{class_in}
+use Rattle.boot_desk.specs.FrameEvent.{machine_with}
+use Rattle.boot_desk.specs.NewMachine.{blank_machine}
+use Rattle.boot_desk.specs.Views.{view_of}
+use Rattle.boot_desk.specs.Sound.{KeepsErase, IsSoundMachine, IsSound}
+use Rattle.boot_desk.specs.SoundLaws.{some_of, has-put, stand_put, each_put, sound_among}
+use Rattle.boot_desk.specs.EntryLaws.{next_is}
+
+-- a machine that is new to a hall, and the address of its interface
+pub record IsNew (h : Hall) (mac : List ℕ) (new : Machine) : Type 0 where
+  -- it has the next number, and there is room for it
+  pub next : next_number h.last.machine ≡ Some new.id
+  pub room : size h.machines < MAX_MACHINES
+  -- no interface has the address, and no machine its UUID
+  pub free : at h.interfaces mac ≡ None
+  pub uuid : machine_with h new.uuid ≡ None
+  -- its pool is recorded, and its owner and its image if it has them
+  pub pool : HasRow h.pools new.pool
+  pub owner : HasRowIf h.operators new.owner
+  pub image : HasRowIf h.images new.image
+  -- it is sound with the rows that there are, and keeps how its disks are erased as its status has it
+  pub machine : IsSoundMachine (view_of h new)
+  pub erase : KeepsErase h.schema new
+
+module _ (h : Hall) (mac : List ℕ) (new : Machine) (s : IsSound h) (n : IsNew h mac new) where
+  abbrev its : Interface
+  its = record { mac = mac; machine = new.id }
+
+  abbrev after : Hall
+  after = record h { machines = put new.id new h.machines; interfaces = put mac its h.interfaces; last = record h.last { machine = new.id } }
+
+  above : new.id ≡ h.last.machine + 1
+  above = next_is h.last.machine new.id n.next
+
+  unused : (q : ℕ) → HasRow h.machines q → q ≢ new.id
+  unused q is same = omega (arith, above, same, s.last_machine q is)
+
+  has : (q : ℕ) → HasRow h.machines q → HasRow after.machines q
+  has q is = has-put h.machines new.id new q is
+
+  -- a machine is the new one or was there before
+  cases : (q : ℕ) → HasRow after.machines q → (q ≡ new.id) ⊎ ((q ≢ new.id) × HasRow h.machines q)
+  cases q is = let x = some_of (at after.machines q) is in elim (put_cases h.machines new.id new q x.0 x.1) [ inl w ↦ inl w.0 | inr w ↦ inr (w.0, ap (λ o. is_some o) w.1) ]
+
+  -- no other machine has the new machine's UUID
+  apart : (q : ℕ) (x : Machine) (uuid : List ℕ) → at h.machines q ≡ Some x → new.uuid ≡ Some uuid → x.uuid ≡ Some uuid → ⊥
+  apart q x uuid is own other =
+      both_ways (has_uuid x.uuid uuid) (none_listed h.machines (λ (y : Machine). has_uuid y.uuid uuid) q x (ap (machine_with h) (sym own) ∙ n.uuid) is)
+      (ap (λ o. has_uuid o uuid) other ∙ (bytes_eq-Decides uuid uuid).1 refl)
+
+  uuids : (q other : ℕ) (a b : Machine) (uuid : List ℕ) → at after.machines q ≡ Some a → at after.machines other ≡ Some b → a.uuid ≡ Some uuid → b.uuid ≡ Some uuid → q ≡ other
+  uuids q other a b uuid is_a is_b of_a of_b = elim (put_cases h.machines new.id new q a is_a) [
+    | inl w ↦ elim (put_cases h.machines new.id new other b is_b) [
+      | inl z ↦ w.0 ∙ sym z.0
+      | inr z ↦ absurd (apart other b uuid z.1 (ap (λ y. y.uuid) (sym w.1) ∙ of_a) of_b)
+    ]
+    | inr w ↦ elim (put_cases h.machines new.id new other b is_b) [
+      | inl z ↦ absurd (apart q a uuid w.1 (ap (λ y. y.uuid) (sym z.1) ∙ of_b) of_a)
+      | inr z ↦ s.uuids q other a b uuid w.1 z.1 of_a of_b
+    ]
+  ]
+
+  -- the new machine has one interface, each other as many as before
+  counts : (q : ℕ) → HasRow after.machines q → (1 ≤ how_many (λ (i : Interface). i.machine == q) after.interfaces) × (how_many (λ (i : Interface). i.machine == q) after.interfaces ≤ MAX_INTERFACES)
+  counts q is =
+      let all = how_many-new (λ (i : Interface). i.machine == q) h.interfaces mac its n.free in
+      elim (cases q is) [
+        | inl same ↦
+            let one = ap one_if (eq-eqb new.id q (sym same)) in
+            let none = none_pass (λ (i : Interface). i.machine == q) h.interfaces (λ other i there. ne_eqb i.machine q (λ e. unused i.machine (s.interface_machines other i there) (e ∙ same))) in
+            (omega arith, omega arith)
+        | inr w ↦ let zero = ap one_if (ne_eqb new.id q (λ e. w.0 (sym e))) in (omega (arith, s.some_interfaces q w.1), omega (arith, s.few_interfaces q w.1))
+      ]
+
+  -- the hall with both is sound
+  pub new_machine_sound : IsSound after
+  new_machine_sound = record {
+    keyed = record {
+      operators = s.keyed.operators;
+      pools = s.keyed.pools;
+      members = s.keyed.members;
+      images = s.keyed.images;
+      lives = s.keyed.lives;
+      machines = stand_put (λ (m : Machine). m.id) h.machines new s.keyed.machines;
+      interfaces = stand_put (λ (i : Interface). i.mac) h.interfaces its s.keyed.interfaces;
+      boots = s.keyed.boots;
+      orders = s.keyed.orders;
+      receipts = s.keyed.receipts;
+    };
+    member_pools = s.member_pools;
+    member_operators = s.member_operators;
+    live_images = s.live_images;
+    machine_pools = each_put (λ x. HasRow h.pools x.pool) h.machines new.id new n.pool s.machine_pools;
+    machine_owners = each_put (λ x. HasRowIf h.operators x.owner) h.machines new.id new n.owner s.machine_owners;
+    machine_images = each_put (λ x. HasRowIf h.images x.image) h.machines new.id new n.image s.machine_images;
+    interface_machines =
+        each_put (λ i. HasRow after.machines i.machine) h.interfaces mac its (ap (λ o. is_some o) (at-put-same h.machines new.id new))
+        (λ other i is. has i.machine (s.interface_machines other i is));
+    boot_machines = λ number b is. has b.machine (s.boot_machines number b is);
+    order_machines = λ number o is. has o.machine (s.order_machines number o is);
+    receipt_operators = s.receipt_operators;
+    default = s.default;
+    uuids = uuids;
+    digests = s.digests;
+    few_machines = omega (arith, size-put h.machines new.id new, n.room);
+    some_interfaces = λ q is. (counts q is).0;
+    few_interfaces = λ q is. (counts q is).1;
+    machines = λ q x is.
+        sound_among h x h.boots h.orders after.last (λ number b there its. there) (λ number o there its. there)
+        (each_put (λ y. IsSoundMachine (view_of h y)) h.machines new.id new n.machine s.machines q x is);
+    erasing = each_put (λ x. KeepsErase h.schema x) h.machines new.id new n.erase s.erasing;
+    waiting = λ number o is waits.
+        let x = s.waiting number o is waits in
+        (x.0, at-put-other h.machines new.id new o.machine (unused o.machine (s.order_machines number o is)) ∙ x.1, x.2);
+    last_machine = λ q is. elim (cases q is) [ inl same ↦ omega (arith, same) | inr w ↦ omega (arith, above, s.last_machine q w.1) ];
+    last_boot = s.last_boot;
+    last_order = s.last_order;
+  }
+
+-- ---- a machine of which nothing else is known
+
+module _ (h : Hall) (id : ℕ) (arch : Arch) (pool : List ℕ) (uuid : Option (List ℕ)) where
+  blank_sound : IsSoundMachine (view_of h (blank_machine id arch pool uuid))
+  unfolding class_in limit_of is_rescue
+  blank_sound = record {
+    boot = λ number is. absurd (none-some number is);
+    order = λ number is. absurd (none-some number is);
+    deployed = λ is. refl;
+    boots = omega arith;
+    rescue = λ is. refl;
+    locked = λ is. cc;
+    deadline = refl;
+    back = refl;
+    remembered = refl;
+    image = λ p is. cc;
+  }
+
+  blank_erase : (schema : Schema) → KeepsErase schema (blank_machine id arch pool uuid)
+  unfolding keeps_erase
+  blank_erase first = refl
+  blank_erase second = refl
+
+  -- such a machine is new to a hall if its number, its address and its UUID are
+  pub blank_is_new : (mac : List ℕ) → next_number h.last.machine ≡ Some id → size h.machines < MAX_MACHINES → at h.interfaces mac ≡ None → machine_with h uuid ≡ None → HasRow h.pools pool
+      → IsNew h mac (blank_machine id arch pool uuid)
+  blank_is_new mac next room free other has = record {
+    next = next;
+    room = room;
+    free = free;
+    uuid = other;
+    pool = has;
+    owner = λ key is. absurd (none-some key is);
+    image = λ key is. absurd (none-some key is);
+    machine = blank_sound;
+    erase = blank_erase h.schema;
+  }

@@ -1,3 +1,0 @@
-pub mod Images
-pub mod LiveLaws
-pub mod Lives

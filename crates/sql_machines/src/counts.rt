@@ -1,0 +1,162 @@
+//! The table of counts: how many machines each pool has in each status, changed by one and listed.
+ghost use Rattle.std.specs.Prelude.{◌≡◌, ◌<◌, ◌+◌, ◌-◌, ◌^◌, ℕ, IfOk, map, [], ◌∷◌};
+ghost use Rattle.sqlite.specs.Held.{state};
+ghost use Rattle.sqlite.specs.State.{HasCleanDisk, Survives};
+ghost use Rattle.hall_store.specs.Counts.{AreCounts};
+ghost use Rattle.hall_types.specs.Hall.{Hall};
+ghost use Rattle.hall_types.specs.Status.{status_number};
+ghost use Rattle.sql_schema.specs.Columns.{number};
+ghost use Rattle.sql_schema.specs.Holding.{IsTableRead, IsWithin};
+ghost use Rattle.sql_schema.specs.Spelling.{HallRows, in_rows};
+ghost use Rattle.sql_rows.specs.Steps.{IsStep, IsWritten, always};
+ghost use Rattle.sql_machines.specs.Counts.{count_values, text_up, with_count};
+
+use hall_store::Count;
+use hall_types::{Name, Status};
+use sql_rows::write;
+use sql_schema::{
+    ADD_COUNT, FIND_COUNT, LIST_COUNTS, REMOVE_COUNT, SET_COUNT, name_in, name_value, number_value,
+    small_value, status_in,
+};
+use sqlite::{Alter, Connection, Error, Row, Transaction, params};
+use std::alloc::Global;
+
+// The greatest number that a column has.
+const MAX_COUNT: u64 = 9_223_372_036_854_775_807;
+
+// The count that a query shows, 0 if it shows none.
+fn count_in(rows: &Vec<Row>) -> Result<u64, Error>
+    ensures count { IfOk result (λ n. (k : ℕ) → rows.now.items ≡ map (λ n. number n ∷ []) (in_rows k) → n ≡ k) }
+    ensures range { IfOk result (λ n. n < 2 ^ 63) }
+{
+    match rows.first() {
+        None => Ok(0),
+        Some(row) => {
+            let count: u64 = row.get(0)?;
+            if count > MAX_COUNT {
+                return Err(Error::IntegralValueOutOfRange(0));
+            }
+            Ok(count)
+        }
+    }
+}
+
+// How many machines are counted.
+fn count_of<S: Alter>(
+    tx: &mut Transaction<'_, S>,
+    pool: &Name,
+    status: Status,
+) -> Result<u64, Error>
+    ensures same_reference { tx.new.conn.ghost_name ≡ tx.old.conn.ghost_name }
+    ensures counted { HasCleanDisk (state S.Store tx.new.conn.now) → IsStep (state S.Store tx.old.conn.now) (state S.Store tx.new.conn.now) result (λ n. (before : Hall) (c : HallRows) → IsWithin (state S.Store tx.old.conn.now) before c → (n ≡ c.counts pool.now (status_number status)) × IsWithin (state S.Store tx.new.conn.now) before c) }
+    ensures range { IfOk result (λ n. n < 2 ^ 63) }
+    ensures survives { Survives (state S.Store tx.old.conn.now) (state S.Store tx.new.conn.now) (λ _. ⊥) }
+{
+    match tx.query_all(
+        FIND_COUNT,
+        &[name_value(pool), small_value(status.number())],
+    ) {
+        Ok(rows) => count_in(&rows),
+        Err(error) => Err(error),
+    }
+}
+
+// Which statement makes a count one more: 0 has no row.
+fn statement_up(count: u64) -> &'static str
+    ensures { result.now ≡ text_up count }
+{
+    if count == 0 { ADD_COUNT } else { SET_COUNT }
+}
+
+/// One machine more in a pool and a status.
+pub fn count_up<S: Alter>(
+    tx: &mut Transaction<'_, S>,
+    pool: &Name,
+    status: Status,
+) -> Result<(), Error>
+    ensures same_reference { tx.new.conn.ghost_name ≡ tx.old.conn.ghost_name }
+    ensures written { HasCleanDisk (state S.Store tx.new.conn.now) → IsWritten (state S.Store tx.old.conn.now) (state S.Store tx.new.conn.now) result always (λ c. with_count c pool.now (status_number status) (c.counts pool.now (status_number status) + 1)) }
+    ensures survives { Survives (state S.Store tx.old.conn.now) (state S.Store tx.new.conn.now) (λ _. ⊥) }
+{
+    match count_of(tx, pool, status) {
+        Ok(MAX_COUNT) => Err(Error::IntegralValueOutOfRange(0)),
+        Ok(count) => write(
+            tx,
+            statement_up(count),
+            &[
+                name_value(pool),
+                small_value(status.number()),
+                number_value(count + 1),
+            ],
+        ),
+        Err(error) => Err(error),
+    }
+}
+
+/// One machine fewer in a pool and a status. Where none is counted, it is refused.
+pub fn count_down<S: Alter>(
+    tx: &mut Transaction<'_, S>,
+    pool: &Name,
+    status: Status,
+) -> Result<(), Error>
+    ensures same_reference { tx.new.conn.ghost_name ≡ tx.old.conn.ghost_name }
+    ensures written { HasCleanDisk (state S.Store tx.new.conn.now) → IsStep (state S.Store tx.old.conn.now) (state S.Store tx.new.conn.now) result (λ _. (before : Hall) (c : HallRows) → IsWithin (state S.Store tx.old.conn.now) before c → IsWithin (state S.Store tx.new.conn.now) before (with_count c pool.now (status_number status) (c.counts pool.now (status_number status) - 1)) × (0 < c.counts pool.now (status_number status))) }
+    ensures survives { Survives (state S.Store tx.old.conn.now) (state S.Store tx.new.conn.now) (λ _. ⊥) }
+{
+    match count_of(tx, pool, status) {
+        Ok(0) => Err(Error::IntegralValueOutOfRange(0)),
+        Ok(1) => write(
+            tx,
+            REMOVE_COUNT,
+            &[name_value(pool), small_value(status.number())],
+        ),
+        Ok(count) => write(
+            tx,
+            SET_COUNT,
+            &[
+                name_value(pool),
+                small_value(status.number()),
+                number_value(count - 1),
+            ],
+        ),
+        Err(error) => Err(error),
+    }
+}
+
+fn count_in_row(row: &Row) -> Result<Count, Error>
+    ensures { IfOk result (λ count. row.now ≡ count_values count) }
+{
+    if row.column_count() != 3 {
+        return Err(Error::InvalidQuery);
+    }
+    let pool = name_in(row, 0)?;
+    let status = status_in(row, 1)?;
+    let machines: u64 = row.get(2)?;
+    Ok(Count {
+        pool,
+        status,
+        machines,
+    })
+}
+
+fn counts_in(alloc: Global, rows: &[Row]) -> Result<Vec<Count>, Error>
+    ensures { IfOk result (λ counts. rows.now ≡ map count_values counts.items) }
+{
+    let mut counts = Vec::with_capacity(alloc, rows.len())?;
+    for row in rows {
+        counts.push(count_in_row(row)?)?;
+    }
+    Ok(counts)
+}
+
+/// How many machines each pool has in each status, by the pool's name and the status's number, without those of
+/// which there are none. `alloc` is for the answer.
+pub fn list_counts<S: Alter>(alloc: Global, conn: &mut Connection<S>) -> Result<Vec<Count>, Error>
+    ensures clean { HasCleanDisk (state S.Store conn.new) → HasCleanDisk (state S.Store conn.old) }
+    ensures asked { HasCleanDisk (state S.Store conn.new) → IsTableRead (state S.Store conn.old) (state S.Store conn.new) result (λ h counts. AreCounts h counts.items) }
+{
+    match conn.query_all(LIST_COUNTS, params![]) {
+        Ok(rows) => counts_in(alloc, &rows),
+        Err(error) => Err(error),
+    }
+}

@@ -1,0 +1,104 @@
+//! Machines found by their number, their UUID, their image and their deadline.
+ghost use Rattle.std.specs.Prelude.{◌≡◌, Option, option_map};
+ghost use Rattle.std.specs.List.{list_any};
+ghost use Rattle.sqlite.specs.Held.{state};
+ghost use Rattle.sqlite.specs.State.{HasCleanDisk};
+ghost use Rattle.sqlite.specs.Values.{bound};
+ghost use Rattle.hall_types.specs.Hall.{Hall};
+ghost use Rattle.hall_types.specs.Rows.{at, listed};
+ghost use Rattle.hall_types.specs.Lookup.{is_named, machine_with_uuid, next_expired};
+ghost use Rattle.hall_types.specs.declared.machine.Machine.{Machine};
+ghost use Rattle.sql_schema.specs.Holding.{IsTableRead};
+ghost use Rattle.sql_machines.specs.MachineRows.{AsksMachine, found_whole};
+
+use crate::rows::{MachineNumbers, MachineRow, MachineRows};
+use crate::wipes::find_wipe;
+use hall_types::{Machine, MachineUuid, Moment, Name, Number};
+use sql_rows::{ask_first, ask_one};
+use sql_schema::{
+    FIND_EXPIRED, FIND_MACHINE, FIND_MACHINE_WITH_IMAGE, FIND_UUID, name_value, number_value,
+    octets_value,
+};
+use sqlite::types::ValueRef;
+use sqlite::{Alter, Connection, Error};
+
+// The machine of the row that was found, with how its disks are erased.
+fn with_wipe<S: Alter>(
+    conn: &mut Connection<S>,
+    found: &Option<MachineRow>,
+) -> Result<Option<Machine>, Error>
+    ensures clean { HasCleanDisk (state S.Store conn.new) → HasCleanDisk (state S.Store conn.old) }
+    ensures asked { HasCleanDisk (state S.Store conn.new) → IsTableRead (state S.Store conn.old) (state S.Store conn.new) result (λ h machine. machine ≡ found_whole h found.now) }
+{
+    match found {
+        None => Ok(None),
+        Some(row) => match find_wipe(conn, row.first.id) {
+            Ok(erase) => Ok(Some(row.whole(erase))),
+            Err(error) => Err(error),
+        },
+    }
+}
+
+// The machine whose row a query shows, if it shows one.
+fn ask_machine<S: Alter>(
+    conn: &mut Connection<S>,
+    sql: &str,
+    params: &[ValueRef<'_>],
+) -> Result<Option<Machine>, Error>
+    ensures clean { HasCleanDisk (state S.Store conn.new) → HasCleanDisk (state S.Store conn.old) }
+    ensures asked { HasCleanDisk (state S.Store conn.new) → (right : Hall → Option Machine) → AsksMachine sql.now (bound params.now) right → IsTableRead (state S.Store conn.old) (state S.Store conn.new) result (λ h machine. machine ≡ right h) }
+{
+    match ask_one::<MachineRows, S>(conn, sql, params) {
+        Ok(found) => with_wipe(conn, &found),
+        Err(error) => Err(error),
+    }
+}
+
+/// The machine with this number, if there is one.
+pub fn find_machine<S: Alter>(
+    conn: &mut Connection<S>,
+    id: Number,
+) -> Result<Option<Machine>, Error>
+    ensures clean { HasCleanDisk (state S.Store conn.new) → HasCleanDisk (state S.Store conn.old) }
+    ensures asked { HasCleanDisk (state S.Store conn.new) → IsTableRead (state S.Store conn.old) (state S.Store conn.new) result (λ h machine. machine ≡ at h.machines id) }
+{
+    ask_machine(conn, FIND_MACHINE, &[number_value(id.get())])
+}
+
+/// Of the machines whose deadline is at most this moment, the one with the least deadline, and of those with the same
+/// one the one with the least number.
+pub fn next_expired<S: Alter>(
+    conn: &mut Connection<S>,
+    moment: Moment,
+) -> Result<Option<Machine>, Error>
+    ensures clean { HasCleanDisk (state S.Store conn.new) → HasCleanDisk (state S.Store conn.old) }
+    ensures asked { HasCleanDisk (state S.Store conn.new) → IsTableRead (state S.Store conn.old) (state S.Store conn.new) result (λ h machine. machine ≡ next_expired h moment) }
+{
+    ask_machine(conn, FIND_EXPIRED, &[number_value(moment.get())])
+}
+
+/// The number of the machine that this UUID is recorded with, if there is one.
+pub fn find_uuid<S: Alter>(
+    conn: &mut Connection<S>,
+    uuid: MachineUuid,
+) -> Result<Option<Number>, Error>
+    ensures clean { HasCleanDisk (state S.Store conn.new) → HasCleanDisk (state S.Store conn.old) }
+    ensures asked { HasCleanDisk (state S.Store conn.new) → IsTableRead (state S.Store conn.old) (state S.Store conn.new) result (λ h number. number ≡ option_map (λ m. m.id) (machine_with_uuid h uuid)) }
+{
+    let octets = uuid.octets();
+    ask_first::<MachineNumbers, S>(conn, FIND_UUID, &[octets_value(&octets)])
+}
+
+/// Whether a machine has this image.
+pub fn has_machine_with_image<S: Alter>(
+    conn: &mut Connection<S>,
+    name: &Name,
+) -> Result<bool, Error>
+    ensures clean { HasCleanDisk (state S.Store conn.new) → HasCleanDisk (state S.Store conn.old) }
+    ensures asked { HasCleanDisk (state S.Store conn.new) → IsTableRead (state S.Store conn.old) (state S.Store conn.new) result (λ h used. used ≡ list_any (λ m. is_named m.image name.now) (listed h.machines)) }
+{
+    match ask_first::<MachineNumbers, S>(conn, FIND_MACHINE_WITH_IMAGE, &[name_value(name)]) {
+        Ok(found) => Ok(found.is_some()),
+        Err(error) => Err(error),
+    }
+}

@@ -1,0 +1,94 @@
+-- What the statements on images answer and write.
+use Rattle.std.proofs.Common.{◌≡◌, inl, inr, ℕ, List, [], ◌∷◌, map, slice_get, Option, None, Some, Result, IfOk, IfErr, refl, sym, ap, subst, ◌∙◌}
+use Rattle.std.specs.Option.{option_to_list}
+use Rattle.sqlite.specs.declared.error.Error.{Error}
+use Rattle.sqlite.specs.declared.types.Value.TheVariants.{Null, Text}
+use Rattle.sqlite.specs.Order.{Row, column}
+use Rattle.sqlite.specs.Term.{lit}
+use Rattle.sqlite.specs.State.{State, HasCleanDisk, Survives, Shown, FailsToQuery, CommitsShowing}
+use Rattle.hall_types.specs.Hall.{Hall}
+use Rattle.hall_types.specs.Image.{BootImage}
+use Rattle.hall_types.specs.Kinds.{arch_number}
+use Rattle.hall_types.specs.Rows.{at}
+use Rattle.hall_types.specs.RowLaws.{same_text, put_cases, gone_found}
+use Rattle.sql_schema.specs.CascadeLaws.{images_go_alone}
+use Rattle.sql_schema.specs.ColumnLaws.{same_arch}
+use Rattle.sql_schema.specs.Columns.{HasWords, number, image_columns, joined, words_in}
+use Rattle.sql_schema.specs.Holding.{IsTableRead}
+use Rattle.sql_schema.specs.HoldingLaws.{asked, within}
+use Rattle.sql_schema.specs.ListLaws.{and_true}
+use Rattle.sql_schema.specs.NamedLaws.{finds_named, adds_named, removes_named}
+use Rattle.sql_schema.specs.NameStatementLaws.{add_image_is, find_image_is, remove_image_is}
+use Rattle.sql_schema.specs.NameStatements.{find_image_columns, find_image_query}
+use Rattle.sql_schema.specs.Queries.{parameter, equals, cell, rising}
+use Rattle.sql_schema.specs.Spelling.{HallRows}
+use Rattle.sql_schema.specs.SpellingLaws.{sets_images}
+use Rattle.sql_schema.specs.Tables.{hall_schema, images_table}
+use Rattle.sql_schema.specs.ValueLaws as value
+use Rattle.sql_rows.specs.Writing.{Makes}
+use Rattle.sql_names.specs.Images.{with_image, without_image}
+use Rattle.sql_schema.specs.declared.name_statements.TheConstants.{ADD_IMAGE, FIND_IMAGE, REMOVE_IMAGE}
+
+-- the rows of the image with this name in a hall, whose arguments are found again in their text
+abbrev pub ShowsImage : List ℕ → Hall → List Row → Type 0
+ShowsImage name h rows = (rows ≡ map image_columns (option_to_list (at h.images name))) × ((i : BootImage) → at h.images name ≡ Some i → HasWords i)
+
+pub finds_image : (name : List ℕ) (old new : State) → HasCleanDisk new → Survives old new (CommitsShowing FIND_IMAGE.now (Text name ∷ []) old) → (r : Result (List Row) Error)
+    → IfOk r (Shown FIND_IMAGE.now (Text name ∷ []) old new) → IfErr r (FailsToQuery FIND_IMAGE.now (Text name ∷ []) old new) → IsTableRead old new r (ShowsImage name)
+finds_image name old new clean survives r ok err =
+    asked FIND_IMAGE.now (Text name ∷ []) find_image_query find_image_columns find_image_is old new (λ rows. rows) (ShowsImage name) r ok err survives clean (λ h rows got spells.
+    subst (λ (x : Hall). ShowsImage name x rows) spells.agrees.hall (
+      finds_named (λ (i : BootImage). i.name) image_columns (old.now.trees 8) spells.hall_rows.hall.images spells.tables.images.named 8
+          (equals 1 0 ∷ []) (cell 1 ∷ cell 2 ∷ cell 3 ∷ cell 4 ∷ cell 5 ∷ []) (rising 1 ∷ []) (Text name ∷ []) old.now.trees refl refl rows got name
+          (λ e. and_true _ ∙ value.same_text e.item.name name ∙ sym (same_text e.item.name name)) image_columns (λ e. refl),
+      spells.tables.images.words name,
+    ))
+
+-- what the columns of an image's row are read as is that image
+pub same_image : (row : Row) (i image : BootImage) → HasWords i → row ≡ image_columns i → column row 0 ≡ Text image.name → column row 1 ≡ number (arch_number image.arch) → column row 2 ≡ Text image.kernel → column row 3 ≡ Text image.initrd
+    → ((text : List ℕ) → column row 4 ≡ Text text → image.args ≡ words_in text) → image ≡ i
+same_image row i image words is name arch kernel initrd args =
+    let one : image.name ≡ i.name = let e = sym name ∙ ap (λ r. column r 0) is in cc in
+    let two : arch_number image.arch ≡ arch_number i.arch = let e = sym arch ∙ ap (λ r. column r 1) is in cc in
+    let three : image.kernel ≡ i.kernel = let e = sym kernel ∙ ap (λ r. column r 2) is in cc in
+    let four : image.initrd ≡ i.initrd = let e = sym initrd ∙ ap (λ r. column r 3) is in cc in
+    let five : image.args ≡ i.args = args (joined i.args) (ap (λ r. column r 4) is) ∙ words in
+    ap (λ x. record image { name = x }) one ∙ ap (λ x. record image { name = i.name; arch = x }) (same_arch image.arch i.arch two)
+    ∙ ap (λ x. record i { kernel = x; initrd = image.initrd; args = image.args }) three ∙ ap (λ x. record i { initrd = x; args = image.args }) four ∙ ap (λ x. record i { args = x }) five
+
+-- the image in the first row is the one that is looked for
+pub first_image_is : (rows : List Row) (row : Row) (image : BootImage) → slice_get rows 0 ≡ Some row → ((i : BootImage) → HasWords i → row ≡ image_columns i → image ≡ i)
+    → (o : Option BootImage) → ((i : BootImage) → o ≡ Some i → HasWords i) → rows ≡ map image_columns (option_to_list o) → Some image ≡ o
+first_image_is rows row image first reads None words none = absurd (let e = sym (ap (λ l. slice_get l 0) none) ∙ first in cc)
+first_image_is rows row image first reads (Some i) words one =
+    let e : Some (image_columns i) ≡ Some row = sym (ap (λ l. slice_get l 0) one) ∙ first in
+    let here : row ≡ image_columns i = cc in
+    ap (λ x. Some x) (reads i (words i refl) here)
+
+-- ---- writes
+
+module _ {C : Type 0} (state_of : C → State) where
+  pub adds_image : (i : BootImage) → HasWords i → (before : Hall) (c : HallRows) → at c.hall.images i.name ≡ None → Makes state_of ADD_IMAGE.now (image_columns i) before c (with_image c i)
+  adds_image i words before c free one other held count ran =
+      let old = state_of one in
+      let new = state_of other in
+      let it = adds_named (λ (q : BootImage). q.name) image_columns (old.now.trees 8) c.hall.images held.spelt.tables.images.named hall_schema 4 images_table refl old new held.spelt.schema refl ADD_IMAGE.now (image_columns i) count ran.0
+      (lit Null ∷ parameter 0 ∷ parameter 1 ∷ parameter 2 ∷ parameter 3 ∷ parameter 4 ∷ []) 6 add_image_is i free (Null ∷ image_columns i) refl (λ id is. rw (value.cast-Null, value.cast-Int, is) refl) in
+      within ADD_IMAGE.now (image_columns i) old new before c _ count held ran (sets_images old.now new.now c held.spelt it.0 _ it.1 (record {
+        named = it.2;
+        words = λ name j is. elim (put_cases c.hall.images i.name i name j is) [
+          | inl this ↦ subst HasWords (sym this.1) words
+          | inr other ↦ held.spelt.tables.images.words name j other.1
+        ];
+      }))
+
+  pub removes_image : (name : List ℕ) (before : Hall) (c : HallRows) → Makes state_of REMOVE_IMAGE.now (Text name ∷ []) before c (without_image c name)
+  removes_image name before c one other held count ran =
+      let old = state_of one in
+      let new = state_of other in
+      let it = removes_named (λ (q : BootImage). q.name) image_columns (old.now.trees 8) c.hall.images held.spelt.tables.images.named hall_schema 4 images_table refl old new held.spelt.schema refl REMOVE_IMAGE.now (Text name ∷ [])
+      (equals 1 0 ∷ []) refl count ran.0 remove_image_is name (λ e. and_true _ ∙ value.same_text e.item.name name ∙ sym (same_text e.item.name name)) images_go_alone in
+      within REMOVE_IMAGE.now (Text name ∷ []) old new before c _ count held ran (sets_images old.now new.now c held.spelt it.0 _ it.1 (record {
+        named = it.2;
+        words = λ other j is. held.spelt.tables.images.words other j (gone_found c.hall.images name other j is).1;
+      }))

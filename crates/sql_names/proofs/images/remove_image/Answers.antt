@@ -1,0 +1,11 @@
+use Rattle.sqlite.specs.Held.{state}
+use Rattle.sql_rows.specs.StepLaws.{writes}
+use Rattle.sql_rows.specs.Steps.{always}
+use Rattle.sql_names.specs.Images.{without_image}
+use Rattle.sql_names.proofs.ImageLemmas.{removes_image}
+use Rattle.sql_names.proofs.images.remove_image.Goals as goal
+
+pub returns-clause-written : goal.returns-clause-written
+returns-clause-written g c clean =
+    writes (state g.S.Store) always (λ rows. without_image rows c.args.name.now) _ _ c.write.result (rw c.name_value.ensures at (c.write.ensures.written clean))
+    (λ before rows _. removes_image (state g.S.Store) c.args.name.now before rows)

@@ -1,0 +1,10 @@
+pub mod Images
+pub mod LiveLaws
+pub mod Lives
+pub mod Members
+pub mod NumberLaws
+pub mod Numbers
+pub mod Operators
+pub mod PairLaws
+pub mod Receipts
+pub mod TableLaws

@@ -1,0 +1,74 @@
+//! The table of live images.
+ghost use Rattle.std.specs.Prelude.{◌≡◌};
+ghost use Rattle.std.specs.List.{list_any};
+ghost use Rattle.std.specs.Str.{bytes_eq};
+ghost use Rattle.sqlite.specs.Held.{state};
+ghost use Rattle.sqlite.specs.State.{HasCleanDisk, Survives};
+ghost use Rattle.hall_types.specs.Kinds.{arch_number};
+ghost use Rattle.hall_types.specs.Rows.{at, listed};
+ghost use Rattle.sql_schema.specs.Columns.{live_values};
+ghost use Rattle.sql_schema.specs.Holding.{IsTableRead};
+ghost use Rattle.sql_rows.specs.Steps.{IsWritten, always};
+ghost use Rattle.sql_names.specs.Lives.{with_live};
+ghost use Rattle.sql_names.specs.LiveLaws.{same_live};
+
+use hall_types::{Live, Name, arch_number};
+use pxe_vendor::Arch;
+use sql_rows::{Table, ask_one, put};
+use sql_schema::{
+    ADD_LIVE, FIND_LIVE, FIND_LIVE_WITH_IMAGE, SET_LIVE, arch_in, name_in, name_value, small_value,
+};
+use sqlite::{Alter, Connection, Error, Row, Transaction};
+
+// The table of live images, by what it stores.
+struct Lives;
+
+impl Table for Lives {
+    type Item = Live;
+
+    ghost values = { live_values };
+
+    fn read(row: &Row) -> Result<Live, Error> {
+        if row.column_count() != 2 {
+            return Err(Error::InvalidQuery);
+        }
+        let arch = arch_in(row, 0)?;
+        let image = name_in(row, 1)?;
+        Ok(Live { arch, image })
+    }
+
+    ghost single = { same_live };
+}
+
+/// The live image of an architecture, if it has one.
+pub fn find_live<S: Alter>(conn: &mut Connection<S>, arch: Arch) -> Result<Option<Live>, Error>
+    ensures clean { HasCleanDisk (state S.Store conn.new) → HasCleanDisk (state S.Store conn.old) }
+    ensures asked { HasCleanDisk (state S.Store conn.new) → IsTableRead (state S.Store conn.old) (state S.Store conn.new) result (λ h live. live ≡ at h.lives (arch_number arch)) }
+{
+    ask_one::<Lives, S>(conn, FIND_LIVE, &[small_value(arch_number(arch))])
+}
+
+/// Whether an image is some architecture's live image.
+pub fn is_live<S: Alter>(conn: &mut Connection<S>, image: &Name) -> Result<bool, Error>
+    ensures clean { HasCleanDisk (state S.Store conn.new) → HasCleanDisk (state S.Store conn.old) }
+    ensures asked { HasCleanDisk (state S.Store conn.new) → IsTableRead (state S.Store conn.old) (state S.Store conn.new) result (λ h is. is ≡ list_any (λ l. bytes_eq l.image image.now) (listed h.lives)) }
+{
+    match conn.query_all(FIND_LIVE_WITH_IMAGE, &[name_value(image)]) {
+        Ok(rows) => Ok(!rows.is_empty()),
+        Err(error) => Err(error),
+    }
+}
+
+/// A live image's row, new or in place of the one that has its key.
+pub fn put_live<S: Alter>(tx: &mut Transaction<'_, S>, live: &Live) -> Result<(), Error>
+    ensures same_reference { tx.new.conn.ghost_name ≡ tx.old.conn.ghost_name }
+    ensures written { HasCleanDisk (state S.Store tx.new.conn.now) → IsWritten (state S.Store tx.old.conn.now) (state S.Store tx.new.conn.now) result always (λ c. with_live c live.now) }
+    ensures survives { Survives (state S.Store tx.old.conn.now) (state S.Store tx.new.conn.now) (λ _. ⊥) }
+{
+    put(
+        tx,
+        SET_LIVE,
+        ADD_LIVE,
+        &[small_value(arch_number(live.arch)), name_value(&live.image)],
+    )
+}

@@ -1,0 +1,90 @@
+//! The table of operators.
+ghost use Rattle.std.specs.Prelude.{◌≡◌};
+ghost use Rattle.std.proofs.Common.{rules};
+ghost use Rattle.sqlite.specs.Held.{state};
+ghost use Rattle.sqlite.specs.State.{HasCleanDisk, Survives};
+ghost use Rattle.hall_types.specs.Lookup.{operator_with_digest};
+ghost use Rattle.hall_types.specs.Rows.{at};
+ghost use Rattle.sql_schema.specs.Columns.{operator_columns};
+ghost use Rattle.sql_schema.specs.ColumnLaws.{same_role, same_truth};
+ghost use Rattle.sql_schema.specs.Holding.{IsTableRead};
+ghost use Rattle.sql_rows.specs.Steps.{IsWritten, always};
+ghost use Rattle.sql_names.specs.Operators.{with_operator};
+
+use hall_types::{Digest, Name, Operator};
+use sql_rows::{Table, ask_first, ask_one, put};
+use sql_schema::{
+    ADD_OPERATOR, FIND_DIGEST, FIND_OPERATOR, SET_OPERATOR, digest_in, name_in, name_value,
+    octets_value, role_in, small_value, truth_in, truth_value,
+};
+use sqlite::{Alter, Connection, Error, Row, Transaction};
+
+/// The table of operators, by what it stores.
+pub struct Operators;
+
+impl Table for Operators {
+    type Item = Operator;
+
+    ghost values = { operator_columns };
+
+    fn read(row: &Row) -> Result<Operator, Error> {
+        if row.column_count() != 4 {
+            return Err(Error::InvalidQuery);
+        }
+        let name = name_in(row, 0)?;
+        let role = role_in(row, 1)?;
+        let digest = digest_in(row, 2)?;
+        let enabled = truth_in(row, 3)?;
+        Ok(Operator {
+            name,
+            role,
+            digest,
+            enabled,
+        })
+    }
+
+    ghost single = { Prim.search (rules, same_role, same_truth) };
+}
+
+/// The operator with this name, if there is one.
+pub fn find_operator<S: Alter>(
+    conn: &mut Connection<S>,
+    name: &Name,
+) -> Result<Option<Operator>, Error>
+    ensures clean { HasCleanDisk (state S.Store conn.new) → HasCleanDisk (state S.Store conn.old) }
+    ensures asked { HasCleanDisk (state S.Store conn.new) → IsTableRead (state S.Store conn.old) (state S.Store conn.new) result (λ h operator. operator ≡ at h.operators name.now) }
+{
+    ask_one::<Operators, S>(conn, FIND_OPERATOR, &[name_value(name)])
+}
+
+/// The operator whose token has this digest, if there is one.
+pub fn find_operator_with_digest<S: Alter>(
+    conn: &mut Connection<S>,
+    digest: &Digest,
+) -> Result<Option<Operator>, Error>
+    ensures clean { HasCleanDisk (state S.Store conn.new) → HasCleanDisk (state S.Store conn.old) }
+    ensures asked { HasCleanDisk (state S.Store conn.new) → IsTableRead (state S.Store conn.old) (state S.Store conn.new) result (λ h operator. operator ≡ operator_with_digest h digest.now) }
+{
+    let octets = digest.octets();
+    ask_first::<Operators, S>(conn, FIND_DIGEST, &[octets_value(&octets)])
+}
+
+/// An operator's row, new or in place of the one with its name.
+pub fn put_operator<S: Alter>(tx: &mut Transaction<'_, S>, operator: &Operator) -> Result<(), Error>
+    ensures same_reference { tx.new.conn.ghost_name ≡ tx.old.conn.ghost_name }
+    ensures written { HasCleanDisk (state S.Store tx.new.conn.now) → IsWritten (state S.Store tx.old.conn.now) (state S.Store tx.new.conn.now) result always (λ c. with_operator c operator.now) }
+    ensures survives { Survives (state S.Store tx.old.conn.now) (state S.Store tx.new.conn.now) (λ _. ⊥) }
+{
+    let digest = operator.digest.octets();
+    put(
+        tx,
+        SET_OPERATOR,
+        ADD_OPERATOR,
+        &[
+            name_value(&operator.name),
+            small_value(operator.role.number()),
+            octets_value(&digest),
+            truth_value(operator.enabled),
+        ],
+    )
+}
