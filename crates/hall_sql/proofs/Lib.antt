@@ -1,4 +1,3 @@
-pub mod AskingLemmas
 pub mod CountLemmas
 pub mod ExpiryLemmas
 pub mod StoreLemmas

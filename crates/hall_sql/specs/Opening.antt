@@ -1,6 +1,6 @@
 -- What making a store over a connection answers, and what it hands back.
+use Rattle.sql_schema.specs.Words.{Held}
 use Rattle.std.specs.Prelude.{Result, Ok, Err}
-use Rattle.sqlite.specs.Held.{Held}
 use Rattle.hall_sql.specs.Store.{connection}
 use Rattle.sql_tables.specs.declared.migrating.Migrated.{Migrated}
 use Rattle.hall_sql.specs.declared.opening.Refused.{Refused}

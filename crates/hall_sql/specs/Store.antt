@@ -1,13 +1,7 @@
 -- Which hall a store over SQLite has, and what becomes of a call of its connection.
+use Rattle.sql_schema.specs.Words.{Error, Held, state, State, Survives, Trees, Hall, second, Holds, Leaves, IsBack}
 use Rattle.std.specs.Prelude.{◌≡◌, false, IsTrue, List, Result, Ok, Err, IsErr}
-use Rattle.sqlite.specs.declared.error.Error.{Error}
-use Rattle.sqlite.specs.Held.{Held, state}
-use Rattle.sqlite.specs.State.{State, Survives}
-use Rattle.sqlite.specs.Tree.{Trees}
 use Rattle.sqlite_trees.specs.declared.store.Store as trees
-use Rattle.hall_types.specs.Hall.{Hall, second}
-use Rattle.sql_schema.specs.Holding.{Holds, Leaves}
-use Rattle.sql_schema.specs.Statements.{IsBack}
 use Rattle.hall_store.specs.declared.store.Unavailable.{Unavailable}
 use Rattle.hall_sql.specs.Expiring.{IsEarliest}
 use Rattle.hall_sql.specs.declared.store.SqlStore.{SqlStore}

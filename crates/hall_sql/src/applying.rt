@@ -1,7 +1,6 @@
 //! A change as one transaction.
+ghost use Rattle.sql_schema.specs.Words.{state, HasCleanDisk};
 ghost use Rattle.std.specs.Prelude.{◌≡◌};
-ghost use Rattle.sqlite.specs.Held.{state};
-ghost use Rattle.sqlite.specs.State.{HasCleanDisk};
 ghost use Rattle.hall_sql.specs.Applying.{IsTold};
 
 use hall_types::RowWrite;

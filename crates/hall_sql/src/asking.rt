@@ -1,10 +1,6 @@
 //! Reads of the tables as answers of a store.
+ghost use Rattle.sql_schema.specs.Words.{state, HasCleanDisk, is_image_used, at, IsTableRead};
 ghost use Rattle.std.specs.Prelude.{◌≡◌, option_map};
-ghost use Rattle.sqlite.specs.Held.{state};
-ghost use Rattle.sqlite.specs.State.{HasCleanDisk};
-ghost use Rattle.hall_types.specs.Lookup.{is_image_used};
-ghost use Rattle.hall_types.specs.Rows.{at};
-ghost use Rattle.sql_schema.specs.Holding.{IsTableRead};
 ghost use Rattle.hall_sql.specs.Store.{LeavesCommitted, Passes};
 
 use crate::store::SqlStore;
@@ -42,8 +38,7 @@ pub(crate) fn machine_at<S: Alter>(
     ensures asked { HasCleanDisk (state S.Store conn.new) → IsTableRead (state S.Store conn.old) (state S.Store conn.new) result (λ h answer. answer ≡ option_map (λ i. i.machine) (at h.interfaces mac)) }
 {
     match find_interface(conn, mac) {
-        Ok(Some(interface)) => Ok(Some(interface.machine)),
-        Ok(None) => Ok(None),
+        Ok(found) => Ok(found.map(|interface| interface.machine)),
         Err(error) => Err(error),
     }
 }

@@ -1,10 +1,6 @@
 //! How many machines there are.
+ghost use Rattle.sql_schema.specs.Words.{sum_by, state, HasCleanDisk, size, IsTableRead};
 ghost use Rattle.std.specs.Prelude.{◌≡◌, IfOk};
-ghost use Rattle.std.specs.List.{sum_by};
-ghost use Rattle.sqlite.specs.Held.{state};
-ghost use Rattle.sqlite.specs.State.{HasCleanDisk};
-ghost use Rattle.hall_types.specs.Rows.{size};
-ghost use Rattle.sql_schema.specs.Holding.{IsTableRead};
 
 use hall_store::Count;
 use sql_machines::list_counts;

@@ -1,11 +1,8 @@
 //! Which machine expires next.
-ghost use Rattle.std.specs.Prelude.{◌≡◌, ◌≤◌, false};
-ghost use Rattle.std.specs.List.{AllByRecursion};
-ghost use Rattle.sqlite.specs.Held.{state};
-ghost use Rattle.sqlite.specs.State.{HasCleanDisk};
-ghost use Rattle.hall_types.specs.Lookup.{is_due, next_expired, if_due};
-ghost use Rattle.hall_store.specs.Store.{IsRead};
-ghost use Rattle.hall_sql.specs.Expiring.{PutsNoEarlier, earliest_of};
+ghost use Rattle.sql_schema.specs.Words.{AllByRecursion, state, HasCleanDisk, next_expired};
+ghost use Rattle.std.specs.Prelude.{◌≡◌, ◌≤◌};
+ghost use Rattle.hall_store.specs.Store.{Reads};
+ghost use Rattle.hall_sql.specs.Expiring.{PutsNoEarlier};
 ghost use Rattle.hall_sql.specs.Store.{HasHall, StopLeaves};
 
 use crate::store::SqlStore;
@@ -20,10 +17,9 @@ fn earliest_with(earliest: u64, write: &RowWrite) -> u64
     ensures put { PutsNoEarlier result write.now }
 {
     match write {
-        RowWrite::PutMachine { machine, .. } => match machine.deadline {
-            Some(deadline) => earliest.min(deadline),
-            None => earliest,
-        },
+        RowWrite::PutMachine { machine, .. } => machine
+            .deadline
+            .map_or(earliest, |deadline| earliest.min(deadline)),
         _ => earliest,
     }
 }
@@ -50,42 +46,11 @@ fn last_moment() -> Moment
     }
 }
 
-// The deadline of the first machine to expire. Where none ever does, the moment after the last one.
-fn earliest_of(first: &Option<Machine>) -> u64
-    ensures { result ≡ earliest_of first.now }
-{
-    match first {
-        Some(machine) => machine.deadline.unwrap_or(0),
-        None => MAX_MOMENT + 1,
-    }
-}
-
-// The first machine to expire, if it is due.
-fn if_due(first: Option<Machine>, moment: Moment) -> Option<Machine>
-    ensures { result ≡ if_due moment first }
-{
-    match first {
-        Some(machine) => machine.if_due(moment),
-        None => None,
-    }
-}
-
 impl<S: Alter> SqlStore<S> {
-    // The first machine to expire of all.
-    fn first_to_expire(&mut self) -> Result<Option<Machine>, Unavailable>
-        requires { self.old.stopped ≡ false }
-        ensures clean { HasCleanDisk (state S.Store self.new.conn) → HasCleanDisk (state S.Store self.old.conn) }
-        ensures read { HasCleanDisk (state S.Store self.new.conn) → IsRead (HasHall S.Store) (StopLeaves S.Store) self.old self.new result (λ h answer. answer ≡ next_expired h MAX_MOMENT) }
-    {
-        let answer = next_expired(&mut self.conn, last_moment());
-        self.pass(answer)
-    }
-
     /// The next machine to expire. The tables are asked only if a machine may have expired, and the least deadline that is found is
-    /// known from then on.
+    /// known from then on, or that none ever expires.
     pub(crate) fn next_due(&mut self, moment: Moment) -> Result<Option<Machine>, Unavailable>
-        ensures clean { HasCleanDisk (state S.Store self.new.conn) → HasCleanDisk (state S.Store self.old.conn) }
-        ensures read { HasCleanDisk (state S.Store self.new.conn) → IsRead (HasHall S.Store) (StopLeaves S.Store) self.old self.new result (λ h answer. answer ≡ next_expired h moment) }
+        ensures { Reads (λ s. HasCleanDisk (state S.Store s.conn)) (HasHall S.Store) (StopLeaves S.Store) self.old self.new result (λ h answer. answer ≡ next_expired h moment) }
     {
         if self.stopped {
             return Err(Unavailable);
@@ -93,10 +58,13 @@ impl<S: Alter> SqlStore<S> {
         if moment.get() < self.earliest {
             return Ok(None);
         }
-        match self.first_to_expire() {
+        let answer = next_expired(&mut self.conn, last_moment());
+        match self.pass(answer) {
             Ok(first) => {
-                self.earliest = earliest_of(&first);
-                Ok(if_due(first, moment))
+                self.earliest = first
+                    .as_ref()
+                    .map_or(MAX_MOMENT + 1, |machine| machine.deadline.unwrap_or(0));
+                Ok(first.and_then(|machine| machine.if_due(moment)))
             }
             Err(unavailable) => Err(unavailable),
         }

@@ -1,10 +1,6 @@
 //! A connection becomes a store: of a new hall, or of the hall that the file has, which is carried over if it's of the first schema.
+ghost use Rattle.sql_schema.specs.Words.{state, HasCleanDisk, Survives, Hall, new_hall, second, Holds, IsHeld, SpellHall};
 ghost use Rattle.std.specs.Prelude.{◌≡◌, ◌≢◌, ◌↔◌, IsTrue, IfOk, IfErr, Ok, Err, [], ◌∷◌};
-ghost use Rattle.sqlite.specs.Held.{state};
-ghost use Rattle.sqlite.specs.State.{HasCleanDisk, Survives};
-ghost use Rattle.hall_types.specs.Hall.{Hall, new_hall, second};
-ghost use Rattle.sql_schema.specs.Holding.{Holds, IsHeld};
-ghost use Rattle.sql_schema.specs.Spelling.{SpellHall};
 ghost use Rattle.sql_tables.specs.Creating.{KeepsTables, MayLeaveBesides, is_a_name_taken};
 ghost use Rattle.sql_tables.specs.Migrating.{BecomeHall, IsRightMigration};
 ghost use Rattle.sql_tables.specs.Opening.{IsRightAnswer};

@@ -1,8 +1,6 @@
 //! The store over SQLite meets the promise of a store.
+ghost use Rattle.sql_schema.specs.Words.{state, Hall, Holds, IsHeld};
 ghost use Rattle.std.specs.Prelude.{◌≡◌, [], ◌∷◌};
-ghost use Rattle.sqlite.specs.Held.{state};
-ghost use Rattle.hall_types.specs.Hall.{Hall};
-ghost use Rattle.sql_schema.specs.Holding.{Holds, IsHeld};
 ghost use Rattle.hall_sql.specs.Store.{connection};
 
 use crate::applying::write_rows;
@@ -25,6 +23,17 @@ use sql_names::{
 };
 use sqlite::{Alter, Connection};
 use std::alloc::Global;
+
+// What a read of the connection answers, passed on. A store that has stopped asks nothing any more.
+macro_rules! ask {
+    ($store:ident, $read:expr) => {{
+        if $store.stopped {
+            return Err(Unavailable);
+        }
+        let answer = $read;
+        $store.pass(answer)
+    }};
+}
 
 /// A hall in the tables of a database.
 ///
@@ -81,99 +90,51 @@ impl<S: Alter> HallStore for SqlStore<S> {
     ghost second_schema = { λ s h has. has.schema };
 
     fn by_mac(&mut self, mac: MacAddress) -> Result<Option<Number>, Unavailable> {
-        if self.stopped {
-            return Err(Unavailable);
-        }
-        let answer = machine_at(&mut self.conn, mac);
-        self.pass(answer)
+        ask!(self, machine_at(&mut self.conn, mac))
     }
 
     fn by_uuid(&mut self, uuid: MachineUuid) -> Result<Option<Number>, Unavailable> {
-        if self.stopped {
-            return Err(Unavailable);
-        }
-        let answer = find_uuid(&mut self.conn, uuid);
-        self.pass(answer)
+        ask!(self, find_uuid(&mut self.conn, uuid))
     }
 
     fn machine(&mut self, id: Number) -> Result<Option<Machine>, Unavailable> {
-        if self.stopped {
-            return Err(Unavailable);
-        }
-        let answer = find_machine(&mut self.conn, id);
-        self.pass(answer)
+        ask!(self, find_machine(&mut self.conn, id))
     }
 
     fn boot(&mut self, number: Number) -> Result<Option<Boot>, Unavailable> {
-        if self.stopped {
-            return Err(Unavailable);
-        }
-        let answer = find_boot(&mut self.conn, number);
-        self.pass(answer)
+        ask!(self, find_boot(&mut self.conn, number))
     }
 
     fn order(&mut self, number: Number) -> Result<Option<Order>, Unavailable> {
-        if self.stopped {
-            return Err(Unavailable);
-        }
-        let answer = find_order(&mut self.conn, number);
-        self.pass(answer)
+        ask!(self, find_order(&mut self.conn, number))
     }
 
     fn operator(&mut self, name: &Name) -> Result<Option<Operator>, Unavailable> {
-        if self.stopped {
-            return Err(Unavailable);
-        }
-        let answer = find_operator(&mut self.conn, name);
-        self.pass(answer)
+        ask!(self, find_operator(&mut self.conn, name))
     }
 
     fn operator_by_digest(&mut self, digest: &Digest) -> Result<Option<Operator>, Unavailable> {
-        if self.stopped {
-            return Err(Unavailable);
-        }
-        let answer = find_operator_with_digest(&mut self.conn, digest);
-        self.pass(answer)
+        ask!(self, find_operator_with_digest(&mut self.conn, digest))
     }
 
     fn pool(&mut self, name: &Name) -> Result<Option<Pool>, Unavailable> {
-        if self.stopped {
-            return Err(Unavailable);
-        }
-        let answer = find_pool(&mut self.conn, name);
-        self.pass(answer)
+        ask!(self, find_pool(&mut self.conn, name))
     }
 
     fn member(&mut self, pool: &Name, operator: &Name) -> Result<Option<Member>, Unavailable> {
-        if self.stopped {
-            return Err(Unavailable);
-        }
-        let answer = find_member(&mut self.conn, pool, operator);
-        self.pass(answer)
+        ask!(self, find_member(&mut self.conn, pool, operator))
     }
 
     fn image(&mut self, alloc: Global, name: &Name) -> Result<Option<Image>, Unavailable> {
-        if self.stopped {
-            return Err(Unavailable);
-        }
-        let answer = find_image(alloc, &mut self.conn, name);
-        self.pass(answer)
+        ask!(self, find_image(alloc, &mut self.conn, name))
     }
 
     fn image_used(&mut self, name: &Name) -> Result<bool, Unavailable> {
-        if self.stopped {
-            return Err(Unavailable);
-        }
-        let answer = is_image_used(&mut self.conn, name);
-        self.pass(answer)
+        ask!(self, is_image_used(&mut self.conn, name))
     }
 
     fn live(&mut self, arch: Arch) -> Result<Option<Live>, Unavailable> {
-        if self.stopped {
-            return Err(Unavailable);
-        }
-        let answer = find_live(&mut self.conn, arch);
-        self.pass(answer)
+        ask!(self, find_live(&mut self.conn, arch))
     }
 
     fn receipt(
@@ -182,19 +143,11 @@ impl<S: Alter> HallStore for SqlStore<S> {
         operator: &Name,
         key: RequestKey,
     ) -> Result<Option<Receipt>, Unavailable> {
-        if self.stopped {
-            return Err(Unavailable);
-        }
-        let answer = find_receipt(&mut self.conn, operator, key);
-        self.pass(answer)
+        ask!(self, find_receipt(&mut self.conn, operator, key))
     }
 
     fn numbers(&mut self) -> Result<Numbers, Unavailable> {
-        if self.stopped {
-            return Err(Unavailable);
-        }
-        let answer = find_numbers(&mut self.conn);
-        self.pass(answer)
+        ask!(self, find_numbers(&mut self.conn))
     }
 
     fn next_expired(&mut self, moment: Moment) -> Result<Option<Machine>, Unavailable> {
@@ -202,51 +155,27 @@ impl<S: Alter> HallStore for SqlStore<S> {
     }
 
     fn machine_count(&mut self) -> Result<u64, Unavailable> {
-        if self.stopped {
-            return Err(Unavailable);
-        }
-        let answer = count_machines(self.alloc, &mut self.conn);
-        self.pass(answer)
+        ask!(self, count_machines(self.alloc, &mut self.conn))
     }
 
     fn interfaces_of(&mut self, alloc: Global, id: Number) -> Result<Vec<Interface>, Unavailable> {
-        if self.stopped {
-            return Err(Unavailable);
-        }
-        let answer = interfaces_of(&mut self.conn, alloc, id);
-        self.pass(answer)
+        ask!(self, interfaces_of(&mut self.conn, alloc, id))
     }
 
     fn interfaces(&mut self, alloc: Global) -> Result<Vec<Interface>, Unavailable> {
-        if self.stopped {
-            return Err(Unavailable);
-        }
-        let answer = list_interfaces(&mut self.conn, alloc);
-        self.pass(answer)
+        ask!(self, list_interfaces(&mut self.conn, alloc))
     }
 
     fn machines(&mut self, alloc: Global) -> Result<Vec<Machine>, Unavailable> {
-        if self.stopped {
-            return Err(Unavailable);
-        }
-        let answer = list_machines(&mut self.conn, alloc);
-        self.pass(answer)
+        ask!(self, list_machines(&mut self.conn, alloc))
     }
 
     fn waiting_orders(&mut self, alloc: Global) -> Result<Vec<Order>, Unavailable> {
-        if self.stopped {
-            return Err(Unavailable);
-        }
-        let answer = waiting_orders(&mut self.conn, alloc);
-        self.pass(answer)
+        ask!(self, waiting_orders(&mut self.conn, alloc))
     }
 
     fn counts(&mut self, alloc: Global) -> Result<Vec<Count>, Unavailable> {
-        if self.stopped {
-            return Err(Unavailable);
-        }
-        let answer = list_counts(alloc, &mut self.conn);
-        self.pass(answer)
+        ask!(self, list_counts(alloc, &mut self.conn))
     }
 
     fn apply(&mut self, change: &Change) -> Result<(), Unavailable> {

@@ -49,7 +49,7 @@ fn with<'a>(
 ) -> Result<Command<'a>, AllocError> {
     let mut command = command;
     for word in words {
-        command = command.arg(arg(alloc, &word.entry()))?;
+        command = command.arg(arg(alloc, word.entry()))?;
     }
     Ok(command)
 }

@@ -89,44 +89,44 @@ pub(crate) const SUBCOMMANDS: [Subcommand; 31] = [
     Subcommand::Completion,
 ];
 
-fn command_entry(kind: CommandKind) -> Entry {
+fn command_entry(kind: CommandKind) -> &'static Entry {
     match kind {
-        CommandKind::AddMachine => Entry {
+        CommandKind::AddMachine => &Entry {
             name: "add-machine",
             about: "Adds a machine",
             example: "Example: hallctl add-machine --mac 52:54:00:12:34:56 --arch uefi64 --pool lab",
             words: &[Word::Mac, Word::Arch, Word::Pool, Word::Uuid],
             common: Common::Changing,
         },
-        CommandKind::AddOperator => Entry {
+        CommandKind::AddOperator => &Entry {
             name: "add-operator",
             about: "Adds an operator",
             example: "Example: hallctl add-operator olga --role user --new-token olga.token",
             words: &[Word::OperatorName, Word::Role, Word::Digest, Word::NewToken],
             common: Common::Changing,
         },
-        CommandKind::DisableOperator => Entry {
+        CommandKind::DisableOperator => &Entry {
             name: "disable-operator",
             about: "Refuses an operator's token from now on",
             example: "Example: hallctl disable-operator olga",
             words: &[Word::OperatorName],
             common: Common::Changing,
         },
-        CommandKind::AddPool => Entry {
+        CommandKind::AddPool => &Entry {
             name: "add-pool",
             about: "Adds a pool",
             example: "Example: hallctl add-pool lab",
             words: &[Word::PoolName],
             common: Common::Changing,
         },
-        CommandKind::Grant => Entry {
+        CommandKind::Grant => &Entry {
             name: "grant",
             about: "Makes an operator a member of a pool",
             example: "Example: hallctl grant lab olga",
             words: &[Word::PoolName, Word::OperatorName],
             common: Common::Changing,
         },
-        CommandKind::AddImage => Entry {
+        CommandKind::AddImage => &Entry {
             name: "add-image",
             about: "Adds an image",
             example: "Example: hallctl add-image jammy --arch uefi64 --kernel http://files.example/k --initrd http://files.example/i --arg initrd=i",
@@ -139,14 +139,14 @@ fn command_entry(kind: CommandKind) -> Entry {
             ],
             common: Common::Changing,
         },
-        CommandKind::DeleteImage => Entry {
+        CommandKind::DeleteImage => &Entry {
             name: "delete-image",
             about: "Deletes an image",
             example: "Example: hallctl delete-image jammy",
             words: &[Word::ImageName],
             common: Common::Changing,
         },
-        CommandKind::SetLive => Entry {
+        CommandKind::SetLive => &Entry {
             name: "set-live",
             about: "Makes an image the live image of its architecture",
             example: "Example: hallctl set-live live64",
@@ -158,44 +158,44 @@ fn command_entry(kind: CommandKind) -> Entry {
 }
 
 impl Subcommand {
-    pub(crate) fn entry(self) -> Entry {
+    pub(crate) fn entry(self) -> &'static Entry {
         match self {
-            Subcommand::Machines => Entry {
+            Subcommand::Machines => &Entry {
                 name: "machines",
                 about: "Lists the machines",
                 example: "Example: hallctl machines --status Ready --pool lab",
                 words: &[Word::Status, Word::InPool, Word::Owner, Word::Ids],
                 common: Common::Reading,
             },
-            Subcommand::Machine => Entry {
+            Subcommand::Machine => &Entry {
                 name: "machine",
                 about: "Shows one machine",
                 example: "Example: hallctl machine 52:54:00:12:34:56",
                 words: &[Word::Which],
                 common: Common::Reading,
             },
-            Subcommand::Orders => Entry {
+            Subcommand::Orders => &Entry {
                 name: "orders",
                 about: "Lists the power orders that wait",
                 example: "Example: hallctl orders",
                 words: &[],
                 common: Common::Reading,
             },
-            Subcommand::Wait => Entry {
+            Subcommand::Wait => &Entry {
                 name: "wait",
                 about: "Waits until a machine has a status",
                 example: "Example: hallctl wait 1 --for Ready --or 'Failed commissioning' --timeout 30m",
                 words: &[Word::Machine, Word::For, Word::Or, Word::Patience],
                 common: Common::Waiting,
             },
-            Subcommand::Import => Entry {
+            Subcommand::Import => &Entry {
                 name: "import",
                 about: "Adds the machines of a file of comma-separated values",
                 example: "Example: hallctl import machines.csv",
                 words: &[Word::File],
                 common: Common::Reading,
             },
-            Subcommand::Completion => Entry {
+            Subcommand::Completion => &Entry {
                 name: "completion",
                 about: "Prints the completion for bash",
                 example: "Example: hallctl completion > /etc/bash_completion.d/hallctl",

@@ -1,37 +1,10 @@
 -- What the query of the machine that expires next asks.
-use Rattle.std.proofs.Common.{◌≡◌, inl, inr, ◌<◌, ℕ, pos, nat_le, nat_lt, int_cmp, List, [], ◌∷◌, map, filter, take, slice_get, Bool, true, false, cond, Option, Some, None, option_map, Less, Equal, Greater, refl, ap, ap₂, subst, ◌∙◌, arith, IsPermutation}
+use Rattle.sql_schema.specs.Words.{of_machines, AllByRecursion, option_to_list, is_le, is_lt, match_ordering, nat_tests, IsPermutation-refl, IsPermutation-cons, IsPermutation-sym, IsPermutation-trans, Binary, is_true, from_truth, Row, Output, IsAscending, Compare, Le, value_cmp-Int, ascending-filter, ascending_weaker, all-permutation, all_has, listed, Hall, has_come, is_due, next_expired, sooner, soonest, next_expired-is, Machine, number, or_null, machine_columns, machine_values, and_true, all_passed, IsPermutation-map, AreRising, AreRising-put_in, put_in, put_in-permutes, find_expired_query, find_expired_is, number_order, numbered_entries, machines, kept_row, at_most, rising, IsBefore, items_by}
+use Rattle.std.proofs.Common.{◌≡◌, ◌<◌, ℕ, pos, nat_le, nat_lt, int_cmp, List, [], ◌∷◌, map, filter, take, slice_get, Bool, true, false, cond, Option, Some, None, option_map, Less, Equal, Greater, refl, ap, ap₂, subst, ◌∙◌, arith, IsPermutation}
 use Rattle.std.specs.Prelude.{unwrap_or}
-use Rattle.std.specs.List.{AllByRecursion}
-use Rattle.std.specs.Option.{option_to_list}
-use Rattle.std.specs.Ordering.{is_le, is_lt, match_ordering}
-use Rattle.std.proofs.lemmas.Bool.Decides.{nat_tests}
-use Rattle.std.proofs.lemmas.List.Sorted.{IsPermutation-refl, IsPermutation-cons, IsPermutation-sym, IsPermutation-trans}
-use Rattle.sqlite.specs.Collation.TheVariants.{Binary}
-use Rattle.sqlite.specs.Ops.{binary, is_true, from_truth}
-use Rattle.sqlite.specs.Order.{Row}
-use Rattle.sqlite.specs.Query.{Output}
-use Rattle.sqlite.specs.Tree.{IsAscending}
-use Rattle.sqlite_sql.specs.declared.ops.BinaryOp.TheVariants.{Compare}
-use Rattle.sqlite_sql.specs.declared.ops.CompareOp.TheVariants.{Le}
-use Rattle.sqlite_value.proofs.OrderLemmas.{value_cmp-Int}
-use Rattle.sqlite_keyed.proofs.ListLemmas.{ascending-filter, ascending_weaker}
-use Rattle.sqlite_trees.proofs.ListLemmas.{all-permutation}
-use Rattle.sqlite_rules.specs.Lists.{Has}
-use Rattle.hall_types.specs.Rows.{numbers, texts, listed}
-use Rattle.hall_types.specs.Hall.{Hall}
-use Rattle.hall_types.specs.Lookup.{has_come, is_due, next_expired, sooner, soonest}
-use Rattle.hall_types.specs.LookupLaws.{next_expired-is}
-use Rattle.hall_types.specs.declared.machine.Machine.{Machine}
-use Rattle.sql_schema.specs.Columns.{number, or_null, machine_columns, machine_values}
-use Rattle.sql_schema.specs.ListLaws.{and_true, all_passed, IsPermutation-map}
-use Rattle.sql_schema.specs.ListedLaws.{AreRising, AreRising-put_in, put_in, put_in-permutes}
-use Rattle.sql_schema.specs.MachineStatements.{find_expired_query}
-use Rattle.sql_schema.specs.MachineStatementLaws.{find_expired_is}
-use Rattle.sql_schema.specs.NumberedLaws.{number_order}
-use Rattle.sql_schema.specs.Queries.{at_most, rising, IsBefore}
-use Rattle.sql_schema.specs.QueryLaws.{items_by}
-use Rattle.sql_rows.specs.Numbered.{shown}
-use Rattle.sql_machines.specs.MachineRows.{AsksMachine, row_of, row_values}
+use Rattle.sqlite.specs.Ops.{binary}
+use Rattle.hall_types.specs.Rows.{numbers, texts}
+use Rattle.sql_machines.specs.MachineRows.{AsksMachine, in_row, row_values}
 use Rattle.sql_rows.specs.AskingLaws.{asks_by}
 use Rattle.sql_machines.proofs.FindingLemmas.{in_number_order, machines_stand}
 use Rattle.sql_schema.specs.declared.machine_statements.TheConstants.{FIND_EXPIRED}
@@ -56,16 +29,13 @@ in_turn_rises : (ms : List Machine) → AreRising texts turn (in_turn ms)
 in_turn_rises [] = tt
 in_turn_rises (m ∷ ms) = AreRising-put_in texts turn (in_turn ms) m (in_turn_rises ms)
 
-all_later : (m : Machine) (xs : List Machine) → AllByRecursion (λ (x : Machine). m.id < x.id) xs → (x : Machine) → Has xs x → turn x ≡ turn m → ⊥
-all_later m [] later x h same = h
-all_later m (y ∷ xs) later x (inl is) same = let e : x.id ≡ m.id = cc in let k : x.id ≡ y.id = ap (λ (z : Machine). z.id) is in let low = later.0 in omega (arith, e, k, low)
-all_later m (y ∷ xs) later x (inr h) same = all_later m xs later.1 x h same
-
 in_turn_permutes : (ms : List Machine) → AreNumbered ms → IsPermutation (in_turn ms) ms
 in_turn_permutes [] up = IsPermutation-refl _
 in_turn_permutes (m ∷ ms) up =
     let same = in_turn_permutes ms up.1 in
-    IsPermutation-trans _ _ _ (put_in-permutes texts turn m (in_turn ms) (all_later m (in_turn ms) (all-permutation (λ (x : Machine). m.id < x.id) ms (in_turn ms) (IsPermutation-sym _ _ same) up.0)))
+    let later = all-permutation (λ (x : Machine). m.id < x.id) ms (in_turn ms) (IsPermutation-sym _ _ same) up.0 in
+    IsPermutation-trans _ _ _ (put_in-permutes texts turn m (in_turn ms)
+    (λ x h tie. let e : x.id ≡ m.id = cc in let low = all_has (λ (z : Machine). m.id < z.id) (in_turn ms) x later h in omega (arith, e, low)))
     (IsPermutation-cons m _ _ same)
 
 -- of two machines with deadlines the one with the higher number comes first only if its deadline is before the other's
@@ -118,23 +88,24 @@ in_order : (d e i j : ℕ) (r s : Row) → texts.cmp (d ∷ i ∷ []) (e ∷ j �
 unfolding texts numbers
 in_order d e i j r s low = rw (value_cmp-Int (pos d) (pos e), number_order d e, value_cmp-Int (pos i) (pos j), number_order i j) low
 
-one_shown : (ms : List Machine) → take 1 (map machine_values ms) ≡ map row_values (option_to_list (option_map row_of (slice_get ms 0)))
+one_shown : (ms : List Machine) → take 1 (map machine_values ms) ≡ map row_values (option_to_list (option_map in_row (slice_get ms 0)))
 one_shown [] = refl
 one_shown (m ∷ ms) = refl
 
 pub finds_expired : (moment : ℕ) → AsksMachine FIND_EXPIRED.now (number moment ∷ []) (λ h. next_expired h moment)
 finds_expired moment = record {
   asks = asks_by find_expired_is (λ db h spells rows a.
-      let machines = spells.hall_rows.hall.machines in
-      let due = filter (is_due moment) (listed machines) in
-      let has = all_passed HasDeadline (is_due moment) (due_has_deadline moment) (listed machines) in
-      let up = ascending-filter _ (is_due moment) (listed machines) (in_number_order machines spells.tables.machines.under) in
-      items_by (λ (x : Machine). pos x.id) machine_columns (at_most 12 0 ∷ []) (number moment ∷ []) (is_due moment) (λ m. and_true _ ∙ due_test m.deadline moment) _ 11
-      (shown 14) (rising 12 ∷ rising 0 ∷ [])
-      (listed machines) db spells.tables.machines.spelt refl rows a output_for (in_turn due)
+      let all = spells.hall_rows.hall.machines in
+      let is = spells.tables.each of_machines in
+      let due = filter (is_due moment) (listed all) in
+      let has = all_passed HasDeadline (is_due moment) (due_has_deadline moment) (listed all) in
+      let up = ascending-filter _ (is_due moment) (listed all) (in_number_order all is.under) in
+      items_by machines.rowid machine_columns (at_most 12 0 ∷ []) (number moment ∷ []) (is_due moment) (λ m. and_true _ ∙ due_test m.deadline moment) _ 11
+      machines.shown (rising 12 ∷ rising 0 ∷ [])
+      (listed all) db (is.spelt ∙ ap (map (kept_row machines)) (numbered_entries machines.key_of machine_columns (db 11) all is)) refl rows a output_for (in_turn due)
       (subst (IsPermutation (map output_for (in_turn due))) (outputs_are due has) (IsPermutation-map output_for _ _ (in_turn_permutes due up)))
       (ascending_weaker _ _ (λ x y. in_order _ _ x.id y.id (machine_values x) (machine_values y)) (in_turn due) (in_turn_rises due))
-      ∙ one_shown (in_turn due) ∙ ap (λ o. map row_values (option_to_list (option_map row_of o))) (first_is_soonest due up has)
-      ∙ ap (λ (x : Hall). map row_values (option_to_list (option_map row_of (next_expired x moment)))) spells.agrees.hall);
+      ∙ one_shown (in_turn due) ∙ ap (λ o. map row_values (option_to_list (option_map in_row o))) (first_is_soonest due up has)
+      ∙ ap (λ (x : Hall). map row_values (option_to_list (option_map in_row (next_expired x moment)))) spells.agrees.hall);
   recorded = λ db h spells m is. (next_expired-is h (machines_stand db h spells) moment m is).recorded;
 }

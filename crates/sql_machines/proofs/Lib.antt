@@ -4,4 +4,5 @@ pub mod FindingLemmas
 pub mod JoinLemmas
 pub mod ListLemmas
 pub mod MachineLemmas
+pub mod StepLemmas
 pub mod WipeLemmas

@@ -1,8 +1,6 @@
 -- Lists of what a function makes of items, which may be nothing.
-use Rattle.std.proofs.Common.{◌≡◌, inl, inr, List, [], ◌∷◌, Option, Some, None, refl, sym, ap, subst, ◌∙◌}
-use Rattle.std.specs.List.{AllByRecursion, filter_map, cons_option}
-use Rattle.sqlite.specs.Tree.{IsAscending}
-use Rattle.sqlite_rules.specs.Lists.{Has}
+use Rattle.sql_schema.specs.Words.{AllByRecursion, filter_map, cons_option, IsAscending, Has}
+use Rattle.std.proofs.Common.{◌≡◌, inl, inr, List, [], ◌∷◌, Option, Some, None, refl, sym, ap, ◌∙◌}
 
 pub all_mapped : {A B : Type 0} (P : A → Type 0) (Q : B → Type 0) (f : A → Option B) → ((x : A) (y : B) → f x ≡ Some y → P x → Q y) → (xs : List A) → AllByRecursion P xs → AllByRecursion Q (filter_map f xs)
 all_mapped P Q f gives [] all = tt
@@ -29,8 +27,3 @@ mapped_has f (z ∷ xs) x y h is = go (f z) refl (λ found. mapped_has f xs x y 
     go None e more (inr h) = more h
     go (Some w) e more (inl same) = let k : Some w ≡ Some y = sym e ∙ ap f (sym same) ∙ is in let it : w ≡ y = cc in inl (sym it)
     go (Some w) e more (inr h) = inr (more h)
-
-pub all_has : {X : Type 0} (P : X → Type 0) (xs : List X) (x : X) → AllByRecursion P xs → Has xs x → P x
-all_has P [] x all h = absurd h
-all_has P (y ∷ xs) x all (inl same) = subst P (sym same) all.0
-all_has P (y ∷ xs) x all (inr h) = all_has P xs x all.1 h

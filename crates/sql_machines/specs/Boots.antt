@@ -1,8 +1,6 @@
 -- Boots of a hall, changed.
+use Rattle.sql_schema.specs.Words.{put, rows_where, Boot, HallRows}
 use Rattle.std.specs.Prelude.{ℕ, ◌==◌, not}
-use Rattle.hall_types.specs.Rows.{put, rows_where}
-use Rattle.hall_types.specs.declared.boot.Boot.{Boot}
-use Rattle.sql_schema.specs.Spelling.{HallRows}
 
 -- with this boot
 abbrev pub with_boot : HallRows → Boot → HallRows

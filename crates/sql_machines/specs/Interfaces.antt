@@ -1,8 +1,6 @@
 -- Interfaces of a hall, changed.
+use Rattle.sql_schema.specs.Words.{put, gone, rows_where, Interface, HallRows}
 use Rattle.std.specs.Prelude.{ℕ, ◌==◌, not, List}
-use Rattle.hall_types.specs.Rows.{put, gone, rows_where}
-use Rattle.hall_types.specs.declared.machine.Interface.{Interface}
-use Rattle.sql_schema.specs.Spelling.{HallRows}
 
 -- with this interface
 abbrev pub with_interface : HallRows → Interface → HallRows

@@ -1,10 +1,7 @@
 -- Rows of machines joined with their kinds of erasing, both in the order of the machines' numbers.
+use Rattle.sql_schema.specs.Words.{Erase, Machine}
 use Rattle.std.specs.Prelude.{ℕ, ◌+◌, ◌==◌, if◌then◌else◌, List, [], ◌∷◌, Option, Some, None, slice_get}
-use Rattle.hall_types.specs.declared.kinds.Erase.{Erase}
-use Rattle.hall_types.specs.declared.machine.Machine.{Machine}
-use Rattle.sql_machines.specs.declared.rows.MachineRow.{MachineRow}
 use Rattle.sql_machines.specs.declared.wipes.Erasing.{Erasing}
-use Rattle.sql_machines.specs.MachineRows.{whole}
 
 -- the kind of erasing that was found, if it is of the machine with this number
 abbrev pub kind_of : Option Erasing → ℕ → Option Erase
@@ -21,6 +18,6 @@ past at None = at
 past at (Some erase) = at + 1
 
 -- each machine with the kind of erasing at the place where the walk is, if that is its own
-abbrev pub joined : List Erasing → ℕ → List MachineRow → List Machine
+abbrev pub joined : List Erasing → ℕ → List Machine → List Machine
 joined es at [] = []
-joined es at (row ∷ rows) = whole row (kind_at es at row.first.id) ∷ joined es (past at (kind_at es at row.first.id)) rows
+joined es at (m ∷ ms) = (record m { erase = kind_at es at m.id }) ∷ joined es (past at (kind_at es at m.id)) ms

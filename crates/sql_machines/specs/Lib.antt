@@ -1,13 +1,11 @@
-pub mod BootLaws
 pub mod Boots
+pub mod ChildLaws
 pub mod Counts
-pub mod InterfaceLaws
 pub mod Interfaces
 pub mod Joining
 pub mod MachineRowLaws
 pub mod MachineRows
 pub mod Machines
-pub mod OrderLaws
 pub mod Orders
 pub mod WipeLaws
 pub mod Wipes

@@ -1,14 +1,6 @@
 -- Machines of a hall, changed.
+use Rattle.sql_schema.specs.Words.{Row, Has, Keys, Rows, at, put, gone, listed, Machine, Interface, Boot, Order, Wipe, number, machine_values, HallRows}
 use Rattle.std.specs.Prelude.{◌≡◌, ◌==◌, ℕ, false, [], ◌∷◌, ◌++◌, Some}
-use Rattle.sqlite.specs.Order.{Row}
-use Rattle.sqlite_rules.specs.Lists.{Has}
-use Rattle.hall_types.specs.Rows.{Keys, Rows, at, put, gone, listed}
-use Rattle.hall_types.specs.declared.machine.Machine.{Machine}
-use Rattle.hall_types.specs.declared.machine.Interface.{Interface}
-use Rattle.hall_types.specs.declared.boot.Boot.{Boot}
-use Rattle.hall_types.specs.declared.order.Order.{Order}
-use Rattle.sql_schema.specs.Columns.{Wipe, number, machine_values}
-use Rattle.sql_schema.specs.Spelling.{HallRows}
 
 -- with this row of a machine
 abbrev pub with_machine : HallRows → Machine → HallRows

@@ -1,8 +1,6 @@
 -- Orders of a hall, changed.
+use Rattle.sql_schema.specs.Words.{put, rows_where, Order, HallRows}
 use Rattle.std.specs.Prelude.{ℕ, ◌==◌, not}
-use Rattle.hall_types.specs.Rows.{put, rows_where}
-use Rattle.hall_types.specs.declared.order.Order.{Order}
-use Rattle.sql_schema.specs.Spelling.{HallRows}
 
 -- with this order
 abbrev pub with_order : HallRows → Order → HallRows

@@ -1,23 +1,8 @@
 -- Laws of how the disks of machines are erased, for the proofs of callers: what a machine that is put or goes makes of them.
-use Rattle.std.specs.Prelude.{◌≡◌, ℕ, Option, Some, None, Bool, true, false, option_map, option_and_then}
-use Rattle.std.proofs.Common.{refl, sym, ap, ◌∙◌, cond}
-use Rattle.hall_types.specs.Kinds.{erase_number}
-use Rattle.hall_types.specs.Rows.{Keys, Rows, numbers, at, put, gone, same_key}
-use Rattle.hall_types.specs.RowLaws.{same_rows, at-put, at-gone}
-use Rattle.hall_types.specs.declared.kinds.Erase.{Erase}
-use Rattle.hall_types.specs.declared.machine.Machine.{Machine}
-use Rattle.sql_schema.specs.Columns.{Wipe}
-use Rattle.sql_schema.specs.ColumnLaws.{same_erase}
-use Rattle.sql_schema.specs.Spelling.{wipe_of}
-use Rattle.sql_machines.specs.declared.wipes.Erasing.{Erasing}
-use Rattle.sql_machines.specs.Wipes.{erasing_values, wipe_set}
-
--- a row is that of one kind of erasing
-pub same_erasing : (a b : Erasing) → erasing_values a ≡ erasing_values b → a ≡ b
-same_erasing a b e =
-    let one : a.machine ≡ b.machine = cc in
-    let two : erase_number a.erase ≡ erase_number b.erase = cc in
-    ap (λ v. record a { machine = v }) one ∙ ap (λ v. record b { erase = v }) (same_erase a.erase b.erase two)
+use Rattle.sql_schema.specs.Words.{Keys, Rows, numbers, at, put, gone, same_key, same_rows, at-put, at-gone, Erase, Machine, Wipe, wipe_of}
+use Rattle.std.specs.Prelude.{option_and_then}
+use Rattle.std.proofs.Common.{refl, sym, ap, ◌∙◌, cond, ◌≡◌, ℕ, Option, Some, None, Bool, true, false, option_map}
+use Rattle.sql_machines.specs.Wipes.{wipe_set}
 
 -- a row that is put where one went is put
 pub put-gone : {K X : Type 0} {keys : Keys K} (rows : Rows keys X) (n : K) (x : X) → put n x (gone n rows) ≡ put n x rows

@@ -1,14 +1,6 @@
 -- How the disks of machines are erased.
+use Rattle.sql_schema.specs.Words.{filter_map, Row, erase_number, Rows, numbers, at, put, gone, listed, Hall, Erase, Machine, Wipe, number, HallRows, wipe_of}
 use Rattle.std.specs.Prelude.{ℕ, List, [], ◌∷◌, Option, Some, None, map, option_and_then}
-use Rattle.std.specs.List.{filter_map}
-use Rattle.sqlite.specs.Order.{Row}
-use Rattle.hall_types.specs.Kinds.{erase_number}
-use Rattle.hall_types.specs.Rows.{Rows, numbers, at, put, gone, listed}
-use Rattle.hall_types.specs.Hall.{Hall}
-use Rattle.hall_types.specs.declared.kinds.Erase.{Erase}
-use Rattle.hall_types.specs.declared.machine.Machine.{Machine}
-use Rattle.sql_schema.specs.Columns.{Wipe, number}
-use Rattle.sql_schema.specs.Spelling.{HallRows, wipe_of}
 use Rattle.sql_machines.specs.declared.wipes.Erasing.{Erasing}
 
 -- this machine's disks are to be erased so, or not at all

@@ -1,13 +1,9 @@
 //! The table of boots.
+ghost use Rattle.sql_schema.specs.Words.{state, HasCleanDisk, Survives, at, boot_values, same_purpose, same_stage, IsTableRead};
 ghost use Rattle.std.specs.Prelude.{◌≡◌};
-ghost use Rattle.sqlite.specs.Held.{state};
-ghost use Rattle.sqlite.specs.State.{HasCleanDisk, Survives};
-ghost use Rattle.hall_types.specs.Rows.{at};
-ghost use Rattle.sql_schema.specs.Columns.{boot_values};
-ghost use Rattle.sql_schema.specs.Holding.{IsTableRead};
+ghost use Rattle.std.proofs.Common.{rules};
 ghost use Rattle.sql_rows.specs.Steps.{IsWritten, always};
 ghost use Rattle.sql_machines.specs.Boots.{with_boot, without_boots};
-ghost use Rattle.sql_machines.specs.BootLaws.{same_boot};
 
 use hall_types::{Boot, Number};
 use sql_rows::{Table, ask_one, put, write};
@@ -29,21 +25,16 @@ impl Table for Boots {
         if row.column_count() != 5 {
             return Err(Error::InvalidQuery);
         }
-        let number = number_in(row, 0)?;
-        let machine = number_in(row, 1)?;
-        let purpose = purpose_in(row, 2)?;
-        let token = token_in(row, 3)?;
-        let stage = stage_in(row, 4)?;
         Ok(Boot {
-            number,
-            machine,
-            purpose,
-            token,
-            stage,
+            number: number_in(row, 0)?,
+            machine: number_in(row, 1)?,
+            purpose: purpose_in(row, 2)?,
+            token: token_in(row, 3)?,
+            stage: stage_in(row, 4)?,
         })
     }
 
-    ghost single = { same_boot };
+    ghost single = { Prim.search (rules, same_purpose, same_stage) };
 }
 
 /// The boot with this number, if there is one.

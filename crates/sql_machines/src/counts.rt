@@ -1,15 +1,9 @@
 //! The table of counts: how many machines each pool has in each status, changed by one and listed.
+ghost use Rattle.sql_schema.specs.Words.{state, HasCleanDisk, Survives, Hall, status_number, number, IsTableRead, IsWithin, HallRows, in_rows};
 ghost use Rattle.std.specs.Prelude.{◌≡◌, ◌<◌, ◌+◌, ◌-◌, ◌^◌, ℕ, IfOk, map, [], ◌∷◌};
-ghost use Rattle.sqlite.specs.Held.{state};
-ghost use Rattle.sqlite.specs.State.{HasCleanDisk, Survives};
 ghost use Rattle.hall_store.specs.Counts.{AreCounts};
-ghost use Rattle.hall_types.specs.Hall.{Hall};
-ghost use Rattle.hall_types.specs.Status.{status_number};
-ghost use Rattle.sql_schema.specs.Columns.{number};
-ghost use Rattle.sql_schema.specs.Holding.{IsTableRead, IsWithin};
-ghost use Rattle.sql_schema.specs.Spelling.{HallRows, in_rows};
 ghost use Rattle.sql_rows.specs.Steps.{IsStep, IsWritten, always};
-ghost use Rattle.sql_machines.specs.Counts.{count_values, text_up, with_count};
+ghost use Rattle.sql_machines.specs.Counts.{count_values, text_from, with_count};
 
 use hall_store::Count;
 use hall_types::{Name, Status};
@@ -61,11 +55,37 @@ fn count_of<S: Alter>(
     }
 }
 
-// Which statement makes a count one more: 0 has no row.
-fn statement_up(count: u64) -> &'static str
-    ensures { result.now ≡ text_up count }
+// Which statement makes a count another one: 0 has no row.
+fn statement_from(was: u64) -> &'static str
+    ensures { result.now ≡ text_from was }
 {
-    if count == 0 { ADD_COUNT } else { SET_COUNT }
+    if was == 0 { ADD_COUNT } else { SET_COUNT }
+}
+
+// A pool and a status have this count, in place of the one that they had.
+fn put_count<S: Alter>(
+    tx: &mut Transaction<'_, S>,
+    pool: &Name,
+    status: Status,
+    was: u64,
+    count: u64,
+) -> Result<(), Error>
+    requires { count < 2 ^ 63 }
+    ensures same_reference { tx.new.conn.ghost_name ≡ tx.old.conn.ghost_name }
+    ensures written { HasCleanDisk (state S.Store tx.new.conn.now) → IsWritten (state S.Store tx.old.conn.now) (state S.Store tx.new.conn.now) result (λ c. was ≡ c.counts pool.now (status_number status)) (λ c. with_count c pool.now (status_number status) count) }
+    ensures survives { Survives (state S.Store tx.old.conn.now) (state S.Store tx.new.conn.now) (λ _. ⊥) }
+{
+    let pool = name_value(pool);
+    let status = small_value(status.number());
+    if count == 0 {
+        write(tx, REMOVE_COUNT, &[pool, status])
+    } else {
+        write(
+            tx,
+            statement_from(was),
+            &[pool, status, number_value(count)],
+        )
+    }
 }
 
 /// One machine more in a pool and a status.
@@ -80,15 +100,7 @@ pub fn count_up<S: Alter>(
 {
     match count_of(tx, pool, status) {
         Ok(MAX_COUNT) => Err(Error::IntegralValueOutOfRange(0)),
-        Ok(count) => write(
-            tx,
-            statement_up(count),
-            &[
-                name_value(pool),
-                small_value(status.number()),
-                number_value(count + 1),
-            ],
-        ),
+        Ok(count) => put_count(tx, pool, status, count, count + 1),
         Err(error) => Err(error),
     }
 }
@@ -105,20 +117,7 @@ pub fn count_down<S: Alter>(
 {
     match count_of(tx, pool, status) {
         Ok(0) => Err(Error::IntegralValueOutOfRange(0)),
-        Ok(1) => write(
-            tx,
-            REMOVE_COUNT,
-            &[name_value(pool), small_value(status.number())],
-        ),
-        Ok(count) => write(
-            tx,
-            SET_COUNT,
-            &[
-                name_value(pool),
-                small_value(status.number()),
-                number_value(count - 1),
-            ],
-        ),
+        Ok(count) => put_count(tx, pool, status, count, count - 1),
         Err(error) => Err(error),
     }
 }
@@ -129,13 +128,10 @@ fn count_in_row(row: &Row) -> Result<Count, Error>
     if row.column_count() != 3 {
         return Err(Error::InvalidQuery);
     }
-    let pool = name_in(row, 0)?;
-    let status = status_in(row, 1)?;
-    let machines: u64 = row.get(2)?;
     Ok(Count {
-        pool,
-        status,
-        machines,
+        pool: name_in(row, 0)?,
+        status: status_in(row, 1)?,
+        machines: row.get(2)?,
     })
 }
 

@@ -1,17 +1,9 @@
 //! Machines found by their number, their UUID, their image and their deadline.
+ghost use Rattle.sql_schema.specs.Words.{list_any, state, HasCleanDisk, bound, Hall, at, listed, is_named, machine_with_uuid, next_expired, Machine, IsTableRead};
 ghost use Rattle.std.specs.Prelude.{◌≡◌, Option, option_map};
-ghost use Rattle.std.specs.List.{list_any};
-ghost use Rattle.sqlite.specs.Held.{state};
-ghost use Rattle.sqlite.specs.State.{HasCleanDisk};
-ghost use Rattle.sqlite.specs.Values.{bound};
-ghost use Rattle.hall_types.specs.Hall.{Hall};
-ghost use Rattle.hall_types.specs.Rows.{at, listed};
-ghost use Rattle.hall_types.specs.Lookup.{is_named, machine_with_uuid, next_expired};
-ghost use Rattle.hall_types.specs.declared.machine.Machine.{Machine};
-ghost use Rattle.sql_schema.specs.Holding.{IsTableRead};
 ghost use Rattle.sql_machines.specs.MachineRows.{AsksMachine, found_whole};
 
-use crate::rows::{MachineNumbers, MachineRow, MachineRows};
+use crate::rows::{MachineNumbers, MachineRows};
 use crate::wipes::find_wipe;
 use hall_types::{Machine, MachineUuid, Moment, Name, Number};
 use sql_rows::{ask_first, ask_one};
@@ -25,15 +17,15 @@ use sqlite::{Alter, Connection, Error};
 // The machine of the row that was found, with how its disks are erased.
 fn with_wipe<S: Alter>(
     conn: &mut Connection<S>,
-    found: &Option<MachineRow>,
+    found: Option<Machine>,
 ) -> Result<Option<Machine>, Error>
     ensures clean { HasCleanDisk (state S.Store conn.new) → HasCleanDisk (state S.Store conn.old) }
-    ensures asked { HasCleanDisk (state S.Store conn.new) → IsTableRead (state S.Store conn.old) (state S.Store conn.new) result (λ h machine. machine ≡ found_whole h found.now) }
+    ensures asked { HasCleanDisk (state S.Store conn.new) → IsTableRead (state S.Store conn.old) (state S.Store conn.new) result (λ h machine. machine ≡ found_whole h found) }
 {
     match found {
         None => Ok(None),
-        Some(row) => match find_wipe(conn, row.first.id) {
-            Ok(erase) => Ok(Some(row.whole(erase))),
+        Some(machine) => match find_wipe(conn, machine.id) {
+            Ok(erase) => Ok(Some(Machine { erase, ..machine })),
             Err(error) => Err(error),
         },
     }
@@ -49,7 +41,7 @@ fn ask_machine<S: Alter>(
     ensures asked { HasCleanDisk (state S.Store conn.new) → (right : Hall → Option Machine) → AsksMachine sql.now (bound params.now) right → IsTableRead (state S.Store conn.old) (state S.Store conn.new) result (λ h machine. machine ≡ right h) }
 {
     match ask_one::<MachineRows, S>(conn, sql, params) {
-        Ok(found) => with_wipe(conn, &found),
+        Ok(found) => with_wipe(conn, found),
         Err(error) => Err(error),
     }
 }

@@ -1,14 +1,9 @@
 //! The table of interfaces.
+ghost use Rattle.sql_schema.specs.Words.{state, HasCleanDisk, Survives, at, listed, interfaces_of, interface_columns, IsTableRead};
 ghost use Rattle.std.specs.Prelude.{◌≡◌, None};
-ghost use Rattle.sqlite.specs.Held.{state};
-ghost use Rattle.sqlite.specs.State.{HasCleanDisk, Survives};
-ghost use Rattle.hall_types.specs.Rows.{at, listed};
-ghost use Rattle.hall_types.specs.Lookup.{interfaces_of};
-ghost use Rattle.sql_schema.specs.Columns.{interface_columns};
-ghost use Rattle.sql_schema.specs.Holding.{IsTableRead};
+ghost use Rattle.std.proofs.Common.{rules};
 ghost use Rattle.sql_rows.specs.Steps.{IsWritten, always};
 ghost use Rattle.sql_machines.specs.Interfaces.{with_interface, without_interface, without_interfaces};
-ghost use Rattle.sql_machines.specs.InterfaceLaws.{same_interface};
 
 use hall_types::{Interface, MacAddress, Number};
 use sql_rows::{Table, ask_all, ask_one, write};
@@ -36,7 +31,7 @@ impl Table for Interfaces {
         Ok(Interface { mac, machine })
     }
 
-    ghost single = { same_interface };
+    ghost single = { Prim.search rules };
 }
 
 /// The interface with this address, if there is one.

@@ -1,13 +1,10 @@
 //! All machines, each with the kind of erasing that has a table of its own.
+ghost use Rattle.sql_schema.specs.Words.{state, HasCleanDisk, listed, IsTableRead};
 ghost use Rattle.std.specs.Prelude.{◌≡◌, IfOk};
-ghost use Rattle.sqlite.specs.Held.{state};
-ghost use Rattle.sqlite.specs.State.{HasCleanDisk};
-ghost use Rattle.hall_types.specs.Rows.{listed};
-ghost use Rattle.sql_schema.specs.Holding.{IsTableRead};
 ghost use Rattle.sql_machines.specs.Joining.{joined, kind_at, past};
 ghost use Rattle.sql_machines.specs.Wipes.{erasings};
 
-use crate::rows::{MachineRow, MachineRows};
+use crate::rows::MachineRows;
 use crate::wipes::{Erasing, list_wipes};
 use hall_types::{Erase, Machine, Number};
 use sql_rows::ask_all;
@@ -21,26 +18,20 @@ fn kind_at(erasings: &[Erasing], at: usize, id: Number) -> (Option<Erase>, usize
     ensures next { result.1 ≡ past at result.0 }
 {
     match erasings.get(at) {
-        Some(erasing) => {
-            if erasing.machine == id {
-                (Some(erasing.erase), at + 1)
-            } else {
-                (None, at)
-            }
-        }
-        None => (None, at),
+        Some(erasing) if erasing.machine == id => (Some(erasing.erase), at + 1),
+        _ => (None, at),
     }
 }
 
 // Both lists are in the order of the machines' numbers.
-fn joined(alloc: Global, rows: &[MachineRow], erasings: &[Erasing]) -> Result<Vec<Machine>, Error>
+fn joined(alloc: Global, rows: &[Machine], erasings: &[Erasing]) -> Result<Vec<Machine>, Error>
     ensures { IfOk result (λ all. all.items ≡ joined erasings.now 0 rows.now) }
 {
     let mut all = Vec::new(alloc);
     let mut next = 0;
     'rows: for row in rows {
-        let (erase, after) = kind_at(erasings, next, row.first.id);
-        all.push(row.whole(erase))?;
+        let (erase, after) = kind_at(erasings, next, row.id);
+        all.push(Machine { erase, ..*row })?;
         next = after;
     }
     Ok(all)
@@ -49,7 +40,7 @@ fn joined(alloc: Global, rows: &[MachineRow], erasings: &[Erasing]) -> Result<Ve
 fn with_wipes<S: Alter>(
     conn: &mut Connection<S>,
     alloc: Global,
-    rows: &Vec<MachineRow>,
+    rows: &Vec<Machine>,
 ) -> Result<Vec<Machine>, Error>
     ensures clean { HasCleanDisk (state S.Store conn.new) → HasCleanDisk (state S.Store conn.old) }
     ensures asked { HasCleanDisk (state S.Store conn.new) → IsTableRead (state S.Store conn.old) (state S.Store conn.new) result (λ h all. all.items ≡ joined (erasings h) 0 rows.now.items) }

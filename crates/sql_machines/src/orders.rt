@@ -1,14 +1,9 @@
 //! The table of orders.
+ghost use Rattle.sql_schema.specs.Words.{state, HasCleanDisk, Survives, at, waiting, order_values, same_order_kind, same_order_stage, IsTableRead};
 ghost use Rattle.std.specs.Prelude.{◌≡◌};
-ghost use Rattle.sqlite.specs.Held.{state};
-ghost use Rattle.sqlite.specs.State.{HasCleanDisk, Survives};
-ghost use Rattle.hall_types.specs.Rows.{at};
-ghost use Rattle.hall_types.specs.Lookup.{waiting};
-ghost use Rattle.sql_schema.specs.Columns.{order_values};
-ghost use Rattle.sql_schema.specs.Holding.{IsTableRead};
+ghost use Rattle.std.proofs.Common.{rules};
 ghost use Rattle.sql_rows.specs.Steps.{IsWritten, always};
 ghost use Rattle.sql_machines.specs.Orders.{with_order, without_orders};
-ghost use Rattle.sql_machines.specs.OrderLaws.{same_order};
 
 use hall_types::{Number, Order};
 use sql_rows::{Table, ask_all, ask_one, put, write};
@@ -31,19 +26,15 @@ impl Table for Orders {
         if row.column_count() != 4 {
             return Err(Error::InvalidQuery);
         }
-        let number = number_in(row, 0)?;
-        let machine = number_in(row, 1)?;
-        let kind = order_kind_in(row, 2)?;
-        let stage = order_stage_in(row, 3)?;
         Ok(Order {
-            number,
-            machine,
-            kind,
-            stage,
+            number: number_in(row, 0)?,
+            machine: number_in(row, 1)?,
+            kind: order_kind_in(row, 2)?,
+            stage: order_stage_in(row, 3)?,
         })
     }
 
-    ghost single = { same_order };
+    ghost single = { Prim.search (rules, same_order_kind, same_order_stage) };
 }
 
 /// The order with this number, if there is one.

@@ -1,11 +1,9 @@
 //! The table of kinds of erasing: how the disks of a machine are erased, while they are to be.
+ghost use Rattle.sql_schema.specs.Words.{state, HasCleanDisk, Survives, same_erase, IsTableRead};
 ghost use Rattle.std.specs.Prelude.{◌≡◌, option_map};
-ghost use Rattle.sqlite.specs.Held.{state};
-ghost use Rattle.sqlite.specs.State.{HasCleanDisk, Survives};
-ghost use Rattle.sql_schema.specs.Holding.{IsTableRead};
+ghost use Rattle.std.proofs.Common.{rules};
 ghost use Rattle.sql_rows.specs.Steps.{IsWritten, always};
 ghost use Rattle.sql_machines.specs.Wipes.{erase_of, erasing_values, erasings, with_wipe};
-ghost use Rattle.sql_machines.specs.WipeLaws.{same_erasing};
 
 use hall_types::{Erase, Number};
 use sql_rows::{Table, ask_all, ask_one, write};
@@ -39,16 +37,13 @@ impl Table for Wipes {
         Ok(Erasing { machine, erase })
     }
 
-    ghost single = { same_erasing };
+    ghost single = { Prim.search (rules, same_erase) };
 }
 
 fn kind_found(found: Option<Erasing>) -> Option<Erase>
     ensures { result ≡ option_map (λ e. e.erase) found }
 {
-    match found {
-        Some(erasing) => Some(erasing.erase),
-        None => None,
-    }
+    found.map(|erasing| erasing.erase)
 }
 
 /// How the disks of the machine with this number are erased, if they are to be.

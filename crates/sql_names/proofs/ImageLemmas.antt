@@ -1,32 +1,9 @@
 -- What the statements on images answer and write.
+use Rattle.sql_schema.specs.Words.{finds_kept, adds_kept, removes_kept, images, HallRows, next_rowid, texts, at, of_images, option_to_list, Error, Null, Text, Row, column, lit, State, HasCleanDisk, Survives, Shown, FailsToQuery, CommitsShowing, Hall, BootImage, arch_number, same_text, put_cases, gone_found, images_go_alone, same_arch, HasWords, number, image_columns, joined, words_in, IsTableRead, asked, within, and_true, add_image_is, find_image_is, remove_image_is, parameter, equals, cell, rising, sets, hall_schema, images_table}
 use Rattle.std.proofs.Common.{◌≡◌, inl, inr, ℕ, List, [], ◌∷◌, map, slice_get, Option, None, Some, Result, IfOk, IfErr, refl, sym, ap, subst, ◌∙◌}
-use Rattle.std.specs.Option.{option_to_list}
-use Rattle.sqlite.specs.declared.error.Error.{Error}
-use Rattle.sqlite.specs.declared.types.Value.TheVariants.{Null, Text}
-use Rattle.sqlite.specs.Order.{Row, column}
-use Rattle.sqlite.specs.Term.{lit}
-use Rattle.sqlite.specs.State.{State, HasCleanDisk, Survives, Shown, FailsToQuery, CommitsShowing}
-use Rattle.hall_types.specs.Hall.{Hall}
-use Rattle.hall_types.specs.Image.{BootImage}
-use Rattle.hall_types.specs.Kinds.{arch_number}
-use Rattle.hall_types.specs.Rows.{at}
-use Rattle.hall_types.specs.RowLaws.{same_text, put_cases, gone_found}
-use Rattle.sql_schema.specs.CascadeLaws.{images_go_alone}
-use Rattle.sql_schema.specs.ColumnLaws.{same_arch}
-use Rattle.sql_schema.specs.Columns.{HasWords, number, image_columns, joined, words_in}
-use Rattle.sql_schema.specs.Holding.{IsTableRead}
-use Rattle.sql_schema.specs.HoldingLaws.{asked, within}
-use Rattle.sql_schema.specs.ListLaws.{and_true}
-use Rattle.sql_schema.specs.NamedLaws.{finds_named, adds_named, removes_named}
-use Rattle.sql_schema.specs.NameStatementLaws.{add_image_is, find_image_is, remove_image_is}
-use Rattle.sql_schema.specs.NameStatements.{find_image_columns, find_image_query}
-use Rattle.sql_schema.specs.Queries.{parameter, equals, cell, rising}
-use Rattle.sql_schema.specs.Spelling.{HallRows}
-use Rattle.sql_schema.specs.SpellingLaws.{sets_images}
-use Rattle.sql_schema.specs.Tables.{hall_schema, images_table}
 use Rattle.sql_schema.specs.ValueLaws as value
 use Rattle.sql_rows.specs.Writing.{Makes}
-use Rattle.sql_names.specs.Images.{with_image, without_image}
+use Rattle.sql_names.specs.Changes.{with_image, without_image}
 use Rattle.sql_schema.specs.declared.name_statements.TheConstants.{ADD_IMAGE, FIND_IMAGE, REMOVE_IMAGE}
 
 -- the rows of the image with this name in a hall, whose arguments are found again in their text
@@ -36,12 +13,12 @@ ShowsImage name h rows = (rows ≡ map image_columns (option_to_list (at h.image
 pub finds_image : (name : List ℕ) (old new : State) → HasCleanDisk new → Survives old new (CommitsShowing FIND_IMAGE.now (Text name ∷ []) old) → (r : Result (List Row) Error)
     → IfOk r (Shown FIND_IMAGE.now (Text name ∷ []) old new) → IfErr r (FailsToQuery FIND_IMAGE.now (Text name ∷ []) old new) → IsTableRead old new r (ShowsImage name)
 finds_image name old new clean survives r ok err =
-    asked FIND_IMAGE.now (Text name ∷ []) find_image_query find_image_columns find_image_is old new (λ rows. rows) (ShowsImage name) r ok err survives clean (λ h rows got spells.
+    asked FIND_IMAGE.now (Text name ∷ []) find_image_is old new (λ rows. rows) (ShowsImage name) r ok err survives clean (λ h rows got spells.
     subst (λ (x : Hall). ShowsImage name x rows) spells.agrees.hall (
-      finds_named (λ (i : BootImage). i.name) image_columns (old.now.trees 8) spells.hall_rows.hall.images spells.tables.images.named 8
+      finds_kept texts images.rowid images.item images.key_of image_columns (old.now.trees 8) spells.hall_rows.hall.images (spells.tables.each of_images).named _ 8
           (equals 1 0 ∷ []) (cell 1 ∷ cell 2 ∷ cell 3 ∷ cell 4 ∷ cell 5 ∷ []) (rising 1 ∷ []) (Text name ∷ []) old.now.trees refl refl rows got name
           (λ e. and_true _ ∙ value.same_text e.item.name name ∙ sym (same_text e.item.name name)) image_columns (λ e. refl),
-      spells.tables.images.words name,
+      (spells.tables.each of_images).words name,
     ))
 
 -- what the columns of an image's row are read as is that image
@@ -72,13 +49,13 @@ module _ {C : Type 0} (state_of : C → State) where
   adds_image i words before c free one other held count ran =
       let old = state_of one in
       let new = state_of other in
-      let it = adds_named (λ (q : BootImage). q.name) image_columns (old.now.trees 8) c.hall.images held.spelt.tables.images.named hall_schema 4 images_table refl old new held.spelt.schema refl ADD_IMAGE.now (image_columns i) count ran.0
-      (lit Null ∷ parameter 0 ∷ parameter 1 ∷ parameter 2 ∷ parameter 3 ∷ parameter 4 ∷ []) 6 add_image_is i free (Null ∷ image_columns i) refl (λ id is. rw (value.cast-Null, value.cast-Int, is) refl) in
-      within ADD_IMAGE.now (image_columns i) old new before c _ count held ran (sets_images old.now new.now c held.spelt it.0 _ it.1 (record {
-        named = it.2;
+      let it = adds_kept texts images.rowid images.item images.key_of image_columns (old.now.trees 8) c.hall.images (held.spelt.tables.each of_images).named hall_schema 4 images_table refl old new held.spelt.schema refl ADD_IMAGE.now (image_columns i) count ran.0
+      (lit Null ∷ parameter 0 ∷ parameter 1 ∷ parameter 2 ∷ parameter 3 ∷ parameter 4 ∷ []) 6 add_image_is (record { rowid = next_rowid (old.now.trees 8); item = i }) (λ _. free) (Null ∷ image_columns i) refl (rw (value.cast-Null, value.cast-Int) refl) in
+      within ADD_IMAGE.now (image_columns i) old new before c _ count held ran (sets of_images old.now new.now c held.spelt it.0.0 _ it.0.1 (record {
+        named = it.0.2;
         words = λ name j is. elim (put_cases c.hall.images i.name i name j is) [
           | inl this ↦ subst HasWords (sym this.1) words
-          | inr other ↦ held.spelt.tables.images.words name j other.1
+          | inr other ↦ (held.spelt.tables.each of_images).words name j other.1
         ];
       }))
 
@@ -86,9 +63,9 @@ module _ {C : Type 0} (state_of : C → State) where
   removes_image name before c one other held count ran =
       let old = state_of one in
       let new = state_of other in
-      let it = removes_named (λ (q : BootImage). q.name) image_columns (old.now.trees 8) c.hall.images held.spelt.tables.images.named hall_schema 4 images_table refl old new held.spelt.schema refl REMOVE_IMAGE.now (Text name ∷ [])
-      (equals 1 0 ∷ []) refl count ran.0 remove_image_is name (λ e. and_true _ ∙ value.same_text e.item.name name ∙ sym (same_text e.item.name name)) images_go_alone in
-      within REMOVE_IMAGE.now (Text name ∷ []) old new before c _ count held ran (sets_images old.now new.now c held.spelt it.0 _ it.1 (record {
+      let it = removes_kept texts images.rowid images.item images.key_of image_columns (old.now.trees 8) c.hall.images (held.spelt.tables.each of_images).named hall_schema 4 images_table refl old new held.spelt.schema refl REMOVE_IMAGE.now (Text name ∷ [])
+      (equals 1 0 ∷ []) refl remove_image_is count ran.0 images_go_alone name (λ e. and_true _ ∙ value.same_text e.item.name name ∙ sym (same_text e.item.name name)) in
+      within REMOVE_IMAGE.now (Text name ∷ []) old new before c _ count held ran (sets of_images old.now new.now c held.spelt it.0 _ it.1 (record {
         named = it.2;
-        words = λ other j is. held.spelt.tables.images.words other j (gone_found c.hall.images name other j is).1;
+        words = λ other j is. (held.spelt.tables.each of_images).words other j (gone_found c.hall.images name other j is).1;
       }))

@@ -1,10 +1,4 @@
-pub mod Images
+pub mod Changes
 pub mod LiveLaws
-pub mod Lives
-pub mod Members
 pub mod NumberLaws
-pub mod Numbers
-pub mod Operators
-pub mod PairLaws
-pub mod Receipts
 pub mod TableLaws

@@ -1,17 +1,8 @@
 //! The table of images.
+ghost use Rattle.sql_schema.specs.Words.{option_to_list, Text, state, column, HasCleanDisk, Survives, BootImage, arch_number, at, number, image_columns, words_in, HasWords, IsTableRead};
 ghost use Rattle.std.specs.Prelude.{◌≡◌, IfOk, List, ℕ, map, Option, None, Some};
-ghost use Rattle.std.specs.Option.{option_to_list};
-ghost use Rattle.sqlite.specs.declared.types.Value.TheVariants.{Text};
-ghost use Rattle.sqlite.specs.Held.{state};
-ghost use Rattle.sqlite.specs.Order.{column};
-ghost use Rattle.sqlite.specs.State.{HasCleanDisk, Survives};
-ghost use Rattle.hall_types.specs.Image.{BootImage};
-ghost use Rattle.hall_types.specs.Kinds.{arch_number};
-ghost use Rattle.hall_types.specs.Rows.{at};
-ghost use Rattle.sql_schema.specs.Columns.{number, image_columns, words_in, HasWords};
-ghost use Rattle.sql_schema.specs.Holding.{IsTableRead};
 ghost use Rattle.sql_rows.specs.Steps.{IsWritten, always};
-ghost use Rattle.sql_names.specs.Images.{with_image, without_image};
+ghost use Rattle.sql_names.specs.Changes.{with_image, without_image};
 
 use crate::words::{joined_words, words_of};
 use hall_types::{Image, Name, arch_number};
@@ -40,10 +31,7 @@ fn uri_in(alloc: Global, row: &Row, at: usize) -> Result<Uri, Error>
     ensures { IfOk result (λ uri. column row.now at ≡ Text uri) }
 {
     let text: String = row.get(at)?;
-    match Uri::new(alloc, text.as_str()) {
-        Ok(uri) => Ok(uri),
-        Err(fault) => Err(column_fault(fault, at)),
-    }
+    Uri::new(alloc, text.as_str()).map_err(|fault| column_fault(fault, at))
 }
 
 // The words of the text in a column.
@@ -51,10 +39,7 @@ fn words_at(alloc: Global, row: &Row, at: usize) -> Result<Vec<Word>, Error>
     ensures { IfOk result (λ words. (text : List ℕ) → column row.now at ≡ Text text → words.items ≡ words_in text) }
 {
     let text: String = row.get(at)?;
-    match words_of(alloc, text.as_str()) {
-        Ok(words) => Ok(words),
-        Err(fault) => Err(column_fault(fault, at)),
-    }
+    words_of(alloc, text.as_str()).map_err(|fault| column_fault(fault, at))
 }
 
 fn image_of(alloc: Global, row: &Row) -> Result<Image, Error>
@@ -69,10 +54,10 @@ fn image_of(alloc: Global, row: &Row) -> Result<Image, Error>
     let kernel = uri_in(alloc, row, 2)?;
     let initrd = uri_in(alloc, row, 3)?;
     let args = words_at(alloc, row, 4)?;
-    match Image::new(name, arch, kernel, initrd, args) {
-        Ok(image) => Ok(image),
-        Err(_) => Err(Error::InvalidColumnType(4, Type::Text)),
-    }
+    Image::new(name, arch, kernel, initrd, args).map_err(|_| Error::InvalidColumnType(
+        4,
+        Type::Text,
+    ))
 }
 
 fn first_image(alloc: Global, rows: &Vec<Row>) -> Result<Option<Image>, Error>

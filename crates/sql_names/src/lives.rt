@@ -1,16 +1,9 @@
 //! The table of live images.
+ghost use Rattle.sql_schema.specs.Words.{list_any, bytes_eq, state, HasCleanDisk, Survives, arch_number, at, listed, live_values, same_arch, IsTableRead};
 ghost use Rattle.std.specs.Prelude.{◌≡◌};
-ghost use Rattle.std.specs.List.{list_any};
-ghost use Rattle.std.specs.Str.{bytes_eq};
-ghost use Rattle.sqlite.specs.Held.{state};
-ghost use Rattle.sqlite.specs.State.{HasCleanDisk, Survives};
-ghost use Rattle.hall_types.specs.Kinds.{arch_number};
-ghost use Rattle.hall_types.specs.Rows.{at, listed};
-ghost use Rattle.sql_schema.specs.Columns.{live_values};
-ghost use Rattle.sql_schema.specs.Holding.{IsTableRead};
+ghost use Rattle.std.proofs.Common.{rules};
 ghost use Rattle.sql_rows.specs.Steps.{IsWritten, always};
-ghost use Rattle.sql_names.specs.Lives.{with_live};
-ghost use Rattle.sql_names.specs.LiveLaws.{same_live};
+ghost use Rattle.sql_names.specs.Changes.{with_live};
 
 use hall_types::{Live, Name, arch_number};
 use pxe_vendor::Arch;
@@ -37,7 +30,7 @@ impl Table for Lives {
         Ok(Live { arch, image })
     }
 
-    ghost single = { same_live };
+    ghost single = { Prim.search (rules, same_arch) };
 }
 
 /// The live image of an architecture, if it has one.

@@ -1,12 +1,8 @@
 //! The table of the last numbers, which has one row.
+ghost use Rattle.sql_schema.specs.Words.{state, column, HasCleanDisk, Survives, number, IsTableRead};
 ghost use Rattle.std.specs.Prelude.{◌≡◌, IfOk, OnOk, length, [], ◌∷◌};
-ghost use Rattle.sqlite.specs.Held.{state};
-ghost use Rattle.sqlite.specs.Order.{column};
-ghost use Rattle.sqlite.specs.State.{HasCleanDisk, Survives};
-ghost use Rattle.sql_schema.specs.Columns.{number};
-ghost use Rattle.sql_schema.specs.Holding.{IsTableRead};
 ghost use Rattle.sql_rows.specs.Steps.{IsWritten, always};
-ghost use Rattle.sql_names.specs.Numbers.{schema_values, with_numbers};
+ghost use Rattle.sql_names.specs.Changes.{schema_values, with_numbers};
 
 use hall_types::{LastIssued, Numbers};
 use sql_rows::write;
@@ -17,11 +13,7 @@ use sqlite::{Alter, Connection, Error, Row, Transaction};
 fn last_in(row: &Row, at: usize) -> Result<LastIssued, Error>
     ensures { IfOk result (λ last. column row.now at ≡ number last) }
 {
-    let n: u64 = row.get(at)?;
-    match LastIssued::new(n) {
-        Ok(last) => Ok(last),
-        Err(_) => Err(Error::IntegralValueOutOfRange(at)),
-    }
+    LastIssued::new(row.get(at)?).map_err(|_| Error::IntegralValueOutOfRange(at))
 }
 
 fn numbers_of(row: &Row) -> Result<Numbers, Error>
@@ -33,13 +25,10 @@ fn numbers_of(row: &Row) -> Result<Numbers, Error>
     if small_in(row, 0)? != 2 {
         return Err(Error::IntegralValueOutOfRange(0));
     }
-    let machine = last_in(row, 1)?;
-    let boot = last_in(row, 2)?;
-    let order = last_in(row, 3)?;
     Ok(Numbers {
-        machine,
-        boot,
-        order,
+        machine: last_in(row, 1)?,
+        boot: last_in(row, 2)?,
+        order: last_in(row, 3)?,
     })
 }
 

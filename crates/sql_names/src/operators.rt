@@ -1,15 +1,9 @@
 //! The table of operators.
+ghost use Rattle.sql_schema.specs.Words.{state, HasCleanDisk, Survives, operator_with_digest, at, operator_columns, same_role, same_truth, IsTableRead};
 ghost use Rattle.std.specs.Prelude.{◌≡◌};
 ghost use Rattle.std.proofs.Common.{rules};
-ghost use Rattle.sqlite.specs.Held.{state};
-ghost use Rattle.sqlite.specs.State.{HasCleanDisk, Survives};
-ghost use Rattle.hall_types.specs.Lookup.{operator_with_digest};
-ghost use Rattle.hall_types.specs.Rows.{at};
-ghost use Rattle.sql_schema.specs.Columns.{operator_columns};
-ghost use Rattle.sql_schema.specs.ColumnLaws.{same_role, same_truth};
-ghost use Rattle.sql_schema.specs.Holding.{IsTableRead};
 ghost use Rattle.sql_rows.specs.Steps.{IsWritten, always};
-ghost use Rattle.sql_names.specs.Operators.{with_operator};
+ghost use Rattle.sql_names.specs.Changes.{with_operator};
 
 use hall_types::{Digest, Name, Operator};
 use sql_rows::{Table, ask_first, ask_one, put};
@@ -31,15 +25,11 @@ impl Table for Operators {
         if row.column_count() != 4 {
             return Err(Error::InvalidQuery);
         }
-        let name = name_in(row, 0)?;
-        let role = role_in(row, 1)?;
-        let digest = digest_in(row, 2)?;
-        let enabled = truth_in(row, 3)?;
         Ok(Operator {
-            name,
-            role,
-            digest,
-            enabled,
+            name: name_in(row, 0)?,
+            role: role_in(row, 1)?,
+            digest: digest_in(row, 2)?,
+            enabled: truth_in(row, 3)?,
         })
     }
 

@@ -1,15 +1,9 @@
 //! The table of receipts.
+ghost use Rattle.sql_schema.specs.Words.{state, column, HasCleanDisk, Survives, at, pair, number, receipt_columns, IsTableRead};
 ghost use Rattle.std.specs.Prelude.{◌≡◌, IfOk, None};
 ghost use Rattle.std.proofs.Common.{rules};
-ghost use Rattle.sqlite.specs.Held.{state};
-ghost use Rattle.sqlite.specs.Order.{column};
-ghost use Rattle.sqlite.specs.State.{HasCleanDisk, Survives};
-ghost use Rattle.hall_types.specs.Rows.{at};
-ghost use Rattle.hall_types.specs.Hall.{pair};
-ghost use Rattle.sql_schema.specs.Columns.{number, receipt_columns};
-ghost use Rattle.sql_schema.specs.Holding.{IsTableRead};
 ghost use Rattle.sql_rows.specs.Steps.{IsWritten};
-ghost use Rattle.sql_names.specs.Receipts.{with_receipt};
+ghost use Rattle.sql_names.specs.Changes.{with_receipt};
 
 use hall_types::{Name, Receipt, RequestKey, Text};
 use sql_rows::{Table, ask_one, write};
@@ -23,11 +17,7 @@ use sqlite::{Alter, Connection, Error, Row, Transaction};
 fn http_status_in(row: &Row, at: usize) -> Result<u16, Error>
     ensures { IfOk result (λ status. column row.now at ≡ number status) }
 {
-    let n: u64 = row.get(at)?;
-    match u16::try_from(n) {
-        Ok(status) => Ok(status),
-        Err(_) => Err(Error::IntegralValueOutOfRange(at)),
-    }
+    u16::try_from(row.get::<u64>(at)?).map_err(|_| Error::IntegralValueOutOfRange(at))
 }
 
 /// The table of receipts, by what it stores.
@@ -42,17 +32,12 @@ impl Table for Receipts {
         if row.column_count() != 5 {
             return Err(Error::InvalidQuery);
         }
-        let operator = name_in(row, 0)?;
-        let key = request_key_in(row, 1)?;
-        let command: String = row.get(2)?;
-        let status = http_status_in(row, 3)?;
-        let body: String = row.get(4)?;
         Ok(Receipt {
-            operator,
-            key,
-            command: Text::from(command),
-            status,
-            body: Text::from(body),
+            operator: name_in(row, 0)?,
+            key: request_key_in(row, 1)?,
+            command: Text::from(row.get::<String>(2)?),
+            status: http_status_in(row, 3)?,
+            body: Text::from(row.get::<String>(4)?),
         })
     }
 

@@ -1,6 +1,6 @@
 //! Words in one text, with one space between two of them.
+ghost use Rattle.sql_schema.specs.Words.{joined, words_in};
 ghost use Rattle.std.specs.Prelude.{◌≡◌, IfOk, map, string_bytes};
-ghost use Rattle.sql_schema.specs.Columns.{joined, words_in};
 
 use ipxe_script::{Word, WordFault};
 use std::alloc::{AllocError, Global};

@@ -1,11 +1,6 @@
 -- What a query that is known promises, once its rows are read as items.
+use Rattle.sql_schema.specs.Words.{Error, Row, State, HasCleanDisk, Survives, Shown, FailsToQuery, CommitsShowing, Hall, IsTableRead, asked, asked_then, asked_failed}
 use Rattle.std.proofs.Common.{◌≡◌, ℕ, List, [], ◌∷◌, map, Ok, Err, Result, IfOk, refl, ap₂}
-use Rattle.sqlite.specs.declared.error.Error.{Error}
-use Rattle.sqlite.specs.Order.{Row}
-use Rattle.sqlite.specs.State.{State, HasCleanDisk, Survives, Shown, FailsToQuery, CommitsShowing}
-use Rattle.hall_types.specs.Hall.{Hall}
-use Rattle.sql_schema.specs.Holding.{IsTableRead}
-use Rattle.sql_schema.specs.HoldingLaws.{asked, asked_then, asked_failed}
 use Rattle.sql_rows.specs.Asking.{Asks}
 
 -- rows are those of one list of items
@@ -26,9 +21,9 @@ module _ {X Y : Type 0} (values : X → Row) (sql : List ℕ) (params : Row) (ri
   pub items_read : (rows : List Row) → Shown sql params old new rows → (r : Result Y Error) → IfOk r (λ y. (h : Hall) → rows ≡ map values (right h) → Reads h y) → IsTableRead old new r Reads
   items_read rows shown r gives =
       asked_then old new Right Reads rows r
-      (asked sql params it.query it.names it.is old new (λ rows. rows) Right (Ok rows) shown tt survives clean (λ h rows got spelt. it.answers old.now.trees h spelt rows got)) gives
+      (asked sql params it.is old new (λ rows. rows) Right (Ok rows) shown tt survives clean (λ h rows got spelt. it.answers old.now.trees h spelt rows got)) gives
 
   pub items_refused : (e : Error) → FailsToQuery sql params old new e → IsTableRead old new {Y = Y} (Err e) Reads
   items_refused e fails =
       asked_failed old new Right Reads e
-      (asked sql params it.query it.names it.is old new (λ rows. rows) Right (Err e) tt fails survives clean (λ h rows got spelt. it.answers old.now.trees h spelt rows got))
+      (asked sql params it.is old new (λ rows. rows) Right (Err e) tt fails survives clean (λ h rows got spelt. it.answers old.now.trees h spelt rows got))

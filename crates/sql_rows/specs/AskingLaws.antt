@@ -1,23 +1,12 @@
 -- Laws of reads between calls, for the proofs of callers.
+use Rattle.sql_schema.specs.Words.{option_to_list, Row, overlay, Query, IsAnswer, State, Trees, filter_all, all_of, Hall, IsHeld, IsTableRead, SpellHall, IsQueryText, hall_schema}
 use Rattle.std.proofs.Common.{◌≡◌, ℕ, List, [], map, filter, true, Option, Some, None, Ok, Err, Result, refl, ap, ◌∙◌, slice_get}
-use Rattle.std.specs.Option.{option_to_list}
-use Rattle.sqlite.specs.Order.{Row}
-use Rattle.sqlite.specs.Program.{overlay}
-use Rattle.sqlite.specs.Query.{Query, IsAnswer}
-use Rattle.sqlite.specs.State.{State}
-use Rattle.sqlite.specs.Tree.{Trees}
-use Rattle.sqlite_keyed.proofs.ListLemmas.{filter_all, all_of}
-use Rattle.hall_types.specs.Hall.{Hall}
-use Rattle.sql_schema.specs.Holding.{IsHeld, IsTableRead}
-use Rattle.sql_schema.specs.Spelling.{SpellHall}
-use Rattle.sql_schema.specs.Statements.{IsQueryText}
-use Rattle.sql_schema.specs.Tables.{hall_schema}
 use Rattle.sql_rows.specs.Asking.{Asks}
 
 -- a text that is a query, which shows these items of a hall
-pub asks_by : {X : Type 0} {values : X → Row} {sql : List ℕ} {params : Row} {right : Hall → List X} {query : Query} {names : List (List ℕ)} → IsQueryText hall_schema sql query names
+pub asks_by : {X : Type 0} {values : X → Row} {sql : List ℕ} {params : Row} {right : Hall → List X} {query : Query} → IsQueryText hall_schema sql query
     → ((db : Trees) (h : Hall) → SpellHall db h → (rows : List Row) → IsAnswer query (overlay db []) params rows → rows ≡ map values (right h)) → Asks values sql params right
-asks_by {query = query} {names = names} is answers = record { query = query; names = names; is = is; answers = answers }
+asks_by {query = query} is answers = record { query = query; is = is; answers = answers }
 
 -- where every row passes, all are shown
 pub shows_all : {X : Type 0} {values : X → Row} {sql : List ℕ} {params : Row} {right : Hall → List X} → Asks values sql params (λ h. filter (λ _. true) (right h)) → Asks values sql params right

@@ -1,9 +1,7 @@
 pub mod Asking
 pub mod AskingLaws
-pub mod Named
-pub mod NamedLaws
-pub mod Numbered
-pub mod NumberedLaws
 pub mod StepLaws
 pub mod Steps
+pub mod TableLaws
+pub mod Tables
 pub mod Writing

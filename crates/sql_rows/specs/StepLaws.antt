@@ -1,10 +1,6 @@
 -- Laws of steps inside a transaction, for the proofs of callers: what follows from a step, and one step after another.
+use Rattle.sql_schema.specs.Words.{Row, State, KeepsCommit, Hall, IsWithin, HallRows}
 use Rattle.std.proofs.Common.{◌≡◌, ℕ, List, true, Ok, Err, Result, IfOk, OnOk, IsTrue, refl, ◌∙◌}
-use Rattle.sqlite.specs.Order.{Row}
-use Rattle.sqlite.specs.State.{State, KeepsCommit}
-use Rattle.hall_types.specs.Hall.{Hall}
-use Rattle.sql_schema.specs.Holding.{IsWithin}
-use Rattle.sql_schema.specs.Spelling.{HallRows}
 use Rattle.sql_rows.specs.Steps.{IsStep, IsWritten, always}
 use Rattle.sql_rows.specs.Writing.{Makes}
 

@@ -1,9 +1,6 @@
 -- A step inside a transaction: what it gives, and what it makes of the rows of a hall's tables.
+use Rattle.sql_schema.specs.Words.{State, KeepsCommit, Hall, IsWithin, HallRows}
 use Rattle.std.specs.Prelude.{◌≡◌, ⊤, true, Result, IfOk, OnOk, IsTrue}
-use Rattle.sqlite.specs.State.{State, KeepsCommit}
-use Rattle.hall_types.specs.Hall.{Hall}
-use Rattle.sql_schema.specs.Holding.{IsWithin}
-use Rattle.sql_schema.specs.Spelling.{HallRows}
 
 -- what holds of a step's answer, and that the transaction goes on then; in any case nothing is committed
 pub record IsStep (old new : State) {Y E : Type 0} (r : Result Y E) (Gives : Y → Type 0) : Type 0 where

@@ -1,10 +1,6 @@
 -- What a statement makes of the rows of a hall's tables, inside a transaction.
+use Rattle.sql_schema.specs.Words.{Row, State, ExecutesInside, Shown, Hall, IsWithin, HallRows}
 use Rattle.std.specs.Prelude.{◌≡◌, ◌⊎◌, ℕ, List, length, Ok}
-use Rattle.sqlite.specs.Order.{Row}
-use Rattle.sqlite.specs.State.{State, ExecutesInside, Shown}
-use Rattle.hall_types.specs.Hall.{Hall}
-use Rattle.sql_schema.specs.Holding.{IsWithin}
-use Rattle.sql_schema.specs.Spelling.{HallRows}
 
 -- A clause can range over connections and not over the states that they show, which are no `Type 0`: so these facts are about any
 -- connections, and what they show.

@@ -1,11 +1,6 @@
 //! Reads of rows between calls.
+ghost use Rattle.sql_schema.specs.Words.{option_to_list, state, bound, HasCleanDisk, Hall, IsTableRead};
 ghost use Rattle.std.specs.Prelude.{◌≡◌, IfOk, List, Option, map, slice_get};
-ghost use Rattle.std.specs.Option.{option_to_list};
-ghost use Rattle.sqlite.specs.Held.{state};
-ghost use Rattle.sqlite.specs.Values.{bound};
-ghost use Rattle.sqlite.specs.State.{HasCleanDisk};
-ghost use Rattle.hall_types.specs.Hall.{Hall};
-ghost use Rattle.sql_schema.specs.Holding.{IsTableRead};
 ghost use Rattle.sql_rows.specs.Asking.{Asks};
 
 use crate::table::Table;

@@ -1,11 +1,6 @@
 //! Writes of rows inside a transaction.
+ghost use Rattle.sql_schema.specs.Words.{state, bound, HasCleanDisk, Survives, Hall, IsWithin, HallRows};
 ghost use Rattle.std.specs.Prelude.{◌≡◌, MatchBool, List, ℕ};
-ghost use Rattle.sqlite.specs.Held.{state};
-ghost use Rattle.sqlite.specs.Values.{bound};
-ghost use Rattle.sqlite.specs.State.{HasCleanDisk, Survives};
-ghost use Rattle.hall_types.specs.Hall.{Hall};
-ghost use Rattle.sql_schema.specs.Holding.{IsWithin};
-ghost use Rattle.sql_schema.specs.Spelling.{HallRows};
 ghost use Rattle.sql_rows.specs.Steps.{IsStep, IsWritten, always};
 ghost use Rattle.sql_rows.specs.Writing.{Makes, Puts};
 

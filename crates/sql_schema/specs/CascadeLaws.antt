@@ -1,15 +1,8 @@
 -- Laws of what a write sets off in the tables of a hall, for the proofs of callers.
+use Rattle.sql_schema.specs.Prelude.{AllByRecursion, filter_map, Row, Trees, plain, parent_key, Enforced, works, work_for, all-flat_map}
 use Rattle.std.proofs.Common.{◌≡◌, List, [], ◌∷◌, Some, refl}
-use Rattle.std.specs.List.{AllByRecursion, filter_map}
-use Rattle.sqlite.specs.Order.{Row}
-use Rattle.sqlite.specs.Tree.{Trees}
 use Rattle.sqlite.specs.Listing.{understood}
 use Rattle.sqlite_tied.specs.Compute.{everything}
-use Rattle.sqlite_value.specs.Keys.{plain}
-use Rattle.sqlite_schema.specs.Rules.{parent_key}
-use Rattle.sqlite_schema.specs.declared.schema.Keys.TheVariants.{Enforced}
-use Rattle.sqlite_rules.specs.Action.{works, work_for}
-use Rattle.sqlite_keyed.proofs.ListLemmas.{all-flat_map}
 use Rattle.sql_schema.specs.Cascades.{IsIdle, cascade, NeverFollows}
 use Rattle.sql_schema.specs.CascadeStepLaws.{child_is_idle}
 use Rattle.sql_schema.specs.Tables.{hall_schema, belongs_to_machine, interfaces_table, boots_table, orders_table, wipes_table}

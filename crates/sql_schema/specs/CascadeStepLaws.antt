@@ -1,31 +1,11 @@
 -- Laws of what a write sets off, for the proofs of callers: a write that meets no child is its one step.
+use Rattle.sql_schema.specs.Prelude.{list_any, AllByRecursion, filter_map, cons_option, Decides-eqb, Null, Int, Binary, Row, column, binary, is_true, Table, Schema, Trees, has_rowid, Edit, row_at, taken_by, Applies, Compare, Eq, plain, value_cmp-Int, agree, ParentKey, parent_key, Enforced, Reference, NoAction, Has, Work, works, work_for, work_by, deed_for, deed_of, loses, Leads, Writes, ActsOn, AreChildren, is_child_of, Deed, all_map, any_from_none, none_from_any, same_int}
 use Rattle.std.proofs.Common.{◌≡◌, ◌⊎◌, ◌&&◌, ◌==◌, not, inl, inr, ℕ, zero, suc, ℤ, List, [], ◌∷◌, ◌++◌, length, map, filter, Bool, true, false, cond, Option, Some, None, IfSome, Ok, refl, sym, ap, subst, ◌∙◌, int_eq, is_eq, IsPermutation, true≢false, flat_map, arith}
-use Rattle.std.specs.List.{list_any, AllByRecursion, filter_map, cons_option}
-use Rattle.std.proofs.lemmas.Bool.Decides.{Decides-eqb}
-use Rattle.sqlite.specs.declared.types.Value.TheVariants.{Null, Int}
-use Rattle.sqlite.specs.Collation.TheVariants.{Binary}
-use Rattle.sqlite.specs.Order.{Row, column}
-use Rattle.sqlite.specs.Ops.{binary, is_true}
-use Rattle.sqlite.specs.Table.{Table}
-use Rattle.sqlite.specs.Schema.{Schema}
-use Rattle.sqlite.specs.Tree.{Trees, has_rowid}
-use Rattle.sqlite.specs.Edit.{Edit, row_at, taken_by, Applies}
-use Rattle.sqlite_sql.specs.declared.ops.BinaryOp.TheVariants.{Compare}
-use Rattle.sqlite_sql.specs.declared.ops.CompareOp.TheVariants.{Eq}
 use Rattle.sqlite_value.specs.declared.keys.Order.{Order}
-use Rattle.sqlite_value.specs.Keys.{plain, first_key}
-use Rattle.sqlite_value.proofs.OrderLemmas.{value_cmp-Int}
-use Rattle.sqlite_schema.specs.Rules.{agree, ParentKey, parent_key}
+use Rattle.sqlite_value.specs.Keys.{first_key}
 use Rattle.sqlite_schema.specs.declared.schema.Keys.{Keys}
-use Rattle.sqlite_schema.specs.declared.schema.Keys.TheVariants.{Enforced}
-use Rattle.sqlite_schema.specs.declared.schema.Reference.{Reference}
-use Rattle.sqlite_schema.specs.declared.schema.Action.TheVariants.{NoAction}
-use Rattle.sqlite_rules.specs.Lists.{Has}
-use Rattle.sqlite_rules.specs.Action.{Work, works, work_for, work_by, deed_for, deed_of, pairs, loses, Leads, Writes, ActsOn, AreChildren, is_child_of}
-use Rattle.sqlite_rules.specs.declared.action.Deed.{Deed}
+use Rattle.sqlite_rules.specs.Action.{pairs}
 use Rattle.sqlite_rules.specs.declared.action.Deed.TheVariants.{Delete}
-use Rattle.sqlite_keyed.proofs.ListLemmas.{all_map, any_from_none, none_from_any}
-use Rattle.sqlite_keyed.proofs.KeyedLemmas.{same_int}
 use Rattle.sql_schema.specs.Cascades.{IsIdle, cascade, NeverFollows}
 use Rattle.sql_schema.specs.Rows.{row_of}
 use Rattle.sql_schema.specs.StatementLaws.{same_value}

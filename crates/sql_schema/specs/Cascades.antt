@@ -1,15 +1,8 @@
 -- What a write sets off in the tables that refer to its table.
+use Rattle.sql_schema.specs.Prelude.{list_any, AllByRecursion, Row, Table, Schema, Trees, Reference, NoAction, Has, Work, is_child_of, max_depth}
 use Rattle.std.specs.Prelude.{◌≡◌, nat_lt, true, false, List, [], ℕ}
-use Rattle.std.specs.List.{list_any, AllByRecursion}
-use Rattle.sqlite.specs.Order.{Row}
-use Rattle.sqlite.specs.Table.{Table}
-use Rattle.sqlite.specs.Schema.{Schema}
-use Rattle.sqlite.specs.Tree.{Trees}
 use Rattle.sqlite_value.specs.declared.keys.Order.{Order}
-use Rattle.sqlite_schema.specs.declared.schema.Reference.{Reference}
-use Rattle.sqlite_schema.specs.declared.schema.Action.TheVariants.{NoAction}
-use Rattle.sqlite_rules.specs.Lists.{Has}
-use Rattle.sqlite_rules.specs.Action.{Work, pairs, is_child_of, max_depth}
+use Rattle.sqlite_rules.specs.Action.{pairs}
 use Rattle.sqlite_rules.specs.declared.action.Deed.TheVariants.{Delete}
 
 -- no row is a child of a row that goes

@@ -1,23 +1,6 @@
 -- What the tables of a hall store of each row: truth values are 0 and 1, kinds are their numbers, and what may be missing is NULL.
+use Rattle.sql_schema.specs.Prelude.{slice_split, Value, Null, Int, Text, Blob, Row, BootImage, arch_number, role_number, purpose_number, stage_number, order_kind_number, order_stage_number, erase_number, status_number, Operator, Pool, Member, Live, Erase, Machine, Interface, Boot, Order, Receipt, Numbers}
 use Rattle.std.specs.Prelude.{◌≡◌, ◌==◌, ℕ, pos, Bool, true, false, List, [], ◌∷◌, ◌++◌, drop, Option, Some, None}
-use Rattle.std.specs.List.{slice_split}
-use Rattle.sqlite.specs.declared.types.Value.{Value}
-use Rattle.sqlite.specs.declared.types.Value.TheVariants.{Null, Int, Text, Blob}
-use Rattle.sqlite.specs.Order.{Row}
-use Rattle.hall_types.specs.Image.{BootImage}
-use Rattle.hall_types.specs.Kinds.{arch_number, role_number, purpose_number, stage_number, order_kind_number, order_stage_number, erase_number}
-use Rattle.hall_types.specs.Status.{status_number}
-use Rattle.hall_types.specs.declared.operator.Operator.{Operator}
-use Rattle.hall_types.specs.declared.operator.Pool.{Pool}
-use Rattle.hall_types.specs.declared.operator.Member.{Member}
-use Rattle.hall_types.specs.declared.image.Live.{Live}
-use Rattle.hall_types.specs.declared.kinds.Erase.{Erase}
-use Rattle.hall_types.specs.declared.machine.Machine.{Machine}
-use Rattle.hall_types.specs.declared.machine.Interface.{Interface}
-use Rattle.hall_types.specs.declared.boot.Boot.{Boot}
-use Rattle.hall_types.specs.declared.order.Order.{Order}
-use Rattle.hall_types.specs.declared.receipt.Receipt.{Receipt}
-use Rattle.hall_types.specs.declared.number.Numbers.{Numbers}
 
 -- ---- values
 

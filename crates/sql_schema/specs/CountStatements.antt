@@ -1,36 +1,37 @@
--- Statements on how many machines there are of each pool and status: their texts, and what each is.
-use Rattle.std.specs.Prelude.{ℕ, List, [], ◌∷◌, codes}
-use Rattle.sqlite.specs.declared.types.Value.TheVariants.{Null}
-use Rattle.sqlite.specs.Term.{lit}
-use Rattle.sqlite.specs.Query.{Query}
-use Rattle.sqlite.specs.Command.{Command}
-use Rattle.sqlite.specs.Command.TheVariants.{Insert, Update, Delete}
-use Rattle.sqlite.specs.Source.TheVariants.{Values}
+-- Statements on how many machines there are of each pool and status: each text, and what it is over the tables of a hall. RETURNING reads the parameters, NULL, and then the stored row with its rowid.
+use Rattle.sql_schema.specs.Prelude.{Null, lit, Query, Insert, Update, Delete, Values}
 use Rattle.sql_schema.specs.Queries.{parameter, cell, equals, rising, from_one}
-use Rattle.sql_schema.specs.Statements.{only}
+use Rattle.sql_schema.specs.Statements.{only, IsQueryText, IsCommandText}
+use Rattle.std.proofs.Common.{refl, [], ◌∷◌}
+use Rattle.sqlite_tied.specs.Compute.{everything}
+use Rattle.sqlite.specs.Listing.{understood}
+use Rattle.sql_schema.specs.Tables.{hall_schema}
+use Rattle.sql_schema.specs.declared.count_statements.TheConstants.{ADD_COUNT, FIND_COUNT, LIST_COUNTS, REMOVE_COUNT, SET_COUNT}
 
 -- the count of a pool and a status that had none
-abbrev pub add_count_command : Command
-add_count_command = Insert 11 (Values (lit Null ∷ parameter 0 ∷ parameter 1 ∷ parameter 2 ∷ []) 4)
+pub add_count_is : IsCommandText hall_schema ADD_COUNT.now (Insert 11 (Values (lit Null ∷ parameter 0 ∷ parameter 1 ∷ parameter 2 ∷ []) 4))
+unfolding understood everything
+add_count_is = record { is = refl; plain = (refl, refl) }
 
 -- the count of a pool and a status
-abbrev pub find_count_query : Query
-find_count_query = from_one 19 (equals 1 0 ∷ equals 2 1 ∷ []) (cell 3 ∷ []) (rising 1 ∷ rising 2 ∷ [])
-
-abbrev pub find_count_columns : List (List ℕ)
-find_count_columns = codes "machines" ∷ []
+pub find_count_is : IsQueryText hall_schema FIND_COUNT.now (from_one 19 (equals 1 0 ∷ equals 2 1 ∷ []) (cell 3 ∷ []) (rising 1 ∷ rising 2 ∷ []))
+unfolding understood everything
+find_count_is = record { names = _; is = refl; plain = (refl, refl); unlisted = refl }
 
 -- all counts
 abbrev pub list_counts_query : Query
 list_counts_query = from_one 19 [] (cell 1 ∷ cell 2 ∷ cell 3 ∷ []) (rising 1 ∷ rising 2 ∷ [])
 
-abbrev pub list_counts_columns : List (List ℕ)
-list_counts_columns = codes "pool" ∷ codes "status" ∷ codes "machines" ∷ []
+pub list_counts_is : IsQueryText hall_schema LIST_COUNTS.now list_counts_query
+unfolding understood everything
+list_counts_is = record { names = _; is = refl; plain = (refl, refl); unlisted = refl }
 
 -- the count of a pool and a status, changed
-abbrev pub set_count_command : Command
-set_count_command = Update 11 (only (from_one 19 (equals 1 0 ∷ equals 2 1 ∷ []) (cell 0 ∷ cell 0 ∷ cell 1 ∷ cell 2 ∷ parameter 2 ∷ []) []))
+pub set_count_is : IsCommandText hall_schema SET_COUNT.now (Update 11 (only (from_one 19 (equals 1 0 ∷ equals 2 1 ∷ []) (cell 0 ∷ cell 0 ∷ cell 1 ∷ cell 2 ∷ parameter 2 ∷ []) [])))
+unfolding understood everything
+set_count_is = record { is = refl; plain = (refl, refl) }
 
 -- the count of a pool and a status goes
-abbrev pub remove_count_command : Command
-remove_count_command = Delete 11 (only (from_one 19 (equals 1 0 ∷ equals 2 1 ∷ []) (cell 0 ∷ []) []))
+pub remove_count_is : IsCommandText hall_schema REMOVE_COUNT.now (Delete 11 (only (from_one 19 (equals 1 0 ∷ equals 2 1 ∷ []) (cell 0 ∷ []) [])))
+unfolding understood everything
+remove_count_is = record { is = refl; plain = (refl, refl) }

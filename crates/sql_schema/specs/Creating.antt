@@ -1,12 +1,6 @@
 -- The texts that make the tables and indexes of a hall.
+use Rattle.sql_schema.specs.Prelude.{created, indexed, CreateTable, CreateIndex, table_defined_by, index_defined_by, lacks_sequence, Schema, Table, Index}
 use Rattle.std.specs.Prelude.{◌≡◌, ℕ, List, Ok, Some, false, slice_get}
-use Rattle.sqlite.specs.Change.{created, indexed}
-use Rattle.sqlite.specs.Command.TheVariants.{CreateTable, CreateIndex}
-use Rattle.sqlite.specs.Compile.{table_defined_by, index_defined_by}
-use Rattle.sqlite.specs.Does.{lacks_sequence}
-use Rattle.sqlite.specs.Schema.{Schema}
-use Rattle.sqlite.specs.Table.{Table}
-use Rattle.sqlite_schema.specs.declared.schema.Index.{Index}
 use Rattle.sql_schema.specs.Statements.{IsKeptText}
 
 -- over the first schema the text defines this table, and the second schema has it too

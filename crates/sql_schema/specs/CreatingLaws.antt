@@ -69,5 +69,3 @@ index_orders = record { text = record { text = record { is = refl; plain = (refl
 pub create_wipes : MakesTable (stage 12 12) CREATE_WIPES.now wipes_table (stage 13 12)
 unfolding understood everything
 create_wipes = record { text = record { text = record { is = refl; plain = (refl, refl) }; whole = refl }; defined = refl; next = refl; unlisted = refl }
-
-pub ruleset creating = (create_hall, create_operators, create_pools, create_members, create_images, create_lives, create_machines, create_interfaces, create_boots, create_orders, create_receipts, create_counts, index_interfaces, index_boots, index_orders, create_wipes)

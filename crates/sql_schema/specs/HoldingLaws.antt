@@ -1,20 +1,13 @@
 -- Laws of connections that hold a hall, for the proofs of callers: what goes through a call.
+use Rattle.sql_schema.specs.Prelude.{Error, Row, Query, IsAnswer, overlay, Database, State, HasCleanDisk, IsUnchanged, Survives, Shown, FailsToQuery, CommitsShowing, ExecutesInside, Hall, Command, Returning}
 use Rattle.std.proofs.Common.{◌≡◌, ◌⊎◌, inl, inr, ℕ, nat_eq, MatchBool, List, [], Ok, Err, Result, IfOk, IfErr, sym, ap, subst, ◌∙◌}
-use Rattle.sqlite.specs.declared.error.Error.{Error}
-use Rattle.sqlite.specs.Order.{Row}
-use Rattle.sqlite.specs.Query.{Query, IsAnswer}
-use Rattle.sqlite.specs.Program.{overlay}
-use Rattle.sqlite.specs.Effect.{Database}
-use Rattle.sqlite.specs.State.{State, HasCleanDisk, IsUnchanged, Survives, Shown, FailsToQuery, CommitsShowing, ExecutesInside}
-use Rattle.hall_types.specs.Hall.{Hall}
-use Rattle.sqlite.specs.Command.{Command}
-use Rattle.sqlite_schema.specs.declared.command.Returning.{Returning}
 use Rattle.sql_schema.specs.Statements.{IsBack, IsQueryText, IsReturningText}
 use Rattle.sql_schema.specs.WriteLaws.{shown_wrote}
 use Rattle.sql_schema.specs.StatementLaws.{query_refused, shown_same, query_survives}
 use Rattle.sql_schema.specs.QueryLaws.{shown_answer}
 use Rattle.sql_schema.specs.Tables.{hall_schema}
-use Rattle.sql_schema.specs.Spelling.{HallRows, Spells, SpellHall}
+use Rattle.sql_schema.specs.Described.{HallRows}
+use Rattle.sql_schema.specs.Spelling.{Spells, SpellHall}
 use Rattle.sql_schema.specs.Holding.{Holds, Leaves, IsWithin, IsTableRead}
 
 pub same_held : (old new : State) (h : Hall) → IsUnchanged old new → Holds old h → Holds new h
@@ -47,18 +40,18 @@ pub leaves_on : (old new : State) (hs : List Hall) → Survives old new (λ _. �
 leaves_on old new hs s clean left db may = elim (s.crash clean db may) [ inl before ↦ left db before | inr none ↦ absurd none ]
 
 -- a query whose text is known, of which the tables say what it answers
-pub asked : {X : Type 0} (sql : List ℕ) (params : Row) (q : Query) (names : List (List ℕ)) → IsQueryText hall_schema sql q names → (old new : State) (rows_of : X → List Row) (Right : Hall → X → Type 0) (r : Result X Error)
+pub asked : {X : Type 0} (sql : List ℕ) (params : Row) {q : Query} → IsQueryText hall_schema sql q → (old new : State) (rows_of : X → List Row) (Right : Hall → X → Type 0) (r : Result X Error)
     → IfOk r (λ x. Shown sql params old new (rows_of x)) → IfErr r (FailsToQuery sql params old new) → Survives old new (CommitsShowing sql params old) → HasCleanDisk new
     → ((h : Hall) (x : X) → IsAnswer q (overlay old.now.trees []) params (rows_of x) → SpellHall old.now.trees h → Right h x) → IsTableRead old new r Right
-asked sql params q names text old new rows_of Right (Ok x) ok err survives clean right = record {
-  answer = λ h held. right h x (shown_answer hall_schema sql q names text params old new (rows_of x) held.schema ok) held.spelt;
+asked sql params text old new rows_of Right (Ok x) ok err survives clean right = record {
+  answer = λ h held. right h x (shown_answer hall_schema sql text params old new (rows_of x) held.schema ok) held.spelt;
   same = λ h held.
       let same = shown_same sql params hall_schema text.plain old new (rows_of x) held.schema ok in
       same_held old new h same (λ _. held) same.0.is_open;
   back = tt;
   crash = λ h held hs left. leaves_on old new hs (query_survives sql params hall_schema text.plain old new held.schema survives) clean left;
 }
-asked sql params q names text old new rows_of Right (Err e) ok err survives clean right = record {
+asked sql params text old new rows_of Right (Err e) ok err survives clean right = record {
   answer = tt;
   same = tt;
   back = λ h held. back_held old new h (query_refused sql params old new e err) (λ _. held);

@@ -1,20 +1,6 @@
 -- Laws of lists, for the proofs of callers: rows taken out in any order, put back under their keys, or counted.
-use Rattle.std.proofs.Common.{◌≡◌, ◌⊎◌, ◌&&◌, ◌||◌, ◌≤◌, ◌<ℤ◌, not, inl, inr, ℤ, List, [], ◌∷◌, length, map, filter, Bool, true, false, cond, refl, sym, ap, subst₂, ◌∙◌, arith, Ordering, Less, Equal, Greater, int_eq, int_cmp, is_eq, fold, IsPermutation, true≢false, flat_map, slice_get}
-use Rattle.std.specs.List.{list_any, AllByRecursion}
-use Rattle.std.specs.Option.{option_to_list}
-use Rattle.std.specs.Ordering.{match_ordering}
-use Rattle.std.proofs.lemmas.Int.{ints}
-use Rattle.std.proofs.lemmas.List.{length-map}
-use Rattle.std.proofs.lemmas.List.Sorted.{IsPermutation-refl, IsPermutation-cons, IsPermutation-trans, IsPermutation-middle}
-use Rattle.sqlite.specs.Order.{Row}
-use Rattle.sqlite.specs.Edit.{put_all}
-use Rattle.sqlite.specs.Tree.{put_row, IsAscending}
-use Rattle.sqlite_rules.specs.Lists.{Has}
-use Rattle.sqlite_keyed.specs.Keyed.{IsKeyedBy, insert_by, has_key}
-use Rattle.sqlite_keyed.specs.Lists.{without_key, delete_where, update_where}
-use Rattle.sqlite_keyed.proofs.ListLemmas.{all_map, all-filter, all_weaker, all_of, filter_all, filter_same, along_permutation, IsPermutation-flat_map}
-use Rattle.sqlite_keyed.proofs.KeyedLemmas.{Less-from_lt}
-use Rattle.sqlite_keyed.proofs.WriteLemmas.{removes_delete}
+use Rattle.sql_schema.specs.Prelude.{all_has, none_from_any, list_any, AllByRecursion, match_ordering, ints, IsPermutation-refl, IsPermutation-cons, IsPermutation-trans, IsPermutation-middle, Row, put_all, put_row, IsAscending, Has, IsKeyedBy, insert_by, has_key, without_key, delete_where, update_where, all_map, all-filter, all_weaker, all_of, filter_all, filter_same, along_permutation, IsPermutation-flat_map, Less-from_lt, removes_delete}
+use Rattle.std.proofs.Common.{◌≡◌, ◌⊎◌, ◌&&◌, ◌||◌, ◌≤◌, ◌<ℤ◌, not, inl, inr, ℤ, List, [], ◌∷◌, length, map, filter, Bool, true, false, cond, refl, sym, ap, subst₂, ◌∙◌, arith, Ordering, Less, Equal, Greater, int_eq, int_cmp, is_eq, fold, IsPermutation, true≢false, flat_map}
 
 pub and_true : (b : Bool) → (b && true) ≡ b
 and_true true = refl
@@ -27,15 +13,6 @@ pub any_order : {X : Type 0} (R : X → X → Type 0) (xs : List X) → length x
 any_order R [] short = tt
 any_order R (x ∷ []) short = (tt, tt)
 any_order R (x ∷ y ∷ more) short = absurd (omega arith)
-
--- such a list is that of its first item
-pub first_or_none : {X : Type 0} (xs : List X) → length xs ≤ 1 → xs ≡ option_to_list (slice_get xs 0)
-first_or_none [] short = refl
-first_or_none (x ∷ []) short = refl
-first_or_none (x ∷ y ∷ more) short = absurd (omega arith)
-
-pub short_map : {X Y : Type 0} (f : X → Y) (xs : List X) → length xs ≤ 1 → length (map f xs) ≤ 1
-short_map f xs short = omega (arith, short, length-map xs f)
 
 -- ---- lists in another order
 
@@ -88,13 +65,7 @@ map_has f (y ∷ xs) x (inl same) = inl (ap f same)
 map_has f (y ∷ xs) x (inr h) = inr (map_has f xs x h)
 
 pub has_none : {X : Type 0} (p : X → Bool) (xs : List X) (x : X) → list_any p xs ≡ false → Has xs x → p x ≡ false
-has_none p [] x none h = absurd h
-has_none p (y ∷ ys) x none h = go (p y) refl none h (has_none p ys x)
-  where
-    go : (b : Bool) → p y ≡ b → (b || list_any p ys) ≡ false → (x ≡ y) ⊎ Has ys x → (list_any p ys ≡ false → Has ys x → p x ≡ false) → p x ≡ false
-    go true e none h more = absurd (true≢false none)
-    go false e none (inl same) more = ap p same ∙ e
-    go false e none (inr h) more = more none h
+has_none p xs x none = all_has (λ y. p y ≡ false) xs x (none_from_any p xs none)
 
 -- ---- rows under their keys
 

@@ -1,53 +1,7 @@
 -- Laws of the list of all rows of a table, for the proofs of callers: what each change of rows makes of the list.
+use Rattle.sql_schema.specs.Prelude.{all_has, has_contained, has_filtered, has_kept, AllByRecursion, IsStrictlySortedBy, option_to_list, match_ordering, ordering_reverse, sorted_head, sorted_tail, IsPermutation-refl, IsPermutation-cons, IsPermutation-trans, IsPermutation-middle, IsAscending, Has, all_unmap, ascending-filter, ascending-map, ascending_weaker, Keys, Rows, at, put, gone, rows_where, listed, same_key, StandUnder, key-same, same-key, other-key, at-put-same, at-put-other, put_cases, gone_found, at-gone-other, where_found, where_kept, Contains-listed, AllByRecursion-listed, IsStrictlySortedBy-listed}
 use Rattle.std.proofs.Common.{◌≡◌, ◌≢◌, ◌⊎◌, not, inl, inr, ℕ, zero, suc, List, [], ◌∷◌, map, filter, length, ◌<◌, Bool, true, false, cond, Option, Some, None, Ordering, Less, Equal, Greater, refl, sym, ap, ap₂, subst, subst₂, ◌∙◌, arith, true≢false, IsPermutation, Contains, slice_index_or}
-use Rattle.std.specs.List.{AllByRecursion}
-use Rattle.std.specs.List.Sorted.{IsStrictlySortedBy}
-use Rattle.std.specs.Option.{option_to_list}
-use Rattle.std.specs.Ordering.{match_ordering, ordering_reverse}
-use Rattle.std.proofs.lemmas.Map.Keys.{sorted_head, sorted_tail}
-use Rattle.std.proofs.lemmas.List.Sorted.{IsPermutation-refl, IsPermutation-cons, IsPermutation-trans, IsPermutation-middle}
-use Rattle.sqlite.specs.Tree.{IsAscending}
-use Rattle.sqlite_rules.specs.Lists.{Has}
-use Rattle.sqlite_keyed.proofs.ListLemmas.{all_unmap, ascending-filter, ascending-map, ascending_weaker}
 use Rattle.sql_schema.specs.ListLaws.{has_map, map_has}
-use Rattle.hall_types.specs.Rows.{Keys, Rows, at, put, gone, rows_where, listed, same_key}
-use Rattle.hall_types.specs.Keyed.{StandUnder}
-use Rattle.hall_types.specs.RowLaws.{key-same, same-key, other-key, at-put-same, at-put-other, put_cases, gone_found, at-gone-other, where_found, where_kept}
-use Rattle.hall_types.specs.ListLaws.{Contains-listed, AllByRecursion-listed, IsStrictlySortedBy-listed}
-
--- ---- membership
-
-has_contained : {X : Type 0} (xs : List X) (x : X) → Contains xs x → Has xs x
-has_contained xs x c = go xs c.0 c.1 c.2
-  where
-    go : (ys : List _) (k : ℕ) → k < length ys → slice_index_or ys k x ≡ x → Has ys x
-    go [] k low is = absurd (omega (arith, low))
-    go (y ∷ ys) zero low is = inl (sym is)
-    go (y ∷ ys) (suc k) low is = inr (go ys k (omega (arith, low)) is)
-
-all_has : {X : Type 0} (P : X → Type 0) (xs : List X) (x : X) → AllByRecursion P xs → Has xs x → P x
-all_has P [] x all h = absurd h
-all_has P (y ∷ ys) x all (inl same) = subst P (sym same) all.0
-all_has P (y ∷ ys) x all (inr h) = all_has P ys x all.1 h
-
-pub has_filter : {X : Type 0} (p : X → Bool) (xs : List X) (x : X) → Has (filter p xs) x → Has xs x × (p x ≡ true)
-has_filter p [] x h = absurd h
-has_filter p (y ∷ ys) x h = go (p y) refl (has_filter p ys x) h
-  where
-    go : (b : Bool) → p y ≡ b → (Has (filter p ys) x → Has ys x × (p x ≡ true)) → Has (cond b (y ∷ filter p ys) (filter p ys)) x → Has (y ∷ ys) x × (p x ≡ true)
-    go true e more (inl same) = (inl same, ap p same ∙ e)
-    go true e more (inr h) = let it = more h in (inr it.0, it.1)
-    go false e more h = let it = more h in (inr it.0, it.1)
-
-pub filter_has : {X : Type 0} (p : X → Bool) (xs : List X) (x : X) → Has xs x → p x ≡ true → Has (filter p xs) x
-filter_has p [] x h t = absurd h
-filter_has p (y ∷ ys) x h t = go (p y) refl (λ found. filter_has p ys x found t) h
-  where
-    go : (b : Bool) → p y ≡ b → (Has ys x → Has (filter p ys) x) → Has (y ∷ ys) x → Has (cond b (y ∷ filter p ys) (filter p ys)) x
-    go true e more (inl same) = inl same
-    go true e more (inr h) = inr (more h)
-    go false e more (inl same) = absurd (true≢false (sym t ∙ ap p same ∙ e))
-    go false e more (inr h) = more h
 
 -- ---- lists in the order of their keys
 
@@ -208,10 +162,10 @@ module _ {K X : Type 0} (keys : Keys K) (key_of : X → K) where
     pub listed_with_key : (key : K) → filter (λ x. same_key keys (key_of x) key) (listed rows) ≡ option_to_list (at rows key)
     listed_with_key key =
         same_lists _ _ (ascending-filter _ (λ x. same_key keys (key_of x) key) (listed rows) AreRising-listed) (one_rises (at rows key))
-        (λ z h. let it = has_filter (λ x. same_key keys (key_of x) key) (listed rows) z h in
+        (λ z h. let it = has_filtered (λ x. same_key keys (key_of x) key) (listed rows) z h in
         subst (λ o. Has (option_to_list o) z) (sym (subst (λ k. at rows k ≡ Some z) (key-same keys (key_of z) key it.1) (listed_at z it.0))) (inl refl))
         (λ z h. let is : at rows key ≡ Some z = only z (at rows key) h in
-        filter_has (λ x. same_key keys (key_of x) key) (listed rows) z (at_listed key z is) (subst (λ k. same_key keys k key ≡ true) (sym (under key z is)) (same-key keys key)))
+        has_kept (λ x. same_key keys (key_of x) key) (listed rows) z (at_listed key z is) (subst (λ k. same_key keys k key ≡ true) (sym (under key z is)) (same-key keys key)))
       where
         one_rises : (o : Option X) → AreRising (option_to_list o)
         one_rises None = tt
@@ -263,8 +217,8 @@ module _ {K X : Type 0} (keys : Keys K) (key_of : X → K) where
         let other = λ (x : X). not (same_key keys (key_of x) key) in
         same_lists (listed after) (filter other (listed rows)) (AreRising-listed after stands) (ascending-filter _ other (listed rows) (AreRising-listed rows under))
         (λ z h. let it = gone_found rows key (key_of z) z (listed_at after stands z h) in
-        filter_has other (listed rows) z (at_listed rows under (key_of z) z it.1) (ap not (other-key keys (key_of z) key it.0)))
-        (λ z h. let it = has_filter other (listed rows) z h in
+        has_kept other (listed rows) z (at_listed rows under (key_of z) z it.1) (ap not (other-key keys (key_of z) key it.0)))
+        (λ z h. let it = has_filtered other (listed rows) z h in
         at_listed after stands (key_of z) z (at-gone-other rows key (key_of z) (apart z it.1) ∙ listed_at rows under z it.0))
       where
         apart : (z : X) → not (same_key keys (key_of z) key) ≡ true → key_of z ≢ key
@@ -275,8 +229,8 @@ module _ {K X : Type 0} (keys : Keys K) (key_of : X → K) where
         let after = rows_where p rows in
         let stands = StandUnder-where rows under p in
         same_lists (listed after) (filter p (listed rows)) (AreRising-listed after stands) (ascending-filter _ p (listed rows) (AreRising-listed rows under))
-        (λ z h. let it = where_found p rows (key_of z) z (listed_at after stands z h) in filter_has p (listed rows) z (at_listed rows under (key_of z) z it.0) it.1)
-        (λ z h. let it = has_filter p (listed rows) z h in at_listed after stands (key_of z) z (where_kept p rows (key_of z) z (listed_at rows under z it.0) it.1))
+        (λ z h. let it = where_found p rows (key_of z) z (listed_at after stands z h) in has_kept p (listed rows) z (at_listed rows under (key_of z) z it.0) it.1)
+        (λ z h. let it = has_filtered p (listed rows) z h in at_listed after stands (key_of z) z (where_kept p rows (key_of z) z (listed_at rows under z it.0) it.1))
 
     -- where the key had a row, the new one is in its place
     pub listed-put-there : (x old : X) → at rows (key_of x) ≡ Some old → listed (put (key_of x) x rows) ≡ map (λ y. cond (same_key keys (key_of y) (key_of x)) x y) (listed rows)

@@ -1,17 +1,6 @@
 -- Queries over one table: SELECT project FROM a table WHERE filters ORDER BY order LIMIT limit.
+use Rattle.sql_schema.specs.Prelude.{list_all, Less, Int, Row, Term, lit, col, op2, holds, Binary, Compare, Eq, Le, ascending, Query, inner, end, output, output_cmp, Output, Key}
 use Rattle.std.specs.Prelude.{◌≡◌, ℕ, pos, negsuc, List, [], ◌∷◌, filter, None, false}
-use Rattle.std.specs.List.{list_all}
-use Rattle.std.specs.declared.cmp.Ordering.TheVariants.{Less}
-use Rattle.sqlite.specs.declared.types.Value.TheVariants.{Int}
-use Rattle.sqlite.specs.Order.{Row}
-use Rattle.sqlite.specs.Term.{Term, lit, col, op2, holds}
-use Rattle.sqlite.specs.Collation.TheVariants.{Binary}
-use Rattle.sqlite_sql.specs.declared.ops.BinaryOp.TheVariants.{Compare}
-use Rattle.sqlite_sql.specs.declared.ops.CompareOp.TheVariants.{Eq, Le}
-use Rattle.sqlite_value.specs.Keys.{ascending}
-use Rattle.sqlite.specs.Tree.{IsAscending}
-use Rattle.sqlite.specs.Query.{Query, inner, end, output, output_cmp, Output}
-use Rattle.sqlite_value.specs.declared.keys.Key.{Key}
 
 -- a parameter of the statement, counted from 0
 abbrev pub parameter : ℕ → Term
@@ -66,7 +55,3 @@ output_of q params r = output q (params ∷ r ∷ [])
 -- the first output comes before the second one, and they don't tie
 abbrev pub IsBefore : Query → Output → Output → Type 0
 IsBefore q one other = output_cmp q one other ≡ Less
-
--- the rows are in the order of ORDER BY, with no ties
-abbrev pub AreInOrder : Query → Row → List Row → Type 0
-AreInOrder q params rows = IsAscending (λ a b. IsBefore q (output_of q params a) (output_of q params b)) rows

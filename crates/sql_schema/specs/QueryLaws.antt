@@ -1,20 +1,6 @@
 -- Laws of queries over one table, for the proofs of callers: what such a query answers.
+use Rattle.sql_schema.specs.Prelude.{list_all, Null, Row, Schema, Term, eval_all, holds, Trees, IsAscending, Query, IsAnswer, output, output_cmp, page, Output, overlay, State, Shown, reads_as, Key, output_cmp_total, IsPermutation-refl, IsPermutation-trans, sorted_unique, map-map, filter-map, filter_same, ascending-map}
 use Rattle.std.proofs.Common.{◌≡◌, ℕ, ℤ, List, [], ◌∷◌, ◌++◌, map, filter, Bool, true, false, cond, refl, sym, ap, subst, subst₂, ◌∙◌, IsPermutation, flat_map}
-use Rattle.std.specs.List.{list_all}
-use Rattle.sqlite.specs.declared.types.Value.TheVariants.{Null}
-use Rattle.sqlite.specs.Order.{Row}
-use Rattle.sqlite.specs.Schema.{Schema}
-use Rattle.sqlite.specs.Term.{Term, eval_all, holds}
-use Rattle.sqlite.specs.Tree.{Trees, IsAscending}
-use Rattle.sqlite.specs.Query.{Query, IsAnswer, output, output_cmp, page, Output}
-use Rattle.sqlite.specs.Program.{overlay}
-use Rattle.sqlite.specs.State.{State, Shown}
-use Rattle.sqlite.proofs.Callers.{reads_as}
-use Rattle.sqlite_value.specs.declared.keys.Key.{Key}
-use Rattle.sqlite_sql.proofs.QueryLemmas.{output_cmp_total}
-use Rattle.std.proofs.lemmas.List.Sorted.{IsPermutation-refl, IsPermutation-trans}
-use Rattle.sqlite_keyed.proofs.SortLemmas.{sorted_unique}
-use Rattle.sqlite_keyed.proofs.ListLemmas.{map-map, filter-map, filter_same, ascending-map}
 use Rattle.sql_schema.specs.Queries.{over_table, passing, output_of, IsBefore}
 use Rattle.sql_schema.specs.Rows.{row_of}
 use Rattle.sql_schema.specs.Statements.{IsQueryText}
@@ -91,7 +77,7 @@ module _ {X : Type 0} (key : X → ℤ) (columns : X → Row) (filters : List Te
 -- ---- from what a connection shows
 
 -- the answer of a query whose text is known
-pub shown_answer : (schema : Schema) (sql : List ℕ) (q : Query) (names : List (List ℕ)) → IsQueryText schema sql q names
+pub shown_answer : (schema : Schema) (sql : List ℕ) {q : Query} → IsQueryText schema sql q
     → (params : Row) (old new : State) (rows : List Row) → old.now.schema ≡ schema → Shown sql params old new rows → IsAnswer q (overlay old.now.trees []) params rows
-shown_answer schema sql q names text params old new rows has h =
+shown_answer schema sql text params old new rows has h =
     (reads_as sql params old new schema has _ text.is text.plain text.unlisted rows h).answer Null

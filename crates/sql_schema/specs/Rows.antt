@@ -1,8 +1,6 @@
 -- Rows of a table: its rowid, and then its columns.
+use Rattle.sql_schema.specs.Prelude.{Int, Row, Table}
 use Rattle.std.specs.Prelude.{ℤ, ◌∷◌, false, []}
-use Rattle.sqlite.specs.declared.types.Value.TheVariants.{Int}
-use Rattle.sqlite.specs.Order.{Row}
-use Rattle.sqlite.specs.Table.{Table}
 
 -- the stored row with this key and these columns
 abbrev pub row_of : {X : Type 0} → (X → ℤ) → (X → Row) → X → Row
@@ -18,10 +16,6 @@ rowid_of e = e.rowid
 
 abbrev pub item_of : {X : Type 0} → Entry X → X
 item_of e = e.item
-
--- the stored row of an entry
-abbrev pub entry_row : {X : Type 0} → (X → Row) → Entry X → Row
-entry_row columns e = Int e.rowid ∷ columns e.item
 
 -- a table with no AUTOINCREMENT and no default that reads the time
 abbrev pub uncounted : Table → Table

@@ -1,88 +1,96 @@
--- Which rows of the tables spell a hall, table by table.
-use Rattle.std.specs.Prelude.{◌≡◌, ◌==◌, ◌&&◌, ℕ, zero, suc, pos, Bool, List, [], ◌∷◌, map, filter, Option, Some, option_map, option_and_then, IsPermutation}
-use Rattle.std.specs.Str.{bytes_eq}
-use Rattle.sqlite.specs.Order.{Row}
-use Rattle.sqlite.specs.Tree.{Trees}
-use Rattle.sqlite.specs.Effect.{Database}
-use Rattle.sqlite_catalog.specs.Listing.{IsSound}
-use Rattle.sqlite_keyed.specs.Keyed.{IsKeyedBy}
-use Rattle.hall_types.specs.Rows.{Keys, Rows, numbers, texts, at, listed, how_many}
-use Rattle.hall_types.specs.Keyed.{StandUnder}
-use Rattle.hall_types.specs.Kinds.{arch_number}
-use Rattle.hall_types.specs.Status.{status_number}
-use Rattle.hall_types.specs.Hall.{Hall, second, pair}
-use Rattle.hall_types.specs.Image.{BootImage}
-use Rattle.hall_types.specs.declared.machine.Machine.{Machine}
-use Rattle.sql_schema.specs.Rows.{Entry, row_of, rowid_of, item_of}
-use Rattle.sql_schema.specs.Tables.{hall_schema}
-use Rattle.sql_schema.specs.Columns.{CountRow, HasWords, Wipe, operator_columns, pool_columns, member_columns, image_columns, live_columns, machine_columns, interface_columns, boot_columns, order_columns, receipt_columns, count_columns, wipe_columns, numbers_row}
-
--- ---- one table
-
--- A table with an INTEGER PRIMARY KEY: it stores the rows in the order of their numbers, each under its own.
-pub record IsNumbered {X : Type 0} (number_of : X → ℕ) (columns : X → Row) (stored : List Row) (rows : Rows numbers X) : Type 0 where
-  pub spelt : stored ≡ map (row_of (λ x. pos (number_of x)) columns) (listed rows)
-  pub under : StandUnder number_of rows
-
--- A table whose rowid no statement names: it stores each row once, in whatever order of rowids, and each row stands under its own key.
-pub record IsNamed {K X : Type 0} {keys : Keys K} (key_of : X → K) (columns : X → Row) (stored : List Row) (rows : Rows keys X) : Type 0 where
-  pub entries : List (Entry X)
-  pub spelt : stored ≡ map (row_of rowid_of (λ e. columns e.item)) entries
-  pub keyed : IsKeyedBy rowid_of entries
-  pub same : IsPermutation (listed rows) (map item_of entries)
-  pub under : StandUnder key_of rows
+-- Which rows of the tables spell a hall.
+use Rattle.sql_schema.specs.Prelude.{option_to_list, pair, Hall, second, pairs, Keys, Rows, texts, at, how_many, bytes_eq, Row, Trees, Database, IsSound, status_number, BootImage, Machine, Table, Numbers}
+use Rattle.std.specs.Prelude.{◌≡◌, ◌==◌, ◌&&◌, ℕ, zero, suc, Bool, List, [], ◌∷◌, map, Option, Some, option_map, option_and_then}
+use Rattle.sql_schema.specs.Described.{IsKept, IsNamed, TableOf, operators, pools, members, images, lives, machines, interfaces, boots, orders, receipts, wipes, Counts, HallRows}
+use Rattle.sql_schema.specs.Tables.{hall_schema, hall_table, counts_table}
+use Rattle.sql_schema.specs.Columns.{CountRow, HasWords, Wipe, image_columns, count_columns, numbers_row}
 
 -- The table of images. It stores the arguments of an image as one text, which gives them back.
 pub record AreImages (stored : List Row) (rows : Rows texts BootImage) : Type 0 where
   pub named : IsNamed (λ (i : BootImage). i.name) image_columns stored rows
   pub words : (name : List ℕ) (i : BootImage) → at rows name ≡ Some i → HasWords i
 
--- how many machines each pool has in each status, by the status's number
-abbrev pub Counts : Type 0
-Counts = List ℕ → ℕ → ℕ
-
-abbrev pub is_count_of : List ℕ → ℕ → Entry CountRow → Bool
-is_count_of pool status e = bytes_eq e.item.pool pool && (e.item.status == status)
+-- the key of a count: its pool, and its status's number as a text of its own
+abbrev pub count_key : List ℕ → ℕ → List (List ℕ)
+count_key pool status = pair pool (status ∷ [])
 
 -- a number above 0 has one row, and 0 has none
 abbrev pub in_rows : ℕ → List ℕ
 in_rows zero = []
 in_rows (suc n) = suc n ∷ []
 
--- The table of counts: each pool and status has its row where its number is above 0, in whatever order of rowids.
+-- The table of counts: each pool and status has its row where its number is above 0.
 pub record AreCounts (stored : List Row) (all : Counts) : Type 0 where
-  pub entries : List (Entry CountRow)
-  pub spelt : stored ≡ map (row_of rowid_of (λ e. count_columns e.item)) entries
-  pub keyed : IsKeyedBy rowid_of entries
-  pub counted : (pool : List ℕ) (status : ℕ) → map (λ (e : Entry CountRow). e.item.machines) (filter (is_count_of pool status) entries) ≡ in_rows (all pool status)
+  pub rows : Rows pairs CountRow
+  pub table : IsNamed (λ (c : CountRow). count_key c.pool c.status) count_columns stored rows
+  pub counted : (pool : List ℕ) (status : ℕ) → map (λ (c : CountRow). c.machines) (option_to_list (at rows (count_key pool status))) ≡ in_rows (all pool status)
 
 -- ---- all tables
 
--- What the tables hold: a hall's rows, the counts, and how disks are erased. Between the statements of one write the last
--- two may be behind the machines.
-pub record HallRows : Type 0 where
-  pub hall : Hall
-  pub counts : Counts
-  pub wipes : Rows numbers Wipe
+-- A table at its place in the schema: what it holds of a hall's rows, and which stored rows are that.
+pub record HallTable : Type 1 where
+  pub table : Table
+  pub place : ℕ
+  pub Held : Type 0
+  pub held : HallRows → Held
+  pub with_held : HallRows → Held → HallRows
+  pub stores : List Row → Held → Type 0
+
+-- a table that is described
+abbrev of_table : {K X E : Type 0} {keys : Keys K} → TableOf keys X E → HallTable
+of_table {X = X} {keys = keys} t = record {
+  table = t.table;
+  place = t.place;
+  Held = Rows keys X;
+  held = t.rows;
+  with_held = t.with_rows;
+  stores = IsKept t.rowid t.item t.key_of t.columns;
+}
+
+pub data TableName : Type 0 where
+  of_last : TableName
+  of_operators : TableName
+  of_pools : TableName
+  of_members : TableName
+  of_images : TableName
+  of_lives : TableName
+  of_machines : TableName
+  of_interfaces : TableName
+  of_boots : TableName
+  of_orders : TableName
+  of_receipts : TableName
+  of_counts : TableName
+  of_wipes : TableName
+
+-- all tables of a hall
+abbrev pub described : TableName → HallTable
+described of_last = record {
+  table = hall_table;
+  place = 0;
+  Held = Numbers;
+  held = λ c. c.hall.last;
+  with_held = λ c x. record c { hall = record c.hall { last = x } };
+  stores = λ rows x. rows ≡ numbers_row x ∷ [];
+}
+described of_operators = of_table operators
+described of_pools = of_table pools
+described of_members = of_table members
+described of_images = record (of_table images) { stores = AreImages }
+described of_lives = of_table lives
+described of_machines = of_table machines
+described of_interfaces = of_table interfaces
+described of_boots = of_table boots
+described of_orders = of_table orders
+described of_receipts = of_table receipts
+described of_counts = record { table = counts_table; place = 11; Held = Counts; held = λ c. c.counts; with_held = λ c x. record c { counts = x }; stores = AreCounts }
+described of_wipes = of_table wipes
 
 -- the trees of the tables have these rows
 pub record AreTables (db : Trees) (c : HallRows) : Type 0 where
   -- the trees list the schema of a hall and no other, and obey it
   pub sound : IsSound hall_schema db
   pub schema : c.hall.schema ≡ second
-  pub last : db 0 ≡ numbers_row c.hall.last ∷ []
-  pub operators : IsNamed (λ o. o.name) operator_columns (db 1) c.hall.operators
-  pub pools : IsNamed (λ p. p.name) pool_columns (db 4) c.hall.pools
-  pub members : IsNamed (λ m. pair m.pool m.operator) member_columns (db 6) c.hall.members
-  pub images : AreImages (db 8) c.hall.images
-  pub lives : IsNumbered (λ l. arch_number l.arch) live_columns (db 10) c.hall.lives
-  pub machines : IsNumbered (λ m. m.id) machine_columns (db 11) c.hall.machines
-  pub interfaces : IsNamed (λ i. i.mac) interface_columns (db 13) c.hall.interfaces
-  pub boots : IsNumbered (λ b. b.number) boot_columns (db 15) c.hall.boots
-  pub orders : IsNumbered (λ o. o.number) order_columns (db 16) c.hall.orders
-  pub receipts : IsNamed (λ r. pair r.operator r.key) receipt_columns (db 17) c.hall.receipts
-  pub counts : AreCounts (db 19) c.counts
-  pub wipes : IsNumbered (λ (w : Wipe). w.machine) wipe_columns (db 24) c.wipes
+  pub each : (t : TableName) → (described t).stores (db (described t).table.tree) ((described t).held c)
 
 -- a machine is in this pool and this status
 abbrev pub is_in : List ℕ → ℕ → Machine → Bool

@@ -1,27 +1,7 @@
 -- Laws of statements, for the proofs of callers: what a refusal leaves, what a statement whose text is known does, and CREATE.
-use Rattle.std.proofs.Common.{◌≡◌, ◌⊎◌, inl, inr, ℕ, List, [], slice_get, true, false, cond, Option, Some, None, Ok, Err, Result, IfOk, IfErr, OnOk, IsTrue, sym, ap, subst, subst₂, ◌∙◌, append-nil}
-use Rattle.std.proofs.lemmas.Bool.{cases_Bool}
-use Rattle.sqlite.specs.declared.error.Error.{Error}
-use Rattle.sqlite.specs.declared.run.Mode.{Mode}
-use Rattle.sqlite.specs.Order.{Row}
-use Rattle.sqlite.specs.Listing.{understood}
-use Rattle.sqlite.specs.Table.{Table}
-use Rattle.sqlite.specs.Schema.{Schema}
-use Rattle.sqlite.specs.Tree.{Trees}
-use Rattle.sqlite.specs.Command.{Command}
-use Rattle.sqlite.specs.Command.TheVariants as command
-use Rattle.sqlite.specs.Command.TheVariants.{Commit, Release, CreateTable, CreateIndex}
-use Rattle.sqlite.specs.Effect.{Database, IsDatabase}
-use Rattle.sqlite.specs.Does.{Tally, Does, lacks_sequence}
-use Rattle.sqlite.specs.Change.{created, indexed, next_tree, KeepsRows}
-use Rattle.sqlite.specs.Compile.{table_defined_by, index_defined_by}
-use Rattle.sqlite.specs.State.{State, Executes, ExecutesIn, ExecutesInside, FailsToQuery, IsUnchanged, IsNotRun, IsTooLate, KeepsCommit, shows_rows, FailsToShow, RunsCommand, Runs, Writes as Wrote, Shows, CommitsBy, CommitsShowing, Survives, Shown, ShowsRows, MayCommit, mode_of, text_of}
-use Rattle.sqlite.proofs.StateLemmas.{survives_weaker}
-use Rattle.sqlite.proofs.Callers.{never_commits, IsPlain, command_of, statement_of, runs_as}
-use Rattle.sqlite_catalog.specs.Listing.{IsSound}
-use Rattle.sqlite_resolve.specs.declared.compiled.Compiled.{Compiled}
-use Rattle.sqlite_schema.specs.declared.command.Returning.{Returning}
-use Rattle.sqlite_schema.specs.declared.schema.Index.{Index}
+use Rattle.sql_schema.specs.Prelude.{cases_Bool, Error, Mode, Row, understood, Table, Schema, Trees, Command, CreateTable, CreateIndex, Database, IsDatabase, Tally, Does, lacks_sequence, created, indexed, next_tree, KeepsRows, table_defined_by, index_defined_by, State, Executes, ExecutesInside, IsUnchanged, IsTooLate, KeepsCommit, shows_rows, FailsToShow, RunsCommand, Runs, Shows, CommitsShowing, Survives, ShowsRows, mode_of, survives_weaker, never_commits, IsPlain, statement_of, runs_as, IsSound, Compiled, Returning, Index}
+use Rattle.std.proofs.Common.{◌≡◌, ◌⊎◌, inl, inr, ℕ, List, [], slice_get, true, false, cond, Option, Some, None, Ok, Err, Result, IfOk, IfErr, OnOk, IsTrue, sym, ap, subst, ◌∙◌}
+use Rattle.sqlite.specs.State.{ExecutesIn, FailsToQuery, IsNotRun, Writes as Wrote, Shown}
 use Rattle.sql_schema.specs.Statements.{IsBack, IsCommandText, IsKeptText, MakesDatabase}
 
 -- ---- refusals
@@ -72,59 +52,6 @@ module _ (schema : Schema) (sql : List ℕ) (command : Command) (text : IsComman
   wrote form old new count has h =
       let w = form old new _ count (runs_as sql params old new schema has command text.is text.plain count h) in
       ((w.tally, subst (λ s. Does old.step_limit (mode_of old) params (record old.now { schema = s }) (statement_of sql (understood schema sql)) None command (Ok (w.tally, new.now))) has w.changed), w.shown, w.sound)
-
-  -- what it may commit outside a transaction
-  pub may_write : (command ≡ Commit → ⊥) → ((name : List ℕ) → command ≡ Release name → ⊥) → (old : State) (db : Trees) → old.now.schema ≡ schema → CommitsBy sql params old db
-      → (old.in_transaction ≡ false) × ((after : Database) × MakesDatabase schema sql None command params old after × (db ≡ after.trees) × IsDatabase after)
-  unfolding CommitsBy
-  may_write no_commit no_release old db has h =
-      let known = sym h.1.is ∙ ap (λ s. understood s sql) has in
-      let bare = subst IsPlain (sym known) text.plain in
-      let it : MayCommit old None h.0.command (text_of sql h.0) params db = rw (bare.0, bare.1, append-nil params) at h.2 in
-      let here : MayCommit old None command (statement_of sql (understood schema sql)) params db =
-      subst₂ (λ k t. MayCommit old None k t params db) (ap command_of known ∙ text.is) (ap (statement_of sql) known) it in
-      elim here [
-        | inl (inl ends, same) ↦ absurd (no_commit ends)
-        | inl (inr ends, same) ↦ absurd (no_release ends.0 ends.2)
-        | inr w ↦ (w.0, (w.2, (w.1, subst (λ s. Does old.step_limit (mode_of old) params (record old.now { schema = s }) (statement_of sql (understood schema sql)) None command (Ok (w.1, w.2))) has w.3), w.5, w.4))
-      ]
-
--- ---- a call that does something found the store open
-runs_open : (old new : State) (returning : Option Returning) (command : Command) (text : List ℕ) (params : Row) (count : ℕ) → Runs old new returning command text params count → IsTrue new.is_open → IsTrue old.is_open
-runs_open old new r (command.Select q names) text params count h live = absurd h
-runs_open old new r (command.Insert at from) text params count h live = h.shown.was_open
-runs_open old new r (command.InsertOr at how from clauses) text params count h live = h.shown.was_open
-runs_open old new r (command.Update at q) text params count h live = h.shown.was_open
-runs_open old new r (command.Delete at q) text params count h live = h.shown.was_open
-runs_open old new r command.CreateTable text params count h live = h.shown.was_open
-runs_open old new r (command.CreateIndex at) text params count h live = h.shown.was_open
-runs_open old new r (command.DropTable at) text params count h live = h.shown.was_open
-runs_open old new r (command.DropIndex at) text params count h live = h.shown.was_open
-runs_open old new r command.Begin text params count h live = h.1.was_open
-runs_open old new r command.Commit text params count h live = h.1.was_open
-runs_open old new r command.Rollback text params count h live = h.1.was_open live
-runs_open old new r (command.Savepoint name) text params count h live = h.0.0.was_open
-runs_open old new r (command.Release name) text params count h live = elim h.2 [ inl ends ↦ ends.1.0.was_open | inr on ↦ on.1.0.was_open ]
-runs_open old new r (command.RollbackTo name) text params count h live = h.2.2.was_open
-runs_open old new r (command.Rows values width names) text params count h live = h.0.0.was_open
-runs_open old new r command.Nothing text params count h live = h.0.0.was_open
-runs_open old new r command.CreateView text params count h live = h.shown.was_open
-runs_open old new r (command.DropView at) text params count h live = h.shown.was_open
-
-pub was_open : (sql : List ℕ) (params : Row) (old new : State) (count : ℕ) → Executes sql params old new (Ok count) → IsTrue new.is_open → IsTrue old.is_open
-unfolding ExecutesIn
-was_open sql params old new count h live = elim (cases_Bool (shows_rows false h.0)) [
-  | inl shows ↦ absurd (let e = (rw shows at h.2).0 in cc)
-  | inr runs ↦ runs_open old new h.0.returning h.0.command _ _ count (rw runs at h.2) live
-]
-
-shows_open : (old new : State) (sql : List ℕ) (c : Compiled) (params : Row) (rows : List Row) (what : Option Returning) → ShowsRows old new sql c params rows what → IsTrue old.is_open
-shows_open old new sql c params rows None h = h.3.0.was_open
-shows_open old new sql c params rows (Some what) h = h.1.shown.was_open
-
-pub shown_open : (sql : List ℕ) (params : Row) (old new : State) (rows : List Row) → Shown sql params old new rows → IsTrue old.is_open
-unfolding Shown
-shown_open sql params old new rows h = shows_open old new sql h.0 _ rows _ h.2
 
 -- ---- a query whose text is known
 

@@ -1,22 +1,6 @@
 -- What a text means over a schema, and what a statement leaves.
+use Rattle.sql_schema.specs.Prelude.{AllByRecursion, Row, understood, reads_listing, Table, Schema, Query, Command, Select, Database, Does, State, IsUnchanged, IsRolledBack, mode_of, IsPlain, command_of, statement_of, Compiled, CompileError, Returning, Program, IsSound}
 use Rattle.std.specs.Prelude.{◌≡◌, ◌≢◌, ◌⊎◌, ℕ, List, [], Option, Some, None, Ok, Err, Result, false}
-use Rattle.std.specs.List.{AllByRecursion}
-use Rattle.sqlite.specs.Order.{Row}
-use Rattle.sqlite.specs.Listing.{understood, reads_listing}
-use Rattle.sqlite.specs.Table.{Table}
-use Rattle.sqlite.specs.Schema.{Schema}
-use Rattle.sqlite.specs.Query.{Query}
-use Rattle.sqlite.specs.Command.{Command}
-use Rattle.sqlite.specs.Command.TheVariants.{Select}
-use Rattle.sqlite.specs.Effect.{Database}
-use Rattle.sqlite.specs.Does.{Does}
-use Rattle.sqlite.specs.State.{State, IsUnchanged, IsRolledBack, mode_of}
-use Rattle.sqlite.proofs.Callers.{IsPlain, command_of, statement_of}
-use Rattle.sqlite_resolve.specs.declared.compiled.Compiled.{Compiled}
-use Rattle.sqlite_resolve.specs.declared.error.CompileError.{CompileError}
-use Rattle.sqlite_schema.specs.declared.command.Returning.{Returning}
-use Rattle.sqlite_schema.specs.declared.program.Program.{Program}
-use Rattle.sqlite_catalog.specs.Listing.{IsSound}
 
 -- what RETURNING shows, if the text has it
 abbrev pub returning_of : Result Compiled CompileError → Option Returning
@@ -32,8 +16,9 @@ formats_of (Err e) = []
 abbrev pub only : Query → Program
 only q = record { lets = []; body = q }
 
--- over this schema the text is this query, and its columns have these names
-pub record IsQueryText (schema : Schema) (sql : List ℕ) (q : Query) (names : List (List ℕ)) : Type 0 where
+-- over this schema the text is this query, whose columns have some names
+pub record IsQueryText (schema : Schema) (sql : List ℕ) (q : Query) : Type 0 where
+  pub names : List (List ℕ)
   pub is : command_of (understood schema sql) ≡ Select (only q) names
   pub plain : IsPlain (understood schema sql)
   pub unlisted : reads_listing schema sql ≡ false

@@ -1,38 +1,6 @@
 -- Laws of tables of items, for the proofs of callers: what INSERT, UPDATE and DELETE make of their lists.
-use Rattle.std.proofs.Common.{◌≡◌, ◌≢◌, ◌&&◌, ◌≤◌, ◌/◌, ◌+ℤ◌, not, ℕ, ℤ, pos, List, [], ◌∷◌, length, map, filter, fold, drop, slice_get, Bool, true, false, Some, Ok, refl, sym, ap, subst, ◌∙◌, int_eq, IsPermutation}
-use Rattle.std.specs.List.{list_all, list_any, AllByRecursion}
-use Rattle.std.proofs.lemmas.List.{length-map}
-use Rattle.sqlite.specs.declared.types.Value.TheVariants.{Null, Int}
-use Rattle.sqlite.specs.Order.{Row}
-use Rattle.sqlite.specs.Cast.{cast_row}
-use Rattle.sqlite.specs.Listing.{understood}
-use Rattle.sqlite.specs.Table.{Table}
-use Rattle.sqlite.specs.Schema.{Schema}
-use Rattle.sqlite.specs.Term.{Term, col, holds, eval_all}
-use Rattle.sqlite.specs.Tree.{Trees, rowid, put_row}
-use Rattle.sqlite.specs.Query.{Query}
-use Rattle.sqlite.specs.Program.{overlay}
-use Rattle.sqlite.specs.Source.TheVariants.{Values}
-use Rattle.sqlite.specs.Command.TheVariants.{Insert, Update, Delete}
-use Rattle.sqlite.specs.Edit.{id_in, numbered, edit_of, is_taken, are_fresh, with_rowid, put_all, without_all, next_rowid, row_at, taken_by, Applies}
-use Rattle.sqlite.specs.Rowids.TheVariants.{Chosen, Given}
-use Rattle.sqlite.specs.Does.{Does}
-use Rattle.sqlite.specs.Effect.{Answers, value_rows}
-use Rattle.sqlite.specs.State.{State, Executes, Shown, mode_of}
-use Rattle.sqlite.proofs.Callers.{statement_of, one_step}
-use Rattle.sqlite_schema.specs.declared.schema.Keys.TheVariants.{Enforced}
-use Rattle.sqlite_schema.specs.declared.command.Returning.{Returning}
-use Rattle.sqlite_rules.specs.Calls.{ids_of}
-use Rattle.sqlite_rules.specs.Action.{works, Writes}
-use Rattle.sqlite_rules.proofs.PlaceLemmas.{given}
-use Rattle.sqlite_catalog.specs.Listing.{IsSound}
-use Rattle.sqlite_keyed.specs.Keyed.{IsKeyedBy, insert_by, has_key, next_key}
-use Rattle.sqlite_keyed.specs.Lists.{without_key, delete_where, update_where}
-use Rattle.sqlite_keyed.proofs.ListLemmas.{map_same, map-map}
-use Rattle.sqlite_keyed.proofs.WriteLemmas.{removes_delete}
-use Rattle.sqlite_keyed.proofs.SliceLemmas.{any_is_found}
-use Rattle.sqlite_typed.proofs.RowLemmas.{puts-map, deletes-map}
-use Rattle.sqlite_value.proofs.OrderLemmas.{value_cmp-Int}
+use Rattle.sql_schema.specs.Prelude.{list_all, list_any, AllByRecursion, length-map, Null, Int, Row, cast_row, understood, Table, Schema, Term, col, holds, eval_all, Trees, rowid, put_row, Query, overlay, Values, Insert, Update, Delete, id_in, numbered, edit_of, is_taken, are_fresh, with_rowid, put_all, without_all, row_at, taken_by, Applies, Chosen, Given, Does, Answers, value_rows, State, Executes, Shown, mode_of, statement_of, one_step, Enforced, Returning, ids_of, works, Writes, given, IsSound, IsKeyedBy, insert_by, has_key, without_key, delete_where, update_where, map_same, map-map, removes_delete, any_is_found, puts-map, deletes-map, value_cmp-Int}
+use Rattle.std.proofs.Common.{◌≡◌, ◌≢◌, ◌&&◌, ◌≤◌, ◌/◌, not, ℕ, ℤ, List, [], ◌∷◌, length, map, filter, fold, drop, slice_get, Bool, true, false, Some, Ok, refl, sym, ap, subst, ◌∙◌, int_eq, IsPermutation}
 use Rattle.sql_schema.specs.Cascades.{IsIdle, NeverFollows}
 use Rattle.sql_schema.specs.CascadeStepLaws.{step_alone, insert_is_quiet, update_is_quiet}
 use Rattle.sql_schema.specs.ListLaws.{any_order, put_all-map, removes_any, puts_back, IsPermutation-map}
@@ -57,14 +25,6 @@ module _ {X : Type 0} (key : X → ℤ) (columns : X → Row) where
   taken_is : (xs : List X) (new : X) → is_taken (map row xs) (row new) ≡ list_any (λ x. int_eq (key x) (key new)) xs
   taken_is [] new = refl
   taken_is (x ∷ xs) new = rw (value_cmp-Int (key x) (key new), taken_is xs new) refl
-
-  next_is : (xs : List X) (a : ℤ) → fold (λ _ r. id_in (rowid r) +ℤ pos 1) a (map row xs) ≡ fold (λ _ x. key x +ℤ pos 1) a xs
-  next_is [] a = refl
-  next_is (x ∷ xs) a = next_is xs (key x +ℤ pos 1)
-
-  -- the rowid that is chosen for a new row
-  pub next_rowid_is : (xs : List X) (rows : List Row) → rows ≡ map row xs → next_rowid rows ≡ next_key key xs
-  next_rowid_is xs rows here = ap next_rowid here ∙ next_is xs (pos 1)
 
   module _ (schema : Schema) (at : ℕ) (t : Table) (there : slice_get schema.tables at ≡ Some (uncounted t)) (old new : State) (has : old.now.schema ≡ schema)
       (xs : List X) (here : old.now.trees t.tree ≡ map row xs) where
@@ -130,10 +90,6 @@ module _ {X : Type 0} (key : X → ℤ) (columns : X → Row) where
               table = one.rows ∙ left.1;
               others = one.tables;
             }
-
-        -- the items that pass go, where no table with ON DELETE refers to this one
-        pub deletes_quietly : ((olds : List Row) → works schema Enforced 0 t.tree olds [] ≡ []) → SetsRows schema t.tree old.now new.now (map row (delete_where p xs))
-        deletes_quietly quiet = deletes_alone (λ mid ids same rest. subst (AllByRecursion (IsIdle mid)) (sym (quiet (map (row_at (db t.tree)) ids))) tt)
 
       -- ---- UPDATE
 

@@ -1,19 +1,7 @@
 -- The tables of a hall, second schema, as SQLite keeps them: thirteen tables and three indexes.
+use Rattle.sql_schema.specs.Prelude.{Binary, Null, Int, Kind, Integer, Table, Schema, Term, lit, col, op2, Compare, Eq, Column, Index, Reference, Cascade, NoAction, automatic}
 use Rattle.std.specs.Prelude.{ℕ, pos, Bool, true, false, List, [], ◌∷◌, map, take, Option, Some, None, codes}
-use Rattle.sqlite.specs.Collation.TheVariants.{Binary}
-use Rattle.sqlite.specs.declared.types.Value.TheVariants.{Null, Int}
-use Rattle.sqlite.specs.Kind.{Kind}
-use Rattle.sqlite.specs.Kind.TheVariants.{Integer, Text, Blob}
-use Rattle.sqlite.specs.Table.{Table}
-use Rattle.sqlite.specs.Schema.{Schema}
-use Rattle.sqlite.specs.Term.{Term, lit, col, op2}
-use Rattle.sqlite_sql.specs.declared.ops.BinaryOp.TheVariants.{Compare}
-use Rattle.sqlite_sql.specs.declared.ops.CompareOp.TheVariants.{Eq}
-use Rattle.sqlite_schema.specs.declared.schema.Column.{Column}
-use Rattle.sqlite_schema.specs.declared.schema.Index.{Index}
-use Rattle.sqlite_schema.specs.declared.schema.Reference.{Reference}
-use Rattle.sqlite_schema.specs.declared.schema.Action.TheVariants.{Cascade, NoAction}
-use Rattle.sqlite_catalog.specs.Listing.{automatic}
+use Rattle.sqlite.specs.Kind.TheVariants.{Text, Blob}
 
 -- ---- columns, of STRICT tables
 

@@ -1,18 +1,8 @@
 -- Laws of values, for the proofs of callers: which equal which, in what order they are, and which a column keeps.
+use Rattle.sql_schema.specs.Prelude.{bytes_eq, nat_cmp, slice_cmp, is_eq-slice_cmp, Value, Null, Int, Text, Blob, Binary, is_true, from_truth, cast, Compare, Eq, value_cmp-Int, value_cmp-Text, value_cmp-Blob}
 use Rattle.std.proofs.Common.{◌≡◌, ℕ, ℤ, List, Bool, true, false, cond, Some, refl, ◌∙◌, int_eq, is_eq}
-use Rattle.std.specs.Str.{bytes_eq}
-use Rattle.std.specs.Ordering.{nat_cmp}
-use Rattle.std.specs.Cmp.Lexicographic.{slice_cmp}
-use Rattle.std.proofs.lemmas.Map.Text.{is_eq-slice_cmp}
-use Rattle.sqlite.specs.declared.types.Value.{Value}
-use Rattle.sqlite.specs.declared.types.Value.TheVariants.{Null, Int, Text, Blob}
-use Rattle.sqlite.specs.Collation.TheVariants.{Binary}
-use Rattle.sqlite.specs.Ops.{unary, binary, is_true, from_truth}
-use Rattle.sqlite.specs.Cast.{cast}
+use Rattle.sqlite.specs.Ops.{unary, binary}
 use Rattle.sqlite.specs.Kind.TheVariants as kind
-use Rattle.sqlite_sql.specs.declared.ops.BinaryOp.TheVariants.{Compare}
-use Rattle.sqlite_sql.specs.declared.ops.CompareOp.TheVariants.{Eq}
-use Rattle.sqlite_value.proofs.OrderLemmas.{value_cmp-Int, value_cmp-Text, value_cmp-Blob}
 
 truth : (t : Bool) → is_true (from_truth (Some t)) ≡ t
 truth true = refl
@@ -34,10 +24,6 @@ unfolding binary
 same_blob a b = rw (value_cmp-Blob a b) (truth (is_eq (slice_cmp nat_cmp a b)) ∙ is_eq-slice_cmp a b)
 
 -- NULL equals nothing
-pub null_number : (b : ℤ) → is_true (binary (Compare Eq Binary) Null (Int b)) ≡ false
-unfolding binary
-null_number b = refl
-
 pub number_null : (a : ℤ) → is_true (binary (Compare Eq Binary) (Int a) Null) ≡ false
 unfolding binary
 number_null a = refl

@@ -1,26 +1,8 @@
 -- Laws of INSERT, UPDATE and DELETE, for the proofs of callers: the edit of a table that they make.
+use Rattle.sql_schema.specs.Prelude.{Null, Mode, Row, understood, Table, Schema, Term, Trees, Values, Command, Insert, Update, Delete, Edit, edit_of, Chosen, Given, ids_of, Program, Returning, Database, value_rows, Answers, Edited, Written, Task, shown, Tally, Does, State, ShowsRows, command_of, statement_of}
 use Rattle.std.proofs.Common.{◌≡◌, ℕ, List, [], ◌∷◌, ◌++◌, ◌/◌, length, slice_get, Option, Some, None, Ok, sym, ap, subst, subst₂, ◌∙◌, append-nil, length-append, arith}
-use Rattle.sqlite.specs.declared.types.Value.TheVariants.{Null}
-use Rattle.sqlite.specs.declared.run.Mode.{Mode}
-use Rattle.sqlite.specs.Order.{Row}
-use Rattle.sqlite.specs.Listing.{understood}
-use Rattle.sqlite.specs.Table.{Table}
-use Rattle.sqlite.specs.Schema.{Schema}
-use Rattle.sqlite.specs.Term.{Term}
-use Rattle.sqlite.specs.Tree.{Trees}
-use Rattle.sqlite.specs.Source.TheVariants.{Values}
-use Rattle.sqlite.specs.Command.{Command}
-use Rattle.sqlite.specs.Command.TheVariants.{Insert, Update, Delete}
-use Rattle.sqlite.specs.Edit.{Edit, edit_of}
-use Rattle.sqlite.specs.Rowids.TheVariants.{Chosen, Given}
-use Rattle.sqlite_rules.specs.Calls.{ids_of}
-use Rattle.sqlite_schema.specs.declared.program.Program.{Program}
-use Rattle.sqlite_schema.specs.declared.command.Returning.{Returning}
-use Rattle.sqlite.specs.Effect.{Database, value_rows, Answers}
-use Rattle.sqlite.specs.Rows.{Edited, Written, Task, shown}
-use Rattle.sqlite.specs.Does.{Tally, Does, Shows as ShowsEach}
-use Rattle.sqlite.specs.State.{State, Shown, ShowsRows, Writes}
-use Rattle.sqlite.proofs.Callers.{command_of, statement_of}
+use Rattle.sqlite.specs.Does.{Shows as ShowsEach}
+use Rattle.sqlite.specs.State.{Shown, Writes}
 use Rattle.sql_schema.specs.Rows.{uncounted}
 use Rattle.sql_schema.specs.Statements.{IsReturningText, returning_of, formats_of}
 use Rattle.sql_schema.specs.StatementLaws.{went, same_value}

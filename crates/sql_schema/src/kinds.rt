@@ -1,8 +1,6 @@
 //! Kinds in columns, by their numbers.
+ghost use Rattle.sql_schema.specs.Prelude.{column, arch_number, role_number, purpose_number, stage_number, order_kind_number, order_stage_number, erase_number, status_number};
 ghost use Rattle.std.specs.Prelude.{◌≡◌, IfOk};
-ghost use Rattle.sqlite.specs.Order.{column};
-ghost use Rattle.hall_types.specs.Kinds.{arch_number, role_number, purpose_number, stage_number, order_kind_number, order_stage_number, erase_number};
-ghost use Rattle.hall_types.specs.Status.{status_number};
 ghost use Rattle.sql_schema.specs.Columns.{number};
 
 use crate::values::small_in;

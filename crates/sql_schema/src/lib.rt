@@ -6,7 +6,6 @@
 mod count_statements;
 mod creating;
 mod kinds;
-mod laws;
 mod machine_statements;
 mod name_statements;
 mod probe;
@@ -20,10 +19,6 @@ pub use creating::{
 };
 pub use kinds::{
     arch_in, erase_in, order_kind_in, order_stage_in, purpose_in, role_in, stage_in, status_in,
-};
-pub use laws::{
-    count_statements_mean_these, machine_statements_mean_these, name_statements_mean_these,
-    texts_make_the_tables,
 };
 pub use machine_statements::{
     ADD_BOOT, ADD_INTERFACE, ADD_MACHINE, ADD_ORDER, ADD_WIPE, FIND_BOOT, FIND_EXPIRED,

@@ -1,8 +1,6 @@
 //! Values of columns: what is outside a column's range is an error.
+ghost use Rattle.sql_schema.specs.Prelude.{Int, Text, Blob, column, owned};
 ghost use Rattle.std.specs.Prelude.{◌≡◌, ◌<◌, ◌^◌, pos, IfOk};
-ghost use Rattle.sqlite.specs.declared.types.Value.TheVariants.{Int, Text, Blob};
-ghost use Rattle.sqlite.specs.Order.{column};
-ghost use Rattle.sqlite_value.specs.Value.{owned};
 ghost use Rattle.sql_schema.specs.Columns.{number, truth_number};
 
 use hall_types::{Digest, MacAddress, MachineUuid, Name, Number, RequestKey, Token};

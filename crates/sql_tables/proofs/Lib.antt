@@ -1,5 +1,5 @@
-mod MakingLemmas
 mod TransactionLemmas
+mod MakingLemmas
 mod LookLemmas
 mod OpenLemmas
 mod CarryingLemmas

@@ -1,175 +1,129 @@
 -- What is answered of tables that are to be carried over.
-use Rattle.std.proofs.Common.{◌≡◌, ◌≢◌, inl, inr, pos, ℤ, true, false, Ok, Err, IsTrue, refl, sym, ap, subst, ◌∙◌, true≢false}
-use Rattle.std.specs.Prelude.{codes}
-use Rattle.sqlite.specs.Change.{is_used}
-use Rattle.sqlite.specs.Effect.{Database}
+use Rattle.sql_schema.specs.Words.{AllByRecursion, is_used, Database, Schema, State, HasCleanDisk, IsLive, Survives, IsPlain, IsSound, lists_once, Hall, IsHeld, find_numbers_query, SpellHall, IsQueryText}
+use Rattle.std.proofs.Common.{◌≡◌, ◌≢◌, inl, inr, pos, ℕ, List, [], ◌∷◌, true, false, Ok, Err, Result, OnOk, IfErr, IsTrue, refl, sym, ap, subst, ◌∙◌, true≢false, codes}
 use Rattle.sqlite.specs.Listing.{understood}
-use Rattle.sqlite.specs.State.{State, HasCleanDisk, IsLive, Survives}
-use Rattle.sqlite.proofs.Callers.{IsPlain}
-use Rattle.sqlite_catalog.specs.Listing.{IsSound}
-use Rattle.sqlite_catalog.proofs.ReadLemmas.{lists_once}
 use Rattle.sqlite_schema.specs.Names.{same_name}
 use Rattle.sqlite_tied.specs.Compute.{everything}
-use Rattle.hall_types.specs.Hall.{Hall}
-use Rattle.sql_schema.specs.NameStatements.{find_numbers_query, find_numbers_columns}
-use Rattle.sql_schema.specs.Spelling.{SpellHall}
-use Rattle.sql_schema.specs.Statements.{IsQueryText}
-use Rattle.sql_tables.specs.Creating.{MayLeaveBesides}
-use Rattle.sql_tables.specs.Migrating.{BecomeHall, HasFirstTables, IsCarriedOver, IsFirst, IsReady, IsRightMigration, SpellFirst, first_rows, first_schema}
-use Rattle.sql_tables.specs.Opening.{AreUnderstood, IsAnswerFor, IsRightAnswer, SaysSchema}
+use Rattle.sql_tables.specs.Creating.{IsMade, MayLeaveBesides}
+use Rattle.sql_tables.specs.Migrating.{BecomeHall, IsCarriedOver, IsFirst, IsRightMigration, TellsMigrated, SpellFirst, first_schema}
+use Rattle.sql_tables.specs.Opening.{AreUnderstood, HasTables, IsAnswerFor, IsReady, IsRightAnswer, SaysSchema, first_rows}
 use Rattle.sql_tables.specs.declared.fault.OpenFault.{OpenFault}
 use Rattle.sql_tables.specs.declared.fault.OpenFault.TheVariants.{NotAHall, OtherVersion, Unavailable}
-use Rattle.sql_tables.specs.declared.migrating.Migrated.TheVariants.{Already, Now}
+use Rattle.sql_tables.specs.declared.looking.Wanted.TheVariants.{First}
+use Rattle.sql_tables.specs.declared.migrating.Migrated.{Migrated}
 use Rattle.sql_tables.proofs.LookLemmas.{compiled_of}
-use Rattle.sql_tables.proofs.OpenLemmas.{says_second, schema_of}
-use Rattle.sql_schema.specs.declared.count_statements.TheConstants.{LIST_COUNTS}
-use Rattle.sql_schema.specs.declared.machine_statements.TheConstants.{FIND_BOOT, FIND_INTERFACE, FIND_MACHINE, FIND_ORDER}
-use Rattle.sql_schema.specs.declared.name_statements.TheConstants.{FIND_IMAGE, FIND_LIVE, FIND_MEMBER, FIND_NUMBERS, FIND_OPERATOR, FIND_POOL, FIND_RECEIPT}
+use Rattle.sql_tables.proofs.OpenLemmas.{has_second, says_second}
+use Rattle.sql_schema.specs.declared.name_statements.TheConstants.{FIND_NUMBERS}
 
--- ---- the texts, over the first schema
+-- ---- a hall of the first schema
 
-find_operator_plain : IsPlain (understood first_schema FIND_OPERATOR.now)
+-- its texts are understood over it
+plain_first : AllByRecursion (λ sql. IsPlain (understood first_schema sql)) first_rows
 unfolding understood everything
-find_operator_plain = (refl, refl)
+plain_first = ((refl, refl), ((refl, refl), ((refl, refl), ((refl, refl), ((refl, refl), ((refl, refl), ((refl, refl), ((refl, refl), ((refl, refl), ((refl, refl), ((refl, refl), tt)))))))))))
 
-find_pool_plain : IsPlain (understood first_schema FIND_POOL.now)
-unfolding understood everything
-find_pool_plain = (refl, refl)
+all_compiled : (schema : Schema) (texts : List (List ℕ)) → AllByRecursion (λ sql. IsPlain (understood schema sql)) texts → AreUnderstood schema texts
+all_compiled schema [] plain = tt
+all_compiled schema (sql ∷ more) plain = (compiled_of _ plain.0, all_compiled schema more plain.1)
 
-find_member_plain : IsPlain (understood first_schema FIND_MEMBER.now)
+find_numbers_is_first : IsQueryText first_schema FIND_NUMBERS.now find_numbers_query
 unfolding understood everything
-find_member_plain = (refl, refl)
-
-find_image_plain : IsPlain (understood first_schema FIND_IMAGE.now)
-unfolding understood everything
-find_image_plain = (refl, refl)
-
-find_live_plain : IsPlain (understood first_schema FIND_LIVE.now)
-unfolding understood everything
-find_live_plain = (refl, refl)
-
-find_machine_plain : IsPlain (understood first_schema FIND_MACHINE.now)
-unfolding understood everything
-find_machine_plain = (refl, refl)
-
-find_interface_plain : IsPlain (understood first_schema FIND_INTERFACE.now)
-unfolding understood everything
-find_interface_plain = (refl, refl)
-
-find_boot_plain : IsPlain (understood first_schema FIND_BOOT.now)
-unfolding understood everything
-find_boot_plain = (refl, refl)
-
-find_order_plain : IsPlain (understood first_schema FIND_ORDER.now)
-unfolding understood everything
-find_order_plain = (refl, refl)
-
-find_receipt_plain : IsPlain (understood first_schema FIND_RECEIPT.now)
-unfolding understood everything
-find_receipt_plain = (refl, refl)
-
-list_counts_plain : IsPlain (understood first_schema LIST_COUNTS.now)
-unfolding understood everything
-list_counts_plain = (refl, refl)
-
-find_numbers_is_first : IsQueryText first_schema FIND_NUMBERS.now find_numbers_query find_numbers_columns
-unfolding understood everything
-find_numbers_is_first = record { is = refl; plain = (refl, refl); unlisted = refl }
+find_numbers_is_first = record { names = _; is = refl; plain = (refl, refl); unlisted = refl }
 
 wipes_free : is_used first_schema (codes "wipes") ≡ false
 unfolding same_name
 wipes_free = refl
 
-has_first : HasFirstTables first_schema
-has_first = record {
-  there = (compiled_of _ find_operator_plain, (compiled_of _ find_pool_plain, (compiled_of _ find_member_plain, (compiled_of _ find_image_plain, (compiled_of _ find_live_plain, (compiled_of _ find_machine_plain, (compiled_of _ find_interface_plain, (compiled_of _ find_boot_plain, (compiled_of _ find_order_plain, (compiled_of _ find_receipt_plain, (compiled_of _ list_counts_plain, tt)))))))))));
-  free = wipes_free;
-}
-
--- ---- tables that spell a hall of the first schema
-
 -- trees list one schema at most
-pub first_schema_of : (db : Database) (h : Hall) → IsSound db.schema db.trees → SpellFirst db.trees h → db.schema ≡ first_schema
+first_schema_of : (db : Database) (h : Hall) → IsSound db.schema db.trees → SpellFirst db.trees h → db.schema ≡ first_schema
 first_schema_of db h sound spelt = lists_once _ db.schema first_schema sound.lists spelt.sound.lists
 
-pub says_first : (db : Database) (h : Hall) → db.schema ≡ first_schema → SpellFirst db.trees h → SaysSchema db (pos 1)
-says_first db h is spelt = record { reads = subst (λ s. IsQueryText s FIND_NUMBERS.now find_numbers_query find_numbers_columns) (sym is) find_numbers_is_first; last = (_, _, _, spelt.last) }
+module _ (db : Database) (h : Hall) (sound : IsSound db.schema db.trees) (spelt : SpellFirst db.trees h) where
+  says_first : SaysSchema db (pos 1)
+  says_first = record { reads = subst (λ s. IsQueryText s FIND_NUMBERS.now find_numbers_query) (sym (first_schema_of db h sound spelt)) find_numbers_is_first; last = (_, _, _, spelt.last) }
 
--- what a look at the first schema refuses of the tables of a hall, of either schema
-pub refused_early : (old : State) (h : Hall) (e : OpenFault) → IsLive old → IsTrue old.is_open → IsAnswerFor (pos 1) first_rows old.now (Err e) → e ≢ OtherVersion → BecomeHall old.now.trees h → e ≡ Unavailable
-refused_early old h NotAHall live here told other (inl spelt) =
-    absurd (let e = told.version (pos 2) (says_second old.now h (schema_of old.now h (live here).0 spelt) spelt) in cc)
-refused_early old h NotAHall live here told other (inr it) =
-    let is = first_schema_of old.now it.0 (live here).0 it.1 in
-    absurd (told.whole (says_first old.now it.0 is it.1) (subst (λ s. AreUnderstood s first_rows) (sym is) has_first.there) refl)
-refused_early old h OtherVersion live here told other become = absurd (other refl)
-refused_early old h Unavailable live here told other become = refl
+  has_first : HasTables First db.schema
+  has_first = subst (HasTables First) (sym (first_schema_of db h sound spelt)) (all_compiled first_schema first_rows plain_first)
 
-pub answered_early : (db : Database) (e : OpenFault) → IsAnswerFor (pos 1) first_rows db (Err e) → e ≢ OtherVersion → IsRightMigration db (Err e)
-answered_early db NotAHall told other = record { version = λ n says. inl (told.version n says); whole = λ says has is. told.whole says has.there refl }
-answered_early db OtherVersion told other = absurd (other refl)
-answered_early db Unavailable told other = record { version = λ n says. tt; whole = λ says has is. absurd (let e = is in cc) }
+  has_no_wipes : is_used db.schema (codes "wipes") ≡ false
+  has_no_wipes = ap (λ s. is_used s (codes "wipes")) (first_schema_of db h sound spelt) ∙ wipes_free
 
-pub told_other : (db : Database) (e : OpenFault) → e ≡ OtherVersion → IsAnswerFor (pos 1) first_rows db (Err e) → IsAnswerFor (pos 1) first_rows db (Err OtherVersion)
-told_other db e is told = subst (λ k. IsAnswerFor (pos 1) first_rows db (Err k)) is told
+-- ---- what is answered
 
--- ---- where the tables are those of the first schema
+two_is_one : {X : Type 0} → pos 2 ≡ pos 1 → X
+two_is_one e = absurd cc
 
-module _ (old mid : State) (live : IsLive old) (ready : IsReady old mid) where
-  still_says : (n : ℤ) → SaysSchema old.now n → SaysSchema mid.now n
-  still_says n says = subst (λ (d : Database). SaysSchema d n) (sym ready.same) says
+-- tables that spell a hall are refused as Unavailable alone
+second_alone : (db : Database) (h : Hall) (r : Result Migrated OpenFault) → IsSound db.schema db.trees → SpellHall db.trees h → TellsMigrated db r → IfErr r (λ e. e ≡ Unavailable)
+second_alone db h (Ok done) sound spelt told = tt
+second_alone db h (Err NotAHall) sound spelt (inl (inl told)) = two_is_one (told.told.0 (pos 2) (says_second db h sound spelt))
+second_alone db h (Err NotAHall) sound spelt (inl (inr told)) = absurd (told.told.1 (says_second db h sound spelt) (has_second db h sound spelt))
+second_alone db h (Err NotAHall) sound spelt (inr told) = two_is_one (told.0.told (pos 2) (says_second db h sound spelt)).0
+second_alone db h (Err OtherVersion) sound spelt told = absurd (told.1.told (pos 2) (says_second db h sound spelt) refl)
+second_alone db h (Err Unavailable) sound spelt told = refl
 
-  module _ (told : IsAnswerFor (pos 1) first_rows old.now (Ok tt)) where
-    -- a hall that they spell or become is one that they become
-    pub first_of : (h : Hall) → BecomeHall old.now.trees h → (g : Hall) × IsFirst mid.now g × IsCarriedOver g h
-    first_of h (inl spelt) = absurd (let e = told.version (pos 2) (says_second old.now h (schema_of old.now h (live ready.was_open).0 spelt) spelt) in cc)
-    first_of h (inr it) = (
-      it.0,
-      subst (λ (d : Database). IsFirst d it.0) (sym ready.same) (record { schema = first_schema_of old.now it.0 (live ready.was_open).0 it.1; spelt = it.1 }),
-      it.2,
-    )
+-- and so are those of the first schema
+first_alone : (db : Database) (h : Hall) (r : Result Migrated OpenFault) → IsSound db.schema db.trees → SpellFirst db.trees h → TellsMigrated db r → IfErr r (λ e. e ≡ Unavailable)
+first_alone db h (Ok done) sound spelt told = tt
+first_alone db h (Err NotAHall) sound spelt (inl (inl told)) = absurd (told.told.1 (says_first db h sound spelt) (has_first db h sound spelt))
+first_alone db h (Err NotAHall) sound spelt (inl (inr told)) = two_is_one (sym (told.told.0 (pos 1) (says_first db h sound spelt)))
+first_alone db h (Err NotAHall) sound spelt (inr told) = absurd (true≢false (sym told.1 ∙ has_no_wipes db h sound spelt))
+first_alone db h (Err OtherVersion) sound spelt told = absurd (told.0.told (pos 1) (says_first db h sound spelt) refl)
+first_alone db h (Err Unavailable) sound spelt told = refl
 
-    pub answered_now : IsRightMigration old.now (Ok Now)
-    answered_now = record { version = told.version; whole = λ says has is. absurd (let e = is in cc) }
+pub refused_alone : (old : State) (h : Hall) (r : Result Migrated OpenFault) → IsLive old → IsTrue old.is_open → BecomeHall old.now.trees h → IsRightMigration old.now r → IfErr r (λ e. e ≡ Unavailable)
+refused_alone old h r live here (inl spelt) told = second_alone old.now h r (live here).0 spelt told.told
+refused_alone old h r live here (inr it) told = first_alone old.now it.0 r (live here).0 it.1 told.told
 
-    pub refused_carry : (h : Hall) (e : OpenFault) → (e ≡ NotAHall → is_used mid.now.schema (codes "wipes") ≡ true) → e ≢ OtherVersion → BecomeHall old.now.trees h → e ≡ Unavailable
-    refused_carry h NotAHall used other become =
-        absurd (true≢false (sym (used refl) ∙ ap (λ s. is_used s (codes "wipes")) (first_of h become).1.schema ∙ wipes_free))
-    refused_carry h OtherVersion used other become = absurd (other refl)
-    refused_carry h Unavailable used other become = refl
+module _ (db now : Database) (same : now ≡ db) where
+  -- the tables of the first schema weren't carried over, since a name is used that is to be made
+  pub used_right : (e : OpenFault) → IsAnswerFor First db (Ok tt) → (e ≡ NotAHall → is_used now.schema (codes "wipes") ≡ true) → e ≢ OtherVersion → IsRightMigration db (Err e)
+  used_right NotAHall told used other = record { told = inr (told, subst (λ (d : Database). is_used d.schema (codes "wipes") ≡ true) same (used refl)) }
+  used_right OtherVersion told used other = absurd (other refl)
+  used_right Unavailable told used other = record { told = tt }
 
-    pub answered_carry : (e : OpenFault) → (e ≡ NotAHall → is_used mid.now.schema (codes "wipes") ≡ true) → e ≢ OtherVersion → IsRightMigration old.now (Err e)
-    answered_carry NotAHall used other = record {
-      version = λ n says. inl (told.version n says);
-      whole = λ says has is. true≢false (sym (used refl) ∙ ap (λ (d : Database). is_used d.schema (codes "wipes")) ready.same ∙ has.free);
-    }
-    answered_carry OtherVersion used other = absurd (other refl)
-    answered_carry Unavailable used other = record { version = λ n says. tt; whole = λ says has is. absurd (let e = is in cc) }
+  -- the tables aren't of the first schema, and the second was looked for
+  pub second_right : (e : OpenFault) → IsAnswerFor First db (Err OtherVersion) → IsRightAnswer now (Err e) → IsRightMigration db (Err e)
+  second_right NotAHall told more = record { told = inl (inr (subst (λ d. IsRightAnswer d (Err NotAHall)) same more)) }
+  second_right OtherVersion told more = record { told = (told, subst (λ d. IsRightAnswer d (Err OtherVersion)) same more) }
+  second_right Unavailable told more = record { told = tt }
 
-  -- ---- where they aren't
+-- a table is missing, or it couldn't be said
+pub first_right : (db : Database) (e : OpenFault) → e ≢ OtherVersion → IsAnswerFor First db (Err e) → IsRightMigration db (Err e)
+first_right db NotAHall other told = record { told = inl (inl told) }
+first_right db OtherVersion other told = absurd (other refl)
+first_right db Unavailable other told = record { told = tt }
 
-  module _ (told : IsAnswerFor (pos 1) first_rows old.now (Err OtherVersion)) where
-    -- a hall that they spell or become is one that they spell
-    pub second_of : (h : Hall) → BecomeHall old.now.trees h → SpellHall mid.now.trees h
-    second_of h (inl spelt) = subst (λ (d : Database). SpellHall d.trees h) (sym ready.same) spelt
-    second_of h (inr it) = absurd (told.version (pos 1) (says_first old.now it.0 (first_schema_of old.now it.0 (live ready.was_open).0 it.1) it.1) refl)
+-- ---- which halls they spell or become
 
-    pub answered_already : IsRightAnswer mid.now (Ok tt) → IsRightMigration old.now (Ok Already)
-    answered_already more = record { version = λ n says. more.version n (still_says n says); whole = λ says has is. absurd (let e = is in cc) }
+module _ (old mid : State) (h : Hall) (live : IsLive old) (ready : IsReady old mid) where
+  -- where they are of the first schema, it's one that another one becomes
+  pub first_of : IsAnswerFor First old.now (Ok tt) → BecomeHall old.now.trees h → (g : Hall) × IsFirst mid.now g × IsCarriedOver g h
+  first_of told (inl spelt) = two_is_one (told.told (pos 2) (says_second old.now h (live ready.was_open).0 spelt)).0
+  first_of told (inr it) = (
+    it.0,
+    subst (λ (d : Database). IsFirst d it.0) (sym ready.same) (record { schema = first_schema_of old.now it.0 (live ready.was_open).0 it.1; spelt = it.1 }),
+    it.2,
+  )
 
-    pub answered_second : (e : OpenFault) → IsRightAnswer mid.now (Err e) → IsRightMigration old.now (Err e)
-    answered_second NotAHall more = record {
-      version = λ n says. inr (more.version n (still_says n says));
-      whole = λ says has is. absurd (let e = more.version (pos 1) (still_says (pos 1) says) in cc);
-    }
-    answered_second OtherVersion more = record { version = λ n says. (told.version n says, more.version n (still_says n says)); whole = λ says has is. absurd (let e = is in cc) }
-    answered_second Unavailable more = record { version = λ n says. tt; whole = λ says has is. absurd (let e = is in cc) }
+  -- where they aren't, it's spelt
+  pub second_of : IsAnswerFor First old.now (Err OtherVersion) → BecomeHall old.now.trees h → SpellHall mid.now.trees h
+  second_of told (inl spelt) = subst (λ (d : Database). SpellHall d.trees h) (sym ready.same) spelt
+  second_of told (inr it) = absurd (told.told (pos 1) (says_first old.now it.0 (live ready.was_open).0 it.1) refl)
 
 -- ---- from call to call
 
 -- what commits nothing adds nothing to what a stop leaves
-pub left_before : (a b c : State) (h : Hall) → Survives a b (λ _. ⊥) → HasCleanDisk b → MayLeaveBesides h b c → MayLeaveBesides h a c
-left_before a b c h one clean two db may = elim (two db may) [ inl before ↦ elim (one.crash clean db before) [ inl start ↦ inl start | inr none ↦ absurd none ] | inr spelt ↦ inr spelt ]
+pub left_same : {a b : State} (h : Hall) → Survives a b (λ _. ⊥) → HasCleanDisk b → MayLeaveBesides h a b
+left_same h one clean db may = elim (one.crash clean db may) [ inl start ↦ inl start | inr none ↦ absurd none ]
 
-pub left_same : (a b : State) (h : Hall) → Survives a b (λ _. ⊥) → HasCleanDisk b → MayLeaveBesides h a b
-left_same a b h one clean db may = elim (one.crash clean db may) [ inl start ↦ inl start | inr none ↦ absurd none ]
+pub made_after : {a b c : State} {Y Z E F : Type 0} {r : Result Y E} (s : Result Z F) (h : Hall) → Survives a b (λ _. ⊥) → HasCleanDisk b → IsMade b c r h → (OnOk r (IsHeld c h) → OnOk s (IsHeld c h)) → IsMade a c s h
+made_after s h one clean made held = record {
+  held = held made.held;
+  crash = λ db may. elim (made.crash db may) [ inl before ↦ left_same h one clean db before | inr spelt ↦ inr spelt ];
+}
+
+-- what holds of each hall at Ok
+pub on_each : {Y E : Type 0} (P Q : Hall → Type 0) (r : Result Y E) → ((h : Hall) → P h → OnOk r (Q h)) → OnOk r ((h : Hall) → P h → Q h)
+on_each P Q (Ok y) each = each
+on_each P Q (Err e) each = tt

@@ -1,16 +1,6 @@
 -- The tables of a new hall while they are made, and what a refusal and a stop leave.
-use Rattle.std.specs.Prelude.{◌≡◌, ◌⊎◌, Bool, [], IsTrue}
-use Rattle.std.specs.List.{AllByRecursion, list_any}
-use Rattle.sqlite.specs.Change.{is_used}
-use Rattle.sqlite.specs.Effect.{Database}
-use Rattle.sqlite.specs.Schema.{Schema}
-use Rattle.sqlite.specs.State.{State}
-use Rattle.sqlite.specs.Table.{Table}
-use Rattle.sqlite.specs.Tree.{Trees}
-use Rattle.hall_types.specs.Hall.{Hall, second, default_pool}
-use Rattle.hall_types.specs.Rows.{no_rows, put}
-use Rattle.sql_schema.specs.Tables.{all_tables}
-use Rattle.sql_schema.specs.Spelling.{HallRows, SpellHall}
+use Rattle.sql_schema.specs.Words.{AllByRecursion, list_any, is_used, Database, Schema, State, Table, Trees, Index, Hall, new_hall, second, how_many, no_rows, MakesIndex, MakesTable, IsHeld, all_tables, Counts, HallRows, SpellHall, is_in}
+use Rattle.std.specs.Prelude.{◌≡◌, ◌⊎◌, ℕ, Bool, List, [], ◌∷◌, Result, OnOk, IsTrue}
 
 -- a table, an index or a view has the name of one of a hall's tables
 abbrev pub is_a_name_taken : Schema → Bool
@@ -21,30 +11,31 @@ pub record HasNoRows (db : Database) (made : Schema) : Type 0 where
   pub schema : db.schema ≡ made
   pub empty : AllByRecursion (λ (t : Table). db.trees t.tree ≡ []) made.tables
 
+-- the text makes a table or an index
+abbrev pub MakesOne : Schema → List ℕ → Schema → Type 0
+MakesOne before sql after =
+    ((t : Table) × MakesTable before sql t after) ⊎ ((place : ℕ) × (t : Table) × (i : Index) × MakesIndex before sql place t i after)
+
+-- the texts, one after another, make the second schema of the first
+abbrev pub MakesAll : Schema → List (List ℕ) → Schema → Type 0
+MakesAll before [] after = before ≡ after
+MakesAll before (sql ∷ more) after = (mid : Schema) × MakesOne before sql mid × MakesAll mid more after
+
+-- the tables have no row, and the texts make this schema of theirs
+abbrev pub CanMake : Database → List (List ℕ) → Schema → Type 0
+CanMake db texts after = (before : Schema) × HasNoRows db before × MakesAll before texts after
+
 -- a hall that has nothing yet, not even its pool and its admin
 abbrev pub bare_hall : Hall
-bare_hall = record {
-  schema = second;
-  operators = no_rows;
-  pools = no_rows;
-  members = no_rows;
-  images = no_rows;
-  lives = no_rows;
-  machines = no_rows;
-  interfaces = no_rows;
-  boots = no_rows;
-  orders = no_rows;
-  receipts = no_rows;
-  last = record { machine = 0; boot = 0; order = 0 };
-}
+bare_hall = record (new_hall second [] []) { operators = no_rows; pools = no_rows }
 
--- with the pool that every hall has
-abbrev pub with_default_pool : Hall → Hall
-with_default_pool h = record h { pools = put default_pool (record { name = default_pool }) h.pools }
+-- how many machines of a hall each pool has in each status
+abbrev pub counts_of : Hall → Counts
+counts_of h = λ pool status. how_many (is_in pool status) h.machines
 
--- a hall without machines, as its tables have it
-abbrev pub without_machines : Hall → HallRows
-without_machines h = record { hall = h; counts = λ pool status. 0; wipes = no_rows }
+-- the rows of a hall, while no machine has its kind of erasing
+abbrev pub without_kinds : Hall → HallRows
+without_kinds h = record { hall = h; counts = counts_of h; wipes = no_rows }
 
 -- while the connection is open, all that it shows is committed
 abbrev pub IsFlat : State → Type 0
@@ -57,3 +48,8 @@ KeepsTables old new = IsTrue new.is_open → IsTrue old.is_open × (new.now ≡ 
 -- a stop leaves what it left before, or tables that spell this hall
 abbrev pub MayLeaveBesides : Hall → State → State → Type 0
 MayLeaveBesides h old new = (db : Trees) → new.may_leave db → old.may_leave db ⊎ SpellHall db h
+
+-- all tables of this hall were to be made at once: they are, or a stop may leave them
+pub record IsMade (old new : State) {Y E : Type 0} (r : Result Y E) (h : Hall) : Type 0 where
+  pub held : OnOk r (IsHeld new h)
+  pub crash : MayLeaveBesides h old new

@@ -1,3 +1,5 @@
 pub mod Creating
 pub mod Migrating
 pub mod Opening
+pub mod Running
+pub mod Probe

@@ -1,41 +1,14 @@
 -- The tables of a hall of the first schema, and the hall that they become. The first schema knows one kind of erasing, full, and has no
 -- table for it.
-use Rattle.std.specs.Prelude.{◌≡◌, ◌≢◌, ◌⊎◌, ℕ, ℤ, pos, Bool, true, false, IsTrue, List, [], ◌∷◌, Some, None, option_map, ⊤, Result, Ok, Err, codes, if◌then◌else◌}
-use Rattle.sqlite.specs.declared.types.Value.TheVariants.{Null, Int}
-use Rattle.sqlite.specs.Change.{is_used}
-use Rattle.sqlite.specs.Collation.TheVariants.{Binary}
-use Rattle.sqlite.specs.Command.{Command}
-use Rattle.sqlite.specs.Command.TheVariants.{Update}
-use Rattle.sqlite.specs.Effect.{Database}
-use Rattle.sqlite.specs.Order.{Row}
-use Rattle.sqlite.specs.Schema.{Schema}
-use Rattle.sqlite.specs.State.{State}
-use Rattle.sqlite.specs.Term.{lit, op2}
-use Rattle.sqlite.specs.Tree.{Trees}
-use Rattle.sqlite_catalog.specs.Listing.{IsSound}
-use Rattle.sqlite_sql.specs.declared.ops.BinaryOp.TheVariants.{Compare}
-use Rattle.sqlite_sql.specs.declared.ops.CompareOp.TheVariants.{Eq}
-use Rattle.hall_types.specs.Hall.{Hall, first, second, pair}
-use Rattle.hall_types.specs.Kinds.{arch_number}
-use Rattle.hall_types.specs.Rows.{Rows, numbers, at, put, no_rows, listed, how_many}
-use Rattle.hall_types.specs.declared.kinds.Erase.TheVariants.{Full}
-use Rattle.hall_types.specs.declared.machine.Machine.{Machine}
-use Rattle.hall_types.specs.declared.number.Numbers.{Numbers}
-use Rattle.hall_types.specs.declared.status.Status.{Status}
-use Rattle.hall_types.specs.declared.status.Status.TheVariants.{DiskErasing, FailedDiskErasing}
-use Rattle.sql_schema.specs.Columns.{Wipe, number, operator_columns, pool_columns, member_columns, live_columns, machine_columns, interface_columns, boot_columns, order_columns, receipt_columns}
-use Rattle.sql_schema.specs.Queries.{cell, from_one}
-use Rattle.sql_schema.specs.Spelling.{AreCounts, AreImages, Counts, HallRows, IsNamed, IsNumbered, SpellHall, is_in}
-use Rattle.sql_schema.specs.Statements.{only}
-use Rattle.sql_schema.specs.Tables.{hall_schema, stage}
-use Rattle.sql_tables.specs.Opening.{AreUnderstood, SaysSchema}
+use Rattle.sql_schema.specs.Words.{TableName, of_last, of_wipes, described, SpellHall, Null, Int, is_used, Binary, Command, Update, Database, Row, Schema, lit, op2, Trees, IsSound, Compare, Eq, Hall, first, second, Rows, numbers, at, put, listed, Full, Machine, Numbers, Status, DiskErasing, FailedDiskErasing, Wipe, number, cell, from_one, HallRows, only, stage}
+use Rattle.std.specs.Prelude.{Bool, true, false, ◌≡◌, ◌⊎◌, ℕ, pos, List, [], ◌∷◌, Some, None, option_map, ⊤, Result, Ok, Err, codes, if◌then◌else◌}
+use Rattle.sql_tables.specs.Creating.{without_kinds}
+use Rattle.sql_tables.specs.Opening.{IsAnswerFor}
+use Rattle.sql_tables.specs.declared.looking.Wanted.TheVariants.{First, Second}
 use Rattle.sql_tables.specs.declared.fault.OpenFault.{OpenFault}
 use Rattle.sql_tables.specs.declared.fault.OpenFault.TheVariants.{NotAHall, OtherVersion, Unavailable}
 use Rattle.sql_tables.specs.declared.migrating.Migrated.{Migrated}
 use Rattle.sql_tables.specs.declared.migrating.Migrated.TheVariants.{Already, Now}
-use Rattle.sql_schema.specs.declared.count_statements.TheConstants.{LIST_COUNTS}
-use Rattle.sql_schema.specs.declared.machine_statements.TheConstants.{FIND_BOOT, FIND_INTERFACE, FIND_MACHINE, FIND_ORDER}
-use Rattle.sql_schema.specs.declared.name_statements.TheConstants.{FIND_IMAGE, FIND_LIVE, FIND_MEMBER, FIND_OPERATOR, FIND_POOL, FIND_RECEIPT}
 
 -- ---- the first schema
 
@@ -47,23 +20,15 @@ first_schema = stage 12 12
 abbrev pub first_numbers_row : Numbers → Row
 first_numbers_row last = number 1 ∷ Null ∷ number 1 ∷ number last.machine ∷ number last.boot ∷ number last.order ∷ []
 
--- how many machines of a hall each pool has in each status
-abbrev pub counts_of : Hall → Counts
-counts_of h = λ pool status. how_many (is_in pool status) h.machines
+-- the tables of the first schema but `hall`
+abbrev pub is_first : TableName → Bool
+is_first of_last = false
+is_first of_wipes = false
+is_first t = true
 
--- the tables but `hall` have the rows of this hall, in which no machine keeps a kind of erasing
+-- these have the rows of this hall, in which no machine keeps a kind of erasing
 pub record AreFirstRows (db : Trees) (h : Hall) : Type 0 where
-  pub operators : IsNamed (λ o. o.name) operator_columns (db 1) h.operators
-  pub pools : IsNamed (λ p. p.name) pool_columns (db 4) h.pools
-  pub members : IsNamed (λ m. pair m.pool m.operator) member_columns (db 6) h.members
-  pub images : AreImages (db 8) h.images
-  pub lives : IsNumbered (λ l. arch_number l.arch) live_columns (db 10) h.lives
-  pub machines : IsNumbered (λ m. m.id) machine_columns (db 11) h.machines
-  pub interfaces : IsNamed (λ i. i.mac) interface_columns (db 13) h.interfaces
-  pub boots : IsNumbered (λ b. b.number) boot_columns (db 15) h.boots
-  pub orders : IsNumbered (λ o. o.number) order_columns (db 16) h.orders
-  pub receipts : IsNamed (λ r. pair r.operator r.key) receipt_columns (db 17) h.receipts
-  pub counts : AreCounts (db 19) (counts_of h)
+  pub each : (t : TableName) → is_first t ≡ true → (described t).stores (db (described t).table.tree) ((described t).held (without_kinds h))
   pub kinds : (id : ℕ) (m : Machine) → at h.machines id ≡ Some m → m.erase ≡ None
 
 -- the trees spell this hall of the first schema
@@ -98,34 +63,18 @@ BecomeHall db h = SpellHall db h ⊎ ((g : Hall) × SpellFirst db g × IsCarried
 
 -- ---- what is answered
 
--- queries that name all columns of each table of the first schema but `hall`
-abbrev pub first_rows : List (List ℕ)
-first_rows = FIND_OPERATOR.now ∷ FIND_POOL.now ∷ FIND_MEMBER.now ∷ FIND_IMAGE.now ∷ FIND_LIVE.now ∷ FIND_MACHINE.now ∷ FIND_INTERFACE.now ∷ FIND_BOOT.now ∷ FIND_ORDER.now ∷ FIND_RECEIPT.now ∷ LIST_COUNTS.now ∷ []
-
--- each table of the first schema but `hall` is there with its columns, and nothing has the name of the table that the second has more
-pub record HasFirstTables (schema : Schema) : Type 0 where
-  pub there : AreUnderstood schema first_rows
-  pub free : is_used schema (codes "wipes") ≡ false
-
--- what is answered of tables whose schema has this number: a want of memory or of the disk can be answered of any
-abbrev pub TellsMigrated : ℤ → Result Migrated OpenFault → Type 0
-TellsMigrated n (Ok Now) = n ≡ pos 1
-TellsMigrated n (Ok Already) = n ≡ pos 2
-TellsMigrated n (Err NotAHall) = (n ≡ pos 1) ⊎ (n ≡ pos 2)
-TellsMigrated n (Err OtherVersion) = (n ≢ pos 1) × (n ≢ pos 2)
-TellsMigrated n (Err Unavailable) = ⊤
+-- what an answer tells, where a want of memory or of the disk can be answered of any tables
+abbrev pub TellsMigrated : Database → Result Migrated OpenFault → Type 0
+TellsMigrated db (Ok Now) = IsAnswerFor First db (Ok tt)
+TellsMigrated db (Ok Already) = IsAnswerFor Second db (Ok tt)
+-- one of the tables isn't there, or those of the first schema are, and something has the name of the table that the second has more
+TellsMigrated db (Err NotAHall) = (IsAnswerFor First db (Err NotAHall) ⊎ IsAnswerFor Second db (Err NotAHall)) ⊎ (IsAnswerFor First db (Ok tt) × (is_used db.schema (codes "wipes") ≡ true))
+TellsMigrated db (Err OtherVersion) = IsAnswerFor First db (Err OtherVersion) × IsAnswerFor Second db (Err OtherVersion)
+TellsMigrated db (Err Unavailable) = ⊤
 
 -- what the answer says of the tables of a file
 pub record IsRightMigration (db : Database) (r : Result Migrated OpenFault) : Type 0 where
-  pub version : (n : ℤ) → SaysSchema db n → TellsMigrated n r
-  -- where the tables of the first schema are there, NotAHall isn't answered
-  pub whole : SaysSchema db (pos 1) → HasFirstTables db.schema → r ≢ Err NotAHall
-
--- the tables were looked at: the connection was open and is, and shows what it showed
-pub record IsReady (old new : State) : Type 0 where
-  pub was_open : IsTrue old.is_open
-  pub is_open : IsTrue new.is_open
-  pub same : new.now ≡ old.now
+  pub told : TellsMigrated db r
 
 -- ---- steps within the transaction
 
@@ -141,16 +90,9 @@ pub record IsFirst (db : Database) (h : Hall) : Type 0 where
   pub schema : db.schema ≡ first_schema
   pub spelt : SpellFirst db.trees h
 
--- once the table of kinds of erasing is made, it has no row, and all other rows are as they were
-pub record IsBetween (db : Database) (h : Hall) : Type 0 where
-  pub schema : db.schema ≡ hall_schema
-  pub last : db.trees 0 ≡ first_numbers_row h.last ∷ []
-  pub rows : AreFirstRows db.trees h
-  pub wipes : db.trees 24 ≡ []
-
 -- once `hall` names the second schema, the tables spell these rows
 abbrev pub as_second : Hall → HallRows
-as_second h = record { hall = record h { schema = second }; counts = counts_of h; wipes = no_rows }
+as_second h = without_kinds (record h { schema = second })
 
 -- a machine whose disks are to be erased, or were to be, has a row for that
 abbrev pub kind_put : Machine → Rows numbers Wipe → Rows numbers Wipe

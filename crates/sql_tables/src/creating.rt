@@ -1,16 +1,11 @@
 //! A new hall is made.
-ghost use Rattle.std.specs.Prelude.{◌≡◌, ◌≢◌, ◌↔◌, IsTrue, OnOk, OnErr, Err, false, [], ◌∷◌};
-ghost use Rattle.std.specs.List.{list_any};
-ghost use Rattle.sqlite.specs.Change.{is_used};
-ghost use Rattle.sqlite.specs.Held.{state};
-ghost use Rattle.sqlite.specs.State.{HasCleanDisk};
-ghost use Rattle.hall_types.specs.Hall.{new_hall, second};
-ghost use Rattle.sql_schema.specs.Tables.{no_schema};
-ghost use Rattle.sql_schema.specs.Holding.{IsHeld, Leaves};
-ghost use Rattle.sql_tables.specs.Creating.{IsFlat, KeepsTables, MayLeaveBesides, is_a_name_taken};
+ghost use Rattle.sql_schema.specs.Words.{list_any, is_used, state, HasCleanDisk, new_hall, second, no_schema, IsHeld, Leaves};
+ghost use Rattle.std.specs.Prelude.{◌≡◌, ◌↔◌, IfErr, IsTrue, OnOk, OnErr, Err, false, [], ◌∷◌};
+ghost use Rattle.sql_tables.specs.Creating.{IsFlat, IsMade, KeepsTables, MayLeaveBesides, is_a_name_taken};
 
 use crate::fault::CreateFault;
 use crate::making::make_hall;
+use crate::running::end;
 use hall_types::{Digest, Name};
 use sqlite::{Alter, Connection};
 use sqlite_schema::schema::Schema;
@@ -70,22 +65,13 @@ fn make_in<S: Alter>(
     requires blank { (state S.Store conn.old).now.schema ≡ no_schema }
     requires autocommit { (state S.Store conn.old).in_transaction ≡ false }
     ensures clean { HasCleanDisk (state S.Store conn.new) → HasCleanDisk (state S.Store conn.old) }
-    ensures made { HasCleanDisk (state S.Store conn.new) → OnOk result (IsHeld (state S.Store conn.new) (new_hall second admin digest)) }
-    ensures never { result ≢ Err CreateFault.NotEmpty }
+    ensures made { HasCleanDisk (state S.Store conn.new) → IsMade (state S.Store conn.old) (state S.Store conn.new) result (new_hall second admin digest) }
+    ensures fault { IfErr result (λ e. e ≡ CreateFault.Unavailable) }
     ensures refused { HasCleanDisk (state S.Store conn.new) → IsFlat (state S.Store conn.old) → OnErr result (KeepsTables (state S.Store conn.old) (state S.Store conn.new)) }
-    ensures crash { HasCleanDisk (state S.Store conn.new) → MayLeaveBesides (new_hall second admin digest) (state S.Store conn.old) (state S.Store conn.new) }
 {
     let mut tx = conn.transaction();
-    match make_hall(&mut tx, admin, digest) {
-        Ok(_) => match tx.commit() {
-            Ok(()) => Ok(()),
-            Err(_) => Err(CreateFault::Unavailable),
-        },
-        Err(_) => {
-            tx.rollback();
-            Err(CreateFault::Unavailable)
-        }
-    }
+    let done = make_hall(&mut tx, admin, digest);
+    end(tx, done, CreateFault::Unavailable)
 }
 
 /// Makes the tables of a new hall in a file without tables, in one transaction, with this enabled admin and this digest of

@@ -1,57 +1,35 @@
 //! A file's tables are looked at before its hall is used.
-ghost use Rattle.std.specs.Prelude.{◌≡◌, ◌≢◌, pos, Err, IfErr, IsTrue, OnOk, false, [], ◌∷◌};
-ghost use Rattle.sqlite.specs.Held.{state};
-ghost use Rattle.sqlite.specs.State.{HasCleanDisk, IsLive, Survives};
-ghost use Rattle.hall_types.specs.Hall.{Hall};
-ghost use Rattle.sql_schema.specs.Holding.{IsHeld, Leaves};
-ghost use Rattle.sql_schema.specs.Spelling.{SpellHall};
-ghost use Rattle.sql_tables.specs.Creating.{IsFlat, KeepsTables};
-ghost use Rattle.sql_tables.specs.Migrating.{first_rows};
-ghost use Rattle.sql_tables.specs.Opening.{IsAnswerFor, IsRightAnswer};
+ghost use Rattle.sql_schema.specs.Words.{state, HasCleanDisk, IsLive, Survives, Hall, IsHeld, Leaves, SpellHall};
+ghost use Rattle.std.specs.Prelude.{◌≡◌, IfErr, IsTrue, OnOk, false, [], ◌∷◌};
+ghost use Rattle.sql_tables.specs.Creating.{KeepsTables};
+ghost use Rattle.sql_tables.specs.Opening.{IfSaid, IsAnswerFor, IsReady, IsRightAnswer};
 
 use crate::fault::OpenFault;
-use crate::looking::{look, look_at_first};
+use crate::looking::{Wanted, look};
 use sql_schema::is_running;
 use sqlite::{Alter, Connection};
 
-// The schema that a connection has is that of its tables.
-pub(crate) fn schema_is_live<S: Alter>(conn: &Connection<S>)
-    ensures { IsLive (state S.Store conn.now) }
+/// Whether the tables are those of a hall of this schema, looked at in a transaction that is undone. Unless that can't be
+/// said, the connection is open.
+pub(crate) fn look_for<S: Alter>(conn: &mut Connection<S>, wanted: Wanted) -> Result<(), OpenFault>
+    ensures live { IsLive (state S.Store conn.old) }
+    ensures ready { HasCleanDisk (state S.Store conn.new) → IfSaid result (IsReady (state S.Store conn.old) (state S.Store conn.new)) }
+    ensures answered { HasCleanDisk (state S.Store conn.new) → IsAnswerFor wanted (state S.Store conn.old).now result }
+    ensures kept { HasCleanDisk (state S.Store conn.new) → KeepsTables (state S.Store conn.old) (state S.Store conn.new) }
+    ensures survives { Survives (state S.Store conn.old) (state S.Store conn.new) (λ _. ⊥) }
 {
     let _schema = conn.schema();
-}
-
-// The look in a transaction that is undone.
-fn look_in<S: Alter>(conn: &mut Connection<S>) -> Result<(), OpenFault>
-    ensures answered { HasCleanDisk (state S.Store conn.new) → IsRightAnswer (state S.Store conn.old).now result }
-    ensures kept { HasCleanDisk (state S.Store conn.new) → KeepsTables (state S.Store conn.old) (state S.Store conn.new) }
-    ensures flat { HasCleanDisk (state S.Store conn.new) → OnOk result (IsFlat (state S.Store conn.new)) }
-    ensures autocommit { OnOk result ((state S.Store conn.new).in_transaction ≡ false) }
-    ensures survives { Survives (state S.Store conn.old) (state S.Store conn.new) (λ _. ⊥) }
-{
     if !conn.is_autocommit() {
         return Err(OpenFault::Unavailable);
     }
     let mut tx = conn.transaction();
-    let found = look(&mut tx);
+    let found = look(&mut tx, wanted);
     tx.rollback();
-    found
-}
-
-/// Whether the tables are those of a hall of the first schema, looked at in a transaction that is undone.
-pub(crate) fn look_at_first_tables<S: Alter>(conn: &mut Connection<S>) -> Result<(), OpenFault>
-    ensures answered { HasCleanDisk (state S.Store conn.new) → IsAnswerFor (pos 1) first_rows (state S.Store conn.old).now result }
-    ensures kept { HasCleanDisk (state S.Store conn.new) → KeepsTables (state S.Store conn.old) (state S.Store conn.new) }
-    ensures flat { HasCleanDisk (state S.Store conn.new) → result ≢ Err OpenFault.Unavailable → IsFlat (state S.Store conn.new) }
-    ensures survives { Survives (state S.Store conn.old) (state S.Store conn.new) (λ _. ⊥) }
-{
-    if !conn.is_autocommit() {
-        return Err(OpenFault::Unavailable);
+    if is_running(conn) {
+        found
+    } else {
+        Err(OpenFault::Unavailable)
     }
-    let mut tx = conn.transaction();
-    let found = look_at_first(&mut tx);
-    tx.rollback();
-    found
 }
 
 /// Whether the tables of a file are those of a hall of the second schema. It asks for the table `hall` and its one row,
@@ -67,13 +45,5 @@ pub fn look_at_tables<S: Alter>(conn: &mut Connection<S>) -> Result<(), OpenFaul
     ensures kept { HasCleanDisk (state S.Store conn.new) → KeepsTables (state S.Store conn.old) (state S.Store conn.new) }
     ensures survives { Survives (state S.Store conn.old) (state S.Store conn.new) (λ _. ⊥) }
 {
-    schema_is_live(conn);
-    if let Err(fault) = look_in(conn) {
-        return Err(fault);
-    }
-    if is_running(conn) {
-        Ok(())
-    } else {
-        Err(OpenFault::Unavailable)
-    }
+    look_for(conn, Wanted::Second)
 }

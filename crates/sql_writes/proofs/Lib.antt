@@ -1,5 +1,5 @@
-pub mod BetweenLemmas
 pub mod CountLemmas
 pub mod MachineLemmas
 pub mod RemovalLemmas
+pub mod StepLemmas
 pub mod WriteLemmas

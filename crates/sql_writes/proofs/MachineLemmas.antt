@@ -1,61 +1,70 @@
--- What is known of a machine that is there.
-use Rattle.std.proofs.Common.{◌≡◌, ℕ, Option, Some, None, option_map, refl, sym, ap, ap₂, ◌∙◌}
-use Rattle.sqlite.specs.declared.types.Value.TheVariants.{Text}
-use Rattle.sqlite.specs.Order.{Row, column}
-use Rattle.sqlite.specs.State.{State}
-use Rattle.hall_types.specs.Status.{status_number}
-use Rattle.sql_schema.specs.Columns.{number, machine_values}
-use Rattle.sql_schema.specs.ColumnLaws.{same_status}
-use Rattle.hall_types.specs.Rows.{at}
-use Rattle.hall_types.specs.Hall.{Hall}
-use Rattle.hall_types.specs.declared.machine.Machine.{Machine}
+-- A machine's row, read and put.
+use Rattle.sql_schema.specs.Words.{equal_keys, finds_kept, machines, Counts, HallRows, numbers, at, put, of_machines, AreRowsOf, Spells, SpellHall, option_to_list, Database, Error, Text, Row, column, State, Shown, Hall, status_number, Machine, number, machine_columns, machine_values, same_status, IsWithin, find_machine_is, equals, shown_answer, query_keeps, query_mode, shown_same, hall_schema}
+use Rattle.std.proofs.Common.{◌≡◌, ℕ, List, [], ◌∷◌, Option, Some, None, Ok, option_map, map, refl, sym, ap, ap₂, subst, ◌∙◌}
 use Rattle.hall_store.specs.Versions.{version_of}
-use Rattle.sql_schema.specs.Holding.{IsWithin}
-use Rattle.sql_schema.specs.Spelling.{HallRows}
+use Rattle.sql_schema.specs.declared.machine_statements.TheConstants.{FIND_MACHINE}
+use Rattle.sql_rows.specs.Steps.{IsStep}
 use Rattle.sql_machines.specs.Machines.{HasVersion, with_machine}
-use Rattle.sql_writes.specs.Between.{IsBetween, with_row}
-use Rattle.sql_writes.specs.Groups.{group_of}
+use Rattle.sql_machines.specs.Wipes.{with_wipe}
+use Rattle.sql_machines.specs.WipeLaws.{wipes_put}
+use Rattle.sql_writes.specs.Machines.{group_of, with_row}
 use Rattle.sql_writes.specs.Within.{IsWithinHall}
 use Rattle.sql_writes.specs.declared.groups.Group.{Group}
-use Rattle.sql_writes.proofs.BetweenLemmas.{puts_row}
+use Rattle.sql_writes.proofs.CountLemmas.{AreCounted}
 
-pub version_is : (c : HallRows) (h : Hall) → c.hall ≡ h → (id was : ℕ) → HasVersion c id was → Some was ≡ version_of h id
-version_is c h same id was has = sym (ap (option_map (λ (m : Machine). m.version)) (ap (λ (x : Hall). at x.machines id) (sym same) ∙ has.1) ∙ ap (λ n. Some n) has.2)
-
--- where a group was found, its machine is there
-pub there_is : (o : Option Machine) (group : Group) → Some group ≡ option_map group_of o → (there : Machine) × (o ≡ Some there) × (group ≡ group_of there)
-there_is None group e = absurd cc
-there_is (Some m) group e = (m, refl, cc)
-
-pub none_there : (o : Option Machine) → None ≡ option_map group_of o → o ≡ None
-none_there None e = refl
-none_there (Some m) e = cc
+-- a read of a machine's row
+pub finds_machine : (old new : State) (id : ℕ) (rows : List Row) → Shown FIND_MACHINE.now (number id ∷ []) old new rows
+    → IsStep old new {E = Error} (Ok rows) (λ rows. (before h : Hall) → IsWithinHall old before h → (rows ≡ map machine_values (option_to_list (at h.machines id))) × IsWithinHall new before h)
+finds_machine old new id rows shown = record {
+  gives = λ before h held.
+      let c = held.hall_rows in
+      let within = held.within in
+      let answer = shown_answer hall_schema FIND_MACHINE.now find_machine_is (number id ∷ []) old new rows within.spelt.schema shown in
+      let same = shown_same FIND_MACHINE.now (number id ∷ []) hall_schema find_machine_is.plain old new rows within.spelt.schema shown in (
+        finds_kept numbers machines.rowid machines.item machines.key_of machine_columns (old.now.trees 11) c.hall.machines (within.spelt.tables.each of_machines) _ 11 (equals 0 0 ∷ []) machines.shown [] (number id ∷ [])
+            old.now.trees refl refl rows answer id (λ m. equal_keys m.id id) machine_values (λ m. refl)
+            ∙ ap (λ (x : Hall). map machine_values (option_to_list (at x.machines id))) held.agrees.hall,
+        record {
+          hall_rows = c;
+          within = record {
+            spelt = subst (λ (d : Database). Spells d c) (sym same.0.now_is) within.spelt;
+            committed_schema = ap (λ (d : Database). d.schema) same.0.committed_is ∙ within.committed_schema;
+            kept = subst (λ (d : Database). SpellHall d.trees before) (sym same.0.committed_is) within.kept;
+            mode = same.0.mode ∙ within.mode;
+          };
+          agrees = held.agrees;
+        },
+      );
+  mode = query_mode old new FIND_MACHINE.now _ rows shown;
+  kept = query_keeps old new FIND_MACHINE.now _ (λ (rows : List Row). rows) (Ok rows) shown tt;
+}
 
 -- a group that was read from the row of a machine
-pub place_is : (row : Row) (group : Group) → column row 3 ≡ Text group.pool → column row 4 ≡ number (status_number group.status) → (m : Machine) → row ≡ machine_values m → group ≡ group_of m
-place_is row group pool status m is =
+pub group_is : (row : Row) (group : Group) → column row 3 ≡ Text group.pool → column row 4 ≡ number (status_number group.status) → (m : Machine) → row ≡ machine_values m → group ≡ group_of m
+group_is row group pool status m is =
     let texts : Text group.pool ≡ Text m.pool = sym pool ∙ ap (λ r. column r 3) is in
     let numbers : number (status_number group.status) ≡ number (status_number m.status) = sym status ∙ ap (λ r. column r 4) is in
     let same_pool : group.pool ≡ m.pool = cc in
     let same_number : status_number group.status ≡ status_number m.status = cc in
     ap₂ (λ a b. record { pool = a; status = b }) same_pool (same_status group.status m.status same_number)
 
--- a machine's row was put over the version that it had, and the machine that was there was counted at this group
-pub record IsRowSet (s : State) (before h : Hall) (m : Machine) (was : ℕ) (from : Group) : Type 0 where
-  pub put : IsBetween s before (with_row h m) h.machines h.machines
-  pub version : Some was ≡ version_of h m.id
-  pub there : Machine
-  pub is_there : at h.machines m.id ≡ Some there
-  pub group : from ≡ group_of there
+-- where a group was found, its machine is there
+pub there_is : (o : Option Machine) (group : Group) → Some group ≡ option_map group_of o → (there : Machine) × (o ≡ Some there) × (group ≡ group_of there)
+there_is None group found = absurd cc
+there_is (Some m) group found = (m, refl, cc)
 
-pub sets_row : (old new : State) (before h : Hall) → IsWithinHall old before h → (m : Machine) (was : ℕ) (from : Group) → Some from ≡ option_map group_of (at h.machines m.id)
-    → ((c : HallRows) → IsWithin old before c → IsWithin new before (with_machine c m) × HasVersion c m.id was) → IsRowSet new before h m was from
-sets_row old new before h held m was from found step =
-    let it = there_is (at h.machines m.id) from found in
-    record {
-      put = puts_row old new before h held m (λ c within. (step c within).0);
-      version = version_is held.hall_rows h held.agrees.hall m.id was (step held.hall_rows held.within).1;
-      there = it.0;
-      is_there = it.1;
-      group = it.2;
-    }
+pub none_there : (o : Option Machine) → None ≡ option_map group_of o → o ≡ None
+none_there None found = refl
+none_there (Some m) found = cc
+
+pub version_is : (c : HallRows) (h : Hall) → c.hall ≡ h → (id was : ℕ) → HasVersion c id was → Some was ≡ version_of h id
+version_is c h same id was has = sym (ap (option_map (λ (m : Machine). m.version)) (ap (λ (x : Hall). at x.machines id) (sym same) ∙ has.1) ∙ ap (λ n. Some n) has.2)
+
+-- a machine's row, the counts and its kind of erasing were put
+pub puts_whole : (s : State) (before h : Hall) (c : HallRows) → AreRowsOf h c → (m : Machine) (all : Counts) → AreCounted all (put m.id m h.machines) → IsWithin s before (with_wipe (record (with_machine c m) { counts = all }) m.id m.erase)
+    → IsWithinHall s before (with_row h m)
+puts_whole s before h c agrees m all counts within = record {
+  hall_rows = with_wipe (record (with_machine c m) { counts = all }) m.id m.erase;
+  within = within;
+  agrees = record { hall = ap (λ x. with_row x m) agrees.hall; counts = counts; wipes = wipes_put c.wipes h.machines agrees.wipes m };
+}

@@ -1,3 +1,2 @@
-pub mod Between
-pub mod Groups
+pub mod Machines
 pub mod Within

@@ -1,12 +1,8 @@
 -- Which hall a transaction has, while its rows are written, and what the write of a row makes of it.
+use Rattle.sql_schema.specs.Words.{State, Hall, written, RowWrite, IsWithin, HallRows, AreRowsOf}
 use Rattle.std.specs.Prelude.{Result}
-use Rattle.sqlite.specs.State.{State}
-use Rattle.hall_types.specs.Hall.{Hall, written}
-use Rattle.hall_types.specs.declared.change.RowWrite.{RowWrite}
 use Rattle.hall_store.specs.Rules.{Keeps}
 use Rattle.hall_store.specs.Versions.{HasVersion}
-use Rattle.sql_schema.specs.Holding.{IsWithin}
-use Rattle.sql_schema.specs.Spelling.{HallRows, AreRowsOf}
 use Rattle.sql_rows.specs.Steps.{IsStep}
 
 -- inside a transaction: the hall as the transaction sees it, with its counts and its kinds of erasing, over the hall that was there before it

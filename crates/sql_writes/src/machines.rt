@@ -1,17 +1,14 @@
 //! A machine's row, with its count and its kind of erasing: three tables, written in turn.
+ghost use Rattle.sql_schema.specs.Words.{state, HasCleanDisk, Survives, Hall, at};
 ghost use Rattle.std.specs.Prelude.{◌≡◌, ◌<◌, ◌^◌, IfSome, OnOk, None, Some};
-ghost use Rattle.sqlite.specs.Held.{state};
-ghost use Rattle.sqlite.specs.State.{HasCleanDisk, Survives};
-ghost use Rattle.hall_types.specs.Hall.{Hall};
-ghost use Rattle.hall_types.specs.Rows.{at};
 ghost use Rattle.hall_store.specs.Versions.{version_of};
 ghost use Rattle.sql_rows.specs.Steps.{IsStep};
-ghost use Rattle.sql_writes.specs.Between.{with_row};
+ghost use Rattle.sql_writes.specs.Machines.{with_row};
 ghost use Rattle.sql_writes.specs.Within.{IsWithinHall};
 
-use crate::groups::{count_in, find_group, move_count};
+use crate::groups::{find_group, move_count};
 use hall_types::{Machine, Version};
-use sql_machines::{add_machine, put_wipe, set_machine};
+use sql_machines::{add_machine, count_up, put_wipe, set_machine};
 use sqlite::{Alter, Error, Transaction};
 
 // The greatest number that a column has.
@@ -21,13 +18,8 @@ fn check_deadline(machine: &Machine) -> Result<(), Error>
     ensures { OnOk result (IfSome machine.now.deadline (λ moment. moment < 2 ^ 63)) }
 {
     match machine.deadline {
-        Some(moment) => {
-            if moment > MAX_COLUMN {
-                return Err(Error::IntegralValueOutOfRange(11));
-            }
-            Ok(())
-        }
-        None => Ok(()),
+        Some(moment) if moment > MAX_COLUMN => Err(Error::IntegralValueOutOfRange(11)),
+        _ => Ok(()),
     }
 }
 
@@ -42,7 +34,7 @@ pub(crate) fn add_whole<S: Alter>(
 {
     check_deadline(machine)?;
     add_machine(tx, machine)?;
-    count_in(tx, machine)?;
+    count_up(tx, &machine.pool, machine.status)?;
     put_wipe(tx, machine.id, machine.erase)
 }
 

@@ -1,35 +1,17 @@
 //! One row write, by its kind.
+ghost use Rattle.sql_schema.specs.Words.{state, HasCleanDisk, Survives};
 ghost use Rattle.std.specs.Prelude.{◌≡◌};
-ghost use Rattle.sqlite.specs.Held.{state};
-ghost use Rattle.sqlite.specs.State.{HasCleanDisk, Survives};
-ghost use Rattle.hall_types.specs.declared.change.RowWrite.TheVariants.{PutMachine};
 ghost use Rattle.sql_writes.specs.Within.{IsRowWritten};
 
 use crate::machines::{add_whole, set_whole};
 use crate::removal::remove_machine;
-use hall_types::{Machine, RowWrite, Version};
+use hall_types::RowWrite;
 use sql_machines::{add_interface, put_boot, put_order, remove_interface};
 use sql_names::{
     add_image, add_member, add_pool, add_receipt, put_live, put_operator, remove_image, set_numbers,
 };
 use sqlite::{Alter, Error, Transaction};
 use std::alloc::Global;
-
-// A machine's row is put: over the version that it had, or new.
-fn put_machine<S: Alter>(
-    tx: &mut Transaction<'_, S>,
-    machine: &Machine,
-    was: Option<Version>,
-) -> Result<(), Error>
-    ensures same_reference { tx.new.conn.ghost_name ≡ tx.old.conn.ghost_name }
-    ensures written { HasCleanDisk (state S.Store tx.new.conn.now) → IsRowWritten (state S.Store tx.old.conn.now) (state S.Store tx.new.conn.now) result (PutMachine machine.now was) }
-    ensures survives { Survives (state S.Store tx.old.conn.now) (state S.Store tx.new.conn.now) (λ _. ⊥) }
-{
-    match was {
-        Some(was) => set_whole(tx, machine, was),
-        None => add_whole(tx, machine),
-    }
-}
 
 /// Writes one row inside a transaction. It is to keep the tables' rules. `alloc` is for the text of an image's arguments.
 /// A machine's row that was to have another version is an error, and so is a machine that was to be new and is there, or one
@@ -50,7 +32,10 @@ pub fn write_row<S: Alter>(
         RowWrite::PutImage(image) => add_image(alloc, tx, image),
         RowWrite::ImageGone(name) => remove_image(tx, name),
         RowWrite::PutLive(live) => put_live(tx, live),
-        RowWrite::PutMachine { machine, was } => put_machine(tx, machine, *was),
+        RowWrite::PutMachine { machine, was } => match was {
+            Some(was) => set_whole(tx, machine, *was),
+            None => add_whole(tx, machine),
+        },
         RowWrite::MachineGone(id) => remove_machine(tx, *id),
         RowWrite::PutInterface(interface) => add_interface(tx, interface),
         RowWrite::InterfaceGone(mac) => remove_interface(tx, *mac),

@@ -1,5 +1,5 @@
+use Rattle.sql_schema.specs.Words.{state}
 use Rattle.std.proofs.Common.{◌≡◌, drop}
-use Rattle.sqlite.specs.Held.{state}
 use Rattle.hall_sql.proofs.WritingLemmas.{Going}
 use Rattle.hall_sql.proofs.applying.write_rows.Given as goal
 

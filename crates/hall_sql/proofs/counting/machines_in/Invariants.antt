@@ -1,5 +1,5 @@
+use Rattle.sql_schema.specs.Words.{sum_by}
 use Rattle.std.proofs.Common.{◌≡◌, ◌+◌, drop}
-use Rattle.std.specs.List.{sum_by}
 use Rattle.hall_sql.proofs.counting.machines_in.Given as goal
 
 -- with the counts that are left it is the sum of all

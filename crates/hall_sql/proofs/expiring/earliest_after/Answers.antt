@@ -1,5 +1,5 @@
+use Rattle.sql_schema.specs.Words.{AllByRecursion}
 use Rattle.std.proofs.Common.{subst, sym, arith}
-use Rattle.std.specs.List.{AllByRecursion}
 use Rattle.hall_sql.specs.Expiring.{PutsNoEarlier}
 use Rattle.hall_sql.proofs.ExpiryLemmas.{lower_puts, next_item, no_item}
 use Rattle.hall_sql.proofs.expiring.earliest_after.Goals as goal

@@ -1,5 +1,5 @@
+use Rattle.sql_schema.specs.Words.{AllByRecursion}
 use Rattle.std.proofs.Common.{◌≤◌, ℕ, drop}
-use Rattle.std.specs.List.{AllByRecursion}
 use Rattle.hall_sql.specs.Expiring.{PutsNoEarlier}
 use Rattle.hall_sql.proofs.expiring.earliest_after.Given as goal
 

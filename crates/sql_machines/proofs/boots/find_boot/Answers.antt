@@ -1,5 +1,5 @@
-use Rattle.hall_types.specs.Rows.{at}
-use Rattle.sql_machines.specs.BootLaws.{finds_boot}
+use Rattle.sql_schema.specs.Words.{at}
+use Rattle.sql_machines.specs.ChildLaws.{finds_boot}
 use Rattle.sql_machines.proofs.boots.find_boot.Goals as goal
 
 pub returns-clause-asked : goal.returns-clause-asked

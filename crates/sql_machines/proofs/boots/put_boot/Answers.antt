@@ -1,6 +1,6 @@
-use Rattle.sqlite.specs.Held.{state}
+use Rattle.sql_schema.specs.Words.{state}
 use Rattle.sql_machines.specs.Boots.{with_boot}
-use Rattle.sql_machines.specs.BootLaws.{puts_boot}
+use Rattle.sql_machines.specs.ChildLaws.{puts_boot}
 use Rattle.sql_machines.proofs.boots.put_boot.Goals as goal
 
 pub returns-clause-written : goal.returns-clause-written

@@ -1,10 +1,9 @@
+use Rattle.sql_schema.specs.Words.{state, number}
 use Rattle.std.proofs.Common.{[], ◌∷◌}
-use Rattle.sqlite.specs.Held.{state}
-use Rattle.sql_schema.specs.Columns.{number}
 use Rattle.sql_rows.specs.StepLaws.{writes}
 use Rattle.sql_rows.specs.Steps.{always}
 use Rattle.sql_machines.specs.Boots.{without_boots}
-use Rattle.sql_machines.specs.BootLaws.{removes_boots}
+use Rattle.sql_machines.specs.ChildLaws.{removes_boots}
 use Rattle.sql_machines.proofs.boots.remove_boots.Goals as goal
 use Rattle.sql_schema.specs.declared.machine_statements.TheConstants.{REMOVE_BOOTS}
 

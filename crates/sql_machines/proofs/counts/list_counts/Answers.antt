@@ -1,7 +1,5 @@
+use Rattle.sql_schema.specs.Words.{state, if_ok, asked_then, asked_failed}
 use Rattle.std.proofs.Common.{Ok, Err, sym, ◌∙◌}
-use Rattle.sqlite.specs.Held.{state}
-use Rattle.sql_schema.specs.StatementLaws.{if_ok}
-use Rattle.sql_schema.specs.HoldingLaws.{asked_then, asked_failed}
 use Rattle.sql_machines.proofs.CountLemmas.{Lists, lists_counts, are_counts}
 use Rattle.sql_machines.proofs.counts.list_counts.Goals as goal
 

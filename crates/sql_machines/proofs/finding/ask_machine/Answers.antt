@@ -1,9 +1,8 @@
+use Rattle.sql_schema.specs.Words.{asked_failed}
 use Rattle.std.proofs.Common.{ap, ◌∙◌}
-use Rattle.sql_schema.specs.HoldingLaws.{asked_failed}
-use Rattle.sql_rows.specs.AskingLaws.{reads}
+use Rattle.sql_rows.specs.AskingLaws.{reads, both}
 use Rattle.sql_machines.specs.MachineRows.{found_whole}
 use Rattle.sql_machines.specs.MachineRowLaws.{whole_again}
-use Rattle.sql_rows.specs.AskingLaws.{both}
 use Rattle.sql_machines.proofs.finding.ask_machine.Goals as goal
 
 pub returns-in-Ok-clause-asked : goal.returns-in-Ok-clause-asked

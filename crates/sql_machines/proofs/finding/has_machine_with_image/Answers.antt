@@ -1,8 +1,5 @@
-use Rattle.std.proofs.Common.{Ok, ap, ◌∙◌}
-use Rattle.std.specs.Prelude.{is_some}
-use Rattle.hall_types.specs.Rows.{listed}
-use Rattle.hall_types.specs.Lookup.{is_named}
-use Rattle.sql_schema.specs.HoldingLaws.{asked_then, asked_failed}
+use Rattle.sql_schema.specs.Words.{listed, is_named, asked_then, asked_failed}
+use Rattle.std.proofs.Common.{Ok, ap, ◌∙◌, is_some}
 use Rattle.sql_machines.proofs.FindingLemmas.{finds_image, some_shown}
 use Rattle.sql_machines.proofs.finding.has_machine_with_image.Goals as goal
 

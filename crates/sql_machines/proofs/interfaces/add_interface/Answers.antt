@@ -1,6 +1,6 @@
-use Rattle.sqlite.specs.Held.{state}
+use Rattle.sql_schema.specs.Words.{state}
 use Rattle.sql_rows.specs.StepLaws.{writes}
-use Rattle.sql_machines.specs.InterfaceLaws.{adds_interface}
+use Rattle.sql_machines.specs.ChildLaws.{adds_interface}
 use Rattle.sql_machines.proofs.interfaces.add_interface.Goals as goal
 
 pub returns-clause-written : goal.returns-clause-written

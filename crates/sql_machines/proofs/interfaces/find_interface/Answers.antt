@@ -1,4 +1,4 @@
-use Rattle.sql_machines.specs.InterfaceLaws.{finds_interface}
+use Rattle.sql_machines.specs.ChildLaws.{finds_interface}
 use Rattle.sql_machines.proofs.interfaces.find_interface.Goals as goal
 
 pub returns-clause-asked : goal.returns-clause-asked

@@ -1,4 +1,4 @@
-use Rattle.sql_machines.specs.InterfaceLaws.{finds_interfaces}
+use Rattle.sql_machines.specs.ChildLaws.{finds_interfaces}
 use Rattle.sql_machines.proofs.interfaces.interfaces_of.Goals as goal
 
 pub returns-clause-asked : goal.returns-clause-asked

@@ -1,4 +1,4 @@
-use Rattle.sql_machines.specs.InterfaceLaws.{lists_interfaces}
+use Rattle.sql_machines.specs.ChildLaws.{lists_interfaces}
 use Rattle.sql_machines.proofs.interfaces.list_interfaces.Goals as goal
 
 pub returns-clause-asked : goal.returns-clause-asked

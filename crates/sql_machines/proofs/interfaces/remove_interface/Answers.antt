@@ -1,6 +1,6 @@
-use Rattle.sqlite.specs.Held.{state}
+use Rattle.sql_schema.specs.Words.{state}
 use Rattle.sql_rows.specs.StepLaws.{writes}
-use Rattle.sql_machines.specs.InterfaceLaws.{removes_interface}
+use Rattle.sql_machines.specs.ChildLaws.{removes_interface}
 use Rattle.sql_machines.proofs.interfaces.remove_interface.Goals as goal
 
 pub returns-clause-written : goal.returns-clause-written

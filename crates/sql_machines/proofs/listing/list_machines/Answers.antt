@@ -1,9 +1,7 @@
+use Rattle.sql_schema.specs.Words.{listed, asked_failed}
 use Rattle.std.proofs.Common.{refl, ap, ◌∙◌}
-use Rattle.hall_types.specs.Rows.{listed}
-use Rattle.sql_schema.specs.HoldingLaws.{asked_failed}
-use Rattle.sql_rows.specs.AskingLaws.{reads}
+use Rattle.sql_rows.specs.AskingLaws.{reads, both}
 use Rattle.sql_machines.specs.Joining.{joined}
-use Rattle.sql_rows.specs.AskingLaws.{both}
 use Rattle.sql_machines.specs.Wipes.{erasings}
 use Rattle.sql_machines.proofs.JoinLemmas.{joins_all}
 use Rattle.sql_machines.proofs.FindingLemmas.{in_number_order, lists_rows, machines_stand}

@@ -1,6 +1,5 @@
+use Rattle.sql_schema.specs.Words.{if_ok, asked_then, asked_failed}
 use Rattle.std.proofs.Common.{ap₂, ◌∙◌}
-use Rattle.sql_schema.specs.StatementLaws.{if_ok}
-use Rattle.sql_schema.specs.HoldingLaws.{asked_then, asked_failed}
 use Rattle.sql_machines.specs.Joining.{joined}
 use Rattle.sql_machines.proofs.listing.with_wipes.Goals as goal
 

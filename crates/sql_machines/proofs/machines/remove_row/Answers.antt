@@ -1,6 +1,5 @@
+use Rattle.sql_schema.specs.Words.{state, number}
 use Rattle.std.proofs.Common.{[], ◌∷◌}
-use Rattle.sqlite.specs.Held.{state}
-use Rattle.sql_schema.specs.Columns.{number}
 use Rattle.sql_rows.specs.StepLaws.{writes}
 use Rattle.sql_machines.specs.Machines.{HasNoChild, without_row}
 use Rattle.sql_machines.proofs.MachineLemmas.{removes_machine}

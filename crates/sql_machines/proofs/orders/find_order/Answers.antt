@@ -1,5 +1,5 @@
-use Rattle.hall_types.specs.Rows.{at}
-use Rattle.sql_machines.specs.OrderLaws.{finds_order}
+use Rattle.sql_schema.specs.Words.{at}
+use Rattle.sql_machines.specs.ChildLaws.{finds_order}
 use Rattle.sql_machines.proofs.orders.find_order.Goals as goal
 
 pub returns-clause-asked : goal.returns-clause-asked

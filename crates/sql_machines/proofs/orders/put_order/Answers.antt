@@ -1,6 +1,6 @@
-use Rattle.sqlite.specs.Held.{state}
+use Rattle.sql_schema.specs.Words.{state}
 use Rattle.sql_machines.specs.Orders.{with_order}
-use Rattle.sql_machines.specs.OrderLaws.{puts_order}
+use Rattle.sql_machines.specs.ChildLaws.{puts_order}
 use Rattle.sql_machines.proofs.orders.put_order.Goals as goal
 
 pub returns-clause-written : goal.returns-clause-written

@@ -1,10 +1,9 @@
+use Rattle.sql_schema.specs.Words.{state, number}
 use Rattle.std.proofs.Common.{[], ◌∷◌}
-use Rattle.sqlite.specs.Held.{state}
-use Rattle.sql_schema.specs.Columns.{number}
 use Rattle.sql_rows.specs.StepLaws.{writes}
 use Rattle.sql_rows.specs.Steps.{always}
 use Rattle.sql_machines.specs.Orders.{without_orders}
-use Rattle.sql_machines.specs.OrderLaws.{removes_orders}
+use Rattle.sql_machines.specs.ChildLaws.{removes_orders}
 use Rattle.sql_machines.proofs.orders.remove_orders.Goals as goal
 use Rattle.sql_schema.specs.declared.machine_statements.TheConstants.{REMOVE_ORDERS}
 

@@ -1,5 +1,5 @@
-use Rattle.hall_types.specs.Lookup.{waiting}
-use Rattle.sql_machines.specs.OrderLaws.{lists_waiting}
+use Rattle.sql_schema.specs.Words.{waiting}
+use Rattle.sql_machines.specs.ChildLaws.{lists_waiting}
 use Rattle.sql_machines.proofs.orders.waiting_orders.Goals as goal
 
 pub returns-clause-asked : goal.returns-clause-asked

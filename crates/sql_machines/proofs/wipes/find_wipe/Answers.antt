@@ -1,6 +1,5 @@
+use Rattle.sql_schema.specs.Words.{at, asked_then, asked_failed}
 use Rattle.std.proofs.Common.{Ok, option_map, ap, ◌∙◌}
-use Rattle.hall_types.specs.Rows.{at}
-use Rattle.sql_schema.specs.HoldingLaws.{asked_then, asked_failed}
 use Rattle.sql_machines.specs.declared.wipes.Erasing.{Erasing}
 use Rattle.sql_machines.proofs.WipeLemmas.{finds_wipe, found_erase}
 use Rattle.sql_machines.proofs.wipes.find_wipe.Goals as goal

@@ -1,7 +1,5 @@
+use Rattle.sql_schema.specs.Words.{state, HasCleanDisk, IsWithin}
 use Rattle.std.proofs.Common.{Some, None, subst, arith}
-use Rattle.sqlite.specs.Held.{state}
-use Rattle.sqlite.specs.State.{HasCleanDisk}
-use Rattle.sql_schema.specs.Holding.{IsWithin}
 use Rattle.sql_rows.specs.StepLaws.{next, writes}
 use Rattle.sql_machines.specs.Wipes.{with_wipe}
 use Rattle.sql_machines.specs.WipeLaws.{put-gone}

@@ -1,10 +1,8 @@
+use Rattle.sql_schema.specs.Words.{recursion_from_All, state, at}
 use Rattle.std.proofs.Common.{◌≡◌, None}
-use Rattle.std.proofs.lemmas.List.Elements.{recursion_from_All}
-use Rattle.sqlite.specs.Held.{state}
-use Rattle.hall_types.specs.Rows.{at}
 use Rattle.ipxe_script.specs.Word.{IsWord}
 use Rattle.sql_rows.specs.StepLaws.{stays, writes}
-use Rattle.sql_names.specs.Images.{with_image}
+use Rattle.sql_names.specs.Changes.{with_image}
 use Rattle.sql_names.proofs.ImageLemmas.{adds_image}
 use Rattle.sql_names.proofs.WordLemmas.{gives_back}
 use Rattle.sql_names.proofs.images.add_image.Goals as goal

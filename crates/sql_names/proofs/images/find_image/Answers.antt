@@ -1,8 +1,5 @@
+use Rattle.sql_schema.specs.Words.{state, at, if_ok, asked_then, asked_failed}
 use Rattle.std.proofs.Common.{Ok, Err}
-use Rattle.sqlite.specs.Held.{state}
-use Rattle.hall_types.specs.Rows.{at}
-use Rattle.sql_schema.specs.StatementLaws.{if_ok}
-use Rattle.sql_schema.specs.HoldingLaws.{asked_then, asked_failed}
 use Rattle.sql_names.proofs.ImageLemmas.{ShowsImage, finds_image}
 use Rattle.sql_names.proofs.images.find_image.Goals as goal
 

@@ -1,7 +1,7 @@
-use Rattle.sqlite.specs.Held.{state}
+use Rattle.sql_schema.specs.Words.{state}
 use Rattle.sql_rows.specs.StepLaws.{writes}
 use Rattle.sql_rows.specs.Steps.{always}
-use Rattle.sql_names.specs.Images.{without_image}
+use Rattle.sql_names.specs.Changes.{without_image}
 use Rattle.sql_names.proofs.ImageLemmas.{removes_image}
 use Rattle.sql_names.proofs.images.remove_image.Goals as goal
 

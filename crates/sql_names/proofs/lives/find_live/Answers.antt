@@ -1,5 +1,4 @@
-use Rattle.hall_types.specs.Kinds.{arch_number}
-use Rattle.hall_types.specs.Rows.{at}
+use Rattle.sql_schema.specs.Words.{arch_number, at}
 use Rattle.sql_names.specs.LiveLaws.{finds_live}
 use Rattle.sql_names.proofs.lives.find_live.Goals as goal
 

@@ -1,7 +1,5 @@
+use Rattle.sql_schema.specs.Words.{vec_len, state, asked_then, asked_failed}
 use Rattle.std.proofs.Common.{◌≡◌, ◌==◌, not, length, Ok, Err, ap, ◌∙◌, arith}
-use Rattle.std.specs.Vec.{vec_len}
-use Rattle.sqlite.specs.Held.{state}
-use Rattle.sql_schema.specs.HoldingLaws.{asked_then, asked_failed}
 use Rattle.sql_names.specs.LiveLaws.{ShowsLive, finds_with_image}
 use Rattle.sql_names.proofs.lives.is_live.Goals as goal
 

@@ -1,5 +1,5 @@
-use Rattle.sqlite.specs.Held.{state}
-use Rattle.sql_names.specs.Lives.{with_live}
+use Rattle.sql_schema.specs.Words.{state}
+use Rattle.sql_names.specs.Changes.{with_live}
 use Rattle.sql_names.specs.LiveLaws.{puts_live}
 use Rattle.sql_names.proofs.lives.put_live.Goals as goal
 

@@ -1,6 +1,5 @@
+use Rattle.sql_schema.specs.Words.{if_ok, asked_then, asked_failed}
 use Rattle.std.proofs.Common.{Ok, Err}
-use Rattle.sql_schema.specs.StatementLaws.{if_ok}
-use Rattle.sql_schema.specs.HoldingLaws.{asked_then, asked_failed}
 use Rattle.sql_names.specs.NumberLaws.{reads_numbers}
 use Rattle.sql_names.proofs.numbers.find_numbers.Goals as goal
 

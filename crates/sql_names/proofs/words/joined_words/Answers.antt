@@ -1,7 +1,5 @@
+use Rattle.sql_schema.specs.Words.{join_by, joined, if_ok}
 use Rattle.std.proofs.Common.{ap, ◌∷◌, [], ◌∙◌}
-use Rattle.std.specs.List.{join_by}
-use Rattle.sql_schema.specs.Columns.{joined}
-use Rattle.sql_schema.specs.StatementLaws.{if_ok}
 use Rattle.sql_names.proofs.WordLemmas.{join_is}
 use Rattle.sql_names.proofs.words.joined_words.Goals as goal
 

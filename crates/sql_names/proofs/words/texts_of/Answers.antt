@@ -1,8 +1,5 @@
+use Rattle.sql_schema.specs.Words.{YieldsList-from_slice, YieldsList-from_map_by, map_from_collect, map-id, if_ok}
 use Rattle.std.proofs.Common.{rules, tests, ◌∙◌}
-use Rattle.std.proofs.lemmas.Iterator.{YieldsList-from_slice, YieldsList-from_map_by}
-use Rattle.std.proofs.lemmas.Iterator.Consumers.{map_from_collect}
-use Rattle.std.proofs.lemmas.List.{map-id}
-use Rattle.sql_schema.specs.StatementLaws.{if_ok}
 use Rattle.sql_names.proofs.words.texts_of.Goals as goal
 
 pub returns : goal.returns

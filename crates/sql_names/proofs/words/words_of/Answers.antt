@@ -1,6 +1,5 @@
+use Rattle.sql_schema.specs.Words.{YieldsList-from_str_split, YieldsList-at, YieldsList-end}
 use Rattle.std.proofs.Common.{lit<, sym, ◌∙◌}
-use Rattle.std.proofs.lemmas.Iterator.Splits.{YieldsList-from_str_split}
-use Rattle.std.proofs.lemmas.Iterator.Consumers.{YieldsList-at, YieldsList-end}
 use Rattle.sql_names.proofs.WordLemmas.{some_words}
 use Rattle.sql_names.proofs.words.words_of.Goals as goal
 

@@ -1,7 +1,5 @@
+use Rattle.sql_schema.specs.Words.{state, bound, if_ok}
 use Rattle.std.proofs.Common.{sym, ◌∙◌}
-use Rattle.sqlite.specs.Held.{state}
-use Rattle.sqlite.specs.Values.{bound}
-use Rattle.sql_schema.specs.StatementLaws.{if_ok}
 use Rattle.sql_rows.proofs.ReadingLemmas.{same_items, items_read, items_refused}
 use Rattle.sql_rows.proofs.reading.ask_all.Goals as goal
 

@@ -1,6 +1,4 @@
-use Rattle.sqlite.specs.Held.{state}
-use Rattle.sqlite.specs.Values.{bound}
-use Rattle.sql_schema.specs.StatementLaws.{if_ok}
+use Rattle.sql_schema.specs.Words.{state, bound, if_ok}
 use Rattle.sql_rows.proofs.ReadingLemmas.{items_read, items_refused}
 use Rattle.sql_rows.proofs.reading.ask_first.Goals as goal
 

@@ -1,5 +1,5 @@
+use Rattle.sql_schema.specs.Words.{option_to_list}
 use Rattle.std.proofs.Common.{◌∙◌}
-use Rattle.std.specs.Option.{option_to_list}
 use Rattle.sql_rows.specs.AskingLaws.{reads, only_item}
 use Rattle.sql_rows.proofs.reading.ask_one.Goals as goal
 

@@ -1,6 +1,5 @@
+use Rattle.sql_schema.specs.Words.{state, HasCleanDisk}
 use Rattle.std.proofs.Common.{arith}
-use Rattle.sqlite.specs.Held.{state}
-use Rattle.sqlite.specs.State.{HasCleanDisk}
 use Rattle.sql_rows.specs.StepLaws.{next, fails}
 use Rattle.sql_rows.proofs.writing.put.Goals as goal
 

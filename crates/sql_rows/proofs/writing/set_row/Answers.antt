@@ -1,7 +1,5 @@
+use Rattle.sql_schema.specs.Words.{state, query_keeps, query_mode, by_count}
 use Rattle.std.proofs.Common.{◌≡◌, length, arith}
-use Rattle.sqlite.specs.Held.{state}
-use Rattle.sql_schema.specs.StatementLaws.{query_keeps, query_mode}
-use Rattle.sql_schema.specs.HoldingLaws.{by_count}
 use Rattle.sql_rows.proofs.writing.set_row.Goals as goal
 
 pub returns-in-Ok-clause-written : goal.returns-in-Ok-clause-written

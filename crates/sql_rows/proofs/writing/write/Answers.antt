@@ -1,6 +1,5 @@
+use Rattle.sql_schema.specs.Words.{state, execute_keeps}
 use Rattle.std.proofs.Common.{refl}
-use Rattle.sqlite.specs.Held.{state}
-use Rattle.sql_schema.specs.StatementLaws.{execute_keeps}
 use Rattle.sql_rows.proofs.writing.write.Goals as goal
 
 pub returns-in-Ok-clause-written : goal.returns-in-Ok-clause-written

@@ -1,5 +1,5 @@
+use Rattle.sql_schema.specs.Prelude.{state}
 use Rattle.std.proofs.Common.{inl, codes}
-use Rattle.sqlite.specs.Held.{state}
 use Rattle.sql_schema.specs.StatementLaws.{not_run_back}
 use Rattle.sql_schema.proofs.probe.is_running.Goals as goal
 use Rattle.sql_schema.proofs.probe.is_running.Goals.{in-Ok, in-Err}

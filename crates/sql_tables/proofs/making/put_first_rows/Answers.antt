@@ -1,15 +1,13 @@
-use Rattle.std.proofs.Common.{arith, refl}
-use Rattle.sqlite.specs.Held.{state}
-use Rattle.sqlite.specs.State.{HasCleanDisk}
-use Rattle.hall_types.specs.Rows.{texts, no_rows}
-use Rattle.hall_types.specs.RowLaws.{at-no_rows}
-use Rattle.sql_tables.specs.Creating.{bare_hall, with_default_pool}
-use Rattle.sql_tables.proofs.TransactionLemmas.{on_ok}
+use Rattle.std.proofs.Common.{Ok}
+use Rattle.sql_rows.specs.StepLaws.{gives}
+use Rattle.sql_tables.proofs.MakingLemmas.{rows_put}
+use Rattle.sql_tables.proofs.TransactionLemmas.{earlier, pair}
 use Rattle.sql_tables.proofs.making.put_first_rows.Goals as goal
 
 pub returns-clause-made : goal.returns-clause-made
 returns-clause-made g c clean =
-    let second : HasCleanDisk (state g.S.Store c.put_default_pool.new.tx.conn.now) = omega (arith, c.put_operator.ensures.survives.clean, clean) in
-    let first : HasCleanDisk (state g.S.Store c.put_numbers.new.tx.conn.now) = omega (arith, c.put_default_pool.ensures.survives.clean, second) in
-    on_ok _ _ c.put_operator.result (c.put_operator.ensures.made clean) (λ made was.
-    made (with_default_pool bare_hall) (at-no_rows texts c.args.admin no_rows refl) (c.in_ok-put_default_pool.ensures.made second (c.in_ok-put_numbers.ensures.made first was).0).0)
+    let second = earlier c.run-3.ensures.survives clean in
+    let first = earlier c.run-2.ensures.survives second in
+    let operator = rw (c.params-to_sql-2.ensures, c.params-to_sql-3.ensures, c.params-to_sql-4.ensures, c.params-to_sql-5.ensures, c.text.ensures.text, c.from.ensures, c.number.ensures, c.as_slice.ensures, c.octets-octets.ensures.octets) at (c.run-3.ensures.ran clean) in
+    gives _ c.run-3.result (pair tt c.run-3.result (pair tt (Ok tt) (c.in_ok-run.ensures.ran first) (rw c.params-to_sql.ensures at (c.in_ok-run-2.ensures.ran second))) operator)
+    (λ done ran was. rows_put c.args.admin c.args.digest ran.0.0 ran.0.1 ran.1 was)

@@ -1,9 +1,14 @@
-use Rattle.hall_types.specs.Rows.{at}
-use Rattle.sql_schema.specs.StatementLaws.{if_ok}
+use Rattle.sql_schema.specs.Words.{Row, at, if_ok, query_keeps}
+use Rattle.std.proofs.Common.{Err, List}
 use Rattle.sql_rows.specs.StepLaws.{reads_on}
+use Rattle.sql_writes.proofs.MachineLemmas.{finds_machine}
 use Rattle.sql_writes.proofs.groups.find_group.Goals as goal
 
 pub returns-in-Ok-clause-found : goal.returns-in-Ok-clause-found
 returns-in-Ok-clause-found g c clean =
-    reads_on _ _ c.first_group.result (c.in-Ok.ensures.found clean)
-    (λ rows. if_ok _ _ c.first_group.result c.first_group.ensures (λ found is before h held. let it = rows before h held in (is (at h.machines c.args.id) it.0, it.1)))
+    reads_on _ c.in-Ok.rows.items c.first_group.result
+    (finds_machine _ _ c.args.id c.in-Ok.rows.items (rw (c.number_value.ensures, c.get.ensures.number) at (c.in-Ok.ensures.ok clean)))
+    (λ found. if_ok _ _ c.first_group.result c.first_group.ensures (λ group is before h held. let it = found before h held in (is (at h.machines c.args.id) it.0, it.1)))
+
+pub returns-in-Err-clause-found : goal.returns-in-Err-clause-found
+returns-in-Err-clause-found g c clean = record { gives = tt; mode = tt; kept = query_keeps _ _ _ _ (λ (rows : List Row). rows) (Err c.in-Err.error) tt (c.in-Err.ensures.err clean) }

@@ -1,22 +1,29 @@
-use Rattle.std.proofs.Common.{◌≡◌, Ok, arith, option_map}
-use Rattle.sqlite.specs.Held.{state}
-use Rattle.sqlite.specs.State.{HasCleanDisk}
-use Rattle.hall_types.specs.Rows.{at, gone}
-use Rattle.hall_types.specs.Hall.{Hall, without_machine}
-use Rattle.sql_rows.specs.StepLaws.{next}
-use Rattle.sql_writes.specs.Between.{IsBetween}
-use Rattle.sql_writes.specs.Groups.{group_of}
-use Rattle.sql_writes.specs.Within.{IsWithinHall}
+use Rattle.sql_schema.specs.Words.{at}
+use Rattle.std.proofs.Common.{Ok, sym, ◌∙◌}
+use Rattle.sql_rows.specs.StepLaws.{gives}
+use Rattle.sql_writes.proofs.CountLemmas.{counted_gone, counted_none}
+use Rattle.sql_writes.proofs.MachineLemmas.{none_there, there_is}
+use Rattle.sql_writes.proofs.RemovalLemmas.{removes_whole}
+use Rattle.sql_writes.proofs.StepLemmas.{then}
 use Rattle.sql_writes.proofs.removal.remove_machine.Goals as goal
 
-pub returns-clause-written : goal.returns-clause-written
-returns-clause-written g c clean =
-    let id = c.args.id in
-    let second : HasCleanDisk (state g.S.Store c.remove_rows.new.tx.conn.now) = omega (arith, c.uncount.ensures.survives.clean, clean) in
-    let first : HasCleanDisk (state g.S.Store c.find_group.new.tx.conn.now) = omega (arith, c.remove_rows.ensures.survives.clean, second) in
-    next _ _ c.uncount.result
-    (next (λ _. (before h : Hall) → IsWithinHall (state g.S.Store c.args.tx.now.conn.now) before h → IsBetween (state g.S.Store c.remove_rows.new.tx.conn.now) before (without_machine id h) h.machines (gone id h.machines) × (c.in_ok-group.group ≡ option_map group_of (at h.machines id))) _ (Ok tt)
-    (c.in_ok-group.ensures.found first) (c.in_ok-remove_rows.ensures.written second)
-    (λ done find gone before h held. let it = find before h held in (gone before h it.1, it.0)))
-    (c.uncount.ensures.written clean)
-    (λ done gone out before h held. let it = gone before h held in out before h it.0 it.1)
+pub returns-in-Some-clause-written : goal.returns-in-Some-clause-written
+returns-in-Some-clause-written g c clean =
+    gives _ c.count_down.result
+    (then (then c.in_ok-group.ensures.found c.remove_rows.ensures.survives c.in_ok-remove_rows.ensures.written) c.count_down.ensures.survives c.count_down.ensures.written clean)
+    (λ done steps before h held.
+    let found = steps.0.0 before h held in
+    let rows = found.1.hall_rows in
+    let was = there_is (at h.machines c.args.id) c.in-Some.group (sym c.in-Some.is ∙ found.0) in
+    removes_whole _ before h rows found.1.agrees c.args.id _ (counted_gone rows.counts h.machines found.1.agrees.counts c.in-Some.group c.args.id was.0 was.1 was.2)
+    (steps.1 before _ (steps.0.1 before rows found.1.within tt)).0)
+
+pub returns-in-None-clause-written : goal.returns-in-None-clause-written
+returns-in-None-clause-written g c clean =
+    gives _ (Ok tt)
+    (then c.in_ok-group.ensures.found c.remove_rows.ensures.survives c.in_ok-remove_rows.ensures.written clean)
+    (λ done steps before h held.
+    let found = steps.0 before h held in
+    let rows = found.1.hall_rows in
+    removes_whole _ before h rows found.1.agrees c.args.id _ (counted_none rows.counts h.machines found.1.agrees.counts c.args.id (none_there (at h.machines c.args.id) (sym c.in-None.is ∙ found.0)))
+    (steps.1 before rows found.1.within tt))

@@ -1,13 +1,15 @@
-use Rattle.std.proofs.Common.{arith}
-use Rattle.sqlite.specs.Held.{state}
-use Rattle.sqlite.specs.State.{HasCleanDisk}
-use Rattle.sql_rows.specs.StepLaws.{next}
-use Rattle.sql_writes.proofs.RemovalLemmas.{rows_gone}
+use Rattle.sql_rows.specs.StepLaws.{gives}
+use Rattle.sql_writes.proofs.RemovalLemmas.{has_no_child}
+use Rattle.sql_writes.proofs.StepLemmas.{then}
 use Rattle.sql_writes.proofs.removal.remove_rows.Goals as goal
 
 pub returns-clause-written : goal.returns-clause-written
 returns-clause-written g c clean =
-    let middle = state g.S.Store c.remove_children.new.tx.conn.now in
-    let mid : HasCleanDisk middle = omega (arith, c.remove_row.ensures.survives.clean, clean) in
-    next _ _ c.remove_row.result (c.in_ok-remove_children.ensures.written mid) (c.remove_row.ensures.written clean)
-    (λ done first last before h held. rows_gone (state g.S.Store c.args.tx.now.conn.now) middle (state g.S.Store c.remove_row.new.tx.conn.now) before h held c.args.id (λ rows within. first before rows within tt) (λ rows within alone. last before rows within alone))
+    gives _ c.remove_row.result
+    (then (then (then (then c.in_ok-remove_interfaces.ensures.written c.remove_boots.ensures.survives c.in_ok-remove_boots.ensures.written)
+    c.remove_orders.ensures.survives c.in_ok-remove_orders.ensures.written)
+    c.put_wipe.ensures.survives c.in_ok-put_wipe.ensures.written)
+    c.remove_row.ensures.survives c.remove_row.ensures.written clean)
+    (λ done steps before rows held may.
+    let alone = steps.0.1 before _ (steps.0.0.1 before _ (steps.0.0.0.1 before _ (steps.0.0.0.0 before rows held tt) tt) tt) tt in
+    steps.1 before _ alone (has_no_child _ before rows c.args.id alone))

@@ -1,18 +1,10 @@
-use Rattle.std.proofs.Common.{sym, subst}
-use Rattle.sqlite.specs.Held.{state}
-use Rattle.sqlite.specs.State.{HasCleanDisk}
-use Rattle.sql_schema.specs.Holding.{IsHeld}
 use Rattle.hall_sql.proofs.store.SqlStore.migrate.Goals as goal
 
 pub returns-in-Ok-clause-held : goal.returns-in-Ok-clause-held
-returns-in-Ok-clause-held g c clean h become =
-    c.over.ensures.held h (c.in-Ok.ensures.held (subst (λ k. HasCleanDisk (state g.S.Store k)) c.over.ensures.conn clean) h become)
+returns-in-Ok-clause-held g c clean h become = c.over.ensures.held h (c.in-Ok.ensures.held (rw c.over.ensures.conn at clean) h become)
 
 pub returns-in-Ok-clause-settled : goal.returns-in-Ok-clause-settled
-returns-in-Ok-clause-settled g c clean h become =
-    c.over.ensures.settled h (c.in-Ok.ensures.held (subst (λ k. HasCleanDisk (state g.S.Store k)) c.over.ensures.conn clean) h become)
+returns-in-Ok-clause-settled g c clean h become = c.over.ensures.settled h (c.in-Ok.ensures.held (rw c.over.ensures.conn at clean) h become)
 
 pub returns-in-Ok-clause-opened : goal.returns-in-Ok-clause-opened
-returns-in-Ok-clause-opened g c clean h become =
-    subst (λ k. IsHeld (state g.S.Store k) h) (sym c.over.ensures.conn)
-    (c.in-Ok.ensures.held (subst (λ k. HasCleanDisk (state g.S.Store k)) c.over.ensures.conn clean) h become)
+returns-in-Ok-clause-opened g c clean h become = rw c.over.ensures.conn (c.in-Ok.ensures.held (rw c.over.ensures.conn at clean) h become)

@@ -1,10 +1,5 @@
-use Rattle.hall_sql.proofs.StoreLemmas.{read_by}
+use Rattle.hall_sql.proofs.StoreLemmas.{asks}
 use Rattle.hall_sql.proofs.store.SqlStoreHallStore.operator.Goals as goal
 
 pub returns : goal.returns
-returns g c clean =
-    let was = c.pass.ensures.clean clean in (
-      c.find_operator-answer.ensures.clean was,
-      read_by g.S.Store c.args.self.now c.find_operator-answer.new.conn c.if-self.false _ c.find_operator-answer.result c.pass.new.self c.pass.result
-          (c.find_operator-answer.ensures.asked was) (c.pass.ensures.passed clean) clean c.pass.ensures.settled,
-    )
+returns g c = asks g.S.Store _ _ _ c.if-self.false c.find_operator-answer.ensures.clean c.find_operator-answer.ensures.asked c.pass.ensures.clean c.pass.ensures.passed c.pass.ensures.settled

@@ -1,8 +1,12 @@
-use Rattle.std.proofs.Common.{◌≡◌, length, arith}
-use Rattle.sql_machines.specs.MachineRowLaws.{row_is}
+use Rattle.std.proofs.Common.{◌≡◌, length, refl, ap, ◌∙◌, arith}
+use Rattle.sql_machines.specs.MachineRowLaws.{all_columns, columns_from, same_cells}
 use Rattle.sql_machines.proofs.rows.MachineRowsTable.read.Goals as goal
 
 pub returns : goal.returns
 returns c =
     let many : length c.args.row.now ≡ 15 = omega (arith, c.column_count.ensures, c.if-column_count-ne15.false) in
-    row_is c.args.row.now c.in_ok-first.first c.in_ok-last.last many c.in_ok-first.ensures c.in_ok-last.ensures
+    all_columns c.args.row.now ∙ ap (λ n. columns_from 0 n c.args.row.now) many
+    ∙ same_cells c.in_ok-number_in.ensures (same_cells c.in_ok-arch_in.ensures (same_cells c.in_ok-optional_uuid_in.ensures (same_cells c.in_ok-name_in.ensures
+    (same_cells c.in_ok-status_in.ensures (same_cells c.in_ok-optional_name_in.ensures (same_cells c.in_ok-optional_name_in-2.ensures (same_cells c.in_ok-truth_in.ensures
+    (same_cells c.in_ok-optional_status_in.ensures (same_cells c.in_ok-truth_in-2.ensures (same_cells c.in_ok-version_in.ensures (same_cells c.in_ok-deadline_in.ensures
+    (same_cells c.in_ok-optional_number_in.ensures (same_cells c.in_ok-boots_in.ensures (same_cells c.in_ok-optional_number_in-2.ensures refl))))))))))))))
