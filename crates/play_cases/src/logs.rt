@@ -11,7 +11,7 @@ use desk_operations::{
 };
 use dhcp_frame::read;
 use hall_desk::{Account, Arrival, Came, Input, Notes};
-use hall_types::{Port, Token};
+use hall_types::{Moment, Port, Token};
 use pxe_vendor::{Octets, client};
 use serve_sockets::{Close, Handover, Kind, Said, Turn};
 use std::alloc::Global;
@@ -141,6 +141,23 @@ fn account(alloc: Global, octets: &[u8], machines: u64, last: &str) -> Result<Ac
     Ok(Account { came, notes })
 }
 
+// A DISCOVER of these octets.
+fn discover(moment: Moment, octets: Vec<u8>) -> Arrival {
+    Arrival {
+        moment,
+        fresh: Token::from([7; 16]),
+        input: Input::Datagram {
+            port: Port::Discover,
+            octets: Octets::from(octets),
+        },
+    }
+}
+
+fn silence_text(alloc: Global, arrival: &Arrival, account: &Account) -> Result<String, Cause> {
+    let silence = hall_desk::Answer::Silence;
+    Ok(arrival_text(alloc, arrival, &silence, account)?)
+}
+
 /// What is noted of a DISCOVER of an unknown client that got silence, `MACHINES LAST, OCTETS`: how many machines the hall has, and
 /// the last number of a machine.
 pub fn unknown(alloc: Global, rest: &str, out: &mut Answer) -> Result<(), Cause> {
@@ -148,15 +165,7 @@ pub fn unknown(alloc: Global, rest: &str, out: &mut Answer) -> Result<(), Cause>
     let (machines, last) = halves(words, " ")?;
     let octets = octets(alloc, source)?;
     let account = account(alloc, &octets, number(machines)?, last)?;
-    let arrival = Arrival {
-        moment: moment(1_000)?,
-        fresh: Token::from([7; 16]),
-        input: Input::Datagram {
-            port: Port::Discover,
-            octets: Octets::from(octets),
-        },
-    };
-    let silence = hall_desk::Answer::Silence;
-    out.push(arrival_text(alloc, &arrival, &silence, &account)?.as_str());
+    let arrival = discover(moment(1_000)?, octets);
+    out.push(silence_text(alloc, &arrival, &account)?.as_str());
     Ok(())
 }
