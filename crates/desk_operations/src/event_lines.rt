@@ -5,7 +5,7 @@ use hall_types::Moment;
 use std::alloc::{AllocError, Global};
 
 /// Members that begin with a moment, if there is one.
-pub(crate) fn stamped(alloc: Global, moment: Option<Moment>) -> Result<Members, AllocError> {
+pub fn stamped(alloc: Global, moment: Option<Moment>) -> Result<Members, AllocError> {
     let mut members = Members::new(alloc);
     if let Some(moment) = moment {
         let text = moment_text(alloc, LogFormat::Json, moment)?;

@@ -4,13 +4,14 @@ use std::alloc::{AllocError, Global};
 
 /// Members of an object, without its brackets.
 #[derive(Drop)]
-pub(crate) struct Members {
+pub struct Members {
     alloc: Global,
     text: String,
 }
 
 impl Members {
-    pub(crate) fn new(alloc: Global) -> Members {
+    /// No members yet. `alloc` is for their text.
+    pub fn new(alloc: Global) -> Members {
         Members {
             alloc,
             text: String::new(alloc),
@@ -27,25 +28,28 @@ impl Members {
         self.text.push_str("\":")
     }
 
-    pub(crate) fn push_text(&mut self, name: &str, value: &str) -> Result<(), AllocError> {
+    /// Adds a member with a text, whose characters are escaped (RFC 8259 section 7). The name needs no escape.
+    pub fn push_text(&mut self, name: &str, value: &str) -> Result<(), AllocError> {
         self.push_name(name)?;
         let text = Value::try_from_str(self.alloc, value)?.to_string(self.alloc)?;
         self.text.push_str(text.as_str())
     }
 
-    pub(crate) fn push_number(&mut self, name: &str, number: u64) -> Result<(), AllocError> {
+    /// Adds a member with a number.
+    pub fn push_number(&mut self, name: &str, number: u64) -> Result<(), AllocError> {
         self.push_name(name)?;
         let text = number.to_string(self.alloc)?;
         self.text.push_str(text.as_str())
     }
 
-    pub(crate) fn push_true(&mut self, name: &str) -> Result<(), AllocError> {
+    /// Adds a member that is true.
+    pub fn push_true(&mut self, name: &str) -> Result<(), AllocError> {
         self.push_name(name)?;
         self.text.push_str("true")
     }
 
     /// Adds members that were written before, if there are any.
-    pub(crate) fn push_members(&mut self, members: &str) -> Result<(), AllocError> {
+    pub fn push_members(&mut self, members: &str) -> Result<(), AllocError> {
         if !self.text.is_empty() && !members.is_empty() {
             self.text.push(',')?;
         }
@@ -57,7 +61,7 @@ impl Members {
     }
 
     /// The object, with a line feed.
-    pub(crate) fn into_line(self) -> Result<String, AllocError> {
+    pub fn into_line(self) -> Result<String, AllocError> {
         let text = &self.text;
         format!(in self.alloc; "{{{text}}}\n")
     }

@@ -1,5 +1,4 @@
 pub mod HallLemmas
 pub mod InterfaceLemmas
-pub mod KindLemmas
 pub mod NameLemmas
 pub mod WriteLemmas

@@ -44,9 +44,6 @@ roles = role.Admin ∷ role.User ∷ role.Power ∷ []
 abbrev pub role_of_text : List ℕ → Option Role
 role_of_text text = with_text role_text text roles
 
-abbrev pub role_of_number : ℕ → Option Role
-role_of_number number = with_number role_number number roles
-
 unfoldable pub purpose_text : Purpose → List ℕ
 purpose_text purpose.Commission = codes "commission"
 purpose_text purpose.Test = codes "test"
@@ -64,9 +61,6 @@ purpose_number purpose.Rescue = 4
 abbrev pub purposes : List Purpose
 purposes = purpose.Commission ∷ purpose.Test ∷ purpose.Deploy ∷ purpose.Erase ∷ purpose.Rescue ∷ []
 
-abbrev pub purpose_of_number : ℕ → Option Purpose
-purpose_of_number number = with_number purpose_number number purposes
-
 unfoldable pub stage_number : Stage → ℕ
 stage_number stage.Offered = 0
 stage_number stage.Started = 1
@@ -75,9 +69,6 @@ stage_number stage.Failed = 3
 
 abbrev pub stages : List Stage
 stages = stage.Offered ∷ stage.Started ∷ stage.Done ∷ stage.Failed ∷ []
-
-abbrev pub stage_of_number : ℕ → Option Stage
-stage_of_number number = with_number stage_number number stages
 
 unfoldable pub order_kind_text : OrderKind → List ℕ
 order_kind_text orderkind.Cycle = codes "cycle"
@@ -90,9 +81,6 @@ order_kind_number orderkind.Off = 1
 abbrev pub order_kinds : List OrderKind
 order_kinds = orderkind.Cycle ∷ orderkind.Off ∷ []
 
-abbrev pub order_kind_of_number : ℕ → Option OrderKind
-order_kind_of_number number = with_number order_kind_number number order_kinds
-
 unfoldable pub order_stage_number : OrderStage → ℕ
 order_stage_number orderstage.Waiting = 0
 order_stage_number orderstage.Done = 1
@@ -101,9 +89,6 @@ order_stage_number orderstage.Withdrawn = 3
 
 abbrev pub order_stages : List OrderStage
 order_stages = orderstage.Waiting ∷ orderstage.Done ∷ orderstage.Failed ∷ orderstage.Withdrawn ∷ []
-
-abbrev pub order_stage_of_number : ℕ → Option OrderStage
-order_stage_of_number number = with_number order_stage_number number order_stages
 
 unfoldable pub erase_text : Erase → List ℕ
 erase_text erase.Quick = codes "quick"
@@ -118,9 +103,6 @@ erases = erase.Quick ∷ erase.Full ∷ []
 
 abbrev pub erase_of_text : List ℕ → Option Erase
 erase_of_text text = with_text erase_text text erases
-
-abbrev pub erase_of_number : ℕ → Option Erase
-erase_of_number number = with_number erase_number number erases
 
 unfoldable pub progress_text : Progress → List ℕ
 progress_text progress.Started = codes "started"
@@ -152,9 +134,6 @@ arch_number arch.Arm64 = 3
 
 abbrev pub archs : List Arch
 archs = arch.Bios ∷ arch.Uefi32 ∷ arch.Uefi64 ∷ arch.Arm64 ∷ []
-
-abbrev pub arch_of_number : ℕ → Option Arch
-arch_of_number number = with_number arch_number number archs
 
 -- the stage of a boot after a report
 abbrev pub stage_after : Progress → Stage

@@ -1,6 +1,5 @@
 -- Where a machine stands in its life (after the node statuses of MAAS).
-use Rattle.std.specs.Prelude.{ℕ, List, [], ◌∷◌, Option, codes}
-use Rattle.hall_types.specs.Kinds.{with_number}
+use Rattle.std.specs.Prelude.{ℕ, List, [], ◌∷◌, codes}
 use Rattle.hall_types.specs.declared.status.Status.{Status}
 use Rattle.hall_types.specs.declared.status.Status.TheVariants.{New, Commissioning, FailedCommissioning, Testing, FailedTesting, Ready, Allocated, Deploying, FailedDeployment, Deployed, Releasing, FailedReleasing, DiskErasing, FailedDiskErasing, EnteringRescue, FailedToEnterRescue, Rescue, ExitingRescue, FailedToExitRescue, Broken}
 
@@ -55,6 +54,3 @@ statuses =
     New ∷ Commissioning ∷ FailedCommissioning ∷ Testing ∷ FailedTesting ∷ Ready ∷ Allocated ∷ Deploying ∷ FailedDeployment ∷ Deployed
     ∷ Releasing ∷ FailedReleasing ∷ DiskErasing ∷ FailedDiskErasing ∷ EnteringRescue ∷ FailedToEnterRescue ∷ Rescue ∷ ExitingRescue
     ∷ FailedToExitRescue ∷ Broken ∷ []
-
-abbrev pub status_of_number : ℕ → Option Status
-status_of_number number = with_number status_number number statuses

@@ -1,9 +1,9 @@
 //! The numbers of architectures in tables.
 ghost use Rattle.std.specs.Prelude.{◌≡◌};
-ghost use Rattle.std.specs.Result.{result_ok};
-ghost use Rattle.hall_types.specs.Kinds.{arch_number, arch_of_number, with_number};
+ghost use Rattle.hall_types.specs.Kinds.{arch_number, archs};
+ghost use Rattle.hall_types.specs.KindLaws.{arch_by_number};
 
-use crate::kinds::UnknownNumber;
+use crate::numbered::Numbered;
 use pxe_vendor::Arch;
 
 const ARCHS: [Arch; 4] = [Arch::Bios, Arch::Uefi32, Arch::Uefi64, Arch::Arm64];
@@ -17,18 +17,14 @@ pub fn arch_number(arch: Arch) -> u8
     arch as u8
 }
 
-fn arch_in(archs: &[Arch], number: u8) -> Option<Arch>
-    ensures { result ≡ with_number arch_number number archs.now }
-{
-    archs
-        .iter()
-        .copied()
-        .find(|arch| arch_number(*arch) == number)
-}
+impl Numbered for Arch {
+    ghost number_of = { arch_number };
 
-/// The architecture with this number in tables.
-pub fn arch_with_number(number: u8) -> Result<Arch, UnknownNumber>
-    ensures { result_ok result ≡ arch_of_number number }
-{
-    arch_in(&ARCHS, number).ok_or(UnknownNumber)
+    ghost kinds = { archs };
+
+    ghost exact = { arch_by_number };
+
+    fn with_number(number: u8) -> Option<Self> {
+        ARCHS.iter().copied().find(|it| arch_number(*it) == number)
+    }
 }

@@ -1,6 +1,7 @@
-//! Kinds that texts name by a word and tables by a number.
+//! Kinds that texts name by a word, and most of them tables by a number.
 ghost use Rattle.std.specs.Prelude.{◌≡◌};
-ghost use Rattle.hall_types.specs.Kinds.{order_stage_number, purpose_number, stage_number, with_number};
+ghost use Rattle.std.specs.Result.{result_ok};
+ghost use Rattle.hall_types.specs.Kinds.{role_text, role_number, role_of_text, purpose_text, purpose_number, stage_number, order_kind_text, order_kind_number, order_stage_number, erase_text, erase_number, erase_of_text, progress_text, progress_of_text, outcome_text, outcome_of_text, stage_after};
 
 use std::str::FromStr;
 use thiserror::Error;
@@ -10,11 +11,6 @@ use thiserror::Error;
 #[error("unknown word")]
 pub struct UnknownWord;
 
-/// No kind has this number.
-#[derive(Clone, Copy, Debug, PartialEq, Eq, Error)]
-#[error("unknown number")]
-pub struct UnknownNumber;
-
 /// What an operator may do.
 #[derive(Clone, Copy)]
 pub enum Role {
@@ -23,11 +19,11 @@ pub enum Role {
     Power,
 }
 
+#[tactic(auto, unfolding(crate::specs::Kinds::role_text, crate::specs::Kinds::role_number))]
 impl Role {
-    ghost use Rattle.hall_types.specs.Kinds.{role_text, role_number};
+    pub(crate) const ALL: [Role; 3] = [Role::Admin, Role::User, Role::Power];
 
     /// The word in texts.
-    #[tactic(auto, unfolding(crate::specs::Kinds::role_text))]
     pub fn text(self) -> &'static str
         ensures { result.now ≡ role_text self }
     {
@@ -39,7 +35,6 @@ impl Role {
     }
 
     /// The number in tables.
-    #[tactic(auto, unfolding(crate::specs::Kinds::role_number))]
     pub fn number(self) -> u8
         ensures { result ≡ role_number self }
     {
@@ -48,39 +43,13 @@ impl Role {
 }
 
 impl FromStr for Role {
-    ghost use Rattle.std.specs.Result.{result_ok};
-    ghost use Rattle.hall_types.specs.Kinds.{role_of_text};
-
     type Err = UnknownWord;
 
     ghost from_str_gives = { λ text result. result_ok result ≡ role_of_text text };
 
-    fn from_str(text: &str) -> Result<Role, UnknownWord> {
-        match text {
-            "admin" => Ok(Role::Admin),
-            "user" => Ok(Role::User),
-            "power" => Ok(Role::Power),
-            _ => Err(UnknownWord),
-        }
-    }
-}
-
-impl TryFrom<u8> for Role {
-    ghost use Rattle.std.specs.Result.{result_ok};
-    ghost use Rattle.hall_types.specs.Kinds.{role_of_number};
-
-    type Error = UnknownNumber;
-
-    ghost try_from_gives = { λ number result. result_ok result ≡ role_of_number number };
-
-    #[tactic(auto, unfolding(crate::specs::Kinds::role_number))]
-    fn try_from(number: u8) -> Result<Role, UnknownNumber> {
-        match number {
-            0 => Ok(Role::Admin),
-            1 => Ok(Role::User),
-            2 => Ok(Role::Power),
-            _ => Err(UnknownNumber),
-        }
+    fn from_str(text: &str) -> Result<Self, UnknownWord> {
+        let kind = Self::ALL.iter().copied().find(|it| it.text() == text);
+        kind.ok_or(UnknownWord)
     }
 }
 
@@ -94,10 +63,9 @@ pub enum Purpose {
     Rescue,
 }
 
+#[tactic(auto, unfolding(crate::specs::Kinds::purpose_text, crate::specs::Kinds::purpose_number))]
 impl Purpose {
-    ghost use Rattle.hall_types.specs.Kinds.{purpose_text, purpose_number};
-
-    const ALL: [Purpose; 5] = [
+    pub(crate) const ALL: [Purpose; 5] = [
         Purpose::Commission,
         Purpose::Test,
         Purpose::Deploy,
@@ -106,7 +74,6 @@ impl Purpose {
     ];
 
     /// The word in texts.
-    #[tactic(auto, unfolding(crate::specs::Kinds::purpose_text))]
     pub fn text(self) -> &'static str
         ensures { result.now ≡ purpose_text self }
     {
@@ -120,30 +87,10 @@ impl Purpose {
     }
 
     /// The number in tables.
-    #[tactic(auto, unfolding(crate::specs::Kinds::purpose_number))]
     pub fn number(self) -> u8
         ensures { result ≡ purpose_number self }
     {
         self as u8
-    }
-}
-
-fn purpose_in(kinds: &[Purpose], number: u8) -> Option<Purpose>
-    ensures { result ≡ with_number purpose_number number kinds.now }
-{
-    kinds.iter().copied().find(|kind| kind.number() == number)
-}
-
-impl TryFrom<u8> for Purpose {
-    ghost use Rattle.std.specs.Result.{result_ok};
-    ghost use Rattle.hall_types.specs.Kinds.{purpose_of_number};
-
-    type Error = UnknownNumber;
-
-    ghost try_from_gives = { λ number result. result_ok result ≡ purpose_of_number number };
-
-    fn try_from(number: u8) -> Result<Purpose, UnknownNumber> {
-        purpose_in(&Purpose::ALL, number).ok_or(UnknownNumber)
     }
 }
 
@@ -157,36 +104,15 @@ pub enum Stage {
     Failed,
 }
 
+#[tactic(auto, unfolding(crate::specs::Kinds::stage_number))]
 impl Stage {
-    ghost use Rattle.hall_types.specs.Kinds.{stage_number};
-
-    const ALL: [Stage; 4] = [Stage::Offered, Stage::Started, Stage::Done, Stage::Failed];
+    pub(crate) const ALL: [Stage; 4] = [Stage::Offered, Stage::Started, Stage::Done, Stage::Failed];
 
     /// The number in tables.
-    #[tactic(auto, unfolding(crate::specs::Kinds::stage_number))]
     pub fn number(self) -> u8
         ensures { result ≡ stage_number self }
     {
         self as u8
-    }
-}
-
-fn stage_in(kinds: &[Stage], number: u8) -> Option<Stage>
-    ensures { result ≡ with_number stage_number number kinds.now }
-{
-    kinds.iter().copied().find(|kind| kind.number() == number)
-}
-
-impl TryFrom<u8> for Stage {
-    ghost use Rattle.std.specs.Result.{result_ok};
-    ghost use Rattle.hall_types.specs.Kinds.{stage_of_number};
-
-    type Error = UnknownNumber;
-
-    ghost try_from_gives = { λ number result. result_ok result ≡ stage_of_number number };
-
-    fn try_from(number: u8) -> Result<Stage, UnknownNumber> {
-        stage_in(&Stage::ALL, number).ok_or(UnknownNumber)
     }
 }
 
@@ -198,11 +124,11 @@ pub enum OrderKind {
     Off,
 }
 
+#[tactic(auto, unfolding(crate::specs::Kinds::order_kind_text, crate::specs::Kinds::order_kind_number))]
 impl OrderKind {
-    ghost use Rattle.hall_types.specs.Kinds.{order_kind_text, order_kind_number};
+    pub(crate) const ALL: [OrderKind; 2] = [OrderKind::Cycle, OrderKind::Off];
 
     /// The word in texts.
-    #[tactic(auto, unfolding(crate::specs::Kinds::order_kind_text))]
     pub fn text(self) -> &'static str
         ensures { result.now ≡ order_kind_text self }
     {
@@ -213,29 +139,10 @@ impl OrderKind {
     }
 
     /// The number in tables.
-    #[tactic(auto, unfolding(crate::specs::Kinds::order_kind_number))]
     pub fn number(self) -> u8
         ensures { result ≡ order_kind_number self }
     {
         self as u8
-    }
-}
-
-impl TryFrom<u8> for OrderKind {
-    ghost use Rattle.std.specs.Result.{result_ok};
-    ghost use Rattle.hall_types.specs.Kinds.{order_kind_of_number};
-
-    type Error = UnknownNumber;
-
-    ghost try_from_gives = { λ number result. result_ok result ≡ order_kind_of_number number };
-
-    #[tactic(auto, unfolding(crate::specs::Kinds::order_kind_number))]
-    fn try_from(number: u8) -> Result<OrderKind, UnknownNumber> {
-        match number {
-            0 => Ok(OrderKind::Cycle),
-            1 => Ok(OrderKind::Off),
-            _ => Err(UnknownNumber),
-        }
     }
 }
 
@@ -249,10 +156,9 @@ pub enum OrderStage {
     Withdrawn,
 }
 
+#[tactic(auto, unfolding(crate::specs::Kinds::order_stage_number))]
 impl OrderStage {
-    ghost use Rattle.hall_types.specs.Kinds.{order_stage_number};
-
-    const ALL: [OrderStage; 4] = [
+    pub(crate) const ALL: [OrderStage; 4] = [
         OrderStage::Waiting,
         OrderStage::Done,
         OrderStage::Failed,
@@ -260,30 +166,10 @@ impl OrderStage {
     ];
 
     /// The number in tables.
-    #[tactic(auto, unfolding(crate::specs::Kinds::order_stage_number))]
     pub fn number(self) -> u8
         ensures { result ≡ order_stage_number self }
     {
         self as u8
-    }
-}
-
-fn order_stage_in(kinds: &[OrderStage], number: u8) -> Option<OrderStage>
-    ensures { result ≡ with_number order_stage_number number kinds.now }
-{
-    kinds.iter().copied().find(|kind| kind.number() == number)
-}
-
-impl TryFrom<u8> for OrderStage {
-    ghost use Rattle.std.specs.Result.{result_ok};
-    ghost use Rattle.hall_types.specs.Kinds.{order_stage_of_number};
-
-    type Error = UnknownNumber;
-
-    ghost try_from_gives = { λ number result. result_ok result ≡ order_stage_of_number number };
-
-    fn try_from(number: u8) -> Result<OrderStage, UnknownNumber> {
-        order_stage_in(&OrderStage::ALL, number).ok_or(UnknownNumber)
     }
 }
 
@@ -294,11 +180,11 @@ pub enum Erase {
     Full,
 }
 
+#[tactic(auto, unfolding(crate::specs::Kinds::erase_text, crate::specs::Kinds::erase_number))]
 impl Erase {
-    ghost use Rattle.hall_types.specs.Kinds.{erase_text, erase_number};
+    pub(crate) const ALL: [Erase; 2] = [Erase::Quick, Erase::Full];
 
     /// The word in texts.
-    #[tactic(auto, unfolding(crate::specs::Kinds::erase_text))]
     pub fn text(self) -> &'static str
         ensures { result.now ≡ erase_text self }
     {
@@ -309,7 +195,6 @@ impl Erase {
     }
 
     /// The number in tables.
-    #[tactic(auto, unfolding(crate::specs::Kinds::erase_number))]
     pub fn number(self) -> u8
         ensures { result ≡ erase_number self }
     {
@@ -318,37 +203,13 @@ impl Erase {
 }
 
 impl FromStr for Erase {
-    ghost use Rattle.std.specs.Result.{result_ok};
-    ghost use Rattle.hall_types.specs.Kinds.{erase_of_text};
-
     type Err = UnknownWord;
 
     ghost from_str_gives = { λ text result. result_ok result ≡ erase_of_text text };
 
-    fn from_str(text: &str) -> Result<Erase, UnknownWord> {
-        match text {
-            "quick" => Ok(Erase::Quick),
-            "full" => Ok(Erase::Full),
-            _ => Err(UnknownWord),
-        }
-    }
-}
-
-impl TryFrom<u8> for Erase {
-    ghost use Rattle.std.specs.Result.{result_ok};
-    ghost use Rattle.hall_types.specs.Kinds.{erase_of_number};
-
-    type Error = UnknownNumber;
-
-    ghost try_from_gives = { λ number result. result_ok result ≡ erase_of_number number };
-
-    #[tactic(auto, unfolding(crate::specs::Kinds::erase_number))]
-    fn try_from(number: u8) -> Result<Erase, UnknownNumber> {
-        match number {
-            0 => Ok(Erase::Quick),
-            1 => Ok(Erase::Full),
-            _ => Err(UnknownNumber),
-        }
+    fn from_str(text: &str) -> Result<Self, UnknownWord> {
+        let kind = Self::ALL.iter().copied().find(|it| it.text() == text);
+        kind.ok_or(UnknownWord)
     }
 }
 
@@ -360,11 +221,11 @@ pub enum Progress {
     Failed,
 }
 
+#[tactic(auto, unfolding(crate::specs::Kinds::progress_text))]
 impl Progress {
-    ghost use Rattle.hall_types.specs.Kinds.{progress_text};
+    const ALL: [Progress; 3] = [Progress::Started, Progress::Done, Progress::Failed];
 
     /// The word in texts.
-    #[tactic(auto, unfolding(crate::specs::Kinds::progress_text))]
     pub fn text(self) -> &'static str
         ensures { result.now ≡ progress_text self }
     {
@@ -374,23 +235,27 @@ impl Progress {
             Progress::Failed => "failed",
         }
     }
+
+    /// The stage of a boot after this report.
+    pub fn stage(self) -> Stage
+        ensures { result ≡ stage_after self }
+    {
+        match self {
+            Progress::Started => Stage::Started,
+            Progress::Done => Stage::Done,
+            Progress::Failed => Stage::Failed,
+        }
+    }
 }
 
 impl FromStr for Progress {
-    ghost use Rattle.std.specs.Result.{result_ok};
-    ghost use Rattle.hall_types.specs.Kinds.{progress_of_text};
-
     type Err = UnknownWord;
 
     ghost from_str_gives = { λ text result. result_ok result ≡ progress_of_text text };
 
-    fn from_str(text: &str) -> Result<Progress, UnknownWord> {
-        match text {
-            "started" => Ok(Progress::Started),
-            "done" => Ok(Progress::Done),
-            "failed" => Ok(Progress::Failed),
-            _ => Err(UnknownWord),
-        }
+    fn from_str(text: &str) -> Result<Self, UnknownWord> {
+        let kind = Self::ALL.iter().copied().find(|it| it.text() == text);
+        kind.ok_or(UnknownWord)
     }
 }
 
@@ -401,11 +266,11 @@ pub enum Outcome {
     Failed,
 }
 
+#[tactic(auto, unfolding(crate::specs::Kinds::outcome_text))]
 impl Outcome {
-    ghost use Rattle.hall_types.specs.Kinds.{outcome_text};
+    const ALL: [Outcome; 2] = [Outcome::Done, Outcome::Failed];
 
     /// The word in texts.
-    #[tactic(auto, unfolding(crate::specs::Kinds::outcome_text))]
     pub fn text(self) -> &'static str
         ensures { result.now ≡ outcome_text self }
     {
@@ -417,33 +282,12 @@ impl Outcome {
 }
 
 impl FromStr for Outcome {
-    ghost use Rattle.std.specs.Result.{result_ok};
-    ghost use Rattle.hall_types.specs.Kinds.{outcome_of_text};
-
     type Err = UnknownWord;
 
     ghost from_str_gives = { λ text result. result_ok result ≡ outcome_of_text text };
 
-    fn from_str(text: &str) -> Result<Outcome, UnknownWord> {
-        match text {
-            "done" => Ok(Outcome::Done),
-            "failed" => Ok(Outcome::Failed),
-            _ => Err(UnknownWord),
-        }
-    }
-}
-
-impl Progress {
-    ghost use Rattle.hall_types.specs.Kinds.{stage_after};
-
-    /// The stage of a boot after this report.
-    pub fn stage(self) -> Stage
-        ensures { result ≡ stage_after self }
-    {
-        match self {
-            Progress::Started => Stage::Started,
-            Progress::Done => Stage::Done,
-            Progress::Failed => Stage::Failed,
-        }
+    fn from_str(text: &str) -> Result<Self, UnknownWord> {
+        let kind = Self::ALL.iter().copied().find(|it| it.text() == text);
+        kind.ok_or(UnknownWord)
     }
 }

@@ -1,18 +1,11 @@
 //! What holds of halls, whatever is written.
 ghost use Rattle.std.specs.Prelude.{◌≡◌, ◌≢◌, ◌++◌, ◌↔◌, ℕ, List, Option, None, Some, true};
 ghost use Rattle.hall_types.specs.Image.{BootImage};
-ghost use Rattle.hall_types.specs.Kinds.{role_text, role_of_text, erase_text, erase_of_text, progress_text, progress_of_text, outcome_text, outcome_of_text, arch_number, arch_of_number, role_number, role_of_number, purpose_number, purpose_of_number, stage_number, stage_of_number, order_kind_number, order_kind_of_number, order_stage_number, order_stage_of_number, erase_number, erase_of_number};
-ghost use Rattle.hall_types.specs.Status.{status_number, status_of_number};
-ghost use Rattle.pxe_vendor.specs.declared.arch.Arch.{Arch};
+ghost use Rattle.hall_types.specs.Kinds.{with_number, role_text, role_of_text, erase_text, erase_of_text, progress_text, progress_of_text, outcome_text, outcome_of_text, arch_number};
 ghost use Rattle.hall_types.specs.declared.kinds.Role.{Role};
-ghost use Rattle.hall_types.specs.declared.kinds.Purpose.{Purpose};
-ghost use Rattle.hall_types.specs.declared.kinds.Stage.{Stage};
-ghost use Rattle.hall_types.specs.declared.kinds.OrderKind.{OrderKind};
-ghost use Rattle.hall_types.specs.declared.kinds.OrderStage.{OrderStage};
 ghost use Rattle.hall_types.specs.declared.kinds.Erase.{Erase};
 ghost use Rattle.hall_types.specs.declared.kinds.Progress.{Progress};
 ghost use Rattle.hall_types.specs.declared.kinds.Outcome.{Outcome};
-ghost use Rattle.hall_types.specs.declared.status.Status.{Status};
 ghost use Rattle.hall_types.specs.Rows.{at};
 ghost use Rattle.hall_types.specs.Hall.{Hall, Schema, applied, default_pool, new_hall, pair, written};
 ghost use Rattle.hall_types.specs.Keyed.{IsKeyed};
@@ -30,6 +23,8 @@ ghost use Rattle.hall_types.specs.declared.order.Order.{Order};
 ghost use Rattle.hall_types.specs.declared.receipt.Receipt.{Receipt};
 ghost use Rattle.hall_types.specs.declared.change.RowWrite.{RowWrite};
 ghost use Rattle.hall_types.specs.declared.change.RowWrite.TheVariants.{ImageGone, InterfaceGone, MachineGone, PutBoot, PutImage, PutInterface, PutLive, PutMachine, PutMember, PutNumbers, PutOperator, PutOrder, PutPool, PutReceipt};
+
+use crate::numbered::Numbered;
 
 /// A change in two parts is carried out part by part.
 #[tactic(auto, using(crate::specs::ChangeLaws::applied_append))]
@@ -107,14 +102,6 @@ pub fn words_are_of_one_kind()
 {}
 
 /// A number is read as a kind if and only if it is that kind's number.
-#[tactic(auto, using(crate::specs::KindLaws::by_number))]
-pub fn numbers_are_of_one_kind()
-    ensures arch { (number : ℕ) (k : Arch) → (arch_of_number number ≡ Some k) ↔ (arch_number k ≡ number) }
-    ensures role { (number : ℕ) (k : Role) → (role_of_number number ≡ Some k) ↔ (role_number k ≡ number) }
-    ensures purpose { (number : ℕ) (k : Purpose) → (purpose_of_number number ≡ Some k) ↔ (purpose_number k ≡ number) }
-    ensures stage { (number : ℕ) (k : Stage) → (stage_of_number number ≡ Some k) ↔ (stage_number k ≡ number) }
-    ensures order_kind { (number : ℕ) (k : OrderKind) → (order_kind_of_number number ≡ Some k) ↔ (order_kind_number k ≡ number) }
-    ensures order_stage { (number : ℕ) (k : OrderStage) → (order_stage_of_number number ≡ Some k) ↔ (order_stage_number k ≡ number) }
-    ensures erase { (number : ℕ) (k : Erase) → (erase_of_number number ≡ Some k) ↔ (erase_number k ≡ number) }
-    ensures status { (number : ℕ) (k : Status) → (status_of_number number ≡ Some k) ↔ (status_number k ≡ number) }
+pub fn numbers_are_of_one_kind<K: Numbered>()
+    ensures { (number : ℕ) (kind : K) → (with_number K.number_of number K.kinds ≡ Some kind) ↔ (K.number_of kind ≡ number) }
 {}

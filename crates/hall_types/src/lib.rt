@@ -16,6 +16,7 @@ mod machine_uuid;
 mod moment;
 mod name;
 mod number;
+mod numbered;
 mod operator;
 mod order;
 mod port;
@@ -28,15 +29,14 @@ mod token;
 mod version;
 
 pub use address::MacAddress;
-pub use arch::{arch_number, arch_with_number};
+pub use arch::arch_number;
 pub use boot::{BadBootCount, Boot, BootCount, MAX_BOOTS};
 pub use change::{Change, RowWrite};
 pub use digest::Digest;
 pub use image::{Image, ImageFault, Live, MAX_ARGS};
 pub use interfaces::{own_interfaces, sort_by_machine};
 pub use kinds::{
-    Erase, OrderKind, OrderStage, Outcome, Progress, Purpose, Role, Stage, UnknownNumber,
-    UnknownWord,
+    Erase, OrderKind, OrderStage, Outcome, Progress, Purpose, Role, Stage, UnknownWord,
 };
 pub use laws::{
     changes_in_turn, machine_goes_alone, new_hall_is_bare, numbers_are_of_one_kind,
@@ -48,6 +48,7 @@ pub use machine_uuid::MachineUuid;
 pub use moment::{BadMoment, MAX_MOMENT, Moment};
 pub use name::{BadName, Name};
 pub use number::{BadNumber, LastIssued, MAX_NUMBER, Number, Numbers};
+pub use numbered::Numbered;
 pub use operator::{Member, Operator, Pool};
 pub use order::Order;
 pub use port::Port;

@@ -1,9 +1,6 @@
 //! Statuses of machines.
 ghost use Rattle.std.specs.Prelude.{◌≡◌, ◌<◌};
-ghost use Rattle.hall_types.specs.Kinds.{with_number};
-ghost use Rattle.hall_types.specs.Status.{status_number};
-
-use crate::kinds::UnknownNumber;
+ghost use Rattle.hall_types.specs.Status.{status_text, status_number};
 
 /// A machine's status, modelled on the node statuses of MAAS. Its number in tables is its place, from 0 on.
 #[derive(Clone, Copy, PartialEq, Eq)]
@@ -30,10 +27,9 @@ pub enum Status {
     Broken,
 }
 
+#[tactic(auto, unfolding(crate::specs::Status::status_text, crate::specs::Status::status_number))]
 impl Status {
-    ghost use Rattle.hall_types.specs.Status.{status_text, status_number};
-
-    const ALL: [Status; 20] = [
+    pub(crate) const ALL: [Status; 20] = [
         Status::New,
         Status::Commissioning,
         Status::FailedCommissioning,
@@ -57,7 +53,6 @@ impl Status {
     ];
 
     /// The printed text.
-    #[tactic(auto, unfolding(crate::specs::Status::status_text))]
     pub fn text(self) -> &'static str
         ensures { result.now ≡ status_text self }
     {
@@ -86,33 +81,10 @@ impl Status {
     }
 
     /// The number in tables, 0 to 19.
-    #[tactic(auto, unfolding(crate::specs::Status::status_number))]
     pub fn number(self) -> u8
         ensures number { result ≡ status_number self }
         ensures small { result < 20 }
     {
         self as u8
-    }
-}
-
-fn status_in(statuses: &[Status], number: u8) -> Option<Status>
-    ensures { result ≡ with_number status_number number statuses.now }
-{
-    statuses
-        .iter()
-        .copied()
-        .find(|status| status.number() == number)
-}
-
-impl TryFrom<u8> for Status {
-    ghost use Rattle.std.specs.Result.{result_ok};
-    ghost use Rattle.hall_types.specs.Status.{status_of_number};
-
-    type Error = UnknownNumber;
-
-    ghost try_from_gives = { λ number result. result_ok result ≡ status_of_number number };
-
-    fn try_from(number: u8) -> Result<Status, UnknownNumber> {
-        status_in(&Status::ALL, number).ok_or(UnknownNumber)
     }
 }

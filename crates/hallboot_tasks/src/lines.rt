@@ -1,11 +1,12 @@
 //! The log of a service's turns.
 use crate::outlet::Outlet;
 use desk_operations::{
-    Backup, Failures, LogFormat, arrival_members, arrival_text, backup_line, is_of_note, turn_line,
+    Backup, Failures, LogFormat, arrival_members, arrival_text, backup_line, is_of_note,
     unstamped_line,
 };
 use hall_desk::{Account, Answer, Arrival};
 use hall_types::Moment;
+use serve_lines::turn_line;
 use serve_sockets::{Turn, TurnLog};
 use std::alloc::{AllocError, Global};
 

@@ -37,16 +37,6 @@ pub enum AuthorityFault {
     Memory = 2,
 }
 
-impl From<AllocError> for AuthorityFault {
-    ghost use Rattle.hallctl_requests.specs.declared.authority.AuthorityFault.TheVariants.{Memory};
-
-    ghost from_gives = { λ _ fault. fault ≡ Memory };
-
-    fn from(_error: AllocError) -> AuthorityFault {
-        AuthorityFault::Memory
-    }
-}
-
 impl Authority {
     /// The authority with this text. The text is tested before memory is taken.
     ///
@@ -60,8 +50,10 @@ impl Authority {
         if !is_visible_text(text.as_bytes(), MAX_AUTHORITY_LEN) {
             return Err(AuthorityFault::BadAuthority);
         }
-        let text = String::from_str(alloc, text)?;
-        Ok(Authority { text })
+        match String::from_str(alloc, text) {
+            Ok(text) => Ok(Authority { text }),
+            Err(AllocError) => Err(AuthorityFault::Memory),
+        }
     }
 
     /// Its characters.

@@ -37,16 +37,6 @@ pub enum TokenFault {
     Memory = 2,
 }
 
-impl From<AllocError> for TokenFault {
-    ghost use Rattle.hallctl_requests.specs.declared.bearer.TokenFault.TheVariants.{Memory};
-
-    ghost from_gives = { λ _ fault. fault ≡ Memory };
-
-    fn from(_error: AllocError) -> TokenFault {
-        TokenFault::Memory
-    }
-}
-
 impl BearerToken {
     /// The token with this text. The text is tested before memory is taken.
     ///
@@ -60,8 +50,10 @@ impl BearerToken {
         if !is_visible_text(text.as_bytes(), MAX_TOKEN_LEN) {
             return Err(TokenFault::BadToken);
         }
-        let text = String::from_str(alloc, text)?;
-        Ok(BearerToken { text })
+        match String::from_str(alloc, text) {
+            Ok(text) => Ok(BearerToken { text }),
+            Err(AllocError) => Err(TokenFault::Memory),
+        }
     }
 
     /// Its characters.

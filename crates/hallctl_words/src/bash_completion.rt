@@ -1,6 +1,7 @@
 //! The completion of command lines for bash.
+use crate::entries::entries;
 use crate::options::{Given, Word};
-use crate::subcommands::{Common, SUBCOMMANDS, Subcommand};
+use crate::subcommands::{Common, Entry};
 use std::alloc::{AllocError, Global};
 
 const HEAD: &str =
@@ -40,8 +41,7 @@ fn push_options(text: &mut String, words: &[Word]) -> Result<(), AllocError> {
 }
 
 // The line of a subcommand.
-fn push_case(text: &mut String, subcommand: Subcommand) -> Result<(), AllocError> {
-    let entry = subcommand.entry();
+fn push_case(text: &mut String, entry: &Entry) -> Result<(), AllocError> {
     text.push_str("        ")?;
     text.push_str(entry.name)?;
     text.push_str(") options='--help")?;
@@ -54,9 +54,9 @@ fn push_case(text: &mut String, subcommand: Subcommand) -> Result<(), AllocError
 fn push_front(text: &mut String) -> Result<(), AllocError> {
     text.push_str("        '') options='--help --version")?;
     push_options(text, Common::Reading.words())?;
-    for subcommand in SUBCOMMANDS {
+    for entry in entries() {
         text.push_str(" ")?;
-        text.push_str(subcommand.entry().name)?;
+        text.push_str(entry.name)?;
     }
     text.push_str("' ;;\n")
 }
@@ -65,8 +65,8 @@ fn push_front(text: &mut String) -> Result<(), AllocError> {
 pub fn completion(alloc: Global) -> Result<String, AllocError> {
     let mut text = String::from_str(alloc, HEAD)?;
     push_front(&mut text)?;
-    for subcommand in SUBCOMMANDS {
-        push_case(&mut text, subcommand)?;
+    for entry in entries() {
+        push_case(&mut text, entry)?;
     }
     text.push_str(TAIL)?;
     Ok(text)

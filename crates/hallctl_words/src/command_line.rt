@@ -1,6 +1,7 @@
 //! The command line, built of the tables.
+use crate::entries::entries;
 use crate::options::{Given, Word, WordEntry};
-use crate::subcommands::{Common, SUBCOMMANDS, Subcommand};
+use crate::subcommands::{Common, Entry};
 use clap::{Arg, ArgAction, Command};
 use std::alloc::{AllocError, Global};
 
@@ -14,6 +15,10 @@ fn option<'a>(alloc: Global, word: &WordEntry) -> Arg<'a> {
         .help(word.help)
         .action(ArgAction::Set)
         .allow_hyphen_values(true)
+}
+
+fn named<'a>(alloc: Global, word: &WordEntry) -> Arg<'a> {
+    option(alloc, word).long(word.name)
 }
 
 fn place<'a>(alloc: Global, word: &WordEntry) -> Arg<'a> {
@@ -31,11 +36,9 @@ fn flag<'a>(alloc: Global, word: &WordEntry) -> Arg<'a> {
 
 fn arg<'a>(alloc: Global, word: &WordEntry) -> Arg<'a> {
     match word.given {
-        Given::Always => option(alloc, word).long(word.name).required(true),
-        Given::Maybe => option(alloc, word).long(word.name),
-        Given::Often => option(alloc, word)
-            .long(word.name)
-            .action(ArgAction::Append),
+        Given::Always => named(alloc, word).required(true),
+        Given::Maybe => named(alloc, word),
+        Given::Often => named(alloc, word).action(ArgAction::Append),
         Given::Flag => flag(alloc, word),
         Given::Place => place(alloc, word),
         Given::Places => place(alloc, word).num_args(1..),
@@ -63,8 +66,7 @@ fn new<'a>(
     Command::new(alloc, name).about(about).after_help(example)
 }
 
-fn command_of<'a>(alloc: Global, subcommand: Subcommand) -> Result<Command<'a>, AllocError> {
-    let entry = subcommand.entry();
+fn command_of<'a>(alloc: Global, entry: &Entry) -> Result<Command<'a>, AllocError> {
     let command = new(alloc, entry.name, entry.about, entry.example);
     let command = with(alloc, command, entry.words)?;
     with(alloc, command, entry.common.words())
@@ -73,9 +75,9 @@ fn command_of<'a>(alloc: Global, subcommand: Subcommand) -> Result<Command<'a>, 
 fn with_subcommand<'a>(
     alloc: Global,
     command: Command<'a>,
-    subcommand: Subcommand,
+    entry: &Entry,
 ) -> Result<Command<'a>, AllocError> {
-    command.subcommand(command_of(alloc, subcommand)?)
+    command.subcommand(command_of(alloc, entry)?)
 }
 
 fn front<'a>(alloc: Global) -> Result<Command<'a>, AllocError> {
@@ -95,8 +97,8 @@ fn front<'a>(alloc: Global) -> Result<Command<'a>, AllocError> {
 /// The command line.
 pub(crate) fn command_line<'a>(alloc: Global) -> Result<Command<'a>, AllocError> {
     let mut command = front(alloc)?;
-    for subcommand in SUBCOMMANDS {
-        command = with_subcommand(alloc, command, subcommand)?;
+    for entry in entries() {
+        command = with_subcommand(alloc, command, entry)?;
     }
     Ok(command)
 }

@@ -29,6 +29,18 @@ pub(crate) fn known<'a, T: Drop>(
     }
 }
 
+// The value of an option that was given with this word.
+fn value_in<'a, T: Drop>(
+    word: Word,
+    text: &'a str,
+    value: Option<T>,
+) -> Result<Option<T>, WordsFault<'a>> {
+    match value {
+        Some(value) => Ok(Some(value)),
+        None => Err(WordsFault::of(word, Some(text))),
+    }
+}
+
 pub(crate) fn name_at<'a>(matches: &ArgMatches<'a>, word: Word) -> Result<Name, WordsFault<'a>> {
     let text = text_at(matches, word)?;
     known(word, text, name_of(text))
@@ -80,7 +92,7 @@ pub(crate) fn name_if<'a>(
     word: Word,
 ) -> Result<Option<Name>, WordsFault<'a>> {
     match matches.get_str(word.name()) {
-        Some(text) => Ok(Some(known(word, text, name_of(text))?)),
+        Some(text) => value_in(word, text, name_of(text)),
         None => Ok(None),
     }
 }
@@ -91,7 +103,7 @@ pub(crate) fn status_if<'a>(
     word: Word,
 ) -> Result<Option<Status>, WordsFault<'a>> {
     match matches.get_str(word.name()) {
-        Some(text) => Ok(Some(known(word, text, status_of(text))?)),
+        Some(text) => value_in(word, text, status_of(text)),
         None => Ok(None),
     }
 }
@@ -102,7 +114,7 @@ pub(crate) fn uuid_if<'a>(
     word: Word,
 ) -> Result<Option<MachineUuid>, WordsFault<'a>> {
     match matches.get_str(word.name()) {
-        Some(text) => Ok(Some(known(word, text, uuid_of(text))?)),
+        Some(text) => value_in(word, text, uuid_of(text)),
         None => Ok(None),
     }
 }
@@ -113,7 +125,7 @@ pub(crate) fn key_if<'a>(
     word: Word,
 ) -> Result<Option<RequestKey>, WordsFault<'a>> {
     match matches.get_str(word.name()) {
-        Some(text) => Ok(Some(known(word, text, key_of(text))?)),
+        Some(text) => value_in(word, text, key_of(text)),
         None => Ok(None),
     }
 }
@@ -124,7 +136,7 @@ pub(crate) fn digest_if<'a>(
     word: Word,
 ) -> Result<Option<Digest>, WordsFault<'a>> {
     match matches.get_str(word.name()) {
-        Some(text) => Ok(Some(known(word, text, digest_of(text))?)),
+        Some(text) => value_in(word, text, digest_of(text)),
         None => Ok(None),
     }
 }

@@ -1,6 +1,6 @@
 -- Why refusals write nothing.
-use Rattle.std.proofs.Common.{◌≡◌, ℕ, Bool, true, false, List, [], ◌∷◌, refl, sym, ap, subst, ◌∙◌, inl, inr}
-use Rattle.std.specs.Prelude.{⊤, map, Option, Some, None, Ok, Err, if◌then◌else◌}
+use Rattle.std.proofs.Common.{◌≡◌, ℕ, Bool, true, false, List, [], refl, sym, ap, subst, ◌∙◌, inl, inr}
+use Rattle.std.specs.Prelude.{map, Option, Some, None, Ok, Err, if◌then◌else◌}
 use Rattle.std.proofs.lemmas.Bool.{false≢true}
 use Rattle.pxe_vendor.specs.Place.{Site}
 use Rattle.pxe_vendor.specs.declared.clients.Client.{Client}
@@ -10,7 +10,7 @@ use Rattle.hall_types.specs.declared.operator.Operator.{Operator}
 use Rattle.hall_types.specs.declared.machine.Machine.{Machine}
 use Rattle.hall_types.specs.declared.port.Port.{Port}
 use Rattle.hall_types.specs.declared.refusal.Refusal.{Refusal}
-use Rattle.hall_events.specs.Reply.{Content, refused, waiting_orders, machine_list, nothing, done, stored}
+use Rattle.hall_events.specs.Reply.{Content, refused, waiting_orders, machine_list, nothing, stored}
 use Rattle.hall_events.specs.declared.event.Event.{Event}
 use Rattle.hall_events.specs.declared.event.Event.TheVariants as event
 use Rattle.boot_desk.specs.Fetch.{Fetched, fetched}
@@ -22,34 +22,23 @@ use Rattle.boot_desk.specs.declared.fault.Verdict.TheVariants.{Counted, Repeat}
 use Rattle.boot_desk.specs.declared.frames.Decision.{Decision as FrameDecision}
 use Rattle.boot_desk.specs.declared.frames.Decision.TheVariants.{Loader, ScriptUrl, Enlist, Silent}
 use Rattle.boot_desk.specs.declared.views.BootView.{BootView}
-use Rattle.pxe_vendor.specs.declared.arch.Arch.{Arch}
 use Rattle.std.specs.Str.{bytes_eq}
 use Rattle.hall_types.specs.Hall.{applied, pair}
 use Rattle.hall_types.specs.declared.change.RowWrite.{RowWrite}
 use Rattle.hall_types.specs.Lookup.{waiting}
-use Rattle.hall_types.specs.Number.{next_number}
 use Rattle.hall_types.specs.Rows.{at, listed as rows_of}
-use Rattle.hall_types.specs.declared.change.RowWrite.TheVariants.{PutOperator}
 use Rattle.hall_types.specs.declared.receipt.Receipt.{Receipt}
 use Rattle.hall_types.specs.declared.refusal.Refusal.TheVariants as cause
 use Rattle.hall_events.specs.Command.{command_text}
 use Rattle.hall_events.specs.declared.command.HallCommand.{HallCommand}
-use Rattle.hall_events.specs.declared.command.HallCommand.TheVariants.{AddOperator, DisableOperator, AddPool, Grant, AddImage, DeleteImage, SetLive, AddMachine, OnMachine}
-use Rattle.hall_events.specs.declared.command.MachineCommand.{MachineCommand}
-use Rattle.hall_events.specs.declared.command.MachineCommand.TheVariants as on
-use Rattle.life_cycle.specs.Entering.{entered}
-use Rattle.life_cycle.specs.Table.{step_of}
-use Rattle.life_cycle.specs.declared.action.Action.TheVariants as act
-use Rattle.life_cycle.specs.declared.entering.Entered.{Entered}
-use Rattle.life_cycle.specs.declared.signal.Signal.TheVariants.{By}
-use Rattle.life_cycle.specs.declared.step.Step.{Step}
-use Rattle.desk_command.specs.Causes.{causes, first_of, release_action}
+use Rattle.desk_command.specs.Causes.{causes, first_of}
 use Rattle.desk_command.specs.Command.{command_decision, commanded as new_command, keyed, may_send, needs_admin, of_sender, repeated as repeated_command, sender, unless, with_receipt}
-use Rattle.desk_command.specs.Effect.{Effect, about, added, disabled, edited, effect, entry_effect, live_image, machine_effect, machine_effect_if, moved_to_pool, prepared, raised, step_effect}
+use Rattle.desk_command.specs.Effect.{Effect, effect}
 use Rattle.desk_command.specs.View.{command_view}
 use Rattle.desk_command.specs.declared.view.CommandView.{CommandView}
 use Rattle.laws_model.specs.Decision.{Decided, decision_of, listed_of, framed, given, given_if, judged, if_role, listed_if, commanded, refuses, says, may_see_orders, may_answer, may_see_machines}
 use Rattle.boot_desk.specs.SoundLaws.{some_is}
+use Rattle.laws_model.specs.EffectLaws.{Says, effect_says}
 use Rattle.laws_model.specs.Refusing.{IsRefusal}
 use Rattle.laws_model.specs.Step.{IsStep, Step as HallStep}
 
@@ -112,74 +101,7 @@ keeps_listed h (Some m) is = refl
 -- ---- the answer of an accepted command is no refusal
 
 abbrev Speaks : Effect → Type 0
-Speaks (Ok decision) = is_refused decision.1 ≡ false
-Speaks (Err refusal) = ⊤
-
-speaks_entry : (v : CommandView) (m : Machine) (e : Option Entered) → Speaks (entry_effect v m e)
-speaks_entry v m None = tt
-speaks_entry v m (Some e) = refl
-
-speaks_step : (v : CommandView) (o : Operator) (m : Machine) (command : MachineCommand) (moment : ℕ) (s : Option Step) → Speaks (step_effect v o m command moment s)
-speaks_step v o m command moment None = tt
-speaks_step v o m command moment (Some step) = speaks_entry v m (entered (prepared command o m) step moment v.numbers)
-
-speaks_pool : (m : Machine) (pool : List ℕ) → Speaks (moved_to_pool m pool)
-speaks_pool m pool = by (bytes_eq m.pool pool)
-  where
-    by : (same : Bool) → Speaks (if same then Ok ([], about m) else edited m (record (raised m) { pool = pool }) [])
-    by true = refl
-    by false = refl
-
-speaks_machine : (v : CommandView) (o : Operator) (m : Machine) (command : MachineCommand) (moment : ℕ) → Speaks (machine_effect v o m command moment)
-speaks_machine v o m (on.AddInterface mac) moment = refl
-speaks_machine v o m (on.RemoveInterface mac) moment = refl
-speaks_machine v o m (on.SetPool pool) moment = speaks_pool m pool
-speaks_machine v o m (on.Commission tests) moment = speaks_step v o m (on.Commission tests) moment (step_of m (By act.Commission))
-speaks_machine v o m on.Test moment = speaks_step v o m on.Test moment (step_of m (By act.Test))
-speaks_machine v o m on.Override moment = speaks_step v o m on.Override moment (step_of m (By act.Override))
-speaks_machine v o m on.Fix moment = speaks_step v o m on.Fix moment (step_of m (By act.Fix))
-speaks_machine v o m on.Delete moment = refl
-speaks_machine v o m on.Allocate moment = speaks_step v o m on.Allocate moment (step_of m (By act.Allocate))
-speaks_machine v o m (on.Deploy image) moment = speaks_step v o m (on.Deploy image) moment (step_of m (By act.Deploy))
-speaks_machine v o m (on.Release erase) moment = speaks_step v o m (on.Release erase) moment (step_of m (By (release_action erase)))
-speaks_machine v o m on.Rescue moment = speaks_step v o m on.Rescue moment (step_of m (By act.Rescue))
-speaks_machine v o m on.Abort moment = speaks_step v o m on.Abort moment (step_of m (By act.Abort))
-speaks_machine v o m on.Lock moment = refl
-speaks_machine v o m on.Unlock moment = refl
-speaks_machine v o m on.ExitRescue moment = speaks_step v o m on.ExitRescue moment (step_of m (By act.ExitRescue))
-speaks_machine v o m on.Break moment = speaks_step v o m on.Break moment (step_of m (By act.Break))
-
-speaks_machine_if : (m : Option Machine) (v : CommandView) (o : Operator) (command : MachineCommand) (moment : ℕ) → Speaks (machine_effect_if m v o command moment)
-speaks_machine_if None v o command moment = tt
-speaks_machine_if (Some m) v o command moment = speaks_machine v o m command moment
-
-speaks_disabled : (o : Option Operator) → Speaks (disabled o)
-speaks_disabled None = tt
-speaks_disabled (Some o) = by o.enabled
-  where
-    by : (enabled : Bool) → Speaks (if enabled then Ok (PutOperator (record o { enabled = false }) ∷ [], done) else Ok ([], done))
-    by true = refl
-    by false = refl
-
-speaks_live : (image : List ℕ) (arch : Option Arch) → Speaks (live_image image arch)
-speaks_live image None = tt
-speaks_live image (Some arch) = refl
-
-speaks_added : (v : CommandView) (mac : List ℕ) (arch : Arch) (pool : List ℕ) (uuid : Option (List ℕ)) (id : Option ℕ) → Speaks (added v mac arch pool uuid id)
-speaks_added v mac arch pool uuid None = tt
-speaks_added v mac arch pool uuid (Some id) = refl
-
-speaks_effect : (v : CommandView) (o : Operator) (command : HallCommand) (moment : ℕ) → Speaks (effect v o command moment)
-unfolding effect
-speaks_effect v o (AddOperator name role digest) moment = refl
-speaks_effect v o (DisableOperator name) moment = speaks_disabled v.operator
-speaks_effect v o (AddPool pool) moment = refl
-speaks_effect v o (Grant pool name) moment = refl
-speaks_effect v o (AddImage image) moment = refl
-speaks_effect v o (DeleteImage image) moment = refl
-speaks_effect v o (SetLive image) moment = speaks_live image v.image
-speaks_effect v o (AddMachine mac arch pool uuid) moment = speaks_added v mac arch pool uuid (next_number v.numbers.machine)
-speaks_effect v o (OnMachine id version command) moment = speaks_machine_if v.machine v o command moment
+Speaks = Says (λ content. is_refused content ≡ false)
 
 speaks_receipt : (o : Operator) (key : List ℕ) (command : HallCommand) (e : Effect) → Speaks e → Speaks (with_receipt o key command e)
 speaks_receipt o key command (Ok decision) speaks = speaks
@@ -193,7 +115,7 @@ speaks_new : (v : CommandView) (o : Operator) (key : List ℕ) (command : HallCo
 unfolding new_command
 speaks_new v o key command moment =
     speaks_unless (first_of (causes v o command)) (with_receipt o key command (effect v o command moment))
-    (speaks_receipt o key command (effect v o command moment) (speaks_effect v o command moment))
+    (speaks_receipt o key command (effect v o command moment) (effect_says (λ content. is_refused content ≡ false) refl (λ m. refl) (λ id. refl) v o command moment))
 
 speaks_repeated : (r : Receipt) (command : HallCommand) → Speaks (repeated_command r command)
 speaks_repeated r command = by (bytes_eq r.command (command_text command))

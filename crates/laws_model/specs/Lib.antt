@@ -1,4 +1,5 @@
 pub mod Decision
+pub mod EffectLaws
 pub mod Migration
 pub mod Refusing
 pub mod Step

@@ -2,7 +2,7 @@
 use Rattle.std.specs.Prelude.{◌≡◌, ◌||◌, not, ⊤, ℕ, Bool, true, false, List, [], ◌∷◌, Option, Some, None, Ok, Err, is_some, option_map, if◌then◌else◌}
 use Rattle.std.specs.Str.{bytes_eq}
 use Rattle.std.proofs.Common.{refl, sym, ap, subst, inl, inr, ◌∙◌}
-use Rattle.std.proofs.lemmas.Bool.{both_ways}
+use Rattle.std.proofs.lemmas.Bool.{both_ways, or_parts}
 use Rattle.std.proofs.lemmas.Slice.Eq.{bytes_eq-Decides}
 use Rattle.pxe_vendor.specs.declared.arch.Arch.{Arch}
 use Rattle.hall_types.specs.Hall.{Hall, pair}
@@ -39,12 +39,13 @@ use Rattle.boot_desk.specs.Sound.{IsSound}
 use Rattle.boot_desk.specs.SoundLaws.{some_is}
 use Rattle.boot_desk.specs.Views.{row_at}
 use Rattle.desk_command.specs.AllowedLaws.{IsAllowed, allowed, first_none, may_act, unless_none, when_none}
-use Rattle.desk_command.specs.Causes.{action_of, causes, causes_at, first_of, forbidden, release_action, when}
+use Rattle.desk_command.specs.Causes.{action_of, causes, causes_at, first_of, forbidden, when}
 use Rattle.desk_command.specs.Command.{command_decision, commanded, keyed, may_send, needs_admin, of_sender, sender, unless, with_receipt}
 use Rattle.desk_command.specs.Effect.{Effect, about, acted, added, added_machine, disabled, edited, effect, entry_effect, live_image, machine_effect, machine_effect_if, moved_to_pool, prepared, raised, step_effect}
 use Rattle.desk_command.specs.View.{by_mac, command_view, has_member, has_pool, image_arch, machine_view, machine_view_if}
 use Rattle.desk_command.specs.declared.view.CommandView.{CommandView}
 use Rattle.laws_model.specs.Decision.{commanded as answered}
+use Rattle.laws_model.specs.EffectLaws.{Says, effect_says}
 use Rattle.laws_steps.specs.Writes.{Writes, WritesAll, edits_machine, enters_status, is_done, machine_goes, makes_machine, nothing_first, with_receipt as and_receipt, without_receipt, writes_aside, writes_nothing}
 
 none_mapped : {X Y : Type 0} (f : X → Y) (o : Option X) → is_some (option_map f o) ≡ false → o ≡ None
@@ -54,82 +55,6 @@ none_mapped f (Some x) is = cc
 none_is : {X : Type 0} (o : Option X) → is_some o ≡ false → o ≡ None
 none_is None is = refl
 none_is (Some x) is = cc
-
-or_false : (a b : Bool) → (a || b) ≡ false → (a ≡ false) × (b ≡ false)
-or_false true b is = cc
-or_false false b is = (refl, is)
-
--- ---- what a command that is carried out is answered
-
-abbrev Says : Effect → Type 0
-Says (Ok d) = is_done d.1 ≡ true
-Says (Err refusal) = ⊤
-
-entry_says : (v : CommandView) (m : Machine) (x : Option Entered) → Says (entry_effect v m x)
-entry_says v m None = tt
-entry_says v m (Some x) = refl
-
-step_says : (v : CommandView) (o : Operator) (m : Machine) (command : MachineCommand) (moment : ℕ) (x : Option Step) → Says (step_effect v o m command moment x)
-step_says v o m command moment None = tt
-step_says v o m command moment (Some step) = entry_says v m (entered (prepared command o m) step moment v.numbers)
-
-pool_says : (m : Machine) (pool : List ℕ) → Says (moved_to_pool m pool)
-pool_says m pool = by (bytes_eq m.pool pool)
-  where
-    by : (same : Bool) → Says (if same then Ok ([], about m) else edited m (record (raised m) { pool = pool }) [])
-    by true = refl
-    by false = refl
-
-machine_says : (v : CommandView) (o : Operator) (m : Machine) (command : MachineCommand) (moment : ℕ) → Says (machine_effect v o m command moment)
-machine_says v o m (on.AddInterface mac) moment = refl
-machine_says v o m (on.RemoveInterface mac) moment = refl
-machine_says v o m (on.SetPool pool) moment = pool_says m pool
-machine_says v o m (on.Commission tests) moment = step_says v o m (on.Commission tests) moment (step_of m (By act.Commission))
-machine_says v o m on.Test moment = step_says v o m on.Test moment (step_of m (By act.Test))
-machine_says v o m on.Override moment = step_says v o m on.Override moment (step_of m (By act.Override))
-machine_says v o m on.Fix moment = step_says v o m on.Fix moment (step_of m (By act.Fix))
-machine_says v o m on.Delete moment = refl
-machine_says v o m on.Allocate moment = step_says v o m on.Allocate moment (step_of m (By act.Allocate))
-machine_says v o m (on.Deploy image) moment = step_says v o m (on.Deploy image) moment (step_of m (By act.Deploy))
-machine_says v o m (on.Release erase) moment = step_says v o m (on.Release erase) moment (step_of m (By (release_action erase)))
-machine_says v o m on.Rescue moment = step_says v o m on.Rescue moment (step_of m (By act.Rescue))
-machine_says v o m on.Abort moment = step_says v o m on.Abort moment (step_of m (By act.Abort))
-machine_says v o m on.Lock moment = refl
-machine_says v o m on.Unlock moment = refl
-machine_says v o m on.ExitRescue moment = step_says v o m on.ExitRescue moment (step_of m (By act.ExitRescue))
-machine_says v o m on.Break moment = step_says v o m on.Break moment (step_of m (By act.Break))
-
-machine_if_says : (x : Option Machine) (v : CommandView) (o : Operator) (command : MachineCommand) (moment : ℕ) → Says (machine_effect_if x v o command moment)
-machine_if_says None v o command moment = tt
-machine_if_says (Some m) v o command moment = machine_says v o m command moment
-
-disabled_says : (x : Option Operator) → Says (disabled x)
-disabled_says None = tt
-disabled_says (Some o) = by o.enabled
-  where
-    by : (enabled : Bool) → Says (if enabled then Ok (write.PutOperator (record o { enabled = false }) ∷ [], done) else Ok ([], done))
-    by true = refl
-    by false = refl
-
-live_says : (image : List ℕ) (x : Option Arch) → Says (live_image image x)
-live_says image None = tt
-live_says image (Some arch) = refl
-
-added_says : (v : CommandView) (mac : List ℕ) (arch : Arch) (pool : List ℕ) (uuid : Option (List ℕ)) (n : Option ℕ) → Says (added v mac arch pool uuid n)
-added_says v mac arch pool uuid None = tt
-added_says v mac arch pool uuid (Some id) = refl
-
-effect_says : (v : CommandView) (o : Operator) (command : HallCommand) (moment : ℕ) → Says (effect v o command moment)
-unfolding effect
-effect_says v o (AddOperator name role digest) moment = refl
-effect_says v o (DisableOperator name) moment = disabled_says v.operator
-effect_says v o (AddPool pool) moment = refl
-effect_says v o (Grant pool name) moment = refl
-effect_says v o (AddImage image) moment = refl
-effect_says v o (DeleteImage image) moment = refl
-effect_says v o (SetLive image) moment = live_says image v.image
-effect_says v o (AddMachine mac arch pool uuid) moment = added_says v mac arch pool uuid (next_number v.numbers.machine)
-effect_says v o (OnMachine id version command) moment = machine_if_says v.machine v o command moment
 
 module _ (h : Hall) (s : IsSound h) (bearer : Option (List ℕ)) (key : List ℕ) (moment : ℕ) (fresh : List ℕ) where
   -- what the effect of a command writes
@@ -306,7 +231,7 @@ module _ (h : Hall) (s : IsSound h) (bearer : Option (List ℕ)) (key : List ℕ
     effect_writes (AddOperator name role digest) none =
         let taken = when_none (is_some (at h.operators name) || is_some (operator_with_digest h digest)) cause.Taken
         (first_none (when (is_some (at h.operators name) || is_some (operator_with_digest h digest)) cause.Taken) [] none).0 in
-        let neither = or_false (is_some (at h.operators name)) (is_some (operator_with_digest h digest)) taken in
+        let neither = or_parts (is_some (at h.operators name)) (is_some (operator_with_digest h digest)) taken in
         add_operator_writes name role digest neither.0 neither.1
     effect_writes (DisableOperator name) none = disabled_writes name (at h.operators name) refl
     effect_writes (AddPool pool) none =
@@ -345,7 +270,7 @@ module _ (h : Hall) (s : IsSound h) (bearer : Option (List ℕ)) (key : List ℕ
     effect_writes (AddMachine mac arch pool uuid) none =
         let pools = first_none (when (not (has_pool h pool)) cause.NoPool) _ none in
         let taken = first_none (when (is_some (by_mac h mac) || is_some (command_view h o (AddMachine mac arch pool uuid)).by_uuid) cause.Taken) _ pools.1 in
-        let neither = or_false (is_some (by_mac h mac)) (is_some (command_view h o (AddMachine mac arch pool uuid)).by_uuid) (when_none _ cause.Taken taken.0) in
+        let neither = or_parts (is_some (by_mac h mac)) (is_some (command_view h o (AddMachine mac arch pool uuid)).by_uuid) (when_none _ cause.Taken taken.0) in
         machine_added mac arch pool uuid (none_mapped (λ (i : Interface). i.machine) (at h.interfaces mac) neither.0) (command_view h o (AddMachine mac arch pool uuid)) refl (next_number h.last.machine) refl
     effect_writes (OnMachine id version command) none = on_machine id version command (at h.machines id) refl none
 
@@ -362,7 +287,7 @@ module _ (h : Hall) (s : IsSound h) (bearer : Option (List ℕ)) (key : List ℕ
       unfolding commanded
       commanded_writes known enabled new = by_cause (first_of (causes (command_view h o command) o command)) refl
         where
-          by_effect : (d : Effect) → Does command d → Says d → Answers (with_receipt o key command d)
+          by_effect : (d : Effect) → Does command d → Says (λ content. is_done content ≡ true) d → Answers (with_receipt o key command d)
           by_effect (Err refusal) does says = refused_writes refusal
           by_effect (Ok d) does says = and_receipt d.0 does (record {
             operator = o;
@@ -380,7 +305,7 @@ module _ (h : Hall) (s : IsSound h) (bearer : Option (List ℕ)) (key : List ℕ
 
           by_cause : (c : Option Refusal) → first_of (causes (command_view h o command) o command) ≡ c → Answers (unless c (with_receipt o key command (effect (command_view h o command) o command moment)))
           by_cause (Some refusal) none = refused_writes refusal
-          by_cause None none = by_effect (effect (command_view h o command) o command moment) (effect_writes command none) (effect_says (command_view h o command) o command moment)
+          by_cause None none = by_effect (effect (command_view h o command) o command moment) (effect_writes command none) (effect_says (λ content. is_done content ≡ true) refl (λ m. refl) (λ id. refl) (command_view h o command) o command moment)
 
       keyed_writes : at h.operators o.name ≡ Some o → o.enabled ≡ true → (r : Option Receipt) → at h.receipts (pair o.name key) ≡ r → Answers (keyed h o r key command moment)
       keyed_writes known enabled (Some r) there = by (bytes_eq r.command (command_text command))

@@ -1,45 +1,30 @@
 //! What frames are answered, by what is known of their clients.
-use crate::cause::Cause;
-use crate::escapes::octets;
-use crate::printing::Answer;
-use crate::values::{halves, issued, number, port};
 use boot_desk::{Decision, FrameView, enlist, frame};
 use dhcp_frame::read;
-use hall_types::{Client, LastIssued, Machine, Number, Numbers, RowWrite};
+use hall_types::{Client, Machine, Number, RowWrite};
+use play_log::{CaseAnswer, LineFault, halves, issued, number, numbers, octets_of, port};
 use pxe_vendor::client;
 use std::alloc::Global;
 
-fn known(text: &str) -> Result<Option<Number>, Cause> {
+fn known(text: &str) -> Result<Option<Number>, LineFault> {
     if text == "-" {
         return Ok(None);
     }
     Ok(Some(issued(number(text)?)?))
 }
 
-/// The last numbers of a hall, of which the last machine's is said.
-pub fn numbers(machine: &str) -> Result<Numbers, Cause> {
-    match LastIssued::new(number(machine)?) {
-        Ok(machine) => Ok(Numbers {
-            machine,
-            boot: LastIssued::NONE,
-            order: LastIssued::NONE,
-        }),
-        Err(_) => Err(Cause::Form),
-    }
-}
-
-fn client_in(alloc: Global, source: &str) -> Result<Client, Cause> {
-    let octets = octets(alloc, source)?;
+fn client_in(alloc: Global, source: &str) -> Result<Client, LineFault> {
+    let octets = octets_of(alloc, source)?;
     let Ok(frame) = read(octets.as_slice()) else {
-        return Err(Cause::Form);
+        return Err(LineFault::Form);
     };
     match client(alloc, &frame) {
         Ok(client) => Ok(client),
-        Err(_) => Err(Cause::Form),
+        Err(_) => Err(LineFault::Form),
     }
 }
 
-fn print_decision(out: &mut Answer, decision: Decision) {
+fn print_decision(out: &mut CaseAnswer, decision: Decision) {
     match decision {
         Decision::Loader => out.push("loader"),
         Decision::ScriptUrl => out.push("script"),
@@ -52,7 +37,12 @@ fn print_decision(out: &mut Answer, decision: Decision) {
 }
 
 // What is known of a client, `BY_ADDRESS BY_UUID MACHINES LAST`.
-fn print_known(out: &mut Answer, at: &str, words: &str, client: &Client) -> Result<(), Cause> {
+fn print_known(
+    out: &mut CaseAnswer,
+    at: &str,
+    words: &str,
+    client: &Client,
+) -> Result<(), LineFault> {
     let (by_mac, words) = halves(words, " ")?;
     let (by_uuid, words) = halves(words, " ")?;
     let (machines, last) = halves(words, " ")?;
@@ -69,14 +59,14 @@ fn print_known(out: &mut Answer, at: &str, words: &str, client: &Client) -> Resu
 
 /// How a frame is answered, `PORT, BY_ADDRESS BY_UUID MACHINES LAST, OCTETS`: the machines with the client's address and with
 /// its UUID, how many machines the hall has, and the last number of a machine.
-pub fn decide(alloc: Global, rest: &str, out: &mut Answer) -> Result<(), Cause> {
+pub fn decide(alloc: Global, rest: &str, out: &mut CaseAnswer) -> Result<(), LineFault> {
     let (at, rest) = halves(rest, ", ")?;
     let (words, source) = halves(rest, ", ")?;
     let client = client_in(alloc, source)?;
     print_known(out, at, words, &client)
 }
 
-fn print_machine(out: &mut Answer, machine: &Machine) {
+fn print_machine(out: &mut CaseAnswer, machine: &Machine) {
     let (id, status, pool) = (machine.id.get(), machine.status.text(), machine.pool);
     out.show(format_args!("machine {id} {status} {pool}"));
     if let Some(uuid) = machine.uuid {
@@ -85,7 +75,7 @@ fn print_machine(out: &mut Answer, machine: &Machine) {
     }
 }
 
-fn print_row(out: &mut Answer, row: &RowWrite) {
+fn print_row(out: &mut CaseAnswer, row: &RowWrite) {
     out.separate();
     match row {
         RowWrite::PutMachine { machine, was } => {
@@ -106,7 +96,7 @@ fn print_row(out: &mut Answer, row: &RowWrite) {
 }
 
 /// The rows of a frame's client that is enlisted, `LAST, OCTETS`.
-pub fn enlisted(alloc: Global, rest: &str, out: &mut Answer) -> Result<(), Cause> {
+pub fn enlisted(alloc: Global, rest: &str, out: &mut CaseAnswer) -> Result<(), LineFault> {
     let (last, source) = halves(rest, ", ")?;
     let issued = numbers(last)?;
     let client = client_in(alloc, source)?;

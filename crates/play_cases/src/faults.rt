@@ -1,11 +1,8 @@
 //! The numbers of faults.
-use crate::cause::Cause;
-use crate::printing::Answer;
 use dhcp_frame::{FrameFault, WriteFault};
-use hall_http::HttpFault;
-use hall_report::ReportFault;
 use hall_types::ImageFault;
 use ipxe_script::{ScriptFault, WordFault};
+use play_log::{CaseAnswer, LineFault};
 use pxe_vendor::{NotServed, PlaceFault};
 
 const WORD: [WordFault; 2] = [WordFault::BadWord, WordFault::Memory];
@@ -47,21 +44,6 @@ const PLACE: [PlaceFault; 2] = [PlaceFault::BadHost, PlaceFault::Memory];
 
 const IMAGE: [ImageFault; 2] = [ImageFault::TooMany, ImageFault::HallWord];
 
-const HTTP: [HttpFault; 6] = [
-    HttpFault::BadRequest,
-    HttpFault::NoRoute,
-    HttpFault::WrongMethod,
-    HttpFault::NeedLength,
-    HttpFault::TooLarge,
-    HttpFault::Memory,
-];
-
-const REPORT: [ReportFault; 3] = [
-    ReportFault::NoMachine,
-    ReportFault::Unavailable,
-    ReportFault::Memory,
-];
-
 macro_rules! print_each {
     ($out:ident, $faults:ident) => {
         for fault in &$faults {
@@ -72,7 +54,7 @@ macro_rules! print_each {
 }
 
 /// All faults of one kind.
-pub fn faults(rest: &str, out: &mut Answer) -> Result<(), Cause> {
+pub fn faults(rest: &str, out: &mut CaseAnswer) -> Result<(), LineFault> {
     match rest {
         "word" => print_each!(out, WORD),
         "script" => print_each!(out, SCRIPT),
@@ -81,9 +63,7 @@ pub fn faults(rest: &str, out: &mut Answer) -> Result<(), Cause> {
         "client" => print_each!(out, CLIENT),
         "place" => print_each!(out, PLACE),
         "image" => print_each!(out, IMAGE),
-        "request" => print_each!(out, HTTP),
-        "report" => print_each!(out, REPORT),
-        _ => return Err(Cause::Form),
+        _ => return Err(LineFault::Form),
     }
     Ok(())
 }

@@ -1,17 +1,14 @@
 //! Addresses, frames, clients and the answers to them.
 ghost use Rattle.std.specs.Prelude.{◌≡◌, ◌≢◌, All, IsTrue};
 
-use crate::cause::Cause;
-use crate::escapes::{octets, string, text};
-use crate::printing::Answer;
-use crate::values::halves;
 use dhcp_frame::{DhcpOption, Frame, JoinedValue, OptionIter, ReplyFields, read, write};
-use pxe_vendor::{Client, Kind, Place, PlaceFault, boot_reply, client};
+use play_log::{CaseAnswer, LineFault, halves, octets_of, place, string_of, text_of};
+use pxe_vendor::{Client, Kind, Place, boot_reply, client};
 use std::alloc::{AllocError, Global};
 
 /// The hardware address of a text.
-pub fn address(alloc: Global, rest: &str, out: &mut Answer) -> Result<(), Cause> {
-    let text = text(alloc, rest)?;
+pub fn address(alloc: Global, rest: &str, out: &mut CaseAnswer) -> Result<(), LineFault> {
+    let text = text_of(alloc, rest)?;
     match wire_mac::read(text.as_slice()) {
         Some(address) => out.push(wire_mac::print(alloc, &address)?.as_str()),
         None => out.push("none"),
@@ -19,14 +16,14 @@ pub fn address(alloc: Global, rest: &str, out: &mut Answer) -> Result<(), Cause>
     Ok(())
 }
 
-fn print_found(out: &mut Answer, found: Option<&[u8]>) {
+fn print_found(out: &mut CaseAnswer, found: Option<&[u8]>) {
     match found {
         Some(octets) => out.hex(octets),
         None => out.push("none"),
     }
 }
 
-fn print_options(out: &mut Answer, options: OptionIter<'_>) {
+fn print_options(out: &mut CaseAnswer, options: OptionIter<'_>) {
     out.push("options");
     for (code, value) in options {
         out.show(format_args!(" {code}:"));
@@ -34,12 +31,12 @@ fn print_options(out: &mut Answer, options: OptionIter<'_>) {
     }
 }
 
-fn print_field(out: &mut Answer, name: &str, octets: &[u8]) {
+fn print_field(out: &mut CaseAnswer, name: &str, octets: &[u8]) {
     out.push(name);
     out.hex(octets);
 }
 
-fn print_frame(out: &mut Answer, frame: &Frame<'_>) {
+fn print_frame(out: &mut CaseAnswer, frame: &Frame<'_>) {
     let (xid, flags) = (frame.xid(), frame.flags());
     out.show(format_args!("xid {xid:08x} flags {flags:04x}"));
     print_field(out, " ciaddr ", &frame.ciaddr());
@@ -51,8 +48,8 @@ fn print_frame(out: &mut Answer, frame: &Frame<'_>) {
 }
 
 /// The fields and the options of a frame.
-pub fn frame(alloc: Global, rest: &str, out: &mut Answer) -> Result<(), Cause> {
-    let octets = octets(alloc, rest)?;
+pub fn frame(alloc: Global, rest: &str, out: &mut CaseAnswer) -> Result<(), LineFault> {
+    let octets = octets_of(alloc, rest)?;
     match &read(octets.as_slice()) {
         Ok(frame) => print_frame(out, frame),
         Err(fault) => out.fault(*fault as u8, *fault),
@@ -62,7 +59,7 @@ pub fn frame(alloc: Global, rest: &str, out: &mut Answer) -> Result<(), Cause> {
 
 fn print_value(
     alloc: Global,
-    out: &mut Answer,
+    out: &mut CaseAnswer,
     frame: &Frame<'_>,
     code: u8,
 ) -> Result<(), AllocError> {
@@ -74,12 +71,12 @@ fn print_value(
 }
 
 /// The joined value of an option of a frame.
-pub fn value(alloc: Global, rest: &str, out: &mut Answer) -> Result<(), Cause> {
+pub fn value(alloc: Global, rest: &str, out: &mut CaseAnswer) -> Result<(), LineFault> {
     let (code, rest) = halves(rest, " ")?;
     let Ok(code) = code.parse::<u8>() else {
-        return Err(Cause::Form);
+        return Err(LineFault::Form);
     };
-    let octets = octets(alloc, rest)?;
+    let octets = octets_of(alloc, rest)?;
     match &read(octets.as_slice()) {
         Ok(frame) => print_value(alloc, out, frame, code)?,
         Err(fault) => out.fault(*fault as u8, *fault),
@@ -87,7 +84,11 @@ pub fn value(alloc: Global, rest: &str, out: &mut Answer) -> Result<(), Cause> {
     Ok(())
 }
 
-fn print_joined(alloc: Global, out: &mut Answer, area: OptionIter<'_>) -> Result<(), AllocError> {
+fn print_joined(
+    alloc: Global,
+    out: &mut CaseAnswer,
+    area: OptionIter<'_>,
+) -> Result<(), AllocError> {
     let mut joined = JoinedValue::new();
     for (_, value) in area {
         joined.push(alloc, value)?;
@@ -102,8 +103,8 @@ fn print_joined(alloc: Global, out: &mut Answer, area: OptionIter<'_>) -> Result
 }
 
 /// The values of an option area, joined one by one: as they are borrowed, and in memory of their own.
-pub fn joined(alloc: Global, rest: &str, out: &mut Answer) -> Result<(), Cause> {
-    let octets = octets(alloc, rest)?;
+pub fn joined(alloc: Global, rest: &str, out: &mut CaseAnswer) -> Result<(), LineFault> {
+    let octets = octets_of(alloc, rest)?;
     match OptionIter::over(octets.as_slice()) {
         Some(options) => print_joined(alloc, out, options)?,
         None => out.push("cut"),
@@ -112,8 +113,8 @@ pub fn joined(alloc: Global, rest: &str, out: &mut Answer) -> Result<(), Cause> 
 }
 
 /// The options of an option area.
-pub fn area(alloc: Global, rest: &str, out: &mut Answer) -> Result<(), Cause> {
-    let octets = octets(alloc, rest)?;
+pub fn area(alloc: Global, rest: &str, out: &mut CaseAnswer) -> Result<(), LineFault> {
+    let octets = octets_of(alloc, rest)?;
     match OptionIter::over(octets.as_slice()) {
         Some(options) => print_options(out, options),
         None => out.push("cut"),
@@ -121,16 +122,7 @@ pub fn area(alloc: Global, rest: &str, out: &mut Answer) -> Result<(), Cause> {
     Ok(())
 }
 
-fn place_at(alloc: Global, host: &str) -> Result<Place, PlaceFault> {
-    Place::new(alloc, [192, 0, 2, 1], [192, 0, 2, 2], host)
-}
-
-/// The boot server 192.0.2.1, the next server 192.0.2.2 and the host hall.example.
-pub fn place(alloc: Global) -> Result<Place, Cause> {
-    place_at(alloc, "hall.example").ok().ok_or(Cause::Memory)
-}
-
-fn print_client(out: &mut Answer, client: &Client) {
+fn print_client(out: &mut CaseAnswer, client: &Client) {
     out.push(match client.kind {
         Kind::Discover => "discover ",
         Kind::Request => "request ",
@@ -150,7 +142,7 @@ fn print_client(out: &mut Answer, client: &Client) {
     }
 }
 
-fn print_client_of(alloc: Global, out: &mut Answer, frame: &Frame<'_>) {
+fn print_client_of(alloc: Global, out: &mut CaseAnswer, frame: &Frame<'_>) {
     match &client(alloc, frame) {
         Ok(client) => print_client(out, client),
         Err(cause) => out.fault(*cause as u8, *cause),
@@ -158,8 +150,8 @@ fn print_client_of(alloc: Global, out: &mut Answer, frame: &Frame<'_>) {
 }
 
 /// The client that sent a frame.
-pub fn client_of(alloc: Global, rest: &str, out: &mut Answer) -> Result<(), Cause> {
-    let octets = octets(alloc, rest)?;
+pub fn client_of(alloc: Global, rest: &str, out: &mut CaseAnswer) -> Result<(), LineFault> {
+    let octets = octets_of(alloc, rest)?;
     match &read(octets.as_slice()) {
         Ok(frame) => print_client_of(alloc, out, frame),
         Err(fault) => out.fault(*fault as u8, *fault),
@@ -169,7 +161,7 @@ pub fn client_of(alloc: Global, rest: &str, out: &mut Answer) -> Result<(), Caus
 
 fn print_reply_to(
     alloc: Global,
-    out: &mut Answer,
+    out: &mut CaseAnswer,
     frame: &Frame<'_>,
     client: &Client,
     place: &Place,
@@ -180,14 +172,14 @@ fn print_reply_to(
     }
 }
 
-fn print_answer(alloc: Global, out: &mut Answer, frame: &Frame<'_>, place: &Place) {
+fn print_answer(alloc: Global, out: &mut CaseAnswer, frame: &Frame<'_>, place: &Place) {
     match &client(alloc, frame) {
         Ok(client) => print_reply_to(alloc, out, frame, client, place),
         Err(cause) => out.fault(*cause as u8, *cause),
     }
 }
 
-fn print_reply(alloc: Global, out: &mut Answer, octets: &[u8], place: &Place) {
+fn print_reply(alloc: Global, out: &mut CaseAnswer, octets: &[u8], place: &Place) {
     match &read(octets) {
         Ok(frame) => print_answer(alloc, out, frame, place),
         Err(fault) => out.fault(*fault as u8, *fault),
@@ -195,9 +187,9 @@ fn print_reply(alloc: Global, out: &mut Answer, octets: &[u8], place: &Place) {
 }
 
 /// The answer to a frame.
-pub fn reply(alloc: Global, rest: &str, out: &mut Answer) -> Result<(), Cause> {
+pub fn reply(alloc: Global, rest: &str, out: &mut CaseAnswer) -> Result<(), LineFault> {
     let place = place(alloc)?;
-    let octets = octets(alloc, rest)?;
+    let octets = octets_of(alloc, rest)?;
     print_reply(alloc, out, octets.as_slice(), &place);
     Ok(())
 }
@@ -208,21 +200,21 @@ fn front_reply(
     octets: &[u8],
     length: usize,
     place: &Place,
-) -> Result<String, Cause> {
-    let mut answer = Answer::new(alloc);
+) -> Result<String, LineFault> {
+    let mut answer = CaseAnswer::new(alloc);
     print_reply(
         alloc,
         &mut answer,
         octets.get(..length).unwrap_or(&[]),
         place,
     );
-    answer.into_text().ok_or(Cause::Memory)
+    answer.into_text().ok_or(LineFault::Memory)
 }
 
 /// The answer to each front of a frame, from no octet to all: each length from which on it is another one.
-pub fn cuts(alloc: Global, rest: &str, out: &mut Answer) -> Result<(), Cause> {
+pub fn cuts(alloc: Global, rest: &str, out: &mut CaseAnswer) -> Result<(), LineFault> {
     let place = place(alloc)?;
-    let octets = octets(alloc, rest)?;
+    let octets = octets_of(alloc, rest)?;
     let mut last = String::new(alloc);
     for length in 0..=octets.len() {
         let answer = front_reply(alloc, octets.as_slice(), length, &place)?;
@@ -257,7 +249,7 @@ fn has_no_zero(text: &str) -> bool
     text.as_bytes().iter().all(|octet| *octet != 0)
 }
 
-fn print_written(alloc: Global, out: &mut Answer, file: &str, value: &[u8])
+fn print_written(alloc: Global, out: &mut CaseAnswer, file: &str, value: &[u8])
     requires { All (λ octet. octet ≢ 0) file.now }
 {
     match &write(alloc, &fields(file), &[DhcpOption { code: 60, value }]) {
@@ -267,26 +259,26 @@ fn print_written(alloc: Global, out: &mut Answer, file: &str, value: &[u8])
 }
 
 /// A reply with this file and this option 60, `FILE OCTETS`.
-pub fn written(alloc: Global, rest: &str, out: &mut Answer) -> Result<(), Cause> {
+pub fn written(alloc: Global, rest: &str, out: &mut CaseAnswer) -> Result<(), LineFault> {
     let (file, value) = halves(rest, " ")?;
-    let file = string(alloc, file)?;
-    let value = octets(alloc, value)?;
+    let file = string_of(alloc, file)?;
+    let value = octets_of(alloc, value)?;
     if !has_no_zero(file.as_str()) {
-        return Err(Cause::Form);
+        return Err(LineFault::Form);
     }
     print_written(alloc, out, file.as_str(), value.as_slice());
     Ok(())
 }
 
-fn print_host(alloc: Global, out: &mut Answer, host: &str) {
-    match &place_at(alloc, host) {
+fn print_host(alloc: Global, out: &mut CaseAnswer, host: &str) {
+    match &Place::new(alloc, [192, 0, 2, 1], [192, 0, 2, 2], host) {
         Ok(place) => out.push(place.host()),
         Err(fault) => out.fault(*fault as u8, *fault),
     }
 }
 
 /// The host of a place.
-pub fn host(alloc: Global, rest: &str, out: &mut Answer) -> Result<(), Cause> {
-    print_host(alloc, out, string(alloc, rest)?.as_str());
+pub fn host(alloc: Global, rest: &str, out: &mut CaseAnswer) -> Result<(), LineFault> {
+    print_host(alloc, out, string_of(alloc, rest)?.as_str());
     Ok(())
 }

@@ -1,14 +1,12 @@
 //! Kinds that have words, and their numbers in tables.
-use crate::cause::Cause;
-use crate::printing::Answer;
-use crate::values::halves;
 use hall_types::{
-    Erase, OrderKind, OrderStage, Outcome, Progress, Purpose, Refusal, Role, Stage, Status,
-    arch_number, arch_with_number,
+    Erase, Numbered, OrderKind, OrderStage, Outcome, Progress, Purpose, Refusal, Role, Stage,
+    Status, arch_number,
 };
+use play_log::{CaseAnswer, LineFault, halves};
 use pxe_vendor::Arch;
 
-fn print_numbered(out: &mut Answer, number: u8, word: &str) {
+fn print_numbered(out: &mut CaseAnswer, number: u8, word: &str) {
     out.separate();
     out.show(format_args!("{number} {word}"));
 }
@@ -17,7 +15,7 @@ fn print_numbered(out: &mut Answer, number: u8, word: &str) {
 macro_rules! print_known {
     ($out:ident, $kind:ident) => {
         for number in 0..=u8::MAX {
-            if let Ok(one) = $kind::try_from(number) {
+            if let Some(one) = $kind::with_number(number) {
                 print_numbered($out, one.number(), one.text());
             }
         }
@@ -28,7 +26,7 @@ macro_rules! print_known {
 macro_rules! print_stages {
     ($out:ident, $kind:ident) => {
         for number in 0..=u8::MAX {
-            if let Ok(stage) = $kind::try_from(number) {
+            if let Some(stage) = $kind::with_number(number) {
                 $out.separate();
                 $out.fault(stage.number(), stage);
             }
@@ -36,16 +34,16 @@ macro_rules! print_stages {
     };
 }
 
-fn print_archs(out: &mut Answer) {
+fn print_archs(out: &mut CaseAnswer) {
     for number in 0..=u8::MAX {
-        if let Ok(arch) = arch_with_number(number) {
+        if let Some(arch) = Arch::with_number(number) {
             print_numbered(out, arch_number(arch), arch.text());
         }
     }
 }
 
 /// All of a kind, with their numbers.
-pub fn known(rest: &str, out: &mut Answer) -> Result<(), Cause> {
+pub fn known(rest: &str, out: &mut CaseAnswer) -> Result<(), LineFault> {
     match rest {
         "statuses" => print_known!(out, Status),
         "roles" => print_known!(out, Role),
@@ -55,7 +53,7 @@ pub fn known(rest: &str, out: &mut Answer) -> Result<(), Cause> {
         "stages" => print_stages!(out, Stage),
         "order stages" => print_stages!(out, OrderStage),
         "architectures" => print_archs(out),
-        _ => return Err(Cause::Form),
+        _ => return Err(LineFault::Form),
     }
     Ok(())
 }
@@ -71,7 +69,7 @@ macro_rules! print_read {
 }
 
 /// What a word is as one of a kind, `KIND WORD`.
-pub fn named(rest: &str, out: &mut Answer) -> Result<(), Cause> {
+pub fn named(rest: &str, out: &mut CaseAnswer) -> Result<(), LineFault> {
     let (kind, word) = halves(rest, " ")?;
     match kind {
         "role" => print_read!(out, Role, word),
@@ -79,65 +77,19 @@ pub fn named(rest: &str, out: &mut Answer) -> Result<(), Cause> {
         "progress" => print_read!(out, Progress, word),
         "outcome" => print_read!(out, Outcome, word),
         "arch" => print_read!(out, Arch, word),
-        _ => return Err(Cause::Form),
+        _ => return Err(LineFault::Form),
     }
     Ok(())
 }
 
 /// The status with this text.
-pub fn status(text: &str) -> Result<Status, Cause> {
+pub fn status(text: &str) -> Result<Status, LineFault> {
     for number in 0..=u8::MAX {
-        if let Ok(status) = Status::try_from(number)
+        if let Some(status) = Status::with_number(number)
             && status.text() == text
         {
             return Ok(status);
         }
     }
-    Err(Cause::Form)
-}
-
-const REFUSALS: [Refusal; 33] = [
-    Refusal::BadRequest,
-    Refusal::NoRoute,
-    Refusal::WrongMethod,
-    Refusal::NeedLength,
-    Refusal::TooLarge,
-    Refusal::UnknownToken,
-    Refusal::KeyReused,
-    Refusal::RoleNeeded,
-    Refusal::NoMachine,
-    Refusal::NoInterface,
-    Refusal::NoPool,
-    Refusal::NoImage,
-    Refusal::NoOperator,
-    Refusal::NotOwner,
-    Refusal::NotMember,
-    Refusal::StaleVersion,
-    Refusal::Locked,
-    Refusal::WrongStatus,
-    Refusal::Taken,
-    Refusal::NoLiveImage,
-    Refusal::WrongArch,
-    Refusal::InUse,
-    Refusal::LastInterface,
-    Refusal::SelfDisable,
-    Refusal::Full,
-    Refusal::Exhausted,
-    Refusal::NoBoot,
-    Refusal::NoOrder,
-    Refusal::Spent,
-    Refusal::Stale,
-    Refusal::Withdrawn,
-    Refusal::WrongStage,
-    Refusal::Unavailable,
-];
-
-/// The refusal with this name.
-pub fn refusal(name: &str) -> Result<Refusal, Cause> {
-    for refusal in &REFUSALS {
-        if refusal.name() == name {
-            return Ok(*refusal);
-        }
-    }
-    Err(Cause::Form)
+    Err(LineFault::Form)
 }

@@ -1,14 +1,12 @@
 //! The life cycle of machines.
-use crate::cause::Cause;
 use crate::kinds::status;
-use crate::printing::Answer;
-use crate::values::{halves, moment, name, number};
 use hall_types::{
     Arch, BootCount, Digest, Erase, LastIssued, Machine, Moment, Name, Number, Numbers, Operator,
     Outcome, Progress, Refusal, Role, Status, Version,
 };
 use life_cycle::Signal::{self, *};
 use life_cycle::{Action, Entered, Step, enter, may, next};
+use play_log::{CaseAnswer, LineFault, halves, moment, name, number};
 
 const SIGNALS: [(&str, Signal); 21] = [
     ("commission", By(Action::Commission)),
@@ -34,13 +32,13 @@ const SIGNALS: [(&str, Signal); 21] = [
     ("fourth boot", FourthBoot),
 ];
 
-fn signal(text: &str) -> Result<Signal, Cause> {
+fn signal(text: &str) -> Result<Signal, LineFault> {
     for (name, signal) in &SIGNALS {
         if *name == text {
             return Ok(*signal);
         }
     }
-    Err(Cause::Form)
+    Err(LineFault::Form)
 }
 
 // The first machine, in version 1.
@@ -65,7 +63,7 @@ fn machine_in(pool: Name, status: Status) -> Machine {
     }
 }
 
-fn print_step(out: &mut Answer, name: &str, step: Step) {
+fn print_step(out: &mut CaseAnswer, name: &str, step: Step) {
     out.separate();
     out.push(name);
     out.push(": ");
@@ -77,7 +75,7 @@ fn print_step(out: &mut Answer, name: &str, step: Step) {
 }
 
 // The status that a rescue began from.
-fn origin(text: &str) -> Result<Option<Status>, Cause> {
+fn origin(text: &str) -> Result<Option<Status>, LineFault> {
     if text == "-" {
         return Ok(None);
     }
@@ -86,10 +84,10 @@ fn origin(text: &str) -> Result<Option<Status>, Cause> {
 
 /// Where each signal leads that leads somewhere, `STATUS, tests|no tests, STATUS|-`, the last the one that a rescue began
 /// from.
-pub fn signals(rest: &str, out: &mut Answer) -> Result<(), Cause> {
+pub fn signals(rest: &str, out: &mut CaseAnswer) -> Result<(), LineFault> {
     let mut parts = rest.split(", ");
     let (Some(from), Some(tests), Some(back)) = (parts.next(), parts.next(), parts.next()) else {
-        return Err(Cause::Form);
+        return Err(LineFault::Form);
     };
     let mut machine = machine_in(name("east")?, status(from)?);
     machine.tests = tests == "tests";
@@ -108,7 +106,7 @@ const NO_NUMBERS: Numbers = Numbers {
     order: LastIssued::NONE,
 };
 
-fn print_deadline(out: &mut Answer, machine: &Machine) {
+fn print_deadline(out: &mut CaseAnswer, machine: &Machine) {
     match machine.deadline {
         Some(deadline) => out.show(format_args!("deadline {deadline}")),
         None => out.push("no deadline"),
@@ -145,7 +143,7 @@ fn taken(before: &Entered, signal: Signal, moment: Moment) -> Entered {
 }
 
 /// The deadline of a machine that enters a status at the moment 1000.
-pub fn limit(rest: &str, out: &mut Answer) -> Result<(), Cause> {
+pub fn limit(rest: &str, out: &mut CaseAnswer) -> Result<(), LineFault> {
     let step = Step {
         status: status(rest)?,
         order: None,
@@ -155,7 +153,7 @@ pub fn limit(rest: &str, out: &mut Answer) -> Result<(), Cause> {
     Ok(())
 }
 
-fn print_kept(out: &mut Answer, machine: &Machine) {
+fn print_kept(out: &mut CaseAnswer, machine: &Machine) {
     out.push(if machine.owner.is_some() {
         "owner "
     } else {
@@ -170,7 +168,7 @@ fn print_kept(out: &mut Answer, machine: &Machine) {
 }
 
 /// Whether a step keeps the owner, the kind of erasing and the boot, `STATUS, SIGNAL`.
-pub fn kept(rest: &str, out: &mut Answer) -> Result<(), Cause> {
+pub fn kept(rest: &str, out: &mut CaseAnswer) -> Result<(), LineFault> {
     let (from, by) = halves(rest, ", ")?;
     let pool = name("east")?;
     let machine = Machine {
@@ -202,7 +200,7 @@ fn permission(answer: Result<(), Refusal>) -> &'static str {
 
 // The answers to an operator as no member of the pool and as a member.
 fn print_permissions(
-    out: &mut Answer,
+    out: &mut CaseAnswer,
     who: &str,
     operator: &Operator,
     machine: &Machine,
@@ -216,9 +214,9 @@ fn print_permissions(
 }
 
 /// Who may take an action on a machine of alice's: a stranger, the owner and an admin.
-pub fn permissions(rest: &str, out: &mut Answer) -> Result<(), Cause> {
+pub fn permissions(rest: &str, out: &mut CaseAnswer) -> Result<(), LineFault> {
     let By(action) = signal(rest)? else {
-        return Err(Cause::Form);
+        return Err(LineFault::Form);
     };
     let alice = name("alice")?;
     let machine = Machine {
@@ -234,7 +232,7 @@ pub fn permissions(rest: &str, out: &mut Answer) -> Result<(), Cause> {
     Ok(())
 }
 
-fn print_entered(out: &mut Answer, entered: &Entered) {
+fn print_entered(out: &mut CaseAnswer, entered: &Entered) {
     out.separate();
     out.push(entered.machine.status.text());
     out.push(", ");
@@ -251,13 +249,13 @@ fn print_entered(out: &mut Answer, entered: &Entered) {
 
 /// What signals make of a machine in turn, `STATUS, ORDER, SIGNAL at MOMENT, ..`, and its version and the last order at the
 /// end.
-pub fn life(rest: &str, out: &mut Answer) -> Result<(), Cause> {
+pub fn life(rest: &str, out: &mut CaseAnswer) -> Result<(), LineFault> {
     let mut parts = rest.split(", ");
     let (Some(from), Some(order)) = (parts.next(), parts.next()) else {
-        return Err(Cause::Form);
+        return Err(LineFault::Form);
     };
     let Ok(order) = LastIssued::new(number(order)?) else {
-        return Err(Cause::Form);
+        return Err(LineFault::Form);
     };
     let mut at = beginning(machine_in(name("east")?, status(from)?), order);
     for part in parts {

@@ -1,13 +1,7 @@
 //! The records of a hall.
-use crate::cause::Cause;
-use crate::escapes::string;
-use crate::printing::Answer;
-use crate::values::{halves, name, number};
-use hall_types::{
-    Arch, BootCount, Image, ImageFault, LastIssued, Moment, Name, Number, Receipt, RequestKey,
-    Text, Version,
-};
+use hall_types::{Arch, BootCount, Image, ImageFault, LastIssued, Moment, Name, Number, Version};
 use ipxe_script::{Uri, Word};
+use play_log::{CaseAnswer, LineFault, halves, name, number, string_of};
 use std::alloc::{AllocError, Global};
 use std::cmp::Ordering;
 
@@ -20,7 +14,7 @@ fn order_word(order: Ordering) -> &'static str {
 }
 
 /// The moment of a number of seconds.
-pub fn moment(rest: &str, out: &mut Answer) -> Result<(), Cause> {
+pub fn moment(rest: &str, out: &mut CaseAnswer) -> Result<(), LineFault> {
     match Moment::new(number(rest)?) {
         Ok(moment) => out.show(moment.get()),
         Err(_) => out.push("none"),
@@ -29,8 +23,8 @@ pub fn moment(rest: &str, out: &mut Answer) -> Result<(), Cause> {
 }
 
 /// The name of a text.
-pub fn name_of(alloc: Global, rest: &str, out: &mut Answer) -> Result<(), Cause> {
-    let text = string(alloc, rest)?;
+pub fn name_of(alloc: Global, rest: &str, out: &mut CaseAnswer) -> Result<(), LineFault> {
+    let text = string_of(alloc, rest)?;
     match Name::new(text.as_str()) {
         Ok(name) => out.push(name.text()),
         Err(_) => out.push("none"),
@@ -39,7 +33,7 @@ pub fn name_of(alloc: Global, rest: &str, out: &mut Answer) -> Result<(), Cause>
 }
 
 /// The order of two names, and whether they are equal.
-pub fn compare(rest: &str, out: &mut Answer) -> Result<(), Cause> {
+pub fn compare(rest: &str, out: &mut CaseAnswer) -> Result<(), LineFault> {
     let (one, other) = halves(rest, " ")?;
     let (one, other) = (name(one)?, name(other)?);
     out.push(order_word(one.cmp(&other)));
@@ -47,7 +41,7 @@ pub fn compare(rest: &str, out: &mut Answer) -> Result<(), Cause> {
     Ok(())
 }
 
-fn print_next(out: &mut Answer, next: Option<Number>) {
+fn print_next(out: &mut CaseAnswer, next: Option<Number>) {
     match next {
         Some(next) => out.show(next.get()),
         None => out.push("none"),
@@ -55,7 +49,7 @@ fn print_next(out: &mut Answer, next: Option<Number>) {
 }
 
 /// A number of a machine, a boot or an order: how it compares with the first, what is last issued with it, and the next one.
-pub fn issued(rest: &str, out: &mut Answer) -> Result<(), Cause> {
+pub fn issued(rest: &str, out: &mut CaseAnswer) -> Result<(), LineFault> {
     let Ok(number) = Number::new(number(rest)?) else {
         out.push("none");
         return Ok(());
@@ -71,7 +65,7 @@ pub fn issued(rest: &str, out: &mut Answer) -> Result<(), Cause> {
 }
 
 /// The last number that was issued, and the next one; `-` is before all.
-pub fn last(rest: &str, out: &mut Answer) -> Result<(), Cause> {
+pub fn last(rest: &str, out: &mut CaseAnswer) -> Result<(), LineFault> {
     let last = match rest {
         "-" => Ok(LastIssued::NONE),
         _ => LastIssued::new(number(rest)?),
@@ -86,7 +80,7 @@ pub fn last(rest: &str, out: &mut Answer) -> Result<(), Cause> {
     Ok(())
 }
 
-fn print_version(out: &mut Answer, version: Version) {
+fn print_version(out: &mut CaseAnswer, version: Version) {
     out.show(version.get());
     out.push(" raised ");
     out.show(version.raised().get());
@@ -98,7 +92,7 @@ fn print_version(out: &mut Answer, version: Version) {
 }
 
 /// A version, what it is raised to, and the next one; `-` is the first.
-pub fn version(rest: &str, out: &mut Answer) -> Result<(), Cause> {
+pub fn version(rest: &str, out: &mut CaseAnswer) -> Result<(), LineFault> {
     let version = match rest {
         "-" => Ok(Version::FIRST),
         _ => Version::new(number(rest)?),
@@ -110,7 +104,7 @@ pub fn version(rest: &str, out: &mut Answer) -> Result<(), Cause> {
     Ok(())
 }
 
-fn print_boots(out: &mut Answer, boots: BootCount) {
+fn print_boots(out: &mut CaseAnswer, boots: BootCount) {
     out.show(boots.get());
     out.push(" next ");
     match boots.next() {
@@ -120,13 +114,13 @@ fn print_boots(out: &mut Answer, boots: BootCount) {
 }
 
 /// A count of boots, and the next one; `-` is none.
-pub fn boots(rest: &str, out: &mut Answer) -> Result<(), Cause> {
+pub fn boots(rest: &str, out: &mut CaseAnswer) -> Result<(), LineFault> {
     if rest == "-" {
         print_boots(out, BootCount::NONE);
         return Ok(());
     }
     let Ok(count) = rest.parse::<u8>() else {
-        return Err(Cause::Form);
+        return Err(LineFault::Form);
     };
     match BootCount::new(count) {
         Ok(boots) => print_boots(out, boots),
@@ -135,7 +129,7 @@ pub fn boots(rest: &str, out: &mut Answer) -> Result<(), Cause> {
     Ok(())
 }
 
-fn print_image(out: &mut Answer, image: &Image) {
+fn print_image(out: &mut CaseAnswer, image: &Image) {
     out.show(image.name());
     out.push(" ");
     out.push(image.arch().text());
@@ -149,7 +143,7 @@ fn print_image(out: &mut Answer, image: &Image) {
     }
 }
 
-fn print_copy(alloc: Global, out: &mut Answer, image: &Image) -> Result<(), AllocError> {
+fn print_copy(alloc: Global, out: &mut CaseAnswer, image: &Image) -> Result<(), AllocError> {
     let copy = image.copy(alloc)?;
     print_image(out, &copy);
     Ok(())
@@ -157,7 +151,7 @@ fn print_copy(alloc: Global, out: &mut Answer, image: &Image) -> Result<(), Allo
 
 fn print_made(
     alloc: Global,
-    out: &mut Answer,
+    out: &mut CaseAnswer,
     made: &Result<Image, ImageFault>,
 ) -> Result<(), AllocError> {
     match made {
@@ -171,21 +165,21 @@ fn print_made(
     Ok(())
 }
 
-fn uri_of(alloc: Global, text: &str) -> Result<Uri, Cause> {
+fn uri_of(alloc: Global, text: &str) -> Result<Uri, LineFault> {
     match Uri::new(alloc, text) {
         Ok(uri) => Ok(uri),
-        Err(_) => Err(Cause::Form),
+        Err(_) => Err(LineFault::Form),
     }
 }
 
-fn word_of(alloc: Global, text: &str) -> Result<Word, Cause> {
+fn word_of(alloc: Global, text: &str) -> Result<Word, LineFault> {
     match Word::new(alloc, text) {
         Ok(word) => Ok(word),
-        Err(_) => Err(Cause::Form),
+        Err(_) => Err(LineFault::Form),
     }
 }
 
-fn words_of(alloc: Global, text: &str) -> Result<Vec<Word>, Cause> {
+fn words_of(alloc: Global, text: &str) -> Result<Vec<Word>, LineFault> {
     let mut words = Vec::new(alloc);
     for word in text.split_ascii_whitespace() {
         words.push(word_of(alloc, word)?)?;
@@ -193,68 +187,22 @@ fn words_of(alloc: Global, text: &str) -> Result<Vec<Word>, Cause> {
     Ok(words)
 }
 
-fn args_of(alloc: Global, rest: &str) -> Result<Vec<Word>, Cause> {
-    words_of(alloc, string(alloc, rest)?.as_str())
+fn args_of(alloc: Global, rest: &str) -> Result<Vec<Word>, LineFault> {
+    words_of(alloc, string_of(alloc, rest)?.as_str())
 }
 
-/// The image live64 with these arguments: a copy of it, and itself.
-pub fn image(alloc: Global, rest: &str, out: &mut Answer) -> Result<(), Cause> {
+// The image live64 with these arguments.
+fn image_of(alloc: Global, rest: &str) -> Result<Result<Image, ImageFault>, LineFault> {
     let name = name("live64")?;
     let kernel = uri_of(alloc, "http://files.example/live/vmlinuz")?;
     let initrd = uri_of(alloc, "http://files.example/live/initrd")?;
     let args = args_of(alloc, rest)?;
-    print_made(
-        alloc,
-        out,
-        &Image::new(name, Arch::Uefi64, kernel, initrd, args),
-    )?;
-    Ok(())
+    Ok(Image::new(name, Arch::Uefi64, kernel, initrd, args))
 }
 
-fn text_of(alloc: Global, text: &str) -> Result<Text, AllocError> {
-    Ok(Text::from(String::from_str(alloc, text)?))
-}
-
-/// A receipt of olga's, `STATUS COMMAND BODY`.
-pub fn receipt_of(alloc: Global, rest: &str) -> Result<Receipt, Cause> {
-    let operator = name("olga")?;
-    let (status, rest) = halves(rest, " ")?;
-    let (command, body) = halves(rest, " ")?;
-    let Ok(status) = status.parse::<u16>() else {
-        return Err(Cause::Form);
-    };
-    let command = text_of(alloc, command)?;
-    let body = text_of(alloc, body)?;
-    Ok(Receipt {
-        operator,
-        key: RequestKey::from([7; 16]),
-        command,
-        status,
-        body,
-    })
-}
-
-fn print_receipt(out: &mut Answer, receipt: &Receipt) {
-    out.show(receipt.operator);
-    out.push(" ");
-    out.hex(&receipt.key.octets());
-    out.push(" ");
-    out.show(receipt.status);
-    out.push(" ");
-    out.push(receipt.command.as_str());
-    out.push(" ");
-    out.push(receipt.body.as_str());
-}
-
-fn print_copied(alloc: Global, out: &mut Answer, receipt: &Receipt) -> Result<(), AllocError> {
-    let copy = receipt.copy(alloc)?;
-    print_receipt(out, &copy);
-    Ok(())
-}
-
-/// A copy of such a receipt.
-pub fn receipt(alloc: Global, rest: &str, out: &mut Answer) -> Result<(), Cause> {
-    let receipt = receipt_of(alloc, rest)?;
-    print_copied(alloc, out, &receipt)?;
+/// The image live64 with these arguments: a copy of it, and itself.
+pub fn image(alloc: Global, rest: &str, out: &mut CaseAnswer) -> Result<(), LineFault> {
+    let made = image_of(alloc, rest)?;
+    print_made(alloc, out, &made)?;
     Ok(())
 }

@@ -1,14 +1,11 @@
 //! Words and scripts of iPXE.
-use crate::cause::Cause;
-use crate::escapes::string;
-use crate::printing::Answer;
-use crate::values::{halves, number};
 use ipxe_script::{Command, Script, ScriptFault, Uri, Word, Words, read};
+use play_log::{CaseAnswer, LineFault, halves, number, string_of};
 use std::alloc::{AllocError, Global};
 
 /// The word of a text.
-pub fn word(alloc: Global, rest: &str, out: &mut Answer) -> Result<(), Cause> {
-    let text = string(alloc, rest)?;
+pub fn word(alloc: Global, rest: &str, out: &mut CaseAnswer) -> Result<(), LineFault> {
+    let text = string_of(alloc, rest)?;
     match &Word::new(alloc, text.as_str()) {
         Ok(word) => out.push(word.text()),
         Err(fault) => out.fault(*fault as u8, *fault),
@@ -17,8 +14,8 @@ pub fn word(alloc: Global, rest: &str, out: &mut Answer) -> Result<(), Cause> {
 }
 
 /// The URI of a text.
-pub fn uri(alloc: Global, rest: &str, out: &mut Answer) -> Result<(), Cause> {
-    let text = string(alloc, rest)?;
+pub fn uri(alloc: Global, rest: &str, out: &mut CaseAnswer) -> Result<(), LineFault> {
+    let text = string_of(alloc, rest)?;
     match &Uri::new(alloc, text.as_str()) {
         Ok(uri) => out.push(uri.text()),
         Err(fault) => out.fault(*fault as u8, *fault),
@@ -34,7 +31,7 @@ fn is_word(alloc: Global, front: &str, last: u8) -> Result<bool, AllocError> {
 }
 
 /// The characters up to U+00FF that make a word after this text.
-pub fn characters(alloc: Global, front: &str, out: &mut Answer) -> Result<(), Cause> {
+pub fn characters(alloc: Global, front: &str, out: &mut CaseAnswer) -> Result<(), LineFault> {
     for octet in 0..=u8::MAX {
         if is_word(alloc, front, octet)? {
             out.escaped(&[octet]);
@@ -65,8 +62,8 @@ fn printed_copy(alloc: Global, text: &str) -> Result<String, ScriptFault> {
 }
 
 /// The script of a text, its commands copied one by one, put together and printed.
-pub fn script(alloc: Global, rest: &str, out: &mut Answer) -> Result<(), Cause> {
-    let text = string(alloc, rest)?;
+pub fn script(alloc: Global, rest: &str, out: &mut CaseAnswer) -> Result<(), LineFault> {
+    let text = string_of(alloc, rest)?;
     match &printed_copy(alloc, text.as_str()) {
         Ok(text) => out.escaped(text.as_bytes()),
         Err(fault) => out.fault(*fault as u8, *fault),
@@ -93,7 +90,7 @@ fn echo_script(alloc: Global, words: u64, others: u64) -> Result<Script, ScriptF
 }
 
 /// The number of commands in a script of an `echo` with so many words, and so many other commands.
-pub fn echoes(alloc: Global, rest: &str, out: &mut Answer) -> Result<(), Cause> {
+pub fn echoes(alloc: Global, rest: &str, out: &mut CaseAnswer) -> Result<(), LineFault> {
     let (words, others) = halves(rest, " ")?;
     let (words, others) = (number(words)?, number(others)?);
     match &echo_script(alloc, words, others) {

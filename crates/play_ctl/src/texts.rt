@@ -2,7 +2,7 @@
 use crate::cases::PlayFault;
 use crate::wishes::words_of;
 use hall_events::HallCommand;
-use hall_types::{MacAddress, Status};
+use hall_types::{MacAddress, Numbered, Status};
 use hallctl_words::{
     Filter, Form, Line, ListedMachine, Wish, answer_line, is_dangerous, listed, machine_ids,
     machine_json, machine_lines, machine_table, machine_with, order_table, read, refusal_line,
@@ -91,7 +91,7 @@ fn command_of(alloc: Global, words: &str) -> Result<HallCommand, PlayFault> {
 
 fn status_named(text: &str) -> Option<Status> {
     (0..20u8)
-        .filter_map(|number| Status::try_from(number).ok())
+        .filter_map(Status::with_number)
         .find(|status| status.text() == text)
 }
 

@@ -4,7 +4,7 @@ use hall_desk::{Arrival, Input};
 use hall_types::{Digest, Moment, Name, Port, Token};
 use hex::FromHex;
 use pxe_vendor::Octets;
-use std::alloc::{AllocError, Global};
+use std::alloc::{AllocError, AllocFailed, Global};
 use thiserror::Error;
 
 /// Why a line isn't taken.
@@ -22,12 +22,22 @@ pub enum LineFault {
     Fresh,
     #[error("the octets aren't hexadecimal")]
     Octets,
+    #[error("no such kind of case")]
+    Case,
+    #[error("the case isn't of its form")]
+    Form,
     #[error("out of memory")]
     Memory,
 }
 
 impl From<AllocError> for LineFault {
     fn from(_: AllocError) -> LineFault {
+        LineFault::Memory
+    }
+}
+
+impl<T: Drop> From<AllocFailed<T>> for LineFault {
+    fn from(_: AllocFailed<T>) -> LineFault {
         LineFault::Memory
     }
 }

@@ -4,7 +4,7 @@ use std::alloc::Global;
 use std::io::BufRead;
 use thiserror::Error;
 
-/// Why a log isn't read to its end.
+/// Why a log or cases aren't read to their end.
 #[derive(Clone, Copy, Debug, PartialEq, Eq, Error)]
 pub enum LogFault {
     #[error("line {number}: {cause}")]

@@ -1,8 +1,9 @@
 //! The log of the service's turns.
 use crate::client::Client;
-use desk_operations::{LogFormat, arrival_text, is_of_note, turn_line};
+use desk_operations::{LogFormat, arrival_text, is_of_note};
 use hall_desk::{Account, Answer, Arrival};
 use hall_types::{Moment, Port};
+use serve_lines::turn_line;
 use serve_sockets::{Kind, Said, Turn, TurnLog};
 use std::alloc::{AllocError, Global};
 

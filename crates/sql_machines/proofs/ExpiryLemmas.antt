@@ -1,5 +1,6 @@
 -- What the query of the machine that expires next asks.
-use Rattle.sql_schema.specs.Words.{of_machines, AllByRecursion, option_to_list, is_le, is_lt, match_ordering, nat_tests, IsPermutation-refl, IsPermutation-cons, IsPermutation-sym, IsPermutation-trans, Binary, is_true, from_truth, Row, Output, IsAscending, Compare, Le, value_cmp-Int, ascending-filter, ascending_weaker, all-permutation, all_has, listed, Hall, has_come, is_due, next_expired, sooner, soonest, next_expired-is, Machine, number, or_null, machine_columns, machine_values, and_true, all_passed, IsPermutation-map, AreRising, AreRising-put_in, put_in, put_in-permutes, find_expired_query, find_expired_is, number_order, numbered_entries, machines, kept_row, at_most, rising, IsBefore, items_by}
+use Rattle.sql_schema.specs.Words.{of_machines, AllByRecursion, option_to_list, is_le, is_lt, match_ordering, nat_tests, IsPermutation-refl, IsPermutation-cons, IsPermutation-sym, IsPermutation-trans, Binary, is_true, from_truth, Row, Output, IsAscending, Compare, Le, value_cmp-Int, ascending-filter, ascending_weaker, all-permutation, all_has, listed, Hall, has_come, is_due, next_expired, sooner, soonest, next_expired-is, Machine, number, or_null, machine_columns, machine_values, and_true, all_passed, IsPermutation-map, AreRising, AreRising-put_in, put_in, put_in-permutes, number_order, numbered_entries, machines, kept_row, at_most, rising, IsBefore, items_by}
+use Rattle.sql_machines.specs.MachineStatements.{find_expired_query, find_expired_is}
 use Rattle.std.proofs.Common.{◌≡◌, ◌<◌, ℕ, pos, nat_le, nat_lt, int_cmp, List, [], ◌∷◌, map, filter, take, slice_get, Bool, true, false, cond, Option, Some, None, option_map, Less, Equal, Greater, refl, ap, ap₂, subst, ◌∙◌, arith, IsPermutation}
 use Rattle.std.specs.Prelude.{unwrap_or}
 use Rattle.sqlite.specs.Ops.{binary}
@@ -7,7 +8,7 @@ use Rattle.hall_types.specs.Rows.{numbers, texts}
 use Rattle.sql_machines.specs.MachineRows.{AsksMachine, in_row, row_values}
 use Rattle.sql_rows.specs.AskingLaws.{asks_by}
 use Rattle.sql_machines.proofs.FindingLemmas.{in_number_order, machines_stand}
-use Rattle.sql_schema.specs.declared.machine_statements.TheConstants.{FIND_EXPIRED}
+use Rattle.sql_machines.specs.declared.finding.TheConstants.{FIND_EXPIRED}
 
 -- ---- machines with deadlines, in the order of these and then of their numbers
 

@@ -1,5 +1,6 @@
 -- What the statements on kinds of erasing ask and write.
-use Rattle.sql_schema.specs.Words.{equal_keys, rises, number_is_free, finds_kept, lists_kept, adds_kept, removes_kept, wipes, HallRows, of_wipes, wipe_of, filter_map, option_to_list, State, all_of, filter_all, map-map, all_has, Has, Rows, at, numbers, listed, StandUnder, erase_number, AllByRecursion-listed, Hall, Erase, Machine, wipes_go_alone, Wipe, number, wipe_columns, within, AreRising-listed, same_lists, listed_at, at_listed, add_wipe_is, find_wipe_is, list_wipes_is, remove_wipe_is, equals, cell, rising, sets, hall_schema, wipes_table}
+use Rattle.sql_schema.specs.Words.{equal_keys, rises, number_is_free, finds_kept, lists_kept, adds_kept, removes_kept, wipes, HallRows, of_wipes, wipe_of, filter_map, option_to_list, State, all_of, filter_all, map-map, all_has, Has, Rows, at, numbers, listed, StandUnder, erase_number, AllByRecursion-listed, Hall, Erase, Machine, wipes_go_alone, Wipe, number, wipe_columns, within, AreRising-listed, same_lists, listed_at, at_listed, add_wipe_is, equals, cell, rising, sets, hall_schema, wipes_table, find_wipe_is}
+use Rattle.sql_machines.specs.MachineStatements.{list_wipes_is, remove_wipe_is}
 use Rattle.std.proofs.Common.{◌≡◌, ℕ, [], ◌∷◌, map, true, Option, Some, None, Less, refl, sym, ap, subst₂, ◌∙◌, option_map}
 use Rattle.std.specs.Prelude.{option_and_then}
 use Rattle.sql_schema.specs.ValueLaws as value
@@ -10,7 +11,9 @@ use Rattle.sql_machines.specs.Wipes.{with_wipe, erasing, erasing_values, erasing
 use Rattle.sql_rows.specs.AskingLaws.{asks_by}
 use Rattle.sql_machines.proofs.ListLemmas.{all_mapped, ascending_mapped, mapped_has}
 use Rattle.sql_machines.proofs.FindingLemmas.{machines_stand, shown_as}
-use Rattle.sql_schema.specs.declared.machine_statements.TheConstants.{ADD_WIPE, FIND_WIPE, LIST_WIPES, REMOVE_WIPE}
+use Rattle.sql_machines.specs.declared.wipes.TheConstants.{LIST_WIPES, REMOVE_WIPE}
+use Rattle.sql_schema.specs.declared.creating.TheConstants.{FIND_WIPE}
+use Rattle.sql_schema.specs.declared.opening.TheConstants.{ADD_WIPE}
 
 -- ---- the rows of the table, as machines have them
 

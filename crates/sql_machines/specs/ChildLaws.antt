@@ -1,14 +1,19 @@
 -- Laws of the tables of interfaces, boots and orders: what their statements ask and write.
-use Rattle.sql_schema.specs.Words.{interfaces, boots, orders, parameters_from, HallRows, equal_keys, equal_numbers, rises, sets, key-same, same_text, lit, op2, Null, Blob, Int, of_boots, of_interfaces, of_orders, option_to_list, State, value_cmp-Blob, Hall, at, listed, numbers, interfaces_of, waiting, waits, Interface, interfaces_go_alone, boots_go_alone, orders_go_alone, number, interface_columns, boot_columns, boot_values, order_columns, order_values, and_true, add_interface_is, find_interface_is, find_interfaces_is, list_interfaces_is, remove_interface_is, remove_interfaces_is, add_boot_is, find_boot_is, remove_boots_is, set_boot_is, add_order_is, find_order_is, list_waiting_orders_is, remove_orders_is, set_order_is, equals, IsBefore, cell, Boot, Binary, Compare, Eq, OrderStage, Order}
-use Rattle.sql_rows.specs.Tables.{IsTable, shows_query}
+use Rattle.sqlite.specs.Listing.{understood}
+use Rattle.sqlite_tied.specs.Compute.{everything}
+use Rattle.sql_schema.specs.Words.{interfaces, boots, orders, parameters_from, HallRows, equal_keys, equal_numbers, rises, sets, key-same, same_text, lit, op2, Null, Blob, Int, of_boots, of_interfaces, of_orders, option_to_list, State, value_cmp-Blob, Hall, at, listed, numbers, interfaces_of, waiting, waits, Interface, interfaces_go_alone, boots_go_alone, orders_go_alone, number, interface_columns, boot_columns, boot_values, order_columns, order_values, and_true, equals, IsBefore, cell, Boot, Binary, Compare, Eq, OrderStage, Order, Values, parameter, IsQueryText, IsCommandText, IsReturningText, hall_schema, find_interface_is, find_boot_is, find_order_is}
+use Rattle.sql_rows.specs.Tables.{IsTable, shows_query, add_command, set_command, remove_command}
 use Rattle.sql_rows.specs.TableLaws.{finds, lists, adds, puts, removes, removes_where}
-use Rattle.std.proofs.Common.{◌≡◌, ◌==◌, ℕ, pos, List, [], ◌∷◌, true, None, Less, refl, sym, ap, ◌∙◌, drop, int_eq}
+use Rattle.std.proofs.Common.{◌≡◌, ◌==◌, ℕ, pos, List, [], ◌∷◌, true, None, Less, refl, sym, ap, ◌∙◌, drop, int_eq, codes}
 use Rattle.hall_types.specs.Rows.{texts}
 use Rattle.sql_rows.specs.Asking.{Asks}
 use Rattle.sql_rows.specs.Writing.{Makes, Puts}
 use Rattle.sql_rows.specs.AskingLaws.{shows_all}
 use Rattle.sql_machines.specs.Interfaces.{with_interface, without_interface, without_interfaces}
-use Rattle.sql_schema.specs.declared.machine_statements.TheConstants.{ADD_INTERFACE, FIND_INTERFACE, FIND_INTERFACES, LIST_INTERFACES, REMOVE_INTERFACE, REMOVE_INTERFACES, ADD_BOOT, FIND_BOOT, REMOVE_BOOTS, SET_BOOT, ADD_ORDER, FIND_ORDER, LIST_WAITING_ORDERS, REMOVE_ORDERS, SET_ORDER}
+use Rattle.sql_machines.specs.declared.boots.TheConstants.{ADD_BOOT, REMOVE_BOOTS, SET_BOOT}
+use Rattle.sql_machines.specs.declared.interfaces.TheConstants.{ADD_INTERFACE, FIND_INTERFACES, LIST_INTERFACES, REMOVE_INTERFACE, REMOVE_INTERFACES}
+use Rattle.sql_machines.specs.declared.orders.TheConstants.{ADD_ORDER, LIST_WAITING_ORDERS, REMOVE_ORDERS, SET_ORDER}
+use Rattle.sql_schema.specs.declared.creating.TheConstants.{FIND_INTERFACE, FIND_BOOT, FIND_ORDER}
 use Rattle.hall_types.specs.Kinds.{order_stage_number}
 use Rattle.sql_machines.specs.Boots.{with_boot, without_boots}
 use Rattle.sql_machines.specs.Orders.{with_order, without_orders}
@@ -16,6 +21,31 @@ use Rattle.sql_schema.specs.ValueLaws as value
 use Rattle.hall_types.specs.declared.kinds.OrderStage.TheVariants as stage
 
 -- ---- interfaces
+
+-- a new interface
+add_interface_is : IsCommandText hall_schema ADD_INTERFACE.now (add_command interfaces)
+unfolding understood everything
+add_interface_is = record { is = refl; plain = (refl, refl) }
+
+-- the interfaces of a machine
+find_interfaces_is : IsQueryText hall_schema FIND_INTERFACES.now (shows_query interfaces (equals 2 0 ∷ []) interfaces.by_key)
+unfolding understood everything
+find_interfaces_is = record { names = _; is = refl; plain = (refl, refl); unlisted = refl }
+
+-- all interfaces
+list_interfaces_is : IsQueryText hall_schema LIST_INTERFACES.now (shows_query interfaces [] interfaces.by_key)
+unfolding understood everything
+list_interfaces_is = record { names = _; is = refl; plain = (refl, refl); unlisted = refl }
+
+-- the interface with an address goes
+remove_interface_is : IsCommandText hall_schema REMOVE_INTERFACE.now (remove_command interfaces interfaces.matches)
+unfolding understood everything
+remove_interface_is = record { is = refl; plain = (refl, refl) }
+
+-- the interfaces of a machine go
+remove_interfaces_is : IsCommandText hall_schema REMOVE_INTERFACES.now (remove_command interfaces (equals 2 0 ∷ []))
+unfolding understood everything
+remove_interfaces_is = record { is = refl; plain = (refl, refl) }
 
 are_interfaces : IsTable interfaces
 are_interfaces = record {
@@ -59,6 +89,21 @@ removes_interfaces state_of id =
 
 -- ---- boots
 
+-- a new boot
+add_boot_is : IsCommandText hall_schema ADD_BOOT.now (add_command boots)
+unfolding understood everything
+add_boot_is = record { is = refl; plain = (refl, refl) }
+
+-- a boot, changed if it is there
+set_boot_is : IsReturningText hall_schema SET_BOOT.now (set_command boots (cell 0 ∷ lit Null ∷ parameters_from 1 4)) (record { names = codes "number" ∷ []; row = Values (parameter 7 ∷ []) 1 })
+unfolding understood everything
+set_boot_is = record { is = refl; returning = refl; untimed = refl }
+
+-- the boots of a machine go
+remove_boots_is : IsCommandText hall_schema REMOVE_BOOTS.now (remove_command boots (equals 2 0 ∷ []))
+unfolding understood everything
+remove_boots_is = record { is = refl; plain = (refl, refl) }
+
 are_boots : IsTable boots
 are_boots = record {
   there = refl;
@@ -87,6 +132,26 @@ removes_boots state_of id =
     (λ b. equal_numbers b.machine id)
 
 -- ---- orders
+
+-- a new order
+add_order_is : IsCommandText hall_schema ADD_ORDER.now (add_command orders)
+unfolding understood everything
+add_order_is = record { is = refl; plain = (refl, refl) }
+
+-- the orders that wait
+list_waiting_orders_is : IsQueryText hall_schema LIST_WAITING_ORDERS.now (shows_query orders (op2 (Compare Eq Binary) (cell 4) (lit (Int (pos 0))) ∷ []) orders.by_key)
+unfolding understood everything
+list_waiting_orders_is = record { names = _; is = refl; plain = (refl, refl); unlisted = refl }
+
+-- an order, changed if it is there
+set_order_is : IsReturningText hall_schema SET_ORDER.now (set_command orders (cell 0 ∷ lit Null ∷ parameters_from 1 3)) (record { names = codes "number" ∷ []; row = Values (parameter 6 ∷ []) 1 })
+unfolding understood everything
+set_order_is = record { is = refl; returning = refl; untimed = refl }
+
+-- the orders of a machine go
+remove_orders_is : IsCommandText hall_schema REMOVE_ORDERS.now (remove_command orders (equals 2 0 ∷ []))
+unfolding understood everything
+remove_orders_is = record { is = refl; plain = (refl, refl) }
 
 are_orders : IsTable orders
 are_orders = record {

@@ -2,7 +2,7 @@
 use Rattle.sql_schema.specs.Words.{bytes_eq, Text, Row, status_number, number, Counts, HallRows}
 use Rattle.std.specs.Prelude.{ℕ, ◌==◌, ◌&&◌, List, [], ◌∷◌, if◌then◌else◌}
 use Rattle.hall_store.specs.declared.count.Count.{Count}
-use Rattle.sql_schema.specs.declared.count_statements.TheConstants.{ADD_COUNT, SET_COUNT}
+use Rattle.sql_machines.specs.declared.counts.TheConstants.{ADD_COUNT, SET_COUNT}
 
 -- so many machines in this pool and status, and in each other as before
 abbrev pub counting : Counts → List ℕ → ℕ → ℕ → Counts

@@ -1,10 +1,12 @@
 pub mod Boots
 pub mod ChildLaws
+pub mod CountStatements
 pub mod Counts
 pub mod Interfaces
 pub mod Joining
 pub mod MachineRowLaws
 pub mod MachineRows
+pub mod MachineStatements
 pub mod Machines
 pub mod Orders
 pub mod WipeLaws

@@ -7,11 +7,20 @@ ghost use Rattle.sql_machines.specs.Boots.{with_boot, without_boots};
 
 use hall_types::{Boot, Number};
 use sql_rows::{Table, ask_one, put, write};
-use sql_schema::{
-    ADD_BOOT, FIND_BOOT, REMOVE_BOOTS, SET_BOOT, number_in, number_value, octets_value, purpose_in,
-    small_value, stage_in, token_in,
-};
+use sql_schema::creating::FIND_BOOT;
+use sql_schema::{kind_in, number_in, number_value, octets_value, small_value, token_in};
 use sqlite::{Alter, Connection, Error, Row, Transaction};
+
+// A new boot.
+const ADD_BOOT: &str =
+    "INSERT INTO boots (number, machine, purpose, token, stage) VALUES (?1, ?2, ?3, ?4, ?5)";
+
+// The boots of a machine go.
+const REMOVE_BOOTS: &str = "DELETE FROM boots WHERE machine = ?1";
+
+// A boot, changed if it is there.
+const SET_BOOT: &str =
+    "UPDATE boots SET machine = ?2, purpose = ?3, token = ?4, stage = ?5 WHERE number = ?1 RETURNING number";
 
 /// The table of boots, by what it stores.
 pub struct Boots;
@@ -28,9 +37,9 @@ impl Table for Boots {
         Ok(Boot {
             number: number_in(row, 0)?,
             machine: number_in(row, 1)?,
-            purpose: purpose_in(row, 2)?,
+            purpose: kind_in(row, 2)?,
             token: token_in(row, 3)?,
-            stage: stage_in(row, 4)?,
+            stage: kind_in(row, 4)?,
         })
     }
 

@@ -3,7 +3,7 @@ ghost use Rattle.sql_schema.specs.Words.{Null, Text, Blob, column, status_number
 ghost use Rattle.std.specs.Prelude.{◌≡◌, IfOk, IsTrue};
 
 use hall_types::{BootCount, MachineUuid, Name, Number, Status, Version};
-use sql_schema::{name_in, number_in, small_in, status_in, uuid_in};
+use sql_schema::{kind_in, name_in, number_in, small_in, uuid_in};
 use sqlite::types::ValueRef;
 use sqlite::{Error, Row};
 
@@ -30,7 +30,7 @@ pub(crate) fn optional_status_in(row: &Row, at: usize) -> Result<Option<Status>,
 {
     match row.get_ref(at)? {
         ValueRef::Null => Ok(None),
-        _ => Ok(Some(status_in(row, at)?)),
+        _ => Ok(Some(kind_in(row, at)?)),
     }
 }
 

@@ -8,12 +8,23 @@ ghost use Rattle.sql_machines.specs.Counts.{count_values, text_from, with_count}
 use hall_store::Count;
 use hall_types::{Name, Status};
 use sql_rows::write;
-use sql_schema::{
-    ADD_COUNT, FIND_COUNT, LIST_COUNTS, REMOVE_COUNT, SET_COUNT, name_in, name_value, number_value,
-    small_value, status_in,
-};
+use sql_schema::creating::LIST_COUNTS;
+use sql_schema::{kind_in, name_in, name_value, number_value, small_value};
 use sqlite::{Alter, Connection, Error, Row, Transaction, params};
 use std::alloc::Global;
+
+// The count of a pool and a status that had none.
+const ADD_COUNT: &str = "INSERT INTO counts (pool, status, machines) VALUES (?1, ?2, ?3)";
+
+// The count of a pool and a status.
+const FIND_COUNT: &str =
+    "SELECT machines FROM counts WHERE pool = ?1 AND status = ?2 ORDER BY pool, status";
+
+// The count of a pool and a status goes.
+const REMOVE_COUNT: &str = "DELETE FROM counts WHERE pool = ?1 AND status = ?2";
+
+// The count of a pool and a status, changed.
+const SET_COUNT: &str = "UPDATE counts SET machines = ?3 WHERE pool = ?1 AND status = ?2";
 
 // The greatest number that a column has.
 const MAX_COUNT: u64 = 9_223_372_036_854_775_807;
@@ -130,7 +141,7 @@ fn count_in_row(row: &Row) -> Result<Count, Error>
     }
     Ok(Count {
         pool: name_in(row, 0)?,
-        status: status_in(row, 1)?,
+        status: kind_in(row, 1)?,
         machines: row.get(2)?,
     })
 }

@@ -7,12 +7,21 @@ use crate::rows::{MachineNumbers, MachineRows};
 use crate::wipes::find_wipe;
 use hall_types::{Machine, MachineUuid, Moment, Name, Number};
 use sql_rows::{ask_first, ask_one};
-use sql_schema::{
-    FIND_EXPIRED, FIND_MACHINE, FIND_MACHINE_WITH_IMAGE, FIND_UUID, name_value, number_value,
-    octets_value,
-};
+use sql_schema::creating::FIND_MACHINE;
+use sql_schema::{name_value, number_value, octets_value};
 use sqlite::types::ValueRef;
 use sqlite::{Alter, Connection, Error};
+
+// The machine whose deadline comes first, at most at a moment.
+const FIND_EXPIRED: &str =
+    "SELECT id, arch, uuid, pool, status, owner, image, tests, back, locked, version, deadline, boot, boots, waiting FROM machines WHERE deadline <= ?1 ORDER BY deadline, id LIMIT 1";
+
+// The first machine that has an image.
+const FIND_MACHINE_WITH_IMAGE: &str =
+    "SELECT id FROM machines WHERE image = ?1 ORDER BY id LIMIT 1";
+
+// The machines with a UUID.
+const FIND_UUID: &str = "SELECT id FROM machines WHERE uuid = ?1 ORDER BY id";
 
 // The machine of the row that was found, with how its disks are erased.
 fn with_wipe<S: Alter>(

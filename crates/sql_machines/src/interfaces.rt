@@ -7,12 +7,25 @@ ghost use Rattle.sql_machines.specs.Interfaces.{with_interface, without_interfac
 
 use hall_types::{Interface, MacAddress, Number};
 use sql_rows::{Table, ask_all, ask_one, write};
-use sql_schema::{
-    ADD_INTERFACE, FIND_INTERFACE, FIND_INTERFACES, LIST_INTERFACES, REMOVE_INTERFACE,
-    REMOVE_INTERFACES, mac_in, number_in, number_value, octets_value,
-};
+use sql_schema::creating::FIND_INTERFACE;
+use sql_schema::{mac_in, number_in, number_value, octets_value};
 use sqlite::{Alter, Connection, Error, Row, Transaction};
 use std::alloc::Global;
+
+// A new interface.
+const ADD_INTERFACE: &str = "INSERT INTO interfaces (mac, machine) VALUES (?1, ?2)";
+
+// The interfaces of a machine.
+const FIND_INTERFACES: &str = "SELECT mac, machine FROM interfaces WHERE machine = ?1 ORDER BY mac";
+
+// All interfaces.
+const LIST_INTERFACES: &str = "SELECT mac, machine FROM interfaces ORDER BY mac";
+
+// The interface with an address goes.
+const REMOVE_INTERFACE: &str = "DELETE FROM interfaces WHERE mac = ?1";
+
+// The interfaces of a machine go.
+const REMOVE_INTERFACES: &str = "DELETE FROM interfaces WHERE machine = ?1";
 
 /// The table of interfaces, by what it stores.
 pub struct Interfaces;

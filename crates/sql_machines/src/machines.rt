@@ -6,12 +6,20 @@ ghost use Rattle.sql_machines.specs.Machines.{HasNoChild, HasVersion, checked_va
 
 use hall_types::{Machine, MachineUuid, Name, Number, Status, Version, arch_number};
 use sql_rows::write;
-use sql_schema::{
-    ADD_MACHINE, REMOVE_MACHINE, SET_MACHINE, name_value, number_value, octets_value, small_value,
-    truth_value,
-};
+use sql_schema::{name_value, number_value, octets_value, small_value, truth_value};
 use sqlite::types::ValueRef;
 use sqlite::{Alter, Error, Row, Transaction};
+
+// A new machine.
+const ADD_MACHINE: &str =
+    "INSERT INTO machines (id, arch, uuid, pool, status, owner, image, tests, back, locked, version, deadline, boot, boots, waiting) VALUES (?1, ?2, ?3, ?4, ?5, ?6, ?7, ?8, ?9, ?10, ?11, ?12, ?13, ?14, ?15)";
+
+// The machine with a number goes.
+const REMOVE_MACHINE: &str = "DELETE FROM machines WHERE id = ?1";
+
+// A machine, changed where it still has a version.
+const SET_MACHINE: &str =
+    "UPDATE machines SET arch = ?2, uuid = ?3, pool = ?4, status = ?5, owner = ?6, image = ?7, tests = ?8, back = ?9, locked = ?10, version = ?11, deadline = ?12, boot = ?13, boots = ?14, waiting = ?15 WHERE id = ?1 AND version = ?16 RETURNING version";
 
 fn optional_name(name: &Option<Name>) -> ValueRef<'_>
     ensures { owned result ≡ or_null Text name.now }

@@ -7,12 +7,24 @@ ghost use Rattle.sql_machines.specs.Orders.{with_order, without_orders};
 
 use hall_types::{Number, Order};
 use sql_rows::{Table, ask_all, ask_one, put, write};
-use sql_schema::{
-    ADD_ORDER, FIND_ORDER, LIST_WAITING_ORDERS, REMOVE_ORDERS, SET_ORDER, number_in, number_value,
-    order_kind_in, order_stage_in, small_value,
-};
+use sql_schema::creating::FIND_ORDER;
+use sql_schema::{kind_in, number_in, number_value, small_value};
 use sqlite::{Alter, Connection, Error, Row, Transaction};
 use std::alloc::Global;
+
+// A new order.
+const ADD_ORDER: &str = "INSERT INTO orders (number, machine, kind, stage) VALUES (?1, ?2, ?3, ?4)";
+
+// The orders that wait.
+const LIST_WAITING_ORDERS: &str =
+    "SELECT number, machine, kind, stage FROM orders WHERE stage = 0 ORDER BY number";
+
+// The orders of a machine go.
+const REMOVE_ORDERS: &str = "DELETE FROM orders WHERE machine = ?1";
+
+// An order, changed if it is there.
+const SET_ORDER: &str =
+    "UPDATE orders SET machine = ?2, kind = ?3, stage = ?4 WHERE number = ?1 RETURNING number";
 
 /// The table of orders, by what it stores.
 pub struct Orders;
@@ -29,8 +41,8 @@ impl Table for Orders {
         Ok(Order {
             number: number_in(row, 0)?,
             machine: number_in(row, 1)?,
-            kind: order_kind_in(row, 2)?,
-            stage: order_stage_in(row, 3)?,
+            kind: kind_in(row, 2)?,
+            stage: kind_in(row, 3)?,
         })
     }
 

@@ -9,7 +9,7 @@ use crate::columns::{
 };
 use hall_types::{Machine, Number};
 use sql_rows::Table;
-use sql_schema::{arch_in, name_in, number_in, status_in, truth_in};
+use sql_schema::{kind_in, name_in, number_in, truth_in};
 use sqlite::{Error, Row};
 
 /// The table of machines, by what it stores: it doesn't say how their disks are erased.
@@ -26,10 +26,10 @@ impl Table for MachineRows {
         }
         Ok(Machine {
             id: number_in(row, 0)?,
-            arch: arch_in(row, 1)?,
+            arch: kind_in(row, 1)?,
             uuid: optional_uuid_in(row, 2)?,
             pool: name_in(row, 3)?,
-            status: status_in(row, 4)?,
+            status: kind_in(row, 4)?,
             owner: optional_name_in(row, 5)?,
             image: optional_name_in(row, 6)?,
             tests: truth_in(row, 7)?,

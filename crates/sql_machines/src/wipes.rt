@@ -7,11 +7,17 @@ ghost use Rattle.sql_machines.specs.Wipes.{erase_of, erasing_values, erasings, w
 
 use hall_types::{Erase, Number};
 use sql_rows::{Table, ask_all, ask_one, write};
-use sql_schema::{
-    ADD_WIPE, FIND_WIPE, LIST_WIPES, REMOVE_WIPE, erase_in, number_in, number_value, small_value,
-};
+use sql_schema::creating::FIND_WIPE;
+use sql_schema::opening::ADD_WIPE;
+use sql_schema::{kind_in, number_in, number_value, small_value};
 use sqlite::{Alter, Connection, Error, Row, Transaction};
 use std::alloc::Global;
+
+// How the disks of all machines are erased.
+const LIST_WIPES: &str = "SELECT machine, erase FROM wipes ORDER BY machine";
+
+// The disks of the machine with a number are erased no more.
+const REMOVE_WIPE: &str = "DELETE FROM wipes WHERE machine = ?1";
 
 /// How the disks of a machine are erased.
 #[derive(Clone, Copy)]
@@ -33,7 +39,7 @@ impl Table for Wipes {
             return Err(Error::InvalidQuery);
         }
         let machine = number_in(row, 0)?;
-        let erase = erase_in(row, 1)?;
+        let erase = kind_in(row, 1)?;
         Ok(Erasing { machine, erase })
     }
 

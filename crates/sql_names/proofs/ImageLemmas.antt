@@ -1,10 +1,23 @@
 -- What the statements on images answer and write.
-use Rattle.sql_schema.specs.Words.{finds_kept, adds_kept, removes_kept, images, HallRows, next_rowid, texts, at, of_images, option_to_list, Error, Null, Text, Row, column, lit, State, HasCleanDisk, Survives, Shown, FailsToQuery, CommitsShowing, Hall, BootImage, arch_number, same_text, put_cases, gone_found, images_go_alone, same_arch, HasWords, number, image_columns, joined, words_in, IsTableRead, asked, within, and_true, add_image_is, find_image_is, remove_image_is, parameter, equals, cell, rising, sets, hall_schema, images_table}
+use Rattle.sqlite.specs.Listing.{understood}
+use Rattle.sqlite_tied.specs.Compute.{everything}
+use Rattle.sql_schema.specs.Words.{finds_kept, adds_kept, removes_kept, images, HallRows, next_rowid, texts, at, of_images, option_to_list, Error, Null, Text, Row, column, lit, State, HasCleanDisk, Survives, Shown, FailsToQuery, CommitsShowing, Hall, BootImage, arch_number, same_text, put_cases, gone_found, images_go_alone, same_arch, HasWords, number, image_columns, joined, words_in, IsTableRead, asked, within, and_true, parameter, equals, cell, rising, sets, hall_schema, images_table, Insert, Delete, Values, from_one, only, IsCommandText, find_image_is}
 use Rattle.std.proofs.Common.{◌≡◌, inl, inr, ℕ, List, [], ◌∷◌, map, slice_get, Option, None, Some, Result, IfOk, IfErr, refl, sym, ap, subst, ◌∙◌}
 use Rattle.sql_schema.specs.ValueLaws as value
 use Rattle.sql_rows.specs.Writing.{Makes}
 use Rattle.sql_names.specs.Changes.{with_image, without_image}
-use Rattle.sql_schema.specs.declared.name_statements.TheConstants.{ADD_IMAGE, FIND_IMAGE, REMOVE_IMAGE}
+use Rattle.sql_names.specs.declared.images.TheConstants.{ADD_IMAGE, REMOVE_IMAGE}
+use Rattle.sql_schema.specs.declared.creating.TheConstants.{FIND_IMAGE}
+
+-- a new image
+add_image_is : IsCommandText hall_schema ADD_IMAGE.now (Insert 4 (Values (lit Null ∷ parameter 0 ∷ parameter 1 ∷ parameter 2 ∷ parameter 3 ∷ parameter 4 ∷ []) 6))
+unfolding understood everything
+add_image_is = record { is = refl; plain = (refl, refl) }
+
+-- the image with a name goes
+remove_image_is : IsCommandText hall_schema REMOVE_IMAGE.now (Delete 4 (only (from_one 8 (equals 1 0 ∷ []) (cell 0 ∷ []) [])))
+unfolding understood everything
+remove_image_is = record { is = refl; plain = (refl, refl) }
 
 -- the rows of the image with this name in a hall, whose arguments are found again in their text
 abbrev pub ShowsImage : List ℕ → Hall → List Row → Type 0

@@ -1,13 +1,32 @@
 -- Laws of the table of live images: what its statements ask and write.
-use Rattle.sql_schema.specs.Words.{lives, equal_keys, rises, lists_kept, sets, list_any, option_to_list, bytes_eq, Null, Int, Text, lit, Error, Row, State, HasCleanDisk, Survives, Shown, FailsToQuery, CommitsShowing, Hall, arch_number, key-same, at, listed, numbers, Live, same_arch, number, live_columns, live_values, IsTableRead, asked, and_true, add_live_is, find_live_is, find_live_with_image_is, set_live_is, parameter, equals, cell, rising, of_lives}
-use Rattle.sql_rows.specs.Tables.{IsTable}
+use Rattle.sqlite.specs.Listing.{understood}
+use Rattle.sqlite_tied.specs.Compute.{everything}
+use Rattle.sql_schema.specs.Queries.{first_from}
+use Rattle.sql_schema.specs.Words.{lives, parameters_from, equal_keys, rises, lists_kept, sets, list_any, option_to_list, bytes_eq, Null, Int, Text, lit, Error, Row, State, HasCleanDisk, Survives, Shown, FailsToQuery, CommitsShowing, Hall, arch_number, key-same, at, listed, numbers, Live, same_arch, number, live_columns, live_values, IsTableRead, asked, and_true, parameter, equals, cell, rising, of_lives, Values, IsQueryText, IsCommandText, IsReturningText, hall_schema, find_live_is}
+use Rattle.sql_rows.specs.Tables.{IsTable, add_command, set_command}
 use Rattle.sql_rows.specs.TableLaws.{finds, puts}
-use Rattle.std.proofs.Common.{◌≡◌, ◌||◌, ◌==◌, not, ℕ, pos, Bool, true, false, cond, List, [], ◌∷◌, map, filter, take, length, Result, IfOk, IfErr, refl, ap, ◌∙◌, drop}
+use Rattle.std.proofs.Common.{◌≡◌, ◌||◌, ◌==◌, not, ℕ, pos, Bool, true, false, cond, List, [], ◌∷◌, map, filter, take, length, Result, IfOk, IfErr, refl, ap, ◌∙◌, drop, codes}
 use Rattle.sql_schema.specs.ValueLaws as value
 use Rattle.sql_rows.specs.Asking.{Asks}
 use Rattle.sql_rows.specs.Writing.{Puts}
 use Rattle.sql_names.specs.Changes.{with_live}
-use Rattle.sql_schema.specs.declared.name_statements.TheConstants.{ADD_LIVE, FIND_LIVE, FIND_LIVE_WITH_IMAGE, SET_LIVE}
+use Rattle.sql_names.specs.declared.lives.TheConstants.{ADD_LIVE, FIND_LIVE_WITH_IMAGE, SET_LIVE}
+use Rattle.sql_schema.specs.declared.creating.TheConstants.{FIND_LIVE}
+
+-- the live image of an architecture that had none
+add_live_is : IsCommandText hall_schema ADD_LIVE.now (add_command lives)
+unfolding understood everything
+add_live_is = record { is = refl; plain = (refl, refl) }
+
+-- the first architecture that has a live image
+find_live_with_image_is : IsQueryText hall_schema FIND_LIVE_WITH_IMAGE.now (first_from 10 (equals 2 0 ∷ []) (cell 0 ∷ []) (rising 0 ∷ []))
+unfolding understood everything
+find_live_with_image_is = record { names = _; is = refl; plain = (refl, refl); unlisted = refl }
+
+-- the live image of an architecture, changed if it has one
+set_live_is : IsReturningText hall_schema SET_LIVE.now (set_command lives (cell 0 ∷ lit Null ∷ parameters_from 1 1)) (record { names = codes "arch" ∷ []; row = Values (parameter 4 ∷ []) 1 })
+unfolding understood everything
+set_live_is = record { is = refl; returning = refl; untimed = refl }
 
 is : IsTable lives
 is = record {

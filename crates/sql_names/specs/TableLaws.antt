@@ -1,16 +1,32 @@
 -- Laws of the tables of operators, pools, members and receipts: what their statements ask and write.
-use Rattle.sql_schema.specs.Words.{operators, pools, members, receipts, HallRows, pair_tests, sets, option_to_list, bytes_eq, Int, Text, Blob, State, slice_get-filter, value_cmp-Text, at, put, listed, same_text, key-same, Hall, pair, operator_with_digest, Operator, Pool, Member, Receipt, operator_columns, pool_columns, member_columns, receipt_columns, and_true, add_member_is, add_operator_is, add_pool_is, add_receipt_is, find_digest_is, find_member_is, find_operator_is, find_pool_is, find_receipt_is, set_operator_is, cell, equals, parameter, of_operators, of_pools, of_members, of_receipts}
-use Rattle.sql_rows.specs.Tables.{IsTable}
+use Rattle.sqlite.specs.Listing.{understood}
+use Rattle.sqlite_tied.specs.Compute.{everything}
+use Rattle.sql_schema.specs.Words.{parameters_from, operators, pools, members, receipts, HallRows, pair_tests, sets, option_to_list, bytes_eq, Int, Text, Blob, State, slice_get-filter, value_cmp-Text, at, put, listed, same_text, key-same, Hall, pair, operator_with_digest, Operator, Pool, Member, Receipt, operator_columns, pool_columns, member_columns, receipt_columns, and_true, add_operator_is, add_pool_is, cell, equals, parameter, of_operators, of_pools, of_members, of_receipts, Values, IsQueryText, IsCommandText, IsReturningText, hall_schema, find_operator_is, find_pool_is, find_member_is, find_receipt_is}
+use Rattle.sql_rows.specs.Tables.{IsTable, shows_query, add_command, set_command}
 use Rattle.sql_rows.specs.TableLaws.{finds, lists, adds, puts}
-use Rattle.std.proofs.Common.{◌≡◌, ℕ, List, [], ◌∷◌, filter, drop, slice_get, None, refl, sym, ap, ◌∙◌}
+use Rattle.std.proofs.Common.{◌≡◌, ℕ, List, [], ◌∷◌, filter, drop, slice_get, None, refl, sym, ap, ◌∙◌, codes}
 use Rattle.hall_types.specs.Rows.{texts}
 use Rattle.sql_schema.specs.ValueLaws as value
 use Rattle.sql_rows.specs.Asking.{Asks}
 use Rattle.sql_rows.specs.Writing.{Makes, Puts}
 use Rattle.sql_names.specs.Changes.{with_member, with_operator, with_receipt}
-use Rattle.sql_schema.specs.declared.name_statements.TheConstants.{ADD_MEMBER, ADD_OPERATOR, ADD_POOL, ADD_RECEIPT, FIND_DIGEST, FIND_MEMBER, FIND_OPERATOR, FIND_POOL, FIND_RECEIPT, SET_OPERATOR}
+use Rattle.sql_names.specs.declared.operators.TheConstants.{FIND_DIGEST, SET_OPERATOR}
+use Rattle.sql_names.specs.declared.pools.TheConstants.{ADD_MEMBER}
+use Rattle.sql_names.specs.declared.receipts.TheConstants.{ADD_RECEIPT}
+use Rattle.sql_schema.specs.declared.creating.TheConstants.{FIND_MEMBER, FIND_OPERATOR, FIND_POOL, FIND_RECEIPT}
+use Rattle.sql_schema.specs.declared.opening.TheConstants.{ADD_OPERATOR, ADD_POOL}
 
 -- ---- operators
+
+-- the operators with a digest
+find_digest_is : IsQueryText hall_schema FIND_DIGEST.now (shows_query operators (equals 3 0 ∷ []) operators.by_key)
+unfolding understood everything
+find_digest_is = record { names = _; is = refl; plain = (refl, refl); unlisted = refl }
+
+-- an operator, changed if it is there
+set_operator_is : IsReturningText hall_schema SET_OPERATOR.now (set_command operators (cell 0 ∷ cell 1 ∷ parameters_from 1 3)) (record { names = codes "name" ∷ []; row = Values (parameter 6 ∷ []) 1 })
+unfolding understood everything
+set_operator_is = record { is = refl; returning = refl; untimed = refl }
 
 are_operators : IsTable operators
 are_operators = record {
@@ -71,6 +87,11 @@ adds_pool state_of = adds pools are_pools state_of ADD_POOL.now add_pool_is
 
 -- ---- members
 
+-- a new member
+add_member_is : IsCommandText hall_schema ADD_MEMBER.now (add_command members)
+unfolding understood everything
+add_member_is = record { is = refl; plain = (refl, refl) }
+
 are_members : IsTable members
 are_members = record {
   there = refl;
@@ -92,6 +113,11 @@ pub adds_member : {C : Type 0} (state_of : C → State) (m : Member) (before : H
 adds_member state_of = adds members are_members state_of ADD_MEMBER.now add_member_is
 
 -- ---- receipts
+
+-- a new receipt
+add_receipt_is : IsCommandText hall_schema ADD_RECEIPT.now (add_command receipts)
+unfolding understood everything
+add_receipt_is = record { is = refl; plain = (refl, refl) }
 
 are_receipts : IsTable receipts
 are_receipts = record {

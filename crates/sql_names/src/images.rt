@@ -8,12 +8,18 @@ use crate::words::{joined_words, words_of};
 use hall_types::{Image, Name, arch_number};
 use ipxe_script::{Uri, Word, WordFault};
 use sql_rows::write;
-use sql_schema::{
-    ADD_IMAGE, FIND_IMAGE, REMOVE_IMAGE, arch_in, name_in, name_value, small_value, text_value,
-};
+use sql_schema::creating::FIND_IMAGE;
+use sql_schema::{kind_in, name_in, name_value, small_value, text_value};
 use sqlite::types::Type;
 use sqlite::{Alter, Connection, Error, ErrorCode, Row, Transaction};
 use std::alloc::Global;
+
+// A new image.
+const ADD_IMAGE: &str =
+    "INSERT INTO images (name, arch, kernel, initrd, args) VALUES (?1, ?2, ?3, ?4, ?5)";
+
+// The image with a name goes.
+const REMOVE_IMAGE: &str = "DELETE FROM images WHERE name = ?1";
 
 // Why no word or URI was read from a column.
 fn column_fault(fault: WordFault, at: usize) -> Error
@@ -50,7 +56,7 @@ fn image_of(alloc: Global, row: &Row) -> Result<Image, Error>
     ensures args { IfOk result (λ image. (text : List ℕ) → column row.now 4 ≡ Text text → image.args ≡ words_in text) }
 {
     let name = name_in(row, 0)?;
-    let arch = arch_in(row, 1)?;
+    let arch = kind_in(row, 1)?;
     let kernel = uri_in(alloc, row, 2)?;
     let initrd = uri_in(alloc, row, 3)?;
     let args = words_at(alloc, row, 4)?;

@@ -8,10 +8,18 @@ ghost use Rattle.sql_names.specs.Changes.{with_live};
 use hall_types::{Live, Name, arch_number};
 use pxe_vendor::Arch;
 use sql_rows::{Table, ask_one, put};
-use sql_schema::{
-    ADD_LIVE, FIND_LIVE, FIND_LIVE_WITH_IMAGE, SET_LIVE, arch_in, name_in, name_value, small_value,
-};
+use sql_schema::creating::FIND_LIVE;
+use sql_schema::{kind_in, name_in, name_value, small_value};
 use sqlite::{Alter, Connection, Error, Row, Transaction};
+
+// The live image of an architecture that had none.
+const ADD_LIVE: &str = "INSERT INTO lives (arch, image) VALUES (?1, ?2)";
+
+// The first architecture that has a live image.
+const FIND_LIVE_WITH_IMAGE: &str = "SELECT arch FROM lives WHERE image = ?1 ORDER BY arch LIMIT 1";
+
+// The live image of an architecture, changed if it has one.
+const SET_LIVE: &str = "UPDATE lives SET image = ?2 WHERE arch = ?1 RETURNING arch";
 
 // The table of live images, by what it stores.
 struct Lives;
@@ -25,7 +33,7 @@ impl Table for Lives {
         if row.column_count() != 2 {
             return Err(Error::InvalidQuery);
         }
-        let arch = arch_in(row, 0)?;
+        let arch = kind_in(row, 0)?;
         let image = name_in(row, 1)?;
         Ok(Live { arch, image })
     }

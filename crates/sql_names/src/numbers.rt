@@ -6,8 +6,12 @@ ghost use Rattle.sql_names.specs.Changes.{schema_values, with_numbers};
 
 use hall_types::{LastIssued, Numbers};
 use sql_rows::write;
-use sql_schema::{FIND_NUMBERS, SET_NUMBERS, number_value, small_in};
+use sql_schema::creating::FIND_NUMBERS;
+use sql_schema::{number_value, small_in};
 use sqlite::{Alter, Connection, Error, Row, Transaction};
+
+// The last numbers, changed.
+const SET_NUMBERS: &str = "UPDATE hall SET machine = ?1, boot = ?2, orders = ?3 WHERE one = 1";
 
 // The last number that was issued, in a column.
 fn last_in(row: &Row, at: usize) -> Result<LastIssued, Error>

@@ -7,11 +7,20 @@ ghost use Rattle.sql_names.specs.Changes.{with_operator};
 
 use hall_types::{Digest, Name, Operator};
 use sql_rows::{Table, ask_first, ask_one, put};
+use sql_schema::creating::FIND_OPERATOR;
+use sql_schema::opening::ADD_OPERATOR;
 use sql_schema::{
-    ADD_OPERATOR, FIND_DIGEST, FIND_OPERATOR, SET_OPERATOR, digest_in, name_in, name_value,
-    octets_value, role_in, small_value, truth_in, truth_value,
+    digest_in, kind_in, name_in, name_value, octets_value, small_value, truth_in, truth_value,
 };
 use sqlite::{Alter, Connection, Error, Row, Transaction};
+
+// The operators with a digest.
+const FIND_DIGEST: &str =
+    "SELECT name, role, digest, enabled FROM operators WHERE digest = ?1 ORDER BY name";
+
+// An operator, changed if it is there.
+const SET_OPERATOR: &str =
+    "UPDATE operators SET role = ?2, digest = ?3, enabled = ?4 WHERE name = ?1 RETURNING name";
 
 /// The table of operators, by what it stores.
 pub struct Operators;
@@ -27,7 +36,7 @@ impl Table for Operators {
         }
         Ok(Operator {
             name: name_in(row, 0)?,
-            role: role_in(row, 1)?,
+            role: kind_in(row, 1)?,
             digest: digest_in(row, 2)?,
             enabled: truth_in(row, 3)?,
         })

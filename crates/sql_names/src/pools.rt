@@ -7,8 +7,13 @@ ghost use Rattle.sql_names.specs.Changes.{with_member};
 
 use hall_types::{Member, Name, Pool};
 use sql_rows::{Table, ask_one, write};
-use sql_schema::{ADD_MEMBER, ADD_POOL, FIND_MEMBER, FIND_POOL, name_in, name_value};
+use sql_schema::creating::{FIND_MEMBER, FIND_POOL};
+use sql_schema::opening::ADD_POOL;
+use sql_schema::{name_in, name_value};
 use sqlite::{Alter, Connection, Error, Row, Transaction};
+
+// A new member.
+const ADD_MEMBER: &str = "INSERT INTO members (pool, operator) VALUES (?1, ?2)";
 
 /// The table of pools, by what it stores.
 pub struct Pools;

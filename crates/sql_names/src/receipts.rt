@@ -7,11 +7,13 @@ ghost use Rattle.sql_names.specs.Changes.{with_receipt};
 
 use hall_types::{Name, Receipt, RequestKey, Text};
 use sql_rows::{Table, ask_one, write};
-use sql_schema::{
-    ADD_RECEIPT, FIND_RECEIPT, name_in, name_value, number_value, octets_value, request_key_in,
-    text_value,
-};
+use sql_schema::creating::FIND_RECEIPT;
+use sql_schema::{name_in, name_value, number_value, octets_value, request_key_in, text_value};
 use sqlite::{Alter, Connection, Error, Row, Transaction};
+
+// A new receipt.
+const ADD_RECEIPT: &str =
+    "INSERT INTO receipts (operator, request, command, status, body) VALUES (?1, ?2, ?3, ?4, ?5)";
 
 // The HTTP status in a column.
 fn http_status_in(row: &Row, at: usize) -> Result<u16, Error>

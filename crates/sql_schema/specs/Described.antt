@@ -1,171 +1,212 @@
--- The tables of a hall, each described once: what it stores, and what its statements say.
-use Rattle.sql_schema.specs.Prelude.{next_rowid, Value, Null, Text, Blob, Row, Table, Term, lit, Key, IsKeyedBy, Keys, Rows, numbers, texts, pairs, listed, StandUnder, arch_number, Hall, pair, BootImage, Operator, Pool, Member, Live, Machine, Interface, Boot, Order, Receipt}
-use Rattle.std.proofs.Common.{refl, ◌≡◌, ℕ, ℤ, zero, suc, pos, List, [], ◌∷◌, map, drop, IsPermutation}
-use Rattle.sql_schema.specs.Columns.{number, operator_columns, pool_columns, member_columns, image_columns, live_columns, machine_columns, interface_columns, boot_columns, order_columns, receipt_columns, Wipe, wipe_columns}
-use Rattle.sql_schema.specs.Queries.{cell, parameter, equals, rising}
-use Rattle.sql_schema.specs.Rows.{Entry, row_of, rowid_of, item_of}
-use Rattle.sql_schema.specs.Tables.{operators_table, pools_table, members_table, images_table, lives_table, machines_table, interfaces_table, boots_table, orders_table, receipts_table, wipes_table}
+-- The tables of a hall, each described once: the columns of its rows after the rowid, what its statements say, and its place among all. The column of an INTEGER PRIMARY KEY is stored as NULL.
+use Rattle.sql_schema.specs.Prelude.{option_to_list, Null, Text, Blob, Row, Trees, Rows, numbers, texts, pairs, at, pair, arch_number, role_number, purpose_number, stage_number, order_kind_number, order_stage_number, erase_number, status_number, BootImage, Operator, Pool, Member, Live, Machine, Interface, Boot, Order, Receipt, Numbers}
+use Rattle.std.specs.Prelude.{◌≡◌, ◌==◌, ℕ, zero, suc, List, [], ◌∷◌, map, drop, Some, cond}
+use Rattle.sql_schema.specs.Columns.{number, truth_number, or_null, joined, HasWords}
+use Rattle.sql_schema.specs.HallRows.{Counts, HallRows, Wipe}
+use Rattle.sql_schema.specs.Rows.{Entry}
+use Rattle.sql_schema.specs.TableOf.{HallTable, IsNamed, TableOf, named, numbered, of_table, pair_values}
+use Rattle.sql_schema.specs.Tables.{hall_table, operators_table, pools_table, members_table, images_table, lives_table, machines_table, interfaces_table, boots_table, orders_table, receipts_table, counts_table, wipes_table}
 
--- ---- what a table stores
+-- ---- the last numbers
 
--- A table that stores each row once, as an entry that has a rowid and an item, in the order of rowids, while each row stands under its own key.
-pub record IsKept {K X E : Type 0} {keys : Keys K} (rowid : E → ℤ) (item : E → X) (key_of : X → K) (columns : X → Row) (stored : List Row) (rows : Rows keys X) : Type 0 where
-  pub entries : List E
-  pub spelt : stored ≡ map (row_of rowid (λ e. columns (item e))) entries
-  pub keyed : IsKeyedBy rowid entries
-  pub same : IsPermutation (listed rows) (map item entries)
-  pub under : StandUnder key_of rows
+-- the one row of the last numbers, under the key 1, with the number of the schema
+abbrev pub numbers_row : Numbers → Row
+numbers_row last = number 1 ∷ Null ∷ number 2 ∷ number last.machine ∷ number last.boot ∷ number last.order ∷ []
 
--- with an INTEGER PRIMARY KEY: an item is its own entry, and its number is the rowid
-abbrev pub IsNumbered : {X : Type 0} → (X → ℕ) → (X → Row) → List Row → Rows numbers X → Type 0
-IsNumbered number_of columns = IsKept (λ x. pos (number_of x)) (λ x. x) number_of columns
+-- ---- operators
 
--- with a rowid that no statement names
-abbrev pub IsNamed : {K X : Type 0} {keys : Keys K} → (X → K) → (X → Row) → List Row → Rows keys X → Type 0
-IsNamed key_of columns = IsKept rowid_of item_of key_of columns
-
--- ---- what the tables hold
-
--- how many machines each pool has in each status, by the status's number
-abbrev pub Counts : Type 0
-Counts = List ℕ → ℕ → ℕ
-
--- What the tables hold: a hall's rows, the counts, and how disks are erased. Between the statements of one write the last
--- two may be behind the machines.
-pub record HallRows : Type 0 where
-  pub hall : Hall
-  pub counts : Counts
-  pub wipes : Rows numbers Wipe
-
--- ---- the columns of a statement, from this one on
-
-abbrev pub cells_from : ℕ → ℕ → List Term
-cells_from at zero = []
-cells_from at (suc more) = cell at ∷ cells_from (suc at) more
-
-abbrev pub parameters_from : ℕ → ℕ → List Term
-parameters_from at zero = []
-parameters_from at (suc more) = parameter at ∷ parameters_from (suc at) more
-
--- WHERE the columns equal the parameters
-abbrev pub equal_from : ℕ → ℕ → List Term
-equal_from at zero = []
-equal_from at (suc more) = equals (suc at) at ∷ equal_from (suc at) more
-
--- ORDER BY the columns
-abbrev pub rising_from : ℕ → ℕ → List (Term × Key)
-rising_from at zero = []
-rising_from at (suc more) = rising at ∷ rising_from (suc at) more
-
--- the values of a key that is a text and another part; fewer or more parts are no key, and their values are NULL, which equals nothing
-abbrev pub pair_values : (List ℕ → Value) → List (List ℕ) → Row
-pair_values second (a ∷ b ∷ []) = Text a ∷ second b ∷ []
-pair_values second _ = Null ∷ Null ∷ []
-
--- ---- a table
-
-pub record TableOf {K : Type 0} (keys : Keys K) (X E : Type 0) : Type 0 where
-  -- which table it is of the schema, and its place there
-  pub table : Table
-  pub place : ℕ
-  -- an entry's rowid and item, an item's key, and its columns after the rowid
-  pub rowid : E → ℤ
-  pub item : E → X
-  pub key_of : X → K
-  pub columns : X → Row
-  -- the entry of a new item among stored rows, and the row that an INSERT of the item gives
-  pub entry : List Row → X → E
-  pub is_item : (stored : List Row) (x : X) → item (entry stored x) ≡ x
-  pub source : X → Row
-  -- an item as a query shows it and a statement is given it, and a key as a statement is given it
-  pub values_of : X → Row
-  pub key_values : K → Row
-  -- WHERE the key is the given one, SELECT of all columns, ORDER BY the key, and VALUES of an INSERT
-  pub matches : List Term
-  pub shown : List Term
-  pub by_key : List (Term × Key)
-  pub given : List Term
-  -- its rows, and all rows with others in their place
-  pub rows : HallRows → Rows keys X
-  pub with_rows : HallRows → Rows keys X → HallRows
-
--- an entry as it is stored
-abbrev pub kept_row : {K X E : Type 0} {keys : Keys K} → TableOf keys X E → E → Row
-kept_row t = row_of t.rowid (λ e. t.columns (t.item e))
-
--- a table with an INTEGER PRIMARY KEY, its first column, and so many columns more
-abbrev numbered : {X : Type 0} → Table → ℕ → (X → ℕ) → (X → Row) → ℕ → (HallRows → Rows numbers X) → (HallRows → Rows numbers X → HallRows) → TableOf numbers X X
-numbered table place number_of columns more rows with_rows = record {
-  table = table;
-  place = place;
-  rowid = λ x. pos (number_of x);
-  item = λ x. x;
-  key_of = number_of;
-  columns = columns;
-  entry = λ stored x. x;
-  is_item = λ stored x. refl;
-  source = λ x. number (number_of x) ∷ columns x;
-  values_of = λ x. number (number_of x) ∷ drop 1 (columns x);
-  key_values = λ n. number n ∷ [];
-  matches = equals 0 0 ∷ [];
-  shown = cell 0 ∷ cells_from 2 more;
-  by_key = rising 0 ∷ [];
-  given = parameter 0 ∷ lit Null ∷ parameters_from 1 more;
-  rows = rows;
-  with_rows = with_rows;
-}
-
--- a table whose rowid no statement names, and whose first columns are its key, of so many columns
-abbrev named : {K X : Type 0} {keys : Keys K} → Table → ℕ → (X → K) → (K → Row) → ℕ → (X → Row) → ℕ → (HallRows → Rows keys X) → (HallRows → Rows keys X → HallRows) → TableOf keys X (Entry X)
-named table place key_of key_values parts columns width rows with_rows = record {
-  table = table;
-  place = place;
-  rowid = rowid_of;
-  item = item_of;
-  key_of = key_of;
-  columns = columns;
-  entry = λ stored x. record { rowid = next_rowid stored; item = x };
-  is_item = λ stored x. refl;
-  source = λ x. Null ∷ columns x;
-  values_of = columns;
-  key_values = key_values;
-  matches = equal_from 0 parts;
-  shown = cells_from 1 width;
-  by_key = rising_from 1 parts;
-  given = lit Null ∷ parameters_from 0 width;
-  rows = rows;
-  with_rows = with_rows;
-}
+abbrev pub operator_columns : Operator → Row
+operator_columns o = Text o.name ∷ number (role_number o.role) ∷ Blob o.digest ∷ number (truth_number o.enabled) ∷ []
 
 abbrev pub operators : TableOf texts Operator (Entry Operator)
 operators = named operators_table 1 (λ o. o.name) (λ name. Text name ∷ []) 1 operator_columns 4 (λ c. c.hall.operators) (λ c rows. record c { hall = record c.hall { operators = rows } })
 
+-- ---- pools
+
+abbrev pub pool_columns : Pool → Row
+pool_columns p = Text p.name ∷ []
+
 abbrev pub pools : TableOf texts Pool (Entry Pool)
 pools = named pools_table 2 (λ p. p.name) (λ name. Text name ∷ []) 1 pool_columns 1 (λ c. c.hall.pools) (λ c rows. record c { hall = record c.hall { pools = rows } })
+
+-- ---- members
+
+abbrev pub member_columns : Member → Row
+member_columns m = Text m.pool ∷ Text m.operator ∷ []
 
 abbrev pub members : TableOf pairs Member (Entry Member)
 members = named members_table 3 (λ m. pair m.pool m.operator) (pair_values Text) 2 member_columns 2 (λ c. c.hall.members) (λ c rows. record c { hall = record c.hall { members = rows } })
 
+-- ---- images
+
+abbrev pub image_columns : BootImage → Row
+image_columns i = Text i.name ∷ number (arch_number i.arch) ∷ Text i.kernel ∷ Text i.initrd ∷ Text (joined i.args) ∷ []
+
 abbrev pub images : TableOf texts BootImage (Entry BootImage)
 images = named images_table 4 (λ i. i.name) (λ name. Text name ∷ []) 1 image_columns 5 (λ c. c.hall.images) (λ c rows. record c { hall = record c.hall { images = rows } })
+
+-- The table of images. It stores the arguments of an image as one text, which gives them back.
+pub record AreImages (stored : List Row) (rows : Rows texts BootImage) : Type 0 where
+  pub named : IsNamed (λ (i : BootImage). i.name) image_columns stored rows
+  pub words : (name : List ℕ) (i : BootImage) → at rows name ≡ Some i → HasWords i
+
+-- ---- lives
+
+abbrev pub live_columns : Live → Row
+live_columns l = Null ∷ Text l.image ∷ []
+
+abbrev pub live_values : Live → Row
+live_values l = number (arch_number l.arch) ∷ drop 1 (live_columns l)
 
 abbrev pub lives : TableOf numbers Live Live
 lives = numbered lives_table 5 (λ l. arch_number l.arch) live_columns 1 (λ c. c.hall.lives) (λ c rows. record c { hall = record c.hall { lives = rows } })
 
+-- ---- machines
+
+-- how the disks of a machine are erased has a table of its own
+abbrev pub machine_columns : Machine → Row
+machine_columns m =
+    Null ∷ number (arch_number m.arch) ∷ or_null Blob m.uuid ∷ Text m.pool ∷ number (status_number m.status) ∷ or_null Text m.owner ∷ or_null Text m.image
+    ∷ number (truth_number m.tests) ∷ or_null (λ s. number (status_number s)) m.back ∷ number (truth_number m.locked) ∷ number m.version ∷ or_null number m.deadline
+    ∷ or_null number m.boot ∷ number m.boots ∷ or_null number m.waiting ∷ []
+
+-- as a query shows the row, and as it is given
+abbrev pub machine_values : Machine → Row
+machine_values m = number m.id ∷ drop 1 (machine_columns m)
+
 abbrev pub machines : TableOf numbers Machine Machine
 machines = numbered machines_table 6 (λ m. m.id) machine_columns 14 (λ c. c.hall.machines) (λ c rows. record c { hall = record c.hall { machines = rows } })
+
+-- ---- interfaces
+
+abbrev pub interface_columns : Interface → Row
+interface_columns i = Blob i.mac ∷ number i.machine ∷ []
 
 abbrev pub interfaces : TableOf texts Interface (Entry Interface)
 interfaces = named interfaces_table 7 (λ i. i.mac) (λ mac. Blob mac ∷ []) 1 interface_columns 2 (λ c. c.hall.interfaces) (λ c rows. record c { hall = record c.hall { interfaces = rows } })
 
+-- ---- boots
+
+abbrev pub boot_columns : Boot → Row
+boot_columns b = Null ∷ number b.machine ∷ number (purpose_number b.purpose) ∷ Blob b.token ∷ number (stage_number b.stage) ∷ []
+
+abbrev pub boot_values : Boot → Row
+boot_values b = number b.number ∷ drop 1 (boot_columns b)
+
 abbrev pub boots : TableOf numbers Boot Boot
 boots = numbered boots_table 8 (λ b. b.number) boot_columns 4 (λ c. c.hall.boots) (λ c rows. record c { hall = record c.hall { boots = rows } })
+
+-- ---- orders
+
+abbrev pub order_columns : Order → Row
+order_columns o = Null ∷ number o.machine ∷ number (order_kind_number o.kind) ∷ number (order_stage_number o.stage) ∷ []
+
+abbrev pub order_values : Order → Row
+order_values o = number o.number ∷ drop 1 (order_columns o)
 
 abbrev pub orders : TableOf numbers Order Order
 orders = numbered orders_table 9 (λ o. o.number) order_columns 3 (λ c. c.hall.orders) (λ c rows. record c { hall = record c.hall { orders = rows } })
 
+-- ---- receipts
+
+abbrev pub receipt_columns : Receipt → Row
+receipt_columns r = Text r.operator ∷ Blob r.key ∷ Text r.command ∷ number r.status ∷ Text r.body ∷ []
+
 abbrev pub receipts : TableOf pairs Receipt (Entry Receipt)
 receipts = named receipts_table 10 (λ r. pair r.operator r.key) (pair_values Blob) 2 receipt_columns 5 (λ c. c.hall.receipts) (λ c rows. record c { hall = record c.hall { receipts = rows } })
 
+-- ---- counts
+
+-- how many machines a pool has in a status
+pub record CountRow : Type 0 where
+  pub pool : List ℕ
+  pub status : ℕ
+  pub machines : ℕ
+
+abbrev pub count_columns : CountRow → Row
+count_columns c = Text c.pool ∷ number c.status ∷ number c.machines ∷ []
+
+-- the key of a count: its pool, and its status's number as a text of its own
+abbrev pub count_key : List ℕ → ℕ → List (List ℕ)
+count_key pool status = pair pool (status ∷ [])
+
+-- a number above 0 has one row, and 0 has none
+abbrev pub in_rows : ℕ → List ℕ
+in_rows zero = []
+in_rows (suc n) = suc n ∷ []
+
+-- The table of counts: each pool and status has its row where its number is above 0.
+pub record AreCounts (stored : List Row) (all : Counts) : Type 0 where
+  pub rows : Rows pairs CountRow
+  pub table : IsNamed (λ (c : CountRow). count_key c.pool c.status) count_columns stored rows
+  pub counted : (pool : List ℕ) (status : ℕ) → map (λ (c : CountRow). c.machines) (option_to_list (at rows (count_key pool status))) ≡ in_rows (all pool status)
+
+-- ---- kinds of erasing
+
+abbrev pub wipe_columns : Wipe → Row
+wipe_columns w = Null ∷ number (erase_number w.erase) ∷ []
+
 abbrev pub wipes : TableOf numbers Wipe Wipe
 wipes = numbered wipes_table 12 (λ w. w.machine) wipe_columns 1 (λ c. c.wipes) (λ c rows. record c { wipes = rows })
+
+-- ---- all of them
+
+pub data TableName : Type 0 where
+  of_last : TableName
+  of_operators : TableName
+  of_pools : TableName
+  of_members : TableName
+  of_images : TableName
+  of_lives : TableName
+  of_machines : TableName
+  of_interfaces : TableName
+  of_boots : TableName
+  of_orders : TableName
+  of_receipts : TableName
+  of_counts : TableName
+  of_wipes : TableName
+
+-- all tables of a hall
+abbrev pub described : TableName → HallTable
+described of_last = record {
+  table = hall_table;
+  place = 0;
+  Held = Numbers;
+  held = λ c. c.hall.last;
+  with_held = λ c x. record c { hall = record c.hall { last = x } };
+  stores = λ rows x. rows ≡ numbers_row x ∷ [];
+}
+described of_operators = of_table operators
+described of_pools = of_table pools
+described of_members = of_table members
+described of_images = record (of_table images) { stores = AreImages }
+described of_lives = of_table lives
+described of_machines = of_table machines
+described of_interfaces = of_table interfaces
+described of_boots = of_table boots
+described of_orders = of_table orders
+described of_receipts = of_table receipts
+described of_counts = record { table = counts_table; place = 11; Held = Counts; held = λ c. c.counts; with_held = λ c x. record c { counts = x }; stores = AreCounts }
+described of_wipes = of_table wipes
+
+-- the trees, with these rows in the place of those of one of them
+abbrev pub with_tree : ℕ → List Row → Trees → Trees
+with_tree tree rows db n = cond (n == tree) rows (db n)
+
+-- where each table stores what it is to hold, and then one of them stores something else, each stores what it is to hold with that
+pub each_stores : (t u : TableName) (db : Trees) (c : HallRows) → ((v : TableName) → (described v).stores (db (described v).table.tree) ((described v).held c)) → (stored : List Row) (x : (described t).Held) → (described t).stores stored x
+    → (described u).stores (with_tree (described t).table.tree stored db (described u).table.tree) ((described u).held ((described t).with_held c x))
+each_stores of_last of_last db c each stored x holds = holds
+each_stores of_operators of_operators db c each stored x holds = holds
+each_stores of_pools of_pools db c each stored x holds = holds
+each_stores of_members of_members db c each stored x holds = holds
+each_stores of_images of_images db c each stored x holds = holds
+each_stores of_lives of_lives db c each stored x holds = holds
+each_stores of_machines of_machines db c each stored x holds = holds
+each_stores of_interfaces of_interfaces db c each stored x holds = holds
+each_stores of_boots of_boots db c each stored x holds = holds
+each_stores of_orders of_orders db c each stored x holds = holds
+each_stores of_receipts of_receipts db c each stored x holds = holds
+each_stores of_counts of_counts db c each stored x holds = holds
+each_stores of_wipes of_wipes db c each stored x holds = holds
+each_stores t u db c each stored x holds = each u

@@ -2,7 +2,7 @@
 use Rattle.sql_schema.specs.Prelude.{Trees, State, Has, Hall}
 use Rattle.std.specs.Prelude.{◌≡◌, List, true, false, IsTrue, Result, IfOk, OnOk, OnErr}
 use Rattle.sql_schema.specs.Tables.{hall_schema}
-use Rattle.sql_schema.specs.Described.{HallRows}
+use Rattle.sql_schema.specs.HallRows.{HallRows}
 use Rattle.sql_schema.specs.Spelling.{Spells, SpellHall}
 
 -- between calls: the connection is open, its tables spell this hall, and all of it is committed

@@ -6,7 +6,7 @@ use Rattle.sql_schema.specs.WriteLaws.{shown_wrote}
 use Rattle.sql_schema.specs.StatementLaws.{query_refused, shown_same, query_survives}
 use Rattle.sql_schema.specs.QueryLaws.{shown_answer}
 use Rattle.sql_schema.specs.Tables.{hall_schema}
-use Rattle.sql_schema.specs.Described.{HallRows}
+use Rattle.sql_schema.specs.HallRows.{HallRows}
 use Rattle.sql_schema.specs.Spelling.{Spells, SpellHall}
 use Rattle.sql_schema.specs.Holding.{Holds, Leaves, IsWithin, IsTableRead}
 

@@ -9,7 +9,7 @@ use Rattle.sql_schema.specs.Rows.{row_of, uncounted}
 use Rattle.sql_schema.specs.Statements.{IsCommandText, IsReturningText, SetsRows, only}
 use Rattle.sql_schema.specs.TableLaws.{inserts, deletes_alone, changes, changes_showing}
 use Rattle.sql_schema.specs.ListedLaws.{AreRising-listed, listed_at, listed_with_key, listed-put-new, listed-put-there, listed-gone, listed-where, StandUnder-put, StandUnder-gone, StandUnder-where}
-use Rattle.sql_schema.specs.Described.{IsKept}
+use Rattle.sql_schema.specs.TableOf.{IsKept}
 
 -- ---- lists
 

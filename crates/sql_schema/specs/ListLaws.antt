@@ -1,6 +1,6 @@
 -- Laws of lists, for the proofs of callers: rows taken out in any order, put back under their keys, or counted.
 use Rattle.sql_schema.specs.Prelude.{all_has, none_from_any, list_any, AllByRecursion, match_ordering, ints, IsPermutation-refl, IsPermutation-cons, IsPermutation-trans, IsPermutation-middle, Row, put_all, put_row, IsAscending, Has, IsKeyedBy, insert_by, has_key, without_key, delete_where, update_where, all_map, all-filter, all_weaker, all_of, filter_all, filter_same, along_permutation, IsPermutation-flat_map, Less-from_lt, removes_delete}
-use Rattle.std.proofs.Common.{◌≡◌, ◌⊎◌, ◌&&◌, ◌||◌, ◌≤◌, ◌<ℤ◌, not, inl, inr, ℤ, List, [], ◌∷◌, length, map, filter, Bool, true, false, cond, refl, sym, ap, subst₂, ◌∙◌, arith, Ordering, Less, Equal, Greater, int_eq, int_cmp, is_eq, fold, IsPermutation, true≢false, flat_map}
+use Rattle.std.proofs.Common.{◌≡◌, ◌&&◌, ◌||◌, ◌≤◌, ◌<ℤ◌, not, inl, inr, ℤ, List, [], ◌∷◌, length, map, filter, Bool, true, false, cond, refl, sym, ap, subst₂, ◌∙◌, arith, Ordering, Less, Equal, Greater, int_eq, int_cmp, is_eq, fold, IsPermutation, true≢false, flat_map}
 
 pub and_true : (b : Bool) → (b && true) ≡ b
 and_true true = refl

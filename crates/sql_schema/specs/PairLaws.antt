@@ -3,7 +3,7 @@ use Rattle.sql_schema.specs.Prelude.{list_all, ordering_then, nat_cmp, slice_cmp
 use Rattle.std.proofs.Common.{◌≡◌, ◌&&◌, ◌++◌, ℕ, List, [], ◌∷◌, false, Ordering, Less, Equal, Greater, is_eq, refl, sym, ap₂, ◌∙◌}
 use Rattle.sqlite.specs.Ops.{binary}
 use Rattle.hall_types.specs.Rows.{pairs}
-use Rattle.sql_schema.specs.Described.{equal_from, pair_values}
+use Rattle.sql_schema.specs.TableOf.{equal_from, pair_values}
 use Rattle.sql_schema.specs.ListLaws.{and_true}
 use Rattle.sql_schema.specs.ValueLaws.{same_text}
 

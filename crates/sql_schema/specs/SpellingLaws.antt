@@ -1,10 +1,11 @@
 -- Laws of the spelling of a hall, for the proofs of callers: one table that changes, while the others stay.
-use Rattle.sql_schema.specs.Prelude.{all-slice_get, AllByRecursion, nat_tests, Row, Database, Table, Trees}
-use Rattle.std.proofs.Common.{◌≡◌, ◌≢◌, ◌==◌, ℕ, zero, suc, Bool, true, false, cond, List, [], ◌∷◌, Some, slice_get, refl, sym, ap, subst, ◌∙◌, arith}
+use Rattle.sql_schema.specs.Prelude.{all-slice_get, AllByRecursion, nat_tests, Row, Database, Table}
+use Rattle.std.proofs.Common.{◌≡◌, ◌≢◌, ◌==◌, Bool, true, false, cond, List, Some, slice_get, refl, sym, ap, subst, ◌∙◌, arith}
 use Rattle.sql_schema.specs.Statements.{SetsRows}
 use Rattle.sql_schema.specs.Tables.{hall_schema}
-use Rattle.sql_schema.specs.Described.{HallRows}
-use Rattle.sql_schema.specs.Spelling.{TableName, of_last, of_operators, of_pools, of_members, of_images, of_lives, of_machines, of_interfaces, of_boots, of_orders, of_receipts, of_counts, of_wipes, described, Spells}
+use Rattle.sql_schema.specs.Described.{TableName, of_last, described, each_stores, with_tree}
+use Rattle.sql_schema.specs.HallRows.{HallRows}
+use Rattle.sql_schema.specs.Spelling.{Spells}
 
 -- each table is in its place of the schema
 there : (t : TableName) → slice_get hall_schema.tables (described t).place ≡ Some (described t).table
@@ -14,10 +15,6 @@ there t = refl
 -- what every table of the schema has
 pub at_table : (P : Table → Type 0) → AllByRecursion P hall_schema.tables → (t : TableName) → P (described t).table
 at_table P all t = all-slice_get P hall_schema.tables _ _ (there t) all
-
--- the trees, with these rows in the place of those of one of them
-abbrev with_tree : ℕ → List Row → Trees → Trees
-with_tree tree rows db n = cond (n == tree) rows (db n)
 
 module _ (t : TableName) (old new : Database) (c : HallRows) (spells : Spells old c) (stored : List Row) (x : (described t).Held) where
   abbrev now : HallRows
@@ -30,7 +27,7 @@ module _ (t : TableName) (old new : Database) (c : HallRows) (spells : Spells ol
     tables = record {
       sound = set.sound;
       schema = same_schema t x ∙ spells.tables.schema;
-      each = λ u. subst (λ rows. (described u).stores rows ((described u).held now)) (rows_of u) (by t u x holds);
+      each = λ u. subst (λ rows. (described u).stores rows ((described u).held now)) (rows_of u) (each_stores t u old.trees c spells.tables.each stored x holds);
     };
   }
     where
@@ -44,20 +41,3 @@ module _ (t : TableName) (old new : Database) (c : HallRows) (spells : Spells ol
           go : (b : Bool) → ((described u).table.tree == (described t).table.tree) ≡ b → cond b stored (old.trees (described u).table.tree) ≡ new.trees (described u).table.tree
           go true e = let same : (described u).table.tree ≡ (described t).table.tree = grind (arith, nat_tests) in sym (ap new.trees same ∙ set.table)
           go false e = sym (at_table (λ (a : Table). a.tree ≢ (described t).table.tree → new.trees a.tree ≡ old.trees a.tree) set.others u (grind (arith, nat_tests)))
-
-      by : (t u : TableName) (x : (described t).Held) → (described t).stores stored x
-          → (described u).stores (with_tree (described t).table.tree stored old.trees (described u).table.tree) ((described u).held ((described t).with_held c x))
-      by of_last of_last x holds = holds
-      by of_operators of_operators x holds = holds
-      by of_pools of_pools x holds = holds
-      by of_members of_members x holds = holds
-      by of_images of_images x holds = holds
-      by of_lives of_lives x holds = holds
-      by of_machines of_machines x holds = holds
-      by of_interfaces of_interfaces x holds = holds
-      by of_boots of_boots x holds = holds
-      by of_orders of_orders x holds = holds
-      by of_receipts of_receipts x holds = holds
-      by of_counts of_counts x holds = holds
-      by of_wipes of_wipes x holds = holds
-      by t u x holds = spells.tables.each u

@@ -1,61 +1,145 @@
-//! The texts that make the tables and indexes of a hall, in the order in which they are run.
+//! The texts that make the tables and indexes of a hall, in the order in which they are run, and of each table the text that reads a row
+//! of it with all its columns, by which a hall is known again.
 
-/// Makes the table `hall`.
-pub const CREATE_HALL: &str =
+// Makes the table `hall`.
+const CREATE_HALL: &str =
     "CREATE TABLE hall (one INTEGER PRIMARY KEY CHECK (one = 1), schema INTEGER NOT NULL, machine INTEGER NOT NULL, boot INTEGER NOT NULL, orders INTEGER NOT NULL) STRICT";
 
-/// Makes the table `operators`.
-pub const CREATE_OPERATORS: &str =
+/// The schema and the last numbers.
+pub const FIND_NUMBERS: &str = "SELECT schema, machine, boot, orders FROM hall";
+
+// Makes the table `operators`.
+const CREATE_OPERATORS: &str =
     "CREATE TABLE operators (name TEXT PRIMARY KEY, role INTEGER NOT NULL, digest BLOB NOT NULL UNIQUE, enabled INTEGER NOT NULL) STRICT";
 
-/// Makes the table `pools`.
-pub const CREATE_POOLS: &str = "CREATE TABLE pools (name TEXT PRIMARY KEY) STRICT";
+/// The operator with a name.
+pub const FIND_OPERATOR: &str =
+    "SELECT name, role, digest, enabled FROM operators WHERE name = ?1 ORDER BY name";
 
-/// Makes the table `members`.
-pub const CREATE_MEMBERS: &str =
+// Makes the table `pools`.
+const CREATE_POOLS: &str = "CREATE TABLE pools (name TEXT PRIMARY KEY) STRICT";
+
+/// The pool with a name.
+pub const FIND_POOL: &str = "SELECT name FROM pools WHERE name = ?1 ORDER BY name";
+
+// Makes the table `members`.
+const CREATE_MEMBERS: &str =
     "CREATE TABLE members (pool TEXT NOT NULL REFERENCES pools (name), operator TEXT NOT NULL REFERENCES operators (name), PRIMARY KEY (pool, operator)) STRICT";
 
-/// Makes the table `images`.
-pub const CREATE_IMAGES: &str =
+/// The member with a pool and an operator.
+pub const FIND_MEMBER: &str =
+    "SELECT pool, operator FROM members WHERE pool = ?1 AND operator = ?2 ORDER BY pool, operator";
+
+// Makes the table `images`.
+const CREATE_IMAGES: &str =
     "CREATE TABLE images (name TEXT PRIMARY KEY, arch INTEGER NOT NULL, kernel TEXT NOT NULL, initrd TEXT NOT NULL, args TEXT NOT NULL) STRICT";
 
-/// Makes the table `lives`.
-pub const CREATE_LIVES: &str =
+/// The image with a name.
+pub const FIND_IMAGE: &str =
+    "SELECT name, arch, kernel, initrd, args FROM images WHERE name = ?1 ORDER BY name";
+
+// Makes the table `lives`.
+const CREATE_LIVES: &str =
     "CREATE TABLE lives (arch INTEGER PRIMARY KEY, image TEXT NOT NULL REFERENCES images (name)) STRICT";
 
-/// Makes the table `machines`.
-pub const CREATE_MACHINES: &str =
+/// The live image of an architecture.
+pub const FIND_LIVE: &str = "SELECT arch, image FROM lives WHERE arch = ?1";
+
+// Makes the table `machines`.
+const CREATE_MACHINES: &str =
     "CREATE TABLE machines (id INTEGER PRIMARY KEY, arch INTEGER NOT NULL, uuid BLOB UNIQUE, pool TEXT NOT NULL REFERENCES pools (name), status INTEGER NOT NULL, owner TEXT REFERENCES operators (name), image TEXT REFERENCES images (name), tests INTEGER NOT NULL, back INTEGER, locked INTEGER NOT NULL, version INTEGER NOT NULL, deadline INTEGER, boot INTEGER, boots INTEGER NOT NULL, waiting INTEGER) STRICT";
 
-/// Makes the table `interfaces`.
-pub const CREATE_INTERFACES: &str =
+/// The machine with a number.
+pub const FIND_MACHINE: &str =
+    "SELECT id, arch, uuid, pool, status, owner, image, tests, back, locked, version, deadline, boot, boots, waiting FROM machines WHERE id = ?1";
+
+// Makes the table `interfaces`.
+const CREATE_INTERFACES: &str =
     "CREATE TABLE interfaces (mac BLOB PRIMARY KEY, machine INTEGER NOT NULL REFERENCES machines (id) ON DELETE CASCADE) STRICT";
 
-/// Makes the table `boots`.
-pub const CREATE_BOOTS: &str =
+/// The interface with an address.
+pub const FIND_INTERFACE: &str = "SELECT mac, machine FROM interfaces WHERE mac = ?1 ORDER BY mac";
+
+// Makes the table `boots`.
+const CREATE_BOOTS: &str =
     "CREATE TABLE boots (number INTEGER PRIMARY KEY, machine INTEGER NOT NULL REFERENCES machines (id) ON DELETE CASCADE, purpose INTEGER NOT NULL, token BLOB NOT NULL, stage INTEGER NOT NULL) STRICT";
 
-/// Makes the table `orders`.
-pub const CREATE_ORDERS: &str =
+/// The boot with a number.
+pub const FIND_BOOT: &str =
+    "SELECT number, machine, purpose, token, stage FROM boots WHERE number = ?1";
+
+// Makes the table `orders`.
+const CREATE_ORDERS: &str =
     "CREATE TABLE orders (number INTEGER PRIMARY KEY, machine INTEGER NOT NULL REFERENCES machines (id) ON DELETE CASCADE, kind INTEGER NOT NULL, stage INTEGER NOT NULL) STRICT";
 
-/// Makes the table `receipts`.
-pub const CREATE_RECEIPTS: &str =
+/// The order with a number.
+pub const FIND_ORDER: &str = "SELECT number, machine, kind, stage FROM orders WHERE number = ?1";
+
+// Makes the table `receipts`.
+const CREATE_RECEIPTS: &str =
     "CREATE TABLE receipts (operator TEXT NOT NULL REFERENCES operators (name), request BLOB NOT NULL, command TEXT NOT NULL, status INTEGER NOT NULL, body TEXT NOT NULL, PRIMARY KEY (operator, request)) STRICT";
 
-/// Makes the table `counts`.
-pub const CREATE_COUNTS: &str =
+/// The receipt of an operator and a key.
+pub const FIND_RECEIPT: &str =
+    "SELECT operator, request, command, status, body FROM receipts WHERE operator = ?1 AND request = ?2 ORDER BY operator, request";
+
+// Makes the table `counts`.
+const CREATE_COUNTS: &str =
     "CREATE TABLE counts (pool TEXT NOT NULL, status INTEGER NOT NULL, machines INTEGER NOT NULL, PRIMARY KEY (pool, status)) STRICT";
 
-/// Makes the index of `interfaces` on their machine.
-pub const INDEX_INTERFACES: &str = "CREATE INDEX interfaces_machine ON interfaces (machine)";
+/// All counts.
+pub const LIST_COUNTS: &str = "SELECT pool, status, machines FROM counts ORDER BY pool, status";
 
-/// Makes the index of `boots` on their machine.
-pub const INDEX_BOOTS: &str = "CREATE INDEX boots_machine ON boots (machine)";
+// Makes the index of `interfaces` on their machine.
+const INDEX_INTERFACES: &str = "CREATE INDEX interfaces_machine ON interfaces (machine)";
 
-/// Makes the index of `orders` on their machine.
-pub const INDEX_ORDERS: &str = "CREATE INDEX orders_machine ON orders (machine)";
+// Makes the index of `boots` on their machine.
+const INDEX_BOOTS: &str = "CREATE INDEX boots_machine ON boots (machine)";
+
+// Makes the index of `orders` on their machine.
+const INDEX_ORDERS: &str = "CREATE INDEX orders_machine ON orders (machine)";
 
 /// Makes the table `wipes`.
 pub const CREATE_WIPES: &str =
     "CREATE TABLE wipes (machine INTEGER PRIMARY KEY REFERENCES machines (id) ON DELETE CASCADE, erase INTEGER NOT NULL) STRICT";
+
+/// How the disks of the machine with a number are erased.
+pub const FIND_WIPE: &str = "SELECT machine, erase FROM wipes WHERE machine = ?1";
+
+/// All tables and indexes are made by these, one after another.
+pub const CREATE_ALL: &[&str] = &[
+    CREATE_HALL,
+    CREATE_OPERATORS,
+    CREATE_POOLS,
+    CREATE_MEMBERS,
+    CREATE_IMAGES,
+    CREATE_LIVES,
+    CREATE_MACHINES,
+    CREATE_INTERFACES,
+    CREATE_BOOTS,
+    CREATE_ORDERS,
+    CREATE_RECEIPTS,
+    CREATE_COUNTS,
+    INDEX_INTERFACES,
+    INDEX_BOOTS,
+    INDEX_ORDERS,
+    CREATE_WIPES,
+];
+
+/// What a file of the first schema is asked for, beside `hall`: all columns of each of its tables.
+pub const READ_FIRST: &[&str] = &[
+    FIND_OPERATOR,
+    FIND_POOL,
+    FIND_MEMBER,
+    FIND_IMAGE,
+    FIND_LIVE,
+    FIND_MACHINE,
+    FIND_INTERFACE,
+    FIND_BOOT,
+    FIND_ORDER,
+    FIND_RECEIPT,
+    LIST_COUNTS,
+];
+
+/// What a file of the second schema is asked for besides.
+pub const READ_SECOND: &[&str] = &[FIND_WIPE];

@@ -5,11 +5,11 @@ use Rattle.sql_tables.proofs.MakingLemmas.{rest_stays, kinds_stay, hall_named}
 use Rattle.std.proofs.Common.{slice_get, ◌≡◌, ℕ, pos, List, [], ◌∷◌, map, Bool, true, refl, sym, ap, subst, ◌∙◌, arith, Some, if◌then◌else◌}
 use Rattle.sqlite.specs.Listing.{understood}
 use Rattle.sqlite_tied.specs.Compute.{everything}
-use Rattle.sql_schema.specs.CreatingLaws as law
+use Rattle.sql_schema.specs.SchemaLaws as law
 use Rattle.sql_schema.specs.ValueLaws as value
 use Rattle.sql_tables.specs.Running.{IsRun}
 use Rattle.sql_schema.specs.declared.creating.TheConstants.{CREATE_WIPES}
-use Rattle.sql_schema.specs.declared.machine_statements.TheConstants.{ADD_WIPE, LIST_MACHINES}
+use Rattle.sql_schema.specs.declared.opening.TheConstants.{ADD_WIPE, LIST_MACHINES}
 
 -- ---- the tables of the second schema
 

@@ -1,5 +1,5 @@
 -- Looks at the tables of a file, inside a transaction that is undone.
-use Rattle.sql_schema.specs.Words.{Null, Int, Error, SqlInputError, Row, Database, understood, Schema, State, IsUnchanged, Shown, store_error, Outlines, IsPlain, Compiled, CompileError, cell, items_in_order, shown_answer, shown_same}
+use Rattle.sql_schema.specs.Words.{AllByRecursion, Null, Int, Error, SqlInputError, Row, Database, understood, Schema, State, IsUnchanged, Shown, store_error, Outlines, IsPlain, Compiled, CompileError, cell, items_in_order, shown_answer, shown_same}
 use Rattle.std.proofs.Common.{◌≡◌, ◌≢◌, inl, inr, ℕ, ℤ, pos, List, [], ◌∷◌, Ok, Err, Result, true, refl, sym, subst, ◌∙◌, ◌↔◌}
 use Rattle.sqlite_trees.specs.declared.error.StoreError.TheVariants as fault
 use Rattle.sqlite.specs.State.{FailsToQuery, IsNotRun}
@@ -9,10 +9,9 @@ use Rattle.sql_tables.specs.declared.fault.OpenFault.{OpenFault}
 use Rattle.sql_tables.specs.declared.fault.OpenFault.TheVariants.{NotAHall, OtherVersion, Unavailable}
 use Rattle.sql_tables.specs.declared.looking.Wanted.{Wanted}
 use Rattle.sql_tables.specs.declared.looking.Wanted.TheVariants.{First, Second}
-use Rattle.sql_schema.specs.declared.machine_statements.TheConstants.{FIND_WIPE}
-use Rattle.sql_tables.specs.Opening.{AreFound, AreUnderstood, HasTables, IsAnswerFor, IsSchemaRow, IsUnderstood, IsVersionOf, SaysSchema, first_rows, wanted_number, wanted_rows}
+use Rattle.sql_schema.specs.declared.creating.TheConstants.{FIND_NUMBERS}
+use Rattle.sql_tables.specs.Opening.{AreFound, AreUnderstood, HasTables, IsAnswerFor, IsSchemaRow, IsUnderstood, IsVersionOf, SaysSchema, first_rows, second_rows, wanted_number, wanted_rows}
 use Rattle.sql_tables.proofs.TransactionLemmas.{asked}
-use Rattle.sql_schema.specs.declared.name_statements.TheConstants.{FIND_NUMBERS}
 
 -- ---- whether texts are understood
 
@@ -69,9 +68,9 @@ first_missing Second db NotAHall missing = λ known. missing known.1
 first_missing Second db OtherVersion missing = missing
 first_missing Second db Unavailable missing = tt
 
-pub second_found : (db now : Database) (r : Result (Unit {0}) OpenFault) → now ≡ db → AreUnderstood db.schema first_rows → AreFound (FIND_WIPE.now ∷ []) now r → AreFound (wanted_rows Second) db r
-second_found db now (Ok done) same first found = ((subst (λ (d : Database). AreUnderstood d.schema (FIND_WIPE.now ∷ [])) same found).0, first)
-second_found db now (Err NotAHall) same first missing = λ known. missing (subst (λ (d : Database). AreUnderstood d.schema (FIND_WIPE.now ∷ [])) (sym same) (known.0, tt))
+pub second_found : (db now : Database) (r : Result (Unit {0}) OpenFault) → now ≡ db → AreUnderstood db.schema first_rows → AreFound second_rows now r → AreFound (wanted_rows Second) db r
+second_found db now (Ok done) same first found = ((subst (λ (d : Database). AreUnderstood d.schema second_rows) same found).0, first)
+second_found db now (Err NotAHall) same first missing = λ known. missing (subst (λ (d : Database). AreUnderstood d.schema second_rows) (sym same) (known.0, tt))
 second_found db now (Err OtherVersion) same first missing = missing
 second_found db now (Err Unavailable) same first missing = tt
 
@@ -81,6 +80,10 @@ second_found db now (Err Unavailable) same first missing = tt
 pub compiled_of : (r : Result Compiled CompileError) → IsPlain r → (c : Compiled) × (r ≡ Ok c)
 compiled_of (Ok c) plain = (c, refl)
 compiled_of (Err e) plain = absurd plain
+
+pub all_compiled : (schema : Schema) (texts : List (List ℕ)) → AllByRecursion (λ sql. IsPlain (understood schema sql)) texts → AreUnderstood schema texts
+all_compiled schema [] plain = tt
+all_compiled schema (sql ∷ more) plain = (compiled_of _ plain.0, all_compiled schema more plain.1)
 
 -- if `hall` isn't there, there is no number
 pub no_version : (wanted : Wanted) (db : Database) (e : OpenFault) → AreFound (FIND_NUMBERS.now ∷ []) db (Err e) → (n : ℤ) → SaysSchema db n → IsVersionOf wanted n (Err e)

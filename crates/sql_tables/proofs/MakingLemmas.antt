@@ -1,14 +1,12 @@
 -- What each statement of a new hall makes of the tables.
-use Rattle.sql_schema.specs.Words.{stage, hall_schema, no_schema, hall_table, operators_table, pools_table, AllByRecursion, IsPermutation-refl, Null, Int, Text, Row, KeepsRows, next_tree, Database, Schema, Table, lit, Trees, State, Keys, numbers, texts, at, put, no_rows, listed, pairs, at-no_rows, none_size, none_pass, length-listed, Hall, default_pool, new_hall, second, IsSound, Admin, Numbers, Operator, Pool, makes_table, makes_index, inserts, add_operator_is, add_pool_is, first_numbers_is, CountRow, operator_columns, pool_columns, numbers_row, number, IsKept, HallRows, pools, operators, adds_kept, sets, at_table, option_to_list, in_rows, Spells, SpellHall, is_in, wipe_of, TableName, described, count_key, of_last, of_operators, of_pools, of_images, of_counts, of_wipes}
-use Rattle.std.proofs.Common.{drop, inl, inr, true, ◌≡◌, ◌≢◌, ◌++◌, ℕ, pos, List, [], ◌∷◌, length, map, None, Some, refl, sym, ap, subst, ◌∙◌, arith, IsPermutation, ℤ}
+use Rattle.sql_schema.specs.Words.{hall_schema, hall_table, operators_table, pools_table, AllByRecursion, IsPermutation-refl, Null, Int, Text, Row, KeepsRows, next_tree, Database, Schema, Table, lit, Trees, State, Keys, numbers, texts, at, put, no_rows, listed, pairs, at-no_rows, none_size, none_pass, length-listed, Hall, default_pool, new_hall, second, IsSound, Admin, Numbers, Operator, Pool, makes_table, makes_index, MakesOne, inserts, add_operator_is, add_pool_is, first_numbers_is, CountRow, operator_columns, pool_columns, numbers_row, number, IsKept, HallRows, pools, operators, adds_kept, sets, at_table, option_to_list, in_rows, Spells, SpellHall, is_in, wipe_of, TableName, described, count_key, of_last, of_operators, of_pools, of_images, of_counts, of_wipes}
+use Rattle.std.proofs.Common.{inl, inr, true, ◌≡◌, ◌≢◌, ◌++◌, ℕ, pos, List, [], ◌∷◌, length, map, None, Some, refl, sym, ap, subst, ◌∙◌, arith, IsPermutation, ℤ}
 use Rattle.std.specs.Prelude.{option_and_then}
 use Rattle.sql_schema.specs.ValueLaws as value
-use Rattle.sql_schema.specs.CreatingLaws as law
-use Rattle.sql_tables.specs.Creating.{CanMake, HasNoRows, MakesAll, MakesOne, bare_hall, without_kinds}
+use Rattle.sql_tables.specs.Creating.{CanMake, HasNoRows, bare_hall, without_kinds}
 use Rattle.sql_tables.specs.Migrating.{AreFirstRows, as_second, is_first}
 use Rattle.sql_tables.specs.Running.{IsRun}
-use Rattle.sql_schema.specs.declared.creating.TheConstants.{CREATE_BOOTS, CREATE_COUNTS, CREATE_HALL, CREATE_IMAGES, CREATE_INTERFACES, CREATE_LIVES, CREATE_MACHINES, CREATE_MEMBERS, CREATE_OPERATORS, CREATE_ORDERS, CREATE_POOLS, CREATE_RECEIPTS, CREATE_WIPES, INDEX_BOOTS, INDEX_INTERFACES, INDEX_ORDERS}
-use Rattle.sql_schema.specs.declared.name_statements.TheConstants.{ADD_OPERATOR, ADD_POOL, FIRST_NUMBERS}
+use Rattle.sql_schema.specs.declared.opening.TheConstants.{ADD_OPERATOR, ADD_POOL, FIRST_NUMBERS}
 
 -- ---- tables and indexes
 
@@ -44,21 +42,6 @@ module _ {old new : State} {sql : List ℕ} (run : IsRun sql [] old new) where
 -- once no text is left
 pub all_made : {db : Database} {after : Schema} → CanMake db [] after → HasNoRows db after
 all_made {db = db} can = subst (HasNoRows db) can.2 can.1
-
-abbrev hall_texts : List (List ℕ)
-hall_texts = CREATE_HALL.now ∷ CREATE_OPERATORS.now ∷ CREATE_POOLS.now ∷ CREATE_MEMBERS.now ∷ CREATE_IMAGES.now ∷ CREATE_LIVES.now ∷ CREATE_MACHINES.now ∷ CREATE_INTERFACES.now
-    ∷ CREATE_BOOTS.now ∷ CREATE_ORDERS.now ∷ CREATE_RECEIPTS.now ∷ CREATE_COUNTS.now ∷ INDEX_INTERFACES.now ∷ INDEX_BOOTS.now ∷ INDEX_ORDERS.now ∷ CREATE_WIPES.now ∷ []
-
--- these texts make the second schema where there is none
-pub makes_second : MakesAll no_schema hall_texts hall_schema
-makes_second =
-    let fourth : MakesAll (stage 12 9) (drop 12 hall_texts) hall_schema =
-    (_, inr (_, _, _, law.index_interfaces), (_, inr (_, _, _, law.index_boots), (_, inr (_, _, _, law.index_orders), (_, inl (_, law.create_wipes), refl)))) in
-    let third : MakesAll (stage 8 7) (drop 8 hall_texts) hall_schema =
-    (_, inl (_, law.create_boots), (_, inl (_, law.create_orders), (_, inl (_, law.create_receipts), (_, inl (_, law.create_counts), fourth)))) in
-    let second : MakesAll (stage 4 4) (drop 4 hall_texts) hall_schema =
-    (_, inl (_, law.create_images), (_, inl (_, law.create_lives), (_, inl (_, law.create_machines), (_, inl (_, law.create_interfaces), third)))) in
-    (_, inl (_, law.create_hall), (_, inl (_, law.create_operators), (_, inl (_, law.create_pools), (_, inl (_, law.create_members), second))))
 
 -- ---- tables without rows
 

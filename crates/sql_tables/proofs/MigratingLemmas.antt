@@ -1,19 +1,19 @@
 -- What is answered of tables that are to be carried over.
-use Rattle.sql_schema.specs.Words.{AllByRecursion, is_used, Database, Schema, State, HasCleanDisk, IsLive, Survives, IsPlain, IsSound, lists_once, Hall, IsHeld, find_numbers_query, SpellHall, IsQueryText}
-use Rattle.std.proofs.Common.{◌≡◌, ◌≢◌, inl, inr, pos, ℕ, List, [], ◌∷◌, true, false, Ok, Err, Result, OnOk, IfErr, IsTrue, refl, sym, ap, subst, ◌∙◌, true≢false, codes}
+use Rattle.sql_schema.specs.Words.{AllByRecursion, is_used, Database, State, HasCleanDisk, IsLive, Survives, IsPlain, IsSound, lists_once, Hall, IsHeld, find_numbers_query, SpellHall, IsQueryText}
+use Rattle.std.proofs.Common.{◌≡◌, ◌≢◌, inl, inr, pos, true, false, Ok, Err, Result, OnOk, IfErr, IsTrue, refl, sym, ap, subst, ◌∙◌, true≢false, codes}
 use Rattle.sqlite.specs.Listing.{understood}
 use Rattle.sqlite_schema.specs.Names.{same_name}
 use Rattle.sqlite_tied.specs.Compute.{everything}
 use Rattle.sql_tables.specs.Creating.{IsMade, MayLeaveBesides}
 use Rattle.sql_tables.specs.Migrating.{BecomeHall, IsCarriedOver, IsFirst, IsRightMigration, TellsMigrated, SpellFirst, first_schema}
-use Rattle.sql_tables.specs.Opening.{AreUnderstood, HasTables, IsAnswerFor, IsReady, IsRightAnswer, SaysSchema, first_rows}
+use Rattle.sql_tables.specs.Opening.{HasTables, IsAnswerFor, IsReady, IsRightAnswer, SaysSchema, first_rows}
 use Rattle.sql_tables.specs.declared.fault.OpenFault.{OpenFault}
 use Rattle.sql_tables.specs.declared.fault.OpenFault.TheVariants.{NotAHall, OtherVersion, Unavailable}
 use Rattle.sql_tables.specs.declared.looking.Wanted.TheVariants.{First}
 use Rattle.sql_tables.specs.declared.migrating.Migrated.{Migrated}
-use Rattle.sql_tables.proofs.LookLemmas.{compiled_of}
+use Rattle.sql_tables.proofs.LookLemmas.{all_compiled}
 use Rattle.sql_tables.proofs.OpenLemmas.{has_second, says_second}
-use Rattle.sql_schema.specs.declared.name_statements.TheConstants.{FIND_NUMBERS}
+use Rattle.sql_schema.specs.declared.creating.TheConstants.{FIND_NUMBERS}
 
 -- ---- a hall of the first schema
 
@@ -21,10 +21,6 @@ use Rattle.sql_schema.specs.declared.name_statements.TheConstants.{FIND_NUMBERS}
 plain_first : AllByRecursion (λ sql. IsPlain (understood first_schema sql)) first_rows
 unfolding understood everything
 plain_first = ((refl, refl), ((refl, refl), ((refl, refl), ((refl, refl), ((refl, refl), ((refl, refl), ((refl, refl), ((refl, refl), ((refl, refl), ((refl, refl), ((refl, refl), tt)))))))))))
-
-all_compiled : (schema : Schema) (texts : List (List ℕ)) → AllByRecursion (λ sql. IsPlain (understood schema sql)) texts → AreUnderstood schema texts
-all_compiled schema [] plain = tt
-all_compiled schema (sql ∷ more) plain = (compiled_of _ plain.0, all_compiled schema more plain.1)
 
 find_numbers_is_first : IsQueryText first_schema FIND_NUMBERS.now find_numbers_query
 unfolding understood everything

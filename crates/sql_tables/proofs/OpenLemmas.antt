@@ -1,13 +1,14 @@
 -- From what was looked for to the hall that is held.
-use Rattle.sql_schema.specs.Words.{of_last, SpellHall, Database, Schema, State, IsLive, IsSound, lists_once, IsQueryText, Hall, list_counts_is, find_boot_is, find_interface_is, find_machine_is, find_order_is, find_wipe_is, find_image_is, find_live_is, find_member_is, find_numbers_is, find_operator_is, find_pool_is, find_receipt_is, find_numbers_query, hall_schema, IsHeld}
-use Rattle.std.proofs.Common.{◌≡◌, List, pos, Ok, Err, Result, IfErr, OnOk, refl, sym, ap, subst, ◌∙◌}
+use Rattle.sql_schema.specs.Words.{of_last, SpellHall, Database, State, IsLive, IsSound, lists_once, IsQueryText, Hall, find_numbers_is, find_numbers_query, hall_schema, IsHeld}
+use Rattle.sql_schema.specs.SchemaLaws.{reads_plain}
+use Rattle.std.proofs.Common.{◌≡◌, pos, Ok, Err, Result, IfErr, OnOk, refl, sym, ap, subst, ◌∙◌}
 use Rattle.sql_tables.specs.declared.fault.OpenFault.{OpenFault}
 use Rattle.sql_tables.specs.declared.fault.OpenFault.TheVariants.{NotAHall, OtherVersion, Unavailable}
 use Rattle.sql_tables.specs.declared.looking.Wanted.{Wanted}
 use Rattle.sql_tables.specs.declared.looking.Wanted.TheVariants.{Second}
-use Rattle.sql_tables.specs.Opening.{HasTables, IfSaid, IsAnswerFor, IsReady, IsUnderstood, SaysSchema, wanted_number}
-use Rattle.sql_tables.proofs.LookLemmas.{compiled_of}
-use Rattle.sql_schema.specs.declared.name_statements.TheConstants.{FIND_NUMBERS}
+use Rattle.sql_tables.specs.Opening.{HasTables, IfSaid, IsAnswerFor, IsReady, SaysSchema, wanted_number, wanted_rows}
+use Rattle.sql_tables.proofs.LookLemmas.{all_compiled}
+use Rattle.sql_schema.specs.declared.creating.TheConstants.{FIND_NUMBERS}
 
 -- ---- a hall of the second schema
 
@@ -15,11 +16,8 @@ use Rattle.sql_schema.specs.declared.name_statements.TheConstants.{FIND_NUMBERS}
 pub schema_of : (db : Database) (h : Hall) → IsSound db.schema db.trees → SpellHall db.trees h → db.schema ≡ hall_schema
 schema_of db h sound spelt = lists_once _ db.schema hall_schema sound.lists spelt.tables.sound.lists
 
-known : {schema : Schema} {sql : List _} {q : _} → IsQueryText schema sql q → IsUnderstood schema sql
-known text = compiled_of _ text.plain
-
 has_all : HasTables Second hall_schema
-has_all = (known find_wipe_is, (known find_operator_is, (known find_pool_is, (known find_member_is, (known find_image_is, (known find_live_is, (known find_machine_is, (known find_interface_is, (known find_boot_is, (known find_order_is, (known find_receipt_is, (known list_counts_is, tt))))))))))))
+has_all = all_compiled hall_schema (wanted_rows Second) reads_plain
 
 module _ (db : Database) (h : Hall) (sound : IsSound db.schema db.trees) (spelt : SpellHall db.trees h) where
   pub says_second : SaysSchema db (pos 2)

@@ -1,6 +1,6 @@
 -- The tables of a new hall while they are made, and what a refusal and a stop leave.
-use Rattle.sql_schema.specs.Words.{AllByRecursion, list_any, is_used, Database, Schema, State, Table, Trees, Index, Hall, new_hall, second, how_many, no_rows, MakesIndex, MakesTable, IsHeld, all_tables, Counts, HallRows, SpellHall, is_in}
-use Rattle.std.specs.Prelude.{◌≡◌, ◌⊎◌, ℕ, Bool, List, [], ◌∷◌, Result, OnOk, IsTrue}
+use Rattle.sql_schema.specs.Words.{AllByRecursion, list_any, is_used, Database, Schema, State, Table, Trees, Hall, new_hall, second, how_many, no_rows, MakesAll, IsHeld, all_tables, Counts, HallRows, SpellHall, is_in}
+use Rattle.std.specs.Prelude.{◌≡◌, ◌⊎◌, ℕ, Bool, List, [], Result, OnOk, IsTrue}
 
 -- a table, an index or a view has the name of one of a hall's tables
 abbrev pub is_a_name_taken : Schema → Bool
@@ -10,16 +10,6 @@ is_a_name_taken schema = list_any (λ (t : Table). is_used schema t.name) all_ta
 pub record HasNoRows (db : Database) (made : Schema) : Type 0 where
   pub schema : db.schema ≡ made
   pub empty : AllByRecursion (λ (t : Table). db.trees t.tree ≡ []) made.tables
-
--- the text makes a table or an index
-abbrev pub MakesOne : Schema → List ℕ → Schema → Type 0
-MakesOne before sql after =
-    ((t : Table) × MakesTable before sql t after) ⊎ ((place : ℕ) × (t : Table) × (i : Index) × MakesIndex before sql place t i after)
-
--- the texts, one after another, make the second schema of the first
-abbrev pub MakesAll : Schema → List (List ℕ) → Schema → Type 0
-MakesAll before [] after = before ≡ after
-MakesAll before (sql ∷ more) after = (mid : Schema) × MakesOne before sql mid × MakesAll mid more after
 
 -- the tables have no row, and the texts make this schema of theirs
 abbrev pub CanMake : Database → List (List ℕ) → Schema → Type 0

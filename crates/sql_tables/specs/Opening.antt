@@ -1,13 +1,11 @@
 -- What is asked of a file before its hall is used, and what each refusal says.
 use Rattle.sql_schema.specs.Words.{AllByRecursion, Null, Int, Database, understood, Row, Schema, State, Compiled, IsQueryText, find_numbers_query}
-use Rattle.std.specs.Prelude.{◌≡◌, ◌≢◌, ℕ, ℤ, pos, List, [], ◌∷◌, ⊤, false, Result, Ok, Err, IsTrue}
+use Rattle.std.specs.Prelude.{◌≡◌, ◌≢◌, ℕ, ℤ, pos, List, [], ◌∷◌, ◌++◌, map, ⊤, false, Result, Ok, Err, IsTrue}
 use Rattle.sql_tables.specs.declared.fault.OpenFault.{OpenFault}
 use Rattle.sql_tables.specs.declared.fault.OpenFault.TheVariants.{NotAHall, OtherVersion, Unavailable}
 use Rattle.sql_tables.specs.declared.looking.Wanted.{Wanted}
 use Rattle.sql_tables.specs.declared.looking.Wanted.TheVariants.{First, Second}
-use Rattle.sql_schema.specs.declared.count_statements.TheConstants.{LIST_COUNTS}
-use Rattle.sql_schema.specs.declared.machine_statements.TheConstants.{FIND_BOOT, FIND_INTERFACE, FIND_MACHINE, FIND_ORDER, FIND_WIPE}
-use Rattle.sql_schema.specs.declared.name_statements.TheConstants.{FIND_IMAGE, FIND_LIVE, FIND_MEMBER, FIND_NUMBERS, FIND_OPERATOR, FIND_POOL, FIND_RECEIPT}
+use Rattle.sql_schema.specs.declared.creating.TheConstants.{FIND_NUMBERS, READ_FIRST, READ_SECOND}
 
 -- ---- the tables of a schema
 
@@ -18,12 +16,16 @@ wanted_number Second = pos 2
 
 -- queries that name all columns of each table of the first schema but `hall`
 abbrev pub first_rows : List (List ℕ)
-first_rows = FIND_OPERATOR.now ∷ FIND_POOL.now ∷ FIND_MEMBER.now ∷ FIND_IMAGE.now ∷ FIND_LIVE.now ∷ FIND_MACHINE.now ∷ FIND_INTERFACE.now ∷ FIND_BOOT.now ∷ FIND_ORDER.now ∷ FIND_RECEIPT.now ∷ LIST_COUNTS.now ∷ []
+first_rows = map (λ text. text.now) READ_FIRST.now
 
--- of each table of the wanted schema: the second has that of kinds of erasing besides
+-- of those that the second schema has besides
+abbrev pub second_rows : List (List ℕ)
+second_rows = map (λ text. text.now) READ_SECOND.now
+
+-- of each table of the wanted schema
 abbrev pub wanted_rows : Wanted → List (List ℕ)
 wanted_rows First = first_rows
-wanted_rows Second = FIND_WIPE.now ∷ first_rows
+wanted_rows Second = second_rows ++ first_rows
 
 -- the text is a statement over these tables
 abbrev pub IsUnderstood : Schema → List ℕ → Type 0

@@ -6,10 +6,7 @@ ghost use Rattle.sql_tables.specs.Opening.{AreFound, IsAnswerFor, IsSchemaRow, I
 
 use crate::fault::OpenFault;
 use crate::running::ask;
-use sql_schema::{
-    FIND_BOOT, FIND_IMAGE, FIND_INTERFACE, FIND_LIVE, FIND_MACHINE, FIND_MEMBER, FIND_NUMBERS,
-    FIND_OPERATOR, FIND_ORDER, FIND_POOL, FIND_RECEIPT, FIND_WIPE, LIST_COUNTS,
-};
+use sql_schema::creating::{FIND_NUMBERS, READ_FIRST, READ_SECOND};
 use sqlite::{Alter, Error, ErrorCode, Row, Transaction};
 
 /// Which schema is looked for.
@@ -52,27 +49,12 @@ fn has_tables<S: Alter>(tx: &mut Transaction<'_, S>, wanted: Wanted) -> Result<(
     ensures found { HasCleanDisk (state S.Store tx.new.conn.now) → AreFound (wanted_rows wanted) (state S.Store tx.old.conn.now).now result }
     ensures survives { Survives (state S.Store tx.old.conn.now) (state S.Store tx.new.conn.now) (λ _. ⊥) }
 {
-    if let Err(fault) = understands(
-        tx,
-        &[
-            FIND_OPERATOR,
-            FIND_POOL,
-            FIND_MEMBER,
-            FIND_IMAGE,
-            FIND_LIVE,
-            FIND_MACHINE,
-            FIND_INTERFACE,
-            FIND_BOOT,
-            FIND_ORDER,
-            FIND_RECEIPT,
-            LIST_COUNTS,
-        ],
-    ) {
+    if let Err(fault) = understands(tx, READ_FIRST) {
         return Err(fault);
     }
     match wanted {
         Wanted::First => Ok(()),
-        Wanted::Second => understands(tx, &[FIND_WIPE]),
+        Wanted::Second => understands(tx, READ_SECOND),
     }
 }
 

@@ -6,12 +6,8 @@ ghost use Rattle.sql_tables.specs.Creating.{CanMake, HasNoRows, without_kinds};
 
 use crate::running::run;
 use hall_types::{Digest, Name, Role};
-use sql_schema::{
-    ADD_OPERATOR, ADD_POOL, CREATE_BOOTS, CREATE_COUNTS, CREATE_HALL, CREATE_IMAGES,
-    CREATE_INTERFACES, CREATE_LIVES, CREATE_MACHINES, CREATE_MEMBERS, CREATE_OPERATORS,
-    CREATE_ORDERS, CREATE_POOLS, CREATE_RECEIPTS, CREATE_WIPES, FIRST_NUMBERS, INDEX_BOOTS,
-    INDEX_INTERFACES, INDEX_ORDERS,
-};
+use sql_schema::creating::CREATE_ALL;
+use sql_schema::opening::{ADD_OPERATOR, ADD_POOL, FIRST_NUMBERS};
 use sqlite::{Alter, Error, Transaction, params};
 
 // Tables and indexes are made by their texts, one after another.
@@ -61,26 +57,6 @@ pub(crate) fn make_hall<S: Alter>(
     ensures made { HasCleanDisk (state S.Store tx.new.conn.now) → IsStep (state S.Store tx.old.conn.now) (state S.Store tx.new.conn.now) result (λ _. (state S.Store tx.old.conn.now).now.schema ≡ no_schema → Spells (state S.Store tx.new.conn.now).now (without_kinds (new_hall second admin digest))) }
     ensures survives { Survives (state S.Store tx.old.conn.now) (state S.Store tx.new.conn.now) (λ _. ⊥) }
 {
-    make_all(
-        tx,
-        &[
-            CREATE_HALL,
-            CREATE_OPERATORS,
-            CREATE_POOLS,
-            CREATE_MEMBERS,
-            CREATE_IMAGES,
-            CREATE_LIVES,
-            CREATE_MACHINES,
-            CREATE_INTERFACES,
-            CREATE_BOOTS,
-            CREATE_ORDERS,
-            CREATE_RECEIPTS,
-            CREATE_COUNTS,
-            INDEX_INTERFACES,
-            INDEX_BOOTS,
-            INDEX_ORDERS,
-            CREATE_WIPES,
-        ],
-    )?;
+    make_all(tx, CREATE_ALL)?;
     put_first_rows(tx, admin, digest)
 }

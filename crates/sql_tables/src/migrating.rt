@@ -11,9 +11,9 @@ use crate::looking::Wanted;
 use crate::opening::{look_at_tables, look_for};
 use crate::running::{ask, end, run};
 use hall_types::{Erase, Number, Status};
-use sql_schema::{
-    ADD_WIPE, CREATE_WIPES, LIST_MACHINES, number_in, number_value, small_value, status_in,
-};
+use sql_schema::creating::CREATE_WIPES;
+use sql_schema::opening::{ADD_WIPE, LIST_MACHINES};
+use sql_schema::{kind_in, number_in, number_value, small_value};
 use sqlite::{Alter, Connection, Error, Row, Transaction};
 
 /// What became of tables that were to be carried over.
@@ -45,7 +45,7 @@ fn put_kind<S: Alter>(tx: &mut Transaction<'_, S>, row: &Row) -> Result<(), Erro
     ensures survives { Survives (state S.Store tx.old.conn.now) (state S.Store tx.new.conn.now) (λ _. ⊥) }
 {
     let id = number_in(row, 0)?;
-    let status = status_in(row, 4)?;
+    let status = kind_in(row, 4)?;
     if is_erasing(status) {
         run(
             tx,

@@ -1,8 +1,8 @@
 -- A machine's row, read and put.
-use Rattle.sql_schema.specs.Words.{equal_keys, finds_kept, machines, Counts, HallRows, numbers, at, put, of_machines, AreRowsOf, Spells, SpellHall, option_to_list, Database, Error, Text, Row, column, State, Shown, Hall, status_number, Machine, number, machine_columns, machine_values, same_status, IsWithin, find_machine_is, equals, shown_answer, query_keeps, query_mode, shown_same, hall_schema}
+use Rattle.sql_schema.specs.Words.{equal_keys, finds_kept, machines, Counts, HallRows, numbers, at, put, of_machines, AreRowsOf, Spells, SpellHall, option_to_list, Database, Error, Text, Row, column, State, Shown, Hall, status_number, Machine, number, machine_columns, machine_values, same_status, IsWithin, equals, shown_answer, query_keeps, query_mode, shown_same, hall_schema, find_machine_is}
 use Rattle.std.proofs.Common.{◌≡◌, ℕ, List, [], ◌∷◌, Option, Some, None, Ok, option_map, map, refl, sym, ap, ap₂, subst, ◌∙◌}
 use Rattle.hall_store.specs.Versions.{version_of}
-use Rattle.sql_schema.specs.declared.machine_statements.TheConstants.{FIND_MACHINE}
+use Rattle.sql_schema.specs.declared.creating.TheConstants.{FIND_MACHINE}
 use Rattle.sql_rows.specs.Steps.{IsStep}
 use Rattle.sql_machines.specs.Machines.{HasVersion, with_machine}
 use Rattle.sql_machines.specs.Wipes.{with_wipe}

@@ -7,7 +7,8 @@ ghost use Rattle.sql_writes.specs.Within.{IsWithinHall};
 
 use hall_types::{Machine, Name, Number, Status};
 use sql_machines::{count_down, count_up};
-use sql_schema::{FIND_MACHINE, name_in, number_value, status_in};
+use sql_schema::creating::FIND_MACHINE;
+use sql_schema::{kind_in, name_in, number_value};
 use sqlite::{Alter, Error, Row, Transaction};
 
 /// Where a machine is counted.
@@ -21,7 +22,7 @@ fn group_in(row: &Row) -> Result<Group, Error>
     ensures { IfOk result (λ group. (machine : Machine) → row.now ≡ machine_values machine → group ≡ group_of machine) }
 {
     let pool = name_in(row, 3)?;
-    let status = status_in(row, 4)?;
+    let status = kind_in(row, 4)?;
     Ok(Group { pool, status })
 }
 

@@ -1,5 +1,5 @@
 -- Counts of machines, as they are kept and as they are listed.
-use Rattle.std.proofs.Common.{◌≡◌, ◌≤◌, ◌<◌, ◌+◌, ◌==◌, ◌&&◌, ◌^◌, ℕ, List, [], ◌∷◌, map, length, filter, Option, Some, Bool, true, false, cond, if◌then◌else◌, Ordering, Less, Equal, Greater, is_eq, All, refl, sym, ap, subst, arith, ◌∙◌}
+use Rattle.std.proofs.Common.{◌≡◌, ◌≤◌, ◌<◌, ◌+◌, ◌==◌, ◌&&◌, ◌^◌, ℕ, List, [], ◌∷◌, map, length, filter, Option, Some, Bool, true, false, not, cond, if◌then◌else◌, Ordering, Less, Equal, Greater, is_eq, All, refl, sym, ap, subst, arith, ◌∙◌}
 use Rattle.std.specs.BTreeMap.{BTreeMap, IsOrdered, Updates, btree_map_len, get, is_at, values}
 use Rattle.std.specs.Cmp.{eq_by_cmp_equiv, nat_cmp_total}
 use Rattle.std.specs.Cmp.Lexicographic.{nat_list_cmp_total, texts_ties}
@@ -8,8 +8,10 @@ use Rattle.std.specs.List.Sorted.{IsStrictlySortedBy}
 use Rattle.std.specs.Map.{keys_of, lookup}
 use Rattle.std.specs.Ordering.{eq_by_cmp, nat_cmp, ordering_then}
 use Rattle.std.specs.Str.{bytes_eq}
+use Rattle.std.proofs.lemmas.Bool.{and_parts}
 use Rattle.std.proofs.lemmas.Bool.Decides.{nat_tests}
 use Rattle.std.proofs.lemmas.List.Elements.{recursion_from_All}
+use Rattle.std.proofs.lemmas.List.Filters.{length-filter_both}
 use Rattle.std.proofs.lemmas.Slice.Eq.{bytes_eq-Decides}
 use Rattle.hall_types.specs.Hall.{Hall}
 use Rattle.hall_types.specs.ListLaws.{how_many-listed}
@@ -44,16 +46,12 @@ ties_back a b i j =
     ∙ (ap (λ x. x && is_eq (nat_cmp i j)) ((eq_by_cmp_equiv nat_list_cmp_total).symm a b ∙ sym (texts_ties b a))
     ∙ ap (λ y. bytes_eq b a && y) ((eq_by_cmp_equiv nat_cmp_total).symm i j ∙ number_ties j i))
 
-left_true : (a b : Bool) → (a && b) ≡ true → a ≡ true
-left_true true b h = refl
-left_true false b h = cc
-
-right_true : (a b : Bool) → (a && b) ≡ true → b ≡ true
-right_true true b h = h
-right_true false b h = cc
-
 same_number_of : (i j : ℕ) → (i == j) ≡ true → i ≡ j
 same_number_of i j h = grind (arith, nat_tests)
+
+-- a key that ties has the same parts
+same_parts : (a b : List ℕ) (i j : ℕ) → (bytes_eq a b && (i == j)) ≡ true → (a ≡ b) × (i ≡ j)
+same_parts a b i j tie = let parts = and_parts (bytes_eq a b) (i == j) tie in ((bytes_eq-Decides a b).0 parts.0, same_number_of i j parts.1)
 
 -- ---- one more machine
 
@@ -68,9 +66,10 @@ module _ (old new : BTreeMap (List ℕ × ℕ) Count) (m : Machine) (n : ℕ)
           → cond b (Some (record { pool = m.pool; status = m.status; machines = n })) (get key_cmp old key) ≡ Some count
           → (count.pool ≡ key.0) × (status_number count.status ≡ key.1) × (1 ≤ count.machines)
       by true t e =
+          let (pool_is, status_is) = same_parts m.pool key.0 (status_number m.status) key.1 t in
           let same : ◌≡◌ {A = Count} (record { pool = m.pool; status = m.status; machines = n }) count = cc in (
-            sym (ap (λ c. c.pool) same) ∙ (bytes_eq-Decides m.pool key.0).0 (left_true (bytes_eq m.pool key.0) (status_number m.status == key.1) t),
-            sym (ap (λ c. status_number c.status) same) ∙ same_number_of (status_number m.status) key.1 (right_true (bytes_eq m.pool key.0) (status_number m.status == key.1) t),
+            sym (ap (λ c. c.pool) same) ∙ pool_is,
+            sym (ap (λ c. status_number c.status) same) ∙ status_is,
             subst (λ c. 1 ≤ c.machines) same some,
           )
       by false t e = entries key count e
@@ -84,8 +83,7 @@ module _ (old new : BTreeMap (List ℕ × ℕ) Count) (m : Machine) (n : ℕ)
       by : (b : Bool) → is_in pool status m ≡ b
           → machines_in (cond b (Some (record { pool = m.pool; status = m.status; machines = n })) (get key_cmp old (pool, status_number status))) ≡ counted_in old pool status + length (if b then m ∷ [] else [])
       by true t =
-          let pool_is : m.pool ≡ pool = (bytes_eq-Decides m.pool pool).0 (left_true (bytes_eq m.pool pool) (status_number m.status == status_number status) t) in
-          let status_is = same_number_of (status_number m.status) (status_number status) (right_true (bytes_eq m.pool pool) (status_number m.status == status_number status) t) in
+          let (pool_is, status_is) = same_parts m.pool pool (status_number m.status) (status_number status) t in
           let key_is : counted_in old m.pool m.status ≡ counted_in old pool status = ap (λ p. machines_in (get key_cmp old (p, status_number m.status))) pool_is ∙ ap (λ s. machines_in (get key_cmp old (pool, s))) status_is in
           is ∙ ap (λ k. k + 1) key_is
       by false t = omega arith
@@ -150,12 +148,7 @@ are_counts counts h entries found ordered exact list is =
     })
 
 filter_few : {X : Type 0} (p : X → Bool) (xs : List X) → length (filter p xs) ≤ length xs
-filter_few p [] = omega arith
-filter_few p (x ∷ xs) = by (p x) (filter_few p xs)
-  where
-    by : (b : Bool) → length (filter p xs) ≤ length xs → length (if b then x ∷ filter p xs else filter p xs) ≤ length (x ∷ xs)
-    by true le = omega (arith, le)
-    by false le = omega (arith, le)
+filter_few p xs = omega (arith, length-filter_both p (λ x. not (p x)) (λ x. refl) xs)
 
 bounded : (so_far rest all rows slots : ℕ) → so_far + rest ≡ all → all ≤ rows → rows ≤ slots → slots < 2 ^ 63 → so_far < 2 ^ 63
 bounded so_far rest all rows slots a b c d = omega arith

@@ -42,21 +42,33 @@ module _ (index : Hashed (List ℕ) ℕ) (h : Hall) (under : StandUnder (λ m. m
 itself : (its : Option (List ℕ)) (uuid : List ℕ) → its ≡ Some uuid → has_uuid its uuid ≡ true
 itself its uuid is = ap (λ u. has_uuid u uuid) is ∙ (bytes_eq-Decides uuid uuid).1 refl
 
--- ---- after a machine was put, in place of the one before
+-- ---- after a machine was put or went, which had a UUID before
+
+module _ (index : Hashed (List ℕ) ℕ) (h : Hall) (key : ℕ) (was : Option Machine) (its : IsIndex index h.machines) (before : was ≡ at h.machines key) where
+  -- an entry of another UUID is another machine's
+  other_than_was : (uuid : List ℕ) (id : ℕ) → has_uuid (uuid_of was) uuid ≡ false → entry_at bytes_eq index uuid ≡ Some id
+      → (x : Machine) × (id ≢ key) × (at h.machines id ≡ Some x) × (x.uuid ≡ Some uuid)
+  other_than_was uuid id free found =
+      let (x, there, has) = (its uuid id).0 found in
+      let is_was : id ≡ key → uuid_of was ≡ Some uuid = λ same. ap uuid_of (before ∙ (ap (at h.machines) (sym same) ∙ there)) ∙ has in
+      (x, λ same. both_ways (has_uuid (uuid_of was) uuid) free (itself (uuid_of was) uuid (is_was same)), there, has)
+
+  -- no other machine has it
+  not_was : (uuid : List ℕ) (id : ℕ) (x : Machine) → id ≢ key → at h.machines id ≡ Some x → x.uuid ≡ Some uuid → has_uuid (uuid_of was) uuid ≡ false
+  not_was uuid id x other there has = by was refl (has_uuid (uuid_of was) uuid) refl
+    where
+      by : (w : Option Machine) → was ≡ w → (b : Bool) → has_uuid (uuid_of w) uuid ≡ b → b ≡ false
+      by w is false u = refl
+      by None is true u = cc
+      by (Some y) is true u =
+          let first = (its uuid id).1 (x, there, has) in
+          let second = (its uuid key).1 (y, sym before ∙ is, has_recorded y.uuid uuid u) in
+          let same : id ≡ key = cc in
+          absurd (other same)
 
 module _ (index mid new : Hashed (List ℕ) ℕ) (h : Hall) (m : Machine) (was : Option Machine) (its : IsIndex index h.machines)
     (before : was ≡ at h.machines m.id) (cleared : SetsEntry index mid (uuid_of was) None) (set : SetsEntry mid new m.uuid (Some m.id))
     (own : (id : ℕ) (other : Machine) (uuid : List ℕ) → at h.machines id ≡ Some other → other.uuid ≡ Some uuid → m.uuid ≡ Some uuid → id ≡ m.id) where
-  -- a machine that had the UUID is another one, unless it is the one before
-  kept : (uuid : List ℕ) (id : ℕ) → has_uuid (uuid_of was) uuid ≡ false → entry_at bytes_eq index uuid ≡ Some id
-      → (x : Machine) × (at (put m.id m h.machines) id ≡ Some x) × (x.uuid ≡ Some uuid)
-  kept uuid id free found =
-      let there = (its uuid id).0 found in
-      let other : id ≢ m.id = λ same.
-      both_ways (has_uuid (uuid_of was) uuid) free
-      (itself (uuid_of was) uuid (ap uuid_of (before ∙ (ap (at h.machines) (sym same) ∙ there.1)) ∙ there.2)) in
-      (there.0, at-put-other h.machines m.id m id other ∙ there.1, there.2)
-
   to_row : (uuid : List ℕ) (id : ℕ) (a : Bool) → has_uuid m.uuid uuid ≡ a → (b : Bool) → has_uuid (uuid_of was) uuid ≡ b
       → (if a then Some m.id else (if b then None else entry_at bytes_eq index uuid)) ≡ Some id
       → (x : Machine) × (at (put m.id m h.machines) id ≡ Some x) × (x.uuid ≡ Some uuid)
@@ -64,20 +76,12 @@ module _ (index mid new : Hashed (List ℕ) ℕ) (h : Hall) (m : Machine) (was :
       let same : m.id ≡ id = cc in
       (m, ap (at (put m.id m h.machines)) (sym same) ∙ at-put-same h.machines m.id m, has_recorded m.uuid uuid t)
   to_row uuid id false t true u e = cc
-  to_row uuid id false t false u e = kept uuid id u e
+  to_row uuid id false t false u e =
+      let (x, other, there, has) = other_than_was index h m.id was its before uuid id u e in
+      (x, at-put-other h.machines m.id m id other ∙ there, has)
 
   entry : (uuid : List ℕ) → entry_at bytes_eq new uuid ≡ (if has_uuid m.uuid uuid then Some m.id else (if has_uuid (uuid_of was) uuid then None else entry_at bytes_eq index uuid))
   entry uuid = set uuid ∙ ap (λ o. if has_uuid m.uuid uuid then Some m.id else o) (cleared uuid)
-
-  -- no other machine has the UUID of the one before
-  not_was : (uuid : List ℕ) (id : ℕ) (x : Machine) → id ≢ m.id → at h.machines id ≡ Some x → x.uuid ≡ Some uuid → (w : Option Machine) → was ≡ w → (b : Bool) → has_uuid (uuid_of w) uuid ≡ b → b ≡ false
-  not_was uuid id x other there has w is false u = refl
-  not_was uuid id x other there has None is true u = cc
-  not_was uuid id x other there has (Some y) is true u =
-      let first = (its uuid id).1 (x, there, has) in
-      let second = (its uuid m.id).1 (y, sym before ∙ is, has_recorded y.uuid uuid u) in
-      let same : id ≡ m.id = cc in
-      absurd (other same)
 
   from_row : (uuid : List ℕ) (id : ℕ) (x : Machine) → x.uuid ≡ Some uuid → ((id ≡ m.id) × (x ≡ m)) ⊎ ((id ≢ m.id) × (at h.machines id ≡ Some x)) → entry_at bytes_eq new uuid ≡ Some id
   from_row uuid id x has (inl same) =
@@ -87,7 +91,7 @@ module _ (index mid new : Hashed (List ℕ) ℕ) (h : Hall) (m : Machine) (was :
   from_row uuid id x has (inr other) =
       entry uuid
       ∙ (ap (λ b. if b then Some m.id else (if has_uuid (uuid_of was) uuid then None else entry_at bytes_eq index uuid)) (free (has_uuid m.uuid uuid) refl)
-      ∙ (ap (λ b. if b then None else entry_at bytes_eq index uuid) (not_was uuid id x other.0 other.1 has was refl (has_uuid (uuid_of was) uuid) refl)
+      ∙ (ap (λ b. if b then None else entry_at bytes_eq index uuid) (not_was index h m.id was its before uuid id x other.0 other.1 has)
       ∙ (its uuid id).1 (x, other.1, has)))
     where
       free : (b : Bool) → has_uuid m.uuid uuid ≡ b → has_uuid m.uuid uuid ≡ false
@@ -100,34 +104,21 @@ module _ (index mid new : Hashed (List ℕ) ℕ) (h : Hall) (m : Machine) (was :
     λ there. from_row uuid id there.0 there.2 (put_cases h.machines m.id m id there.0 there.1),
   )
 
--- ---- after a machine went
-
-module _ (index new : Hashed (List ℕ) ℕ) (h : Hall) (gone_id : ℕ) (was : Option Machine) (its : IsIndex index h.machines)
-    (before : was ≡ at h.machines gone_id) (cleared : SetsEntry index new (uuid_of was) None) where
+module _ (index new : Hashed (List ℕ) ℕ) (h : Hall) (key : ℕ) (was : Option Machine) (its : IsIndex index h.machines)
+    (before : was ≡ at h.machines key) (cleared : SetsEntry index new (uuid_of was) None) where
   to_left : (uuid : List ℕ) (id : ℕ) (b : Bool) → has_uuid (uuid_of was) uuid ≡ b → (if b then None else entry_at bytes_eq index uuid) ≡ Some id
-      → (x : Machine) × (at (gone gone_id h.machines) id ≡ Some x) × (x.uuid ≡ Some uuid)
+      → (x : Machine) × (at (gone key h.machines) id ≡ Some x) × (x.uuid ≡ Some uuid)
   to_left uuid id true u e = cc
   to_left uuid id false u e =
-      let there = (its uuid id).0 e in
-      let other : id ≢ gone_id = λ same.
-      both_ways (has_uuid (uuid_of was) uuid) u (itself (uuid_of was) uuid (ap uuid_of (before ∙ (ap (at h.machines) (sym same) ∙ there.1)) ∙ there.2)) in
-      (there.0, at-gone-other h.machines gone_id id other ∙ there.1, there.2)
+      let (x, other, there, has) = other_than_was index h key was its before uuid id u e in
+      (x, at-gone-other h.machines key id other ∙ there, has)
 
-  not_gone : (uuid : List ℕ) (id : ℕ) (x : Machine) → id ≢ gone_id → at h.machines id ≡ Some x → x.uuid ≡ Some uuid → (w : Option Machine) → was ≡ w → (b : Bool) → has_uuid (uuid_of w) uuid ≡ b → b ≡ false
-  not_gone uuid id x other there has w is false u = refl
-  not_gone uuid id x other there has None is true u = cc
-  not_gone uuid id x other there has (Some y) is true u =
-      let first = (its uuid id).1 (x, there, has) in
-      let second = (its uuid gone_id).1 (y, sym before ∙ is, has_recorded y.uuid uuid u) in
-      let same : id ≡ gone_id = cc in
-      absurd (other same)
-
-  pub index_gone : IsIndex new (gone gone_id h.machines)
+  pub index_gone : IsIndex new (gone key h.machines)
   index_gone uuid id = (
     λ found. to_left uuid id (has_uuid (uuid_of was) uuid) refl (sym (cleared uuid) ∙ found),
     λ there.
-        let left = gone_found h.machines gone_id id there.0 there.1 in
+        let left = gone_found h.machines key id there.0 there.1 in
         cleared uuid
-        ∙ (ap (λ b. if b then None else entry_at bytes_eq index uuid) (not_gone uuid id there.0 left.0 left.1 there.2 was refl (has_uuid (uuid_of was) uuid) refl)
+        ∙ (ap (λ b. if b then None else entry_at bytes_eq index uuid) (not_was index h key was its before uuid id there.0 left.0 left.1 there.2)
         ∙ (its uuid id).1 (there.0, left.1, there.2)),
   )

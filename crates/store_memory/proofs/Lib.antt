@@ -1,4 +1,3 @@
-pub mod AddressLemmas
 pub mod CountLemmas
 pub mod ExpiryLemmas
 pub mod HeldLemmas

@@ -1,4 +1,4 @@
--- What a store has of no machines.
+-- What a store has of no machines and no interfaces.
 use Rattle.std.proofs.Common.{◌≡◌, ℕ, List, Some, refl, sym, ap, ◌∙◌}
 use Rattle.std.specs.HashMap.{IsEmpty}
 use Rattle.std.specs.FinMap.{len-empty}
@@ -6,11 +6,12 @@ use Rattle.std.specs.Map.{lookup}
 use Rattle.std.specs.Ordering.{nat_cmp}
 use Rattle.std.specs.Str.{bytes_eq}
 use Rattle.std.proofs.lemmas.Option.{none-some}
-use Rattle.hall_types.specs.Rows.{at, no_rows, numbers, size}
+use Rattle.hall_types.specs.Rows.{at, no_rows, numbers, size, texts}
 use Rattle.hall_types.specs.RowLaws.{at-no_rows}
+use Rattle.hall_types.specs.declared.machine.Interface.{Interface}
 use Rattle.hall_types.specs.declared.machine.Machine.{Machine}
 use Rattle.store_memory.specs.Hashed.{Hashed}
-use Rattle.store_memory.specs.Held.{IsEarliest, IsIndex}
+use Rattle.store_memory.specs.Held.{AreFound, IsEarliest, IsIndex}
 use Rattle.store_memory.specs.Table.{row_in}
 
 no_machine : (id : ℕ) (m : Machine) → at (no_rows {K = ℕ} {X = Machine} {keys = numbers}) id ≡ Some m → ⊥
@@ -28,3 +29,6 @@ new_count = sym (len-empty nat_cmp Machine)
 
 pub new_earliest : (earliest : ℕ) → IsEarliest earliest no_rows
 new_earliest earliest id m deadline there is = absurd (no_machine id m there)
+
+pub none_found : (table : Hashed (List ℕ) Interface) → IsEmpty table → AreFound table no_rows
+none_found table empty mac = ap (λ es. row_in (lookup (bytes_eq mac) es)) empty ∙ sym (at-no_rows texts mac no_rows refl)

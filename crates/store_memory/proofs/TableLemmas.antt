@@ -1,8 +1,8 @@
 -- Tables and the rows of a hall: what is found in both after each change.
 use Rattle.std.proofs.Common.{◌≡◌, ◌&&◌, ℕ, List, [], ◌∷◌, map, Option, Some, None, Bool, true, false, not, refl, sym, ap, subst, ◌∙◌, Ordering, Less, Equal, Greater, is_eq, if◌then◌else◌, filter_map, IsSome, is_some, option_map}
-use Rattle.std.specs.BTreeMap.{BTreeMap, get, IsEmpty, IsOrdered}
+use Rattle.std.specs.BTreeMap.{BTreeMap, IsEmpty, IsOrdered}
 use Rattle.std.specs.Cmp.{IsTotalOrder, eq_by_cmp_equiv}
-use Rattle.std.specs.Cmp.Lexicographic.{nat_list_cmp_total}
+use Rattle.std.specs.Cmp.Lexicographic.{nat_list_cmp_total, texts_ties}
 use Rattle.std.specs.Cmp.{nat_cmp_total}
 use Rattle.std.specs.FinMap as map_of
 use Rattle.std.specs.FinMap.{find, is_sorted, entries_sorted, get-entries}
@@ -12,21 +12,24 @@ use Rattle.std.specs.List.Sorted.{IsStrictlySortedBy}
 use Rattle.std.specs.Map.{lookup, keys_of}
 use Rattle.std.specs.Map.Calls.{RetainsPairs}
 use Rattle.std.specs.Ordering.{nat_cmp, eq_by_cmp, is_lt, ordering_reverse, ordering_then}
+use Rattle.std.specs.Str.{bytes_eq}
 use Rattle.std.proofs.Math.Dec.{T}
 use Rattle.hall_types.specs.Rows.{Keys, Rows, no_rows, numbers, texts, pairs, at, put, gone, rows_where, listed, passes, same_key}
 use Rattle.hall_types.specs.RowLaws.{at-no_rows, at-put, at-gone, at-rows_where}
-use Rattle.store_memory.specs.Table.{Clears, HasSole, IsTable, KeepsSlots, KeepsRows, Sets, row_at, row_in, rows_of, unless_gone}
+use Rattle.store_memory.specs.Table.{IsTable, row_in, rows_of, unless_gone}
 use Rattle.store_memory.specs.Held.{as_pair, itself, pair_cmp, text_cmp}
 
--- two keys of a table tie where the hall's do
-abbrev pub AreAlike : {K L : Type 0} → (K → K → Ordering) → (keys : Keys L) → (K → L) → Type 0
-AreAlike {K = K} cmp keys key_of = (one other : K) → eq_by_cmp cmp one other ≡ same_key keys (key_of other) (key_of one)
+-- how keys of a table tie, and which keys of a hall's rows they are: they tie where those do
+pub record KeysOf (K : Type 0) {L : Type 0} (keys : Keys L) : Type 0 where
+  pub eq : K → K → Bool
+  pub key_of : K → L
+  pub alike : (one other : K) → eq one other ≡ same_key keys (key_of other) (key_of one)
 
-pub texts_alike : AreAlike text_cmp texts itself
+pub texts_alike : (one other : List ℕ) → eq_by_cmp text_cmp one other ≡ same_key texts other one
 unfolding texts
 texts_alike one other = (eq_by_cmp_equiv nat_list_cmp_total).symm one other
 
-pub numbers_alike : AreAlike nat_cmp numbers itself
+pub numbers_alike : (one other : ℕ) → eq_by_cmp nat_cmp one other ≡ same_key numbers other one
 unfolding numbers
 numbers_alike one other = (eq_by_cmp_equiv nat_cmp_total).symm one other
 
@@ -37,33 +40,50 @@ turned Equal Less = refl
 turned Equal Equal = refl
 turned Equal Greater = refl
 
-pub pairs_alike : AreAlike pair_cmp pairs as_pair
+pub pairs_alike : (one other : List ℕ × List ℕ) → eq_by_cmp pair_cmp one other ≡ same_key pairs (as_pair other) (as_pair one)
 unfolding pairs
 pairs_alike one other =
     turned (text_cmp one.0 other.0) (text_cmp one.1 other.1)
     ∙ (ap (λ o. is_eq (ordering_then o (ordering_then (ordering_reverse (text_cmp one.1 other.1)) Equal))) (sym (nat_list_cmp_total.antisymm other.0 one.0))
     ∙ ap (λ o. is_eq (ordering_then (text_cmp other.0 one.0) (ordering_then o Equal))) (sym (nat_list_cmp_total.antisymm other.1 one.1)))
 
-module _ {K L X : Type 0} (cmp : K → K → Ordering) (keys : Keys L) (key_of : K → L) (alike : AreAlike cmp keys key_of) where
-  pub put_table : (old new : BTreeMap K (Option X)) (rows : Rows keys X) (key : K) (row : X)
-      → Sets cmp old new key (Some row) → IsTable cmp key_of old rows → IsTable cmp key_of new (put (key_of key) row rows)
-  put_table old new rows key row sets is other =
-      sets other
-      ∙ (ap (λ b. if b then Some row else row_at cmp old other) (alike key other)
-      ∙ (ap (λ o. if same_key keys (key_of other) (key_of key) then Some row else o) (is other)
-      ∙ sym (at-put rows (key_of key) row (key_of other))))
+-- in a table in the order of texts
+abbrev pub by_text : KeysOf (List ℕ) texts
+by_text = record { eq = eq_by_cmp text_cmp; key_of = itself; alike = texts_alike }
 
-  pub gone_table : (old new : BTreeMap K (Option X)) (rows : Rows keys X) (key : K)
-      → Sets cmp old new key None → IsTable cmp key_of old rows → IsTable cmp key_of new (gone (key_of key) rows)
-  gone_table old new rows key sets is other =
-      sets other
-      ∙ (ap (λ b. if b then None else row_at cmp old other) (alike key other)
-      ∙ (ap (λ o. if same_key keys (key_of other) (key_of key) then None else o) (is other)
-      ∙ sym (at-gone rows (key_of key) (key_of other))))
+-- in the order of numbers
+abbrev pub by_number : KeysOf ℕ numbers
+by_number = record { eq = eq_by_cmp nat_cmp; key_of = itself; alike = numbers_alike }
 
-pub same_table : {K L X : Type 0} (cmp : K → K → Ordering) {keys : Keys L} (key_of : K → L) (old new : BTreeMap K (Option X)) (rows : Rows keys X)
-    → KeepsRows cmp old new → IsTable cmp key_of old rows → IsTable cmp key_of new rows
-same_table cmp key_of old new rows keeps is key = keeps key ∙ is key
+-- in the order of pairs of texts
+abbrev pub by_pair : KeysOf (List ℕ × List ℕ) pairs
+by_pair = record { eq = eq_by_cmp pair_cmp; key_of = as_pair; alike = pairs_alike }
+
+-- in a table by a hash of texts
+abbrev pub by_hash : KeysOf (List ℕ) texts
+by_hash = record { eq = bytes_eq; key_of = itself; alike = λ one other. texts_ties one other ∙ texts_alike one other }
+
+-- ---- what is found by keys in a table and in the rows of a hall, after one row was put or went
+
+module _ {K L X : Type 0} {keys : Keys L} (k : KeysOf K keys) {old new : K → Option X} (rows : Rows keys X) (are : (other : K) → old other ≡ at rows (k.key_of other)) (key : K) where
+  pub put_row : (row : X) → ((other : K) → new other ≡ (if k.eq key other then Some row else old other)) → (other : K) → new other ≡ at (put (k.key_of key) row rows) (k.key_of other)
+  put_row row sets other =
+      sets other
+      ∙ (ap (λ b. if b then Some row else old other) (k.alike key other)
+      ∙ (ap (λ o. if same_key keys (k.key_of other) (k.key_of key) then Some row else o) (are other)
+      ∙ sym (at-put rows (k.key_of key) row (k.key_of other))))
+
+  pub gone_row : ((other : K) → new other ≡ (if k.eq key other then None else old other)) → (other : K) → new other ≡ at (gone (k.key_of key) rows) (k.key_of other)
+  gone_row sets other =
+      sets other
+      ∙ (ap (λ b. if b then None else old other) (k.alike key other)
+      ∙ (ap (λ o. if same_key keys (k.key_of other) (k.key_of key) then None else o) (are other)
+      ∙ sym (at-gone rows (k.key_of key) (k.key_of other))))
+
+-- a table that begins with one row
+pub sole_row : {K L X : Type 0} {keys : Keys L} (k : KeysOf K keys) {new : K → Option X} (key : K) (row : X)
+    → ((other : K) → new other ≡ (if k.eq key other then Some row else None)) → (other : K) → new other ≡ at (put (k.key_of key) row (no_rows {keys = keys})) (k.key_of other)
+sole_row {keys = keys} k {new} key row sole = put_row k {old = λ other. None} {new = new} no_rows (λ other. sym (at-no_rows keys (k.key_of other) no_rows refl)) key row sole
 
 -- ---- all rows in order
 
@@ -167,10 +187,10 @@ by_passing goes (Some x) = by (goes x)
     by true = refl
     by false = refl
 
-pub where_table : {K L X : Type 0} (cmp : K → K → Ordering) {keys : Keys L} (key_of : K → L) (old new : BTreeMap K (Option X)) (rows : Rows keys X) (goes : X → Bool)
-    → Clears cmp old new goes → IsTable cmp key_of old rows → IsTable cmp key_of new (rows_where (λ x. not (goes x)) rows)
-where_table cmp key_of old new rows goes clears is key =
-    clears key ∙ (ap (unless_gone goes) (is key) ∙ (by_passing goes (at rows (key_of key)) ∙ sym (at-rows_where (λ x. not (goes x)) rows (key_of key))))
+pub where_rows : {K L X : Type 0} {keys : Keys L} (k : KeysOf K keys) {old new : K → Option X} (rows : Rows keys X) (goes : X → Bool)
+    → ((key : K) → old key ≡ at rows (k.key_of key)) → ((key : K) → new key ≡ unless_gone goes (old key)) → (key : K) → new key ≡ at (rows_where (λ x. not (goes x)) rows) (k.key_of key)
+where_rows k rows goes are clears key =
+    clears key ∙ (ap (unless_gone goes) (are key) ∙ (by_passing goes (at rows (k.key_of key)) ∙ sym (at-rows_where (λ x. not (goes x)) rows (k.key_of key))))
 
 -- ---- what a closure that keeps each key leaves
 
@@ -183,43 +203,33 @@ module _ {F K X : Type 0} (C : F → K → X → Bool → X → F → Type 0) (I
       is ∙ (ap (λ c. if c then (e.0, w) ∷ rest else rest) it.0
       ∙ (ap (λ v. (e.0, v) ∷ rest) it.1 ∙ ap (λ es. (e.0, left e.1) ∷ es) (mapped_from_retain_pairs g' es rest it.2 later)))
 
-pub lookup_mapped : {K X : Type 0} (test : K → Bool) (left : X → X) (es : List (K × X)) → lookup test (map (λ (e : K × X). (e.0, left e.1)) es) ≡ option_map left (lookup test es)
-lookup_mapped test left [] = refl
-lookup_mapped {X = X} test left (e ∷ es) = by (test e.0) (lookup_mapped test left es)
-  where
-    by : (b : Bool) → lookup test (map (λ e. (e.0, left e.1)) es) ≡ option_map left (lookup test es)
-        → (if b then Some (left e.1) else lookup test (map (λ e. (e.0, left e.1)) es)) ≡ option_map left (if b then Some e.1 else lookup test es)
-    by true rest = refl
-    by false rest = rest
-
-module _ {K X : Type 0} (cmp : K → K → Ordering) (goes : X → Bool) (old new : BTreeMap K (Option X))
-    (is : new.entries ≡ map (λ (e : K × Option X). (e.0, unless_gone goes e.1)) old.entries) where
-  found : (key : K) → get cmp new key ≡ option_map (unless_gone goes) (get cmp old key)
-  found key = ap (lookup (λ k. is_eq (cmp key k))) is ∙ lookup_mapped (λ k. is_eq (cmp key k)) (unless_gone goes) old.entries
-
-  pub clears_from_mapped : Clears cmp old new goes
-  clears_from_mapped key = ap row_in (found key) ∙ by (get cmp old key)
+-- the slots that a test finds, after rows went
+module _ {K X : Type 0} (test : K → Bool) (goes : X → Bool) where
+  found : (es : List (K × Option X)) → lookup test (map (λ (e : K × Option X). (e.0, unless_gone goes e.1)) es) ≡ option_map (unless_gone goes) (lookup test es)
+  found [] = refl
+  found (e ∷ es) = by (test e.0) (found es)
     where
-      by : (slot : Option (Option X)) → row_in (option_map (unless_gone goes) slot) ≡ unless_gone goes (row_in slot)
-      by None = refl
-      by (Some row) = refl
+      by : (b : Bool) → lookup test (map (λ e. (e.0, unless_gone goes e.1)) es) ≡ option_map (unless_gone goes) (lookup test es)
+          → (if b then Some (unless_gone goes e.1) else lookup test (map (λ e. (e.0, unless_gone goes e.1)) es)) ≡ option_map (unless_gone goes) (if b then Some e.1 else lookup test es)
+      by true rest = refl
+      by false rest = rest
 
-  pub slots_from_mapped : KeepsSlots cmp old new
-  slots_from_mapped key there = by (get cmp old key) (found key) there
-    where
-      by : (slot : Option (Option X)) → get cmp new key ≡ option_map (unless_gone goes) slot → IsSome slot → IsSome (get cmp new key)
-      by None e some = cc
-      by (Some row) e some = ap is_some e
+  module _ (old new : List (K × Option X)) (is : new ≡ map (λ (e : K × Option X). (e.0, unless_gone goes e.1)) old) where
+    pub row_cleared : row_in (lookup test new) ≡ unless_gone goes (row_in (lookup test old))
+    row_cleared = ap (λ es. row_in (lookup test es)) is ∙ (ap row_in (found old) ∙ by (lookup test old))
+      where
+        by : (slot : Option (Option X)) → row_in (option_map (unless_gone goes) slot) ≡ unless_gone goes (row_in slot)
+        by None = refl
+        by (Some row) = refl
+
+    pub slot_kept : IsSome (lookup test old) → IsSome (lookup test new)
+    slot_kept = by (lookup test old) (ap (lookup test) is ∙ found old)
+      where
+        by : (slot : Option (Option X)) → lookup test new ≡ option_map (unless_gone goes) slot → IsSome slot → IsSome (lookup test new)
+        by None e some = cc
+        by (Some row) e some = ap is_some e
 
 -- ---- tables that begin
 
 pub empty_table : {K L X : Type 0} (cmp : K → K → Ordering) (keys : Keys L) (key_of : K → L) (table : BTreeMap K (Option X)) → IsEmpty table → IsTable cmp key_of table (no_rows {K = L} {X = X} {keys = keys})
 empty_table cmp keys key_of table empty key = ap (λ es. row_in (lookup (λ k. is_eq (cmp key k)) es)) empty ∙ sym (at-no_rows keys (key_of key) no_rows refl)
-
-module _ {K L X : Type 0} (cmp : K → K → Ordering) (keys : Keys L) (key_of : K → L) (alike : AreAlike cmp keys key_of) where
-  pub sole_table : (table : BTreeMap K (Option X)) (key : K) (row : X) → HasSole cmp table key row → IsTable cmp key_of table (put (key_of key) row (no_rows {keys = keys}))
-  sole_table table key row sole other =
-      sole other
-      ∙ (ap (λ b. if b then Some row else None) (alike key other)
-      ∙ (ap (λ o. if same_key keys (key_of other) (key_of key) then Some row else o) (sym (at-no_rows keys (key_of other) no_rows refl))
-      ∙ sym (at-put no_rows (key_of key) row (key_of other))))

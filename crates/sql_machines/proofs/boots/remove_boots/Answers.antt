@@ -5,7 +5,7 @@ use Rattle.sql_rows.specs.Steps.{always}
 use Rattle.sql_machines.specs.Boots.{without_boots}
 use Rattle.sql_machines.specs.ChildLaws.{removes_boots}
 use Rattle.sql_machines.proofs.boots.remove_boots.Goals as goal
-use Rattle.sql_schema.specs.declared.machine_statements.TheConstants.{REMOVE_BOOTS}
+use Rattle.sql_machines.specs.declared.boots.TheConstants.{REMOVE_BOOTS}
 
 pub returns-clause-written : goal.returns-clause-written
 returns-clause-written g c clean =

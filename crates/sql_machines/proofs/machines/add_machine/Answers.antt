@@ -2,7 +2,7 @@ use Rattle.sql_schema.specs.Words.{state, ExecutesInside, machine_values, execut
 use Rattle.std.proofs.Common.{refl, IsTrue}
 use Rattle.sql_rows.specs.StepLaws.{of_any}
 use Rattle.sql_machines.proofs.MachineLemmas.{adds_machine, row_bound}
-use Rattle.sql_schema.specs.declared.machine_statements.TheConstants.{ADD_MACHINE}
+use Rattle.sql_machines.specs.declared.machines.TheConstants.{ADD_MACHINE}
 use Rattle.sql_machines.proofs.machines.add_machine.Goals as goal
 
 pub returns-clause-written : goal.returns-clause-written

@@ -4,7 +4,7 @@ use Rattle.sql_rows.specs.StepLaws.{writes}
 use Rattle.sql_machines.specs.Machines.{HasNoChild, without_row}
 use Rattle.sql_machines.proofs.MachineLemmas.{removes_machine}
 use Rattle.sql_machines.proofs.machines.remove_row.Goals as goal
-use Rattle.sql_schema.specs.declared.machine_statements.TheConstants.{REMOVE_MACHINE}
+use Rattle.sql_machines.specs.declared.machines.TheConstants.{REMOVE_MACHINE}
 
 pub returns-clause-written : goal.returns-clause-written
 returns-clause-written g c clean =

@@ -5,7 +5,7 @@ use Rattle.sql_rows.specs.Steps.{always}
 use Rattle.sql_machines.specs.Orders.{without_orders}
 use Rattle.sql_machines.specs.ChildLaws.{removes_orders}
 use Rattle.sql_machines.proofs.orders.remove_orders.Goals as goal
-use Rattle.sql_schema.specs.declared.machine_statements.TheConstants.{REMOVE_ORDERS}
+use Rattle.sql_machines.specs.declared.orders.TheConstants.{REMOVE_ORDERS}
 
 pub returns-clause-written : goal.returns-clause-written
 returns-clause-written g c clean =

@@ -1,6 +1,6 @@
-use Rattle.std.proofs.Common.{◌≡◌, ◌==◌, map, refl, ap, sym, ◌∙◌}
+use Rattle.std.proofs.Common.{◌≡◌, ◌==◌, map, is_eq, refl, ap, sym, ◌∙◌}
 use Rattle.store_memory.specs.Table.{unless_gone}
-use Rattle.store_memory.proofs.TableLemmas.{mapped_from_retain_pairs, clears_from_mapped, slots_from_mapped}
+use Rattle.store_memory.proofs.TableLemmas.{mapped_from_retain_pairs, row_cleared, slot_kept}
 use Rattle.store_memory.proofs.table.clear_machine.Given as given
 use Rattle.store_memory.proofs.table.clear_machine.Goals as goal
 
@@ -20,7 +20,7 @@ mapped g c =
     _ c.args.table.now.entries c.retain.new.self.entries refl c.retain.ensures.filtered
 
 pub returns-clause-clears : goal.returns-clause-clears
-returns-clause-clears g c = clears_from_mapped g.K.Ord.cmp (λ x. g.X.OfMachine.owner x == c.args.machine) c.args.table.now c.retain.new.self (mapped g c)
+returns-clause-clears g c = λ key. row_cleared (λ k. is_eq (g.K.Ord.cmp key k)) (λ x. g.X.OfMachine.owner x == c.args.machine) c.args.table.now.entries c.retain.new.self.entries (mapped g c)
 
 pub returns-clause-slots : goal.returns-clause-slots
-returns-clause-slots g c = slots_from_mapped g.K.Ord.cmp (λ x. g.X.OfMachine.owner x == c.args.machine) c.args.table.now c.retain.new.self (mapped g c)
+returns-clause-slots g c = λ key. slot_kept (λ k. is_eq (g.K.Ord.cmp key k)) (λ x. g.X.OfMachine.owner x == c.args.machine) c.args.table.now.entries c.retain.new.self.entries (mapped g c)

@@ -1,8 +1,3 @@
-use Rattle.std.proofs.Common.{Some, None, subst}
-use Rattle.std.specs.Ordering.{nat_cmp}
-use Rattle.hall_types.specs.declared.change.RowWrite.TheVariants.{PutMachine}
-use Rattle.store_memory.specs.Held.{SetsEntry}
-use Rattle.store_memory.specs.Table.{Sets}
 use Rattle.store_memory.proofs.HeldLemmas.{put_machines}
 use Rattle.store_memory.proofs.SlotLemmas.{slots_machines}
 use Rattle.store_memory.proofs.memory.MemoryStore.put_machine.Goals as goal
@@ -11,11 +6,11 @@ pub returns-clause-held : goal.returns-clause-held
 returns-clause-held c = λ h held keeps.
     let s = c.args.self.now in
     let m = c.args.machine.now in
-    put_machines s h held c.set.new.table c.clear_entry.new.index c.set_entry.new.index c.count_after_put-self.result c.earliest_after_put-self.result m c.machine_row-was.result
-    (c.rows_stand_under_their_keys.ensures.written (PutMachine m None) h held.keyed) keeps (c.machine_row-was.ensures h held)
-    (subst (λ u. SetsEntry s.uuids c.clear_entry.new.index u None) c.uuid_of.ensures c.clear_entry.ensures.sets)
+    put_machines c.rows_stand_under_their_keys.ensures.written s h held c.set.new.table c.clear_entry.new.index c.set_entry.new.index
+    c.count_after_put-self.result c.earliest_after_put-self.result m c.machine_row-was.result keeps (c.machine_row-was.ensures h held)
+    (rw c.uuid_of.ensures at c.clear_entry.ensures.sets)
     c.set_entry.ensures.sets
-    (subst (λ n. Sets nat_cmp s.machines c.set.new.table n (Some m)) c.get.ensures.number c.set.ensures.sets)
+    (rw c.get.ensures.number at c.set.ensures.sets)
     c.table_is_bounded.ensures.ordered c.table_is_bounded.ensures.small c.count_after_put-self.ensures
     c.earliest_after_put-self.ensures.before c.earliest_after_put-self.ensures.own
 

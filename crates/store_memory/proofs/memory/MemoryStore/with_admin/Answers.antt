@@ -1,21 +1,18 @@
-use Rattle.std.proofs.Common.{refl, subst}
+use Rattle.std.proofs.Common.{refl}
 use Rattle.std.specs.Ordering.{nat_cmp}
 use Rattle.hall_types.specs.Hall.{default_pool, second}
 use Rattle.hall_types.specs.Rows.{numbers, pairs, texts}
 use Rattle.store_memory.specs.Held.{as_pair, itself, pair_cmp, text_cmp}
-use Rattle.store_memory.specs.Table.{HasSole}
-use Rattle.store_memory.proofs.AddressLemmas.{none_found}
-use Rattle.store_memory.proofs.NewLemmas.{new_count, new_earliest, new_index}
-use Rattle.store_memory.proofs.TableLemmas.{empty_table, sole_table, texts_alike}
+use Rattle.store_memory.proofs.NewLemmas.{new_count, new_earliest, new_index, none_found}
+use Rattle.store_memory.proofs.TableLemmas.{by_text, empty_table, sole_row}
 use Rattle.store_memory.proofs.memory.MemoryStore.with_admin.Goals as goal
 
 pub returns : goal.returns
 returns c = record {
   schema = refl;
   keyed = c.rows_stand_under_their_keys.ensures.new second c.args.admin c.args.digest;
-  operators = sole_table text_cmp texts itself texts_alike c.in_ok-operators.operators c.args.admin _ c.in_ok-operators.ensures;
-  pools = sole_table text_cmp texts itself texts_alike c.in_ok-pools.pools default_pool (record { name = default_pool })
-      (subst (λ name. HasSole text_cmp c.in_ok-pools.pools name (record { name = name })) c.default_pool-name.ensures c.in_ok-pools.ensures);
+  operators = sole_row by_text c.args.admin _ c.in_ok-operators.ensures;
+  pools = sole_row by_text default_pool (record { name = default_pool }) (rw c.default_pool-name.ensures at c.in_ok-pools.ensures);
   members = empty_table pair_cmp pairs as_pair c.new.result c.new.ensures.empty;
   images = empty_table text_cmp texts itself c.new-2.result c.new-2.ensures.empty;
   lives = empty_table nat_cmp numbers itself c.new-3.result c.new-3.ensures.empty;
