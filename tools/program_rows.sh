@@ -339,8 +339,9 @@ want 0 "hallboot 2, schema 2, $kit" '' --version
 
 # What hallctl says of itself and of refusals, by its sources.
 words=$here/../crates/hallctl_words/src
+texts=$here/../crates/hallctl_texts/src
 grep -qF "\"2, $kit\"" "$words/command_line.rt" || bad "the kit of hallctl --version"
-python3 - "$here/../docs/OPERATING.md" "$words/refusal_texts.rt" << 'PYTHON' || bad 'the sentences of refusals'
+python3 - "$here/../docs/OPERATING.md" "$texts/refusal_texts.rt" << 'PYTHON' || bad 'the sentences of refusals'
 import re, sys
 guide, source = (open(name).read() for name in sys.argv[1:])
 table = guide.split("\n## Refusals\n")[1].split("\n## ")[0]

@@ -19,8 +19,8 @@ use Rattle.boot_desk.specs.declared.frames.FrameView.{FrameView}
 use Rattle.boot_desk.specs.declared.frames.Silence.TheVariants.{WrongPort, EchoTooLong, KnownUuid}
 use Rattle.desk_operations.specs.FrameInput.{Understood, understood}
 use Rattle.desk_operations.specs.Frame.{is_answer, is_served, IsReply, IsGood, IsAnswer, IsBad}
-use Rattle.desk_operations.specs.declared.fault.Fault.{Fault}
-use Rattle.desk_operations.specs.declared.fault.Fault.TheVariants.{BadInput, Memory as NoMemory}
+use Rattle.desk_values.specs.declared.fault.Fault.{Fault}
+use Rattle.desk_values.specs.declared.fault.Fault.TheVariants.{BadInput, Memory as NoMemory}
 use Rattle.desk_operations.proofs.FrameInputLemmas.{IsInput-from_understood, understood-from_IsInput}
 
 -- ---- there is no answer

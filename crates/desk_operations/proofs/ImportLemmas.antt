@@ -23,8 +23,8 @@ use Rattle.hall_desk.specs.Headline.{HasHistory}
 use Rattle.hall_desk.specs.History.{Item, carried_out}
 use Rattle.hall_desk.specs.Plan.{IsCarriedOut}
 use Rattle.desk_operations.specs.Import.{IsImported, IsRowAnswered, IsRowDone, IsRowItem, IsRowStopped, IsStopped, GoOn, after_row, after_rows, end_of, event_of, is_ok, line_of, lines_of, replies_to, reply_to, row_line, unavailable}
-use Rattle.desk_operations.specs.declared.fault.Fault.{Fault}
-use Rattle.desk_operations.specs.declared.fault.Fault.TheVariants.{Io}
+use Rattle.desk_values.specs.declared.fault.Fault.{Fault}
+use Rattle.desk_values.specs.declared.fault.Fault.TheVariants.{Io}
 use Rattle.desk_operations.specs.declared.imports.Imported.{Imported}
 use Rattle.desk_operations.specs.declared.imports.Imported.TheVariants.{All, NotAll}
 

@@ -16,7 +16,7 @@ use Rattle.boot_desk.specs.declared.frames.Decision.{Decision}
 use Rattle.boot_desk.specs.declared.frames.Decision.TheVariants.{Loader, ScriptUrl}
 use Rattle.boot_desk.specs.declared.frames.FrameView.{FrameView}
 use Rattle.desk_operations.specs.declared.frame_input.TheConstants.{MAX_OCTETS}
-use Rattle.desk_operations.specs.Fault.{IsFrameFault}
+use Rattle.desk_values.specs.Fault.{IsFrameFault}
 use Rattle.desk_operations.specs.FrameInput.{IsInput}
 use Rattle.desk_operations.specs.declared.frames.Exit.{Exit}
 use Rattle.desk_operations.specs.declared.frames.Exit.TheVariants.{Done, Fault as Failed, NotAll, Silence}

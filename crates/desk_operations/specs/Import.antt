@@ -17,8 +17,8 @@ use Rattle.laws_model.specs.Decision.{Decided, decision_of}
 use Rattle.hall_desk.specs.Headline.{HasHistory}
 use Rattle.hall_desk.specs.History.{Item, carried_out}
 use Rattle.hall_report.specs.declared.row.ImportRow.{ImportRow}
-use Rattle.desk_operations.specs.declared.fault.Fault.{Fault}
-use Rattle.desk_operations.specs.declared.fault.Fault.TheVariants.{Io}
+use Rattle.desk_values.specs.declared.fault.Fault.{Fault}
+use Rattle.desk_values.specs.declared.fault.Fault.TheVariants.{Io}
 use Rattle.desk_operations.specs.declared.imports.Imported.{Imported}
 use Rattle.desk_operations.specs.declared.imports.Imported.TheVariants.{All, NotAll}
 

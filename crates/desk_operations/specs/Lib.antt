@@ -1,7 +1,5 @@
-pub mod Fault
 pub mod Frame
 pub mod FrameInput
 pub mod Import
 pub mod Report
 pub mod Request
-pub mod Values

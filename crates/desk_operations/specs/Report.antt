@@ -3,8 +3,8 @@ use Rattle.std.specs.Prelude.{◌≡◌, ℕ, List, Some, None}
 use Rattle.hall_types.specs.Hall.{Hall}
 use Rattle.hall_types.specs.Number.{IsNumber}
 use Rattle.hall_report.specs.Lines.{IsHallText, machine_text, order_text}
-use Rattle.desk_operations.specs.declared.reports.What.{What}
-use Rattle.desk_operations.specs.declared.reports.What.TheVariants as what
+use Rattle.desk_values.specs.declared.what.What.{What}
+use Rattle.desk_values.specs.declared.what.What.TheVariants as what
 
 -- the text is the report on the hall
 abbrev pub IsReport : What → Hall → List ℕ → Type 0

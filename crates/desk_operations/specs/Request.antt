@@ -5,8 +5,8 @@ use Rattle.hall_types.specs.Hall.{Hall}
 use Rattle.hall_desk.specs.Served.{IsServed}
 use Rattle.hall_desk.specs.declared.serving.Served.{Served}
 use Rattle.hall_desk.specs.declared.serving.Served.TheVariants.{Answered, ReadFailed, WriteFailed}
-use Rattle.desk_operations.specs.declared.fault.Fault.{Fault}
-use Rattle.desk_operations.specs.declared.fault.Fault.TheVariants.{Io}
+use Rattle.desk_values.specs.declared.fault.Fault.{Fault}
+use Rattle.desk_values.specs.declared.fault.Fault.TheVariants.{Io}
 
 -- a read or a write that failed is a fault
 abbrev pub outcome_of : Served → Result (Unit {0}) Fault

@@ -1,6 +1,7 @@
 //! Lines of a log that no arrival has.
 use crate::members::Members;
-use crate::moment_texts::{LogFormat, moment_text};
+use crate::moment_texts::moment_text;
+use desk_values::LogFormat;
 use hall_types::Moment;
 use std::alloc::{AllocError, Global};
 

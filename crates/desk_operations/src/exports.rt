@@ -3,10 +3,10 @@ ghost use Rattle.std.specs.Prelude.{◌≡◌, ◌≢◌, IfErr};
 ghost use Rattle.std.specs.Io.KnownBytes.{Appends};
 ghost use Rattle.hall_store.specs.Store.{Reads};
 ghost use Rattle.hall_report.specs.Export.{export_text};
-ghost use Rattle.desk_operations.specs.Fault.{IsStoreFault};
+ghost use Rattle.desk_values.specs.Fault.{IsStoreFault};
 
-use crate::fault::Fault;
 use crate::writing::write_text;
+use desk_values::Fault;
 use hall_store::HallStore;
 use std::alloc::Global;
 use std::io::Write;

@@ -2,11 +2,11 @@
 ghost use Rattle.std.specs.Prelude.{◌≡◌, ◌≤◌, ◌<◌, ◌↔◌, ◌⊎◌, ◌∷◌, [], List, ℕ, None, Some, length, option_map, option_copied, position, ◌==◌, Contains, IsTrue, IfOk, IfErr, IfSome, IsErrOf, MatchOption, vec_len};
 ghost use Rattle.desk_operations.specs.FrameInput.{IsInput, Understood, hex_octets, lines_of, only_line, understood};
 ghost use Rattle.std.specs.Prelude.{suc};
-ghost use Rattle.desk_operations.specs.Fault.{IsFrameFault};
+ghost use Rattle.desk_values.specs.Fault.{IsFrameFault};
 ghost use Rattle.std.specs.Str.{bytes_eq};
 ghost use Rattle.desk_operations.specs.Frame.{line_number, numbered};
 
-use crate::fault::Fault;
+use desk_values::Fault;
 use hall_types::Number;
 use hex::FromHexError;
 use std::alloc::{AllocError, Global};

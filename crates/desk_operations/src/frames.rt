@@ -6,9 +6,9 @@ ghost use Rattle.desk_operations.specs.declared.frame_input.TheConstants.{MAX_OC
 ghost use Rattle.dhcp_frame.specs.declared.reply.TheConstants.{MAX_VALUE_LEN};
 ghost use Rattle.desk_operations.specs.Frame.{is_served, line_view, IsReply, IsAnswer, IsIgnored, IsBad, IsFrameEnd};
 
-use crate::fault::Fault;
 use crate::frame_input::{Input, parse, read_input};
 use boot_desk::{Decision, FrameView, frame};
+use desk_values::Fault;
 use dhcp_frame::{WriteFault, read};
 use hall_types::{LastIssued, Numbers, Port};
 use pxe_vendor::{Client, NotServed, Place, boot_reply, client};

@@ -6,12 +6,12 @@ ghost use Rattle.hall_desk.specs.Desk.{site_of, store_of};
 ghost use Rattle.hall_report.specs.Import.{import_in};
 ghost use Rattle.hall_report.specs.declared.fault.ImportFault.TheVariants as cause;
 ghost use Rattle.hall_report.specs.declared.row.ImportRow.{ImportRow};
-ghost use Rattle.desk_operations.specs.Fault.{IsImportFault, IsStoreFault};
+ghost use Rattle.desk_values.specs.Fault.{IsImportFault, IsStoreFault};
 ghost use Rattle.desk_operations.specs.Import.{GoOn, IsImported, IsRowAnswered, IsRowDone, IsRowStopped, IsStopped, event_of};
 
-use crate::fault::Fault;
 use crate::import_line::row_line;
 use crate::writing::write_text;
+use desk_values::Fault;
 use hall_desk::Desk;
 use hall_events::{Event, HallCommand, Reply};
 use hall_report::{ImportRow, import_rows};

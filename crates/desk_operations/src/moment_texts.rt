@@ -1,18 +1,8 @@
 //! Moments in words for a log.
+use desk_values::LogFormat;
 use hall_types::Moment;
 use jiff::Timestamp;
 use std::alloc::{AllocError, Global};
-
-/// How a log is written.
-#[derive(Clone, Copy, PartialEq, Eq)]
-pub enum LogFormat {
-    /// A text a line, with moments in seconds since 1970.
-    Seconds,
-    /// A text a line, with the time in UTC (RFC 3339 section 5.6), until the 30th of December 9999; seconds afterwards.
-    Utc,
-    /// An object of JSON a line (RFC 8259), with the time likewise.
-    Json,
-}
 
 fn time_of(moment: Moment) -> Option<Timestamp> {
     let seconds = i64::try_from(moment.get()).ok()?;

@@ -3,27 +3,16 @@ ghost use Rattle.std.specs.Prelude.{◌≡◌, ◌≢◌, ℕ, List, Err, IfErr,
 ghost use Rattle.std.specs.Io.KnownBytes.{Appends};
 ghost use Rattle.hall_types.specs.Hall.{Hall};
 ghost use Rattle.hall_store.specs.Store.{Reads};
-ghost use Rattle.desk_operations.specs.Fault.{IsReportFault};
+ghost use Rattle.desk_values.specs.Fault.{IsReportFault};
 ghost use Rattle.desk_operations.specs.Report.{IsMissing, IsReport};
 
-use crate::fault::Fault;
 use crate::writing::write_text;
+use desk_values::{Fault, What};
 use hall_report::{hall_text, machine_text, order_text};
 use hall_store::HallStore;
 use hall_types::Number;
 use std::alloc::Global;
 use std::io::Write;
-
-/// What a report is about.
-#[derive(Clone, Copy, PartialEq, Eq)]
-pub enum What {
-    /// How many machines each pool has in each status.
-    Hall,
-    /// The power orders that wait.
-    Orders,
-    /// The machine with this number. No machine has 0.
-    Machine(u64),
-}
 
 fn text_of_machine<S: HallStore>(alloc: Global, store: &mut S, id: u64) -> Result<String, Fault>
     ensures read { Reads S.HallStore.is_clean S.HallStore.holds S.HallStore.leaves store.old store.new result (λ h text. IsReport (What.Machine id) h (string_bytes text)) }

@@ -4,7 +4,7 @@ ghost use Rattle.hall_http.specs.Noted.{failed_of, inner_of, takes_of};
 ghost use Rattle.hall_desk.specs.Desk.{site_of, store_of};
 ghost use Rattle.desk_operations.specs.Request.{HasServed};
 
-use crate::fault::Fault;
+use desk_values::Fault;
 use hall_desk::{Desk, Served};
 use hall_http::Noted;
 use hall_store::HallStore;

@@ -2,7 +2,7 @@
 ghost use Rattle.std.specs.Prelude.{◌≡◌, IfErr, OnOk};
 ghost use Rattle.std.specs.Io.KnownBytes.{Appends};
 
-use crate::fault::Fault;
+use desk_values::Fault;
 use std::io::Write;
 
 /// Writes a text. A write that fails is `Io`.

@@ -50,6 +50,14 @@ pub struct Account {
     pub notes: Notes,
 }
 
+impl Account {
+    pub(crate) fn note_came(&mut self, came: Came)
+        ensures { self.new ≡ record self.old { came = came } }
+    {
+        self.came = came;
+    }
+}
+
 impl Notes {
     /// Nothing was found or changed.
     pub const NONE: Notes = Notes {

@@ -42,7 +42,7 @@ pub(crate) fn attempt_datagram<S: HallStore>(
     let frame = match read(octets) {
         Ok(frame) => frame,
         Err(fault) => {
-            account.came = Came::Malformed(fault);
+            account.note_came(Came::Malformed(fault));
             return Ok(Answer::Silence);
         }
     };
@@ -53,11 +53,11 @@ pub(crate) fn attempt_datagram<S: HallStore>(
             let answer = carry_frame(
                 alloc, store, place, port, &frame, &client, moment, fresh, enlists, notes,
             );
-            account.came = Came::Client(client);
+            account.note_came(Came::Client(client));
             answer
         }
         Err(cause) => {
-            account.came = Came::NotServed(cause);
+            account.note_came(Came::NotServed(cause));
             match cause {
                 NotServed::Memory => Err(Unavailable),
                 _ => Ok(Answer::Silence),
@@ -86,11 +86,11 @@ pub(crate) fn attempt_request<S: HallStore>(
             event_is_typed(place, &event, fresh);
             let notes = &mut account.notes;
             let answer = carry_request(alloc, store, place, &event, moment, fresh, notes);
-            account.came = Came::Asked(event);
+            account.note_came(Came::Asked(event));
             answer
         }
         Err(fault) => {
-            account.came = Came::Refused(fault);
+            account.note_came(Came::Refused(fault));
             match fault {
                 HttpFault::Memory => Err(Unavailable),
                 _ => fault_response(alloc, fault),
@@ -114,7 +114,7 @@ pub(crate) fn attempt_quiet<S: HallStore>(
     steps_keep_halls_sound();
     decisions_keep_the_rules();
     event_is_typed(place, &Event::Quiet, fresh);
-    account.came = Came::Quiet;
+    account.note_came(Came::Quiet);
     carry_quiet(alloc, store, place, moment, fresh, &mut account.notes)
 }
 

@@ -4,8 +4,9 @@
 
 mod tasks;
 
-use desk_operations::{Exit, Fault};
-use hallboot_tasks::{fault_of, reason};
+use desk_operations::Exit;
+use desk_values::Fault;
+use hallboot_asked::{fault_of, reason};
 use hallboot_words::{Refusal, Words, read};
 use std::io::{ErrorKind, IsTerminal};
 use std::process::ExitCode;

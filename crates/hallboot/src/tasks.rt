@@ -1,10 +1,10 @@
 //! What the words ask for is done. A hall's file is closed at the end, whatever became of the task.
-use desk_operations::{Exit, Fault, frame_run};
+use desk_operations::{Exit, frame_run};
+use desk_values::Fault;
 use hall_store::HallStore;
 use hall_types::{Digest, Name};
-use hallboot_tasks::{
-    Asked, Joining, Serving, Suspended, Task, asked_by, carried_out, is_foreign, tell,
-};
+use hallboot_asked::{Asked, Serving, Task, asked_by, is_foreign};
+use hallboot_tasks::{Joining, Suspended, carried_out, served, tell};
 use hallboot_words::Words;
 use sql_backup::one_file;
 use sql_file::{Ended, FileFault, StoreTask, create, migrate, over};
@@ -55,18 +55,34 @@ impl Joining for Joined {
     }
 }
 
+// What is done over a hall's store: a task once, or the turns that are left of a service are served.
+#[derive(Drop)]
+enum Doing<'a> {
+    Once(Task),
+    Serve {
+        serving: &'a Serving,
+        suspended: &'a mut Suspended,
+    },
+}
+
 // A task over the store of a hall's file.
 #[derive(Drop)]
 struct FileTask<'a> {
     rt: &'a HostRuntime,
-    task: Task<'a>,
+    doing: Doing<'a>,
 }
 
 impl<'a> StoreTask for FileTask<'a> {
     type Outcome = Result<Exit, Fault>;
 
     fn over<S: HallStore>(self, store: S) -> (Result<Exit, Fault>, S) {
-        carried_out(self.rt, store, self.task, &Joined)
+        let doing = self.doing;
+        match doing {
+            Doing::Once(task) => carried_out(self.rt, store, task),
+            Doing::Serve { serving, suspended } => {
+                served(self.rt, store, serving, suspended, &Joined)
+            }
+        }
     }
 }
 
@@ -91,14 +107,14 @@ fn carry_over(rt: &HostRuntime, path: &str) -> Result<Exit, Fault> {
     Ok(Exit::Done)
 }
 
-// Carries a task out over a hall's file.
+// Does something over a hall's file.
 fn ended_over(
     rt: &HostRuntime,
     path: &str,
-    task: Task<'_>,
+    doing: Doing<'_>,
 ) -> Result<Ended<Result<Exit, Fault>>, Fault> {
     looked_at(rt, path)?;
-    over(rt, path, FileTask { rt, task }).map_err(of_file)
+    over(rt, path, FileTask { rt, doing }).map_err(of_file)
 }
 
 fn outcome_of(
@@ -110,8 +126,8 @@ fn outcome_of(
     ended.outcome
 }
 
-fn over_file(rt: &HostRuntime, path: &str, task: Task<'_>) -> Result<Exit, Fault> {
-    outcome_of(rt, path, ended_over(rt, path, task)?)
+fn over_file(rt: &HostRuntime, path: &str, doing: Doing<'_>) -> Result<Exit, Fault> {
+    outcome_of(rt, path, ended_over(rt, path, doing)?)
 }
 
 // Tells where others than the owner can read or write a file that is to be served.
@@ -125,6 +141,28 @@ fn tell_of_others(rt: &HostRuntime, path: &str) {
     }
 }
 
+// Serves a hall's file until all turns are served, its file is gone or can't be opened: what came of it. None where a fault has shut
+// the store.
+fn served_once(
+    rt: &HostRuntime,
+    serving: &Serving,
+    suspended: &mut Suspended,
+) -> Option<Result<Exit, Fault>> {
+    let path = serving.path.as_str();
+    let doing = Doing::Serve {
+        serving,
+        suspended: &mut *suspended,
+    };
+    let ended = ended_over(rt, path, doing);
+    if suspended.is_shut() {
+        return None;
+    }
+    match ended {
+        Ok(ended) => Some(outcome_of(rt, path, ended)),
+        Err(fault) => Some(Err(fault)),
+    }
+}
+
 // Serves a hall's file. Where a fault has shut the store, the file is opened again, at once and then after ever longer pauses, for a
 // minute.
 fn serve(rt: &HostRuntime, serving: &Serving) -> Result<Exit, Fault> {
@@ -132,13 +170,8 @@ fn serve(rt: &HostRuntime, serving: &Serving) -> Result<Exit, Fault> {
     tell_of_others(rt, path);
     let mut suspended = Suspended::new(serving.turns);
     for _ in 0..u64::MAX {
-        let task = Task::Serve {
-            serving: &*serving,
-            suspended: &mut suspended,
-        };
-        let ended = ended_over(rt, path, task);
-        if !suspended.is_shut() {
-            return outcome_of(rt, path, ended?);
+        if let Some(outcome) = served_once(rt, serving, &mut suspended) {
+            return outcome;
         }
         if !suspended.wait() {
             break;
@@ -167,7 +200,7 @@ fn carry_out(rt: &HostRuntime, asked: Asked<'_>) -> Result<Exit, Fault> {
         } => init(rt, path, admin, digest),
         Asked::Migrate { path } => carry_over(rt, path),
         Asked::Serve(serving) => serve(rt, &serving),
-        Asked::Over { path, task } => over_file(rt, path, task),
+        Asked::Over { path, task } => over_file(rt, path, Doing::Once(task)),
     }
 }
 

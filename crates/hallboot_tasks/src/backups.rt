@@ -1,6 +1,7 @@
 //! Copies of a hall's file that are made while it is served, between two turns.
 use crate::served_file::ServedFile;
 use desk_operations::Backup;
+use hallboot_asked::BackupPlan;
 use std::alloc::Global;
 use std::fs::{self, File, OpenOptions};
 use std::io;
@@ -10,13 +11,6 @@ use std::time::Instant;
 
 // Read and written by its owner alone.
 const OWNER_ONLY: u32 = 0o600;
-
-/// Where a copy of the hall's file is put, and how many seconds it is from one copy to the next.
-#[derive(Drop)]
-pub struct BackupPlan {
-    pub path: String,
-    pub seconds: u64,
-}
 
 /// How a hall's file and its log become one file.
 pub trait Joining {
@@ -44,6 +38,11 @@ fn path_with(alloc: Global, path: &str, end: &str) -> io::Result<String> {
     Ok(format!(in alloc; "{path}{end}")?)
 }
 
+fn log_beside(rt: &HostRuntime, db: &str) -> io::Result<Vec<u8>> {
+    let path = path_with(rt.alloc(), db, "-wal")?;
+    log_at(rt, path.as_str())
+}
+
 // A new file, in the place of one that an earlier try has left.
 fn new_file(rt: &HostRuntime, path: &str) -> io::Result<File> {
     let _ = fs::remove_file(rt, path);
@@ -54,14 +53,31 @@ fn new_file(rt: &HostRuntime, path: &str) -> io::Result<File> {
         .open(rt, path)
 }
 
-// Writes a file that has what a hall's file and its log have, and syncs it.
-fn write<J: Joining>(rt: &HostRuntime, joining: &J, db: &str, path: &str) -> io::Result<u64> {
+// The octets of a hall's file, and those of its log.
+fn parts_at(rt: &HostRuntime, db: &str) -> io::Result<(Vec<u8>, Vec<u8>)> {
     let file = octets_at(rt, db)?;
-    let log = log_at(rt, path_with(rt.alloc(), db, "-wal")?.as_str())?;
+    let log = log_beside(rt, db)?;
+    Ok((file, log))
+}
+
+// Writes a new file that has what a hall's file and its log have, and syncs it.
+fn write_parts<J: Joining>(
+    rt: &HostRuntime,
+    joining: &J,
+    file: &[u8],
+    log: &[u8],
+    path: &str,
+) -> io::Result<u64> {
     let mut copy = new_file(rt, path)?;
-    let octets = joining.write(rt.alloc(), file.as_slice(), log.as_slice(), &mut copy)?;
+    let octets = joining.write(rt.alloc(), file, log, &mut copy)?;
     copy.sync_all()?;
     Ok(octets)
+}
+
+// Writes a file that has what a hall's file and its log have, and syncs it.
+fn write<J: Joining>(rt: &HostRuntime, joining: &J, db: &str, path: &str) -> io::Result<u64> {
+    let (file, log) = parts_at(rt, db)?;
+    write_parts(rt, joining, file.as_slice(), log.as_slice(), path)
 }
 
 // Whether the hall's own file is at the path.

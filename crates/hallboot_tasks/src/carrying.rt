@@ -1,12 +1,14 @@
 //! The tasks over an open store, which they give back. The store's type stays open here, so that no proof looks into a file.
 use crate::backups::Joining;
 use crate::serving::serve;
-use crate::tasks::Task;
-use desk_operations::{Exit, Fault, Imported, What};
+use crate::suspended::Suspended;
+use desk_operations::{Exit, Imported};
+use desk_values::{Fault, What};
 use hall_desk::Desk;
 use hall_http::Noted;
 use hall_store::HallStore;
 use hall_types::{Digest, Moment, Token};
+use hallboot_asked::{Serving, Task};
 use pxe_vendor::Place;
 use store_cached::Cached;
 
@@ -74,11 +76,10 @@ fn import<S: HallStore>(
     (imported(task), desk.into_store())
 }
 
-fn carried_out_over<S: HallStore, J: Joining>(
+fn carried_out_over<S: HallStore>(
     rt: &HostRuntime,
     store: S,
-    task: Task<'_>,
-    joining: &J,
+    task: Task,
 ) -> (Result<Exit, Fault>, S) {
     match task {
         Task::Request {
@@ -94,24 +95,37 @@ fn carried_out_over<S: HallStore, J: Joining>(
             bearer,
             moment,
         } => import(rt, store, place, octets.as_slice(), bearer, moment),
-        Task::Serve { serving, suspended } => {
-            let (task, store) = serve(rt, store, serving, suspended, joining);
-            (done(task), store)
-        }
     }
 }
 
 /// Carries a task out over a store. Addresses and lists are kept in memory meanwhile.
-pub fn carried_out<S: HallStore, J: Joining>(
+pub fn carried_out<S: HallStore>(
     rt: &HostRuntime,
     store: S,
-    task: Task<'_>,
+    task: Task,
+) -> (Result<Exit, Fault>, S) {
+    match Cached::new(rt.alloc(), store) {
+        Ok(cached) => {
+            let (exit, cached) = carried_out_over(rt, cached, task);
+            (exit, cached.into_inner())
+        }
+        Err(store) => (Err(Fault::Memory), store),
+    }
+}
+
+/// Serves the turns that are left of a service over a store, or until a fault shuts it, or its file goes. Addresses and lists are kept in
+/// memory meanwhile.
+pub fn served<S: HallStore, J: Joining>(
+    rt: &HostRuntime,
+    store: S,
+    serving: &Serving,
+    suspended: &mut Suspended,
     joining: &J,
 ) -> (Result<Exit, Fault>, S) {
     match Cached::new(rt.alloc(), store) {
         Ok(cached) => {
-            let (exit, cached) = carried_out_over(rt, cached, task, joining);
-            (exit, cached.into_inner())
+            let (task, cached) = serve(rt, cached, serving, suspended, joining);
+            (done(task), cached.into_inner())
         }
         Err(store) => (Err(Fault::Memory), store),
     }

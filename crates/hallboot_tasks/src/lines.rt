@@ -1,9 +1,9 @@
 //! The log of a service's turns.
 use crate::outlet::Outlet;
 use desk_operations::{
-    Backup, Failures, LogFormat, arrival_members, arrival_text, backup_line, is_of_note,
-    unstamped_line,
+    Backup, Failures, arrival_members, arrival_text, backup_line, is_of_note, unstamped_line,
 };
+use desk_values::LogFormat;
 use hall_desk::{Account, Answer, Arrival};
 use hall_types::Moment;
 use serve_lines::turn_line;

@@ -1,12 +1,13 @@
 //! Where the lines of a log go. A stream that takes no octets now, as a pipe that nobody reads, isn't waited for.
-use crate::reading::{fault_of, log_file};
-use desk_operations::{Fault, LogFormat, lost_line};
+use desk_operations::lost_line;
+use desk_values::{Fault, LogFormat};
 use hall_types::Moment;
+use hallboot_asked::fault_of;
 use mio::event::Events;
 use mio::unix::SourceFd;
 use mio::{Interest, Poll, Token};
 use std::alloc::{AllocError, Global};
-use std::fs::File;
+use std::fs::{File, OpenOptions};
 use std::io;
 use std::io::Write;
 use std::os::fd::{AsRawFd, RawFd};
@@ -60,6 +61,14 @@ fn watched(rt: &HostRuntime, stream: &Stream) -> io::Result<Option<Poll>> {
         .registry()
         .register(&mut source, TOKEN, Interest::WRITABLE);
     Ok(registered.is_ok().then_some(poll))
+}
+
+// A file to which lines are added; it is made where there is none.
+fn log_file(rt: &HostRuntime, path: &str) -> Result<File, Fault> {
+    match OpenOptions::new().append(true).create(true).open(rt, path) {
+        Ok(file) => Ok(file),
+        Err(error) => Err(fault_of(&error)),
+    }
 }
 
 // The line that says how many are missing before it. What was written of the last of them ends before it.

@@ -1,14 +1,15 @@
 //! The service over an open store.
-use crate::backups::{BackupPlan, Backups, Joining};
+use crate::backups::{Backups, Joining};
 use crate::lines::{Lines, ServiceLog};
 use crate::outlet::tell;
 use crate::served_file::ServedFile;
 use crate::stamps::{Stamps, now};
 use crate::suspended::{Bound, Suspended};
-use crate::tasks::Serving;
-use desk_operations::{Backup, Fault};
+use desk_operations::Backup;
+use desk_values::Fault;
 use hall_desk::Desk;
 use hall_store::HallStore;
+use hallboot_asked::{BackupPlan, Serving};
 use pxe_vendor::{Place, PlaceFault};
 use serve_sockets::{Service, Source};
 use std::alloc::Global;

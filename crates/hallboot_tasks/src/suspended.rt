@@ -1,10 +1,9 @@
 //! A service from one opening of its hall's file to the next.
 use crate::outlet::Outlet;
-use crate::reading::fault_of;
-use crate::tasks::Serving;
-use desk_operations::Fault;
+use desk_values::Fault;
+use hallboot_asked::{Serving, fault_of};
 use mio::Poll;
-use serve_sockets::{BindFault, MAX_CONNECTIONS, Sockets};
+use serve_sockets::{Addresses, BindFault, MAX_CONNECTIONS, Sockets};
 use std::time::Instant;
 
 /// How long, in milliseconds, is waited before each opening in a row after which nothing was served for long: 64 seconds in all.
@@ -33,6 +32,19 @@ fn bind_fault(fault: BindFault) -> Fault {
     }
 }
 
+// Sockets that are bound where a service is to be reached.
+fn bound_sockets(rt: &HostRuntime, serving: &Serving) -> Result<Sockets, Fault> {
+    let addresses = Addresses {
+        discover: serving.discover,
+        boot: serving.boot,
+        http: serving.http,
+    };
+    match Sockets::bind(rt, rt.alloc(), &addresses, MAX_CONNECTIONS) {
+        Ok(sockets) => Ok(sockets),
+        Err(fault) => Err(bind_fault(fault)),
+    }
+}
+
 fn opened_log(rt: &HostRuntime, serving: &Serving) -> Result<Option<Outlet>, Fault> {
     match &serving.log {
         Some(path) => Ok(Some(Outlet::at(rt, path.as_str(), serving.format)?)),
@@ -48,21 +60,34 @@ fn has_room(rt: &HostRuntime) -> Result<(), Fault> {
     }
 }
 
+fn started(rt: &HostRuntime) -> Result<Instant, Fault> {
+    match Instant::now(rt) {
+        Ok(start) => Ok(start),
+        Err(error) => Err(fault_of(&error)),
+    }
+}
+
+// When a service begins, of which one is told that it is ready.
+fn ready(rt: &HostRuntime) -> Result<Instant, Fault> {
+    has_room(rt)?;
+    let start = started(rt)?;
+    desk_operations::write_text(&mut rt.stdout(), "hall desk ready\n")?;
+    Ok(start)
+}
+
+// The log of a service, and when it begins.
+fn begun(rt: &HostRuntime, serving: &Serving) -> Result<(Option<Outlet>, Instant), Fault> {
+    let log = opened_log(rt, serving)?;
+    let start = ready(rt)?;
+    Ok((log, start))
+}
+
 impl Bound {
     /// Binds the sockets and opens the log, and says that the service is ready. The fault is `Io` where there is no descriptor for a
     /// connection.
     fn new(rt: &HostRuntime, serving: &Serving) -> Result<Bound, Fault> {
-        let sockets = match Sockets::bind(rt, rt.alloc(), &serving.addresses, MAX_CONNECTIONS) {
-            Ok(sockets) => sockets,
-            Err(fault) => return Err(bind_fault(fault)),
-        };
-        let log = opened_log(rt, serving)?;
-        has_room(rt)?;
-        let start = match Instant::now(rt) {
-            Ok(start) => start,
-            Err(error) => return Err(fault_of(&error)),
-        };
-        desk_operations::write_text(&mut rt.stdout(), "hall desk ready\n")?;
+        let sockets = bound_sockets(rt, serving)?;
+        let (log, start) = begun(rt, serving)?;
         Ok(Bound {
             sockets,
             log,

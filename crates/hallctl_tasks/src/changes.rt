@@ -8,7 +8,7 @@ use crate::sending::{Sending, sent};
 use crate::surroundings::Surroundings;
 use hall_events::HallCommand;
 use hall_types::{RequestKey, Version};
-use hallctl_words::with_version;
+use hallctl_texts::with_version;
 use std::alloc::{AllocError, Global};
 
 /// How the commands of a line are sent.

@@ -6,7 +6,8 @@ use crate::saying::{print, strange, tell, unanswered};
 use crate::surroundings::Surroundings;
 use crate::texts::{list_text, refused_text};
 use hallctl_requests::Ask;
-use hallctl_words::{Filter, Form, Which};
+use hallctl_texts::Filter;
+use hallctl_words::{Form, Which};
 use std::alloc::{AllocError, Global};
 
 /// What is listed, and how.

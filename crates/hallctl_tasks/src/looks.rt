@@ -10,7 +10,7 @@ use crate::texts::refused_text;
 use hall_events::HallCommand;
 use hall_types::{Number, Status, Version};
 use hallctl_requests::Ask;
-use hallctl_words::{ListedMachine, is_dangerous, warning};
+use hallctl_texts::{ListedMachine, is_dangerous, warning};
 use std::alloc::{AllocError, Global};
 
 /// A machine as it was listed before a command.

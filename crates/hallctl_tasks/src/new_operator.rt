@@ -50,7 +50,28 @@ fn key_of<S: Surroundings>(surroundings: &mut S, manner: &Manner) -> Result<Requ
     }
 }
 
-// Sends the command, whose token is in its file.
+// Sends the command that adds an operator with this digest.
+fn send<S: Surroundings>(
+    alloc: Global,
+    surroundings: &mut S,
+    desk: &Desk,
+    manner: &Manner,
+    path: &str,
+    digest: Digest,
+    command: &HallCommand,
+) -> Result<Ended, TaskFault> {
+    let beside = beside(alloc, path, digest)?;
+    let sending = Sending {
+        key: key_of(surroundings, manner)?,
+        command,
+        before: None,
+        beside: beside.as_str(),
+        json: manner.json,
+    };
+    sent(alloc, surroundings, desk, &sending)
+}
+
+// Adds the operator, whose token is in its file.
 fn add<S: Surroundings>(
     alloc: Global,
     surroundings: &mut S,
@@ -64,19 +85,25 @@ fn add<S: Surroundings>(
         role: new.role,
         digest,
     };
-    let beside = beside(alloc, new.path, digest)?;
-    let key = key_of(surroundings, manner)?;
-    let json = manner.json;
-    let sending = Sending {
-        key,
-        command: &command,
-        before: None,
-        beside: beside.as_str(),
-        json,
-    };
-    let end = sent(alloc, surroundings, desk, &sending)?;
+    send(
+        alloc,
+        surroundings,
+        desk,
+        manner,
+        new.path,
+        digest,
+        &command,
+    )
+}
+
+// Tells that the token in a file is nobody's, where the operator wasn't added.
+fn tell_if_refused<S: Surroundings>(
+    alloc: Global,
+    surroundings: &mut S,
+    path: &str,
+    end: Ended,
+) -> Result<Ended, TaskFault> {
     if end == Ended::Refused {
-        let path = new.path;
         let line = format!(in alloc; "the token in {path} is nobody's")?;
         tell(alloc, surroundings, line.as_str())?;
     }
@@ -95,7 +122,10 @@ pub(crate) fn add_operator<S: Surroundings>(
     let digest = Digest::from(Sha256::digest(token.as_bytes()));
     let text = format!(in alloc; "{token}\n")?;
     match surroundings.make_file(new.path, text.as_bytes()) {
-        Ok(()) => add(alloc, surroundings, desk, manner, new, digest),
+        Ok(()) => {
+            let end = add(alloc, surroundings, desk, manner, new, digest)?;
+            tell_if_refused(alloc, surroundings, new.path, end)
+        }
         Err(fault) => {
             let (path, words) = (new.path, fault.words());
             let reason = format!(in alloc; "{path}: {words}")?;

@@ -1,6 +1,6 @@
 //! The JSON of answers.
 use crate::answer::Answer;
-use hallctl_words::{ListedMachine, listed};
+use hallctl_texts::{ListedMachine, listed};
 use serde_json::Value;
 use std::alloc::{AllocError, Global};
 

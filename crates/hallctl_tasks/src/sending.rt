@@ -10,7 +10,7 @@ use crate::texts::{done_text, refused_text};
 use hall_events::HallCommand;
 use hall_types::RequestKey;
 use hallctl_requests::Ask;
-use hallctl_words::subject;
+use hallctl_texts::subject;
 use std::alloc::{AllocError, Global};
 
 /// A command that is to be sent.

@@ -5,10 +5,11 @@ use crate::looks::Before;
 use crate::seen::value_of;
 use hall_events::HallCommand;
 use hall_types::{MacAddress, Status};
-use hallctl_words::{
-    AnswerFault, Filter, Form, Which, answer_line, machine_ids, machine_json, machine_lines,
-    machine_table, machine_with, order_table, refusal_line, refusal_of,
+use hallctl_texts::{
+    AnswerFault, Filter, answer_line, machine_ids, machine_json, machine_lines, machine_table,
+    machine_with, order_table, refusal_line, refusal_of,
 };
+use hallctl_words::{Form, Which};
 use serde_json::Value;
 use std::alloc::{AllocError, Global};
 

@@ -1,6 +1,7 @@
 //! A machine is waited for.
 use crate::answer::{Answer, Exchanged, Strange};
-use crate::desk::{Desk, asked};
+use crate::desk::{Desk, asked_once};
+use crate::dial::Why;
 use crate::fault::{Ended, TaskFault};
 use crate::listings::refused;
 use crate::saying::{print_line, strange, tell};
@@ -8,7 +9,7 @@ use crate::seen::listed_in;
 use crate::surroundings::Surroundings;
 use hall_types::{Number, Status};
 use hallctl_requests::Ask;
-use hallctl_words::ListedMachine;
+use hallctl_texts::ListedMachine;
 use std::alloc::Global;
 
 // How long, in milliseconds, is waited before the machine is looked at again.
@@ -38,8 +39,8 @@ impl<'w> Awaited<'w> {
 /// What one look says.
 enum Glance {
     Listed(ListedMachine),
-    /// There was no answer: the machine is looked at again.
-    Nothing,
+    /// There was no answer, for this reason: the machine is looked at again.
+    Nothing(Why),
     Ended(Ended),
 }
 
@@ -63,10 +64,10 @@ fn glance_again<S: Surroundings>(
     desk: &Desk,
     machine: Number,
 ) -> Result<Glance, TaskFault> {
-    match asked(alloc, surroundings, desk, &Ask::Machine(machine))? {
+    match asked_once(alloc, surroundings, desk, &Ask::Machine(machine))? {
         Exchanged::Answered(answer) => glance_at(alloc, surroundings, &answer),
         Exchanged::NotTheDesk(words) => { Ok(Glance::Ended(strange(alloc, surroundings, words)?)) }
-        Exchanged::Unknown(_) => Ok(Glance::Nothing),
+        Exchanged::Unknown(why) => Ok(Glance::Nothing(why)),
     }
 }
 
@@ -84,6 +85,18 @@ fn found<S: Surroundings>(
     let line = format!(in alloc; "machine {id}: {status}, version {version}")?;
     print_line(alloc, surroundings, line.as_str())?;
     Ok(Ended::Done)
+}
+
+// Tells that the desk doesn't answer, and is asked again.
+fn lost<S: Surroundings>(
+    alloc: Global,
+    surroundings: &mut S,
+    machine: Number,
+    why: Why,
+) -> Result<(), TaskFault> {
+    let (id, why) = (machine.get(), why.words());
+    let line = format!(in alloc; "machine {id}: no answer ({why}), asking again")?;
+    tell(alloc, surroundings, line.as_str())
 }
 
 // Tells what the machine was last, after so many seconds.
@@ -111,7 +124,7 @@ fn has_time<S: Surroundings>(surroundings: &mut S, start: u64, patience: u64) ->
     left > 0
 }
 
-/// Looks at a machine until it has one of the statuses, every two seconds.
+/// Looks at a machine until it has one of the statuses, every two seconds. Each time that the desk is lost, that is told once.
 pub(crate) fn wait<S: Surroundings>(
     alloc: Global,
     surroundings: &mut S,
@@ -120,13 +133,23 @@ pub(crate) fn wait<S: Surroundings>(
 ) -> Result<Ended, TaskFault> {
     let start = surroundings.passed();
     let mut last = None;
+    let mut is_lost = false;
     for _ in 0..u64::MAX {
         match glance_again(alloc, surroundings, desk, awaited.machine)? {
             Glance::Listed(machine) if awaited.statuses.contains(&machine.status) => {
                 return found(alloc, surroundings, &machine);
             }
-            Glance::Listed(machine) => last = Some(machine.status),
-            Glance::Nothing => last = None,
+            Glance::Listed(machine) => {
+                last = Some(machine.status);
+                is_lost = false;
+            }
+            Glance::Nothing(why) => {
+                if !is_lost {
+                    lost(alloc, surroundings, awaited.machine, why)?;
+                }
+                last = None;
+                is_lost = true;
+            }
             Glance::Ended(end) => return Ok(end),
         }
         if !has_time(surroundings, start, awaited.patience) {

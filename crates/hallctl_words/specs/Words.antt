@@ -3,15 +3,9 @@ use Rattle.std.specs.Prelude.{ℕ, bytes_eq, List, Option, Some, None, option_an
 use Rattle.std.specs.Result.{result_ok}
 use Rattle.hex.specs.Hex.{decode_sized}
 use Rattle.uuid.specs.Text.{parsed}
-use Rattle.hall_types.specs.Kinds.{erase_of_text, with_text}
-use Rattle.hall_types.specs.Status.{status_text, statuses}
+use Rattle.hall_types.specs.Kinds.{erase_of_text}
 use Rattle.hall_types.specs.Uuid.{unless_blank}
 use Rattle.hall_types.specs.declared.kinds.Erase.{Erase}
-use Rattle.hall_types.specs.declared.status.Status.{Status}
-
--- the status with this text
-abbrev pub status_in : List ℕ → Option Status
-status_in text = with_text status_text text statuses
 
 -- the digest of 64 hexadecimal digits in either case
 abbrev pub digest_in : List ℕ → Option (List ℕ)

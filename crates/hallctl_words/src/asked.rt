@@ -1,6 +1,7 @@
 //! What a command line of hallctl asks for.
 use hall_events::HallCommand;
 use hall_types::{MacAddress, Name, Number, RequestKey, Role, Status};
+use hallctl_texts::Filter;
 
 /// What a command line says. Its texts are words of the command line.
 #[derive(Drop)]
@@ -47,14 +48,6 @@ pub enum Wish<'a> {
     Import(&'a str),
     /// The completion for bash.
     Completion,
-}
-
-/// Which machines a list has: those that have each of the values that are given.
-#[derive(Clone, Copy)]
-pub struct Filter {
-    pub status: Option<Status>,
-    pub pool: Option<Name>,
-    pub owner: Option<Name>,
 }
 
 /// How a list of machines is printed.

@@ -2,9 +2,10 @@
 use crate::durations::seconds_of;
 use crate::fault::{ValueFault, WordsFault};
 use crate::options::Word;
-use crate::values::{digest_of, erase_of, key_of, mac_of, name_of, status_of, uuid_of};
+use crate::values::{digest_of, erase_of, key_of, uuid_of};
 use clap::ArgMatches;
 use hall_types::{Digest, Erase, MacAddress, MachineUuid, Name, RequestKey, Role, Status};
+use hallctl_texts::{mac_of, name_of, status_of};
 use ipxe_script::{Uri, WordFault};
 use pxe_vendor::Arch;
 use std::alloc::Global;

@@ -1,5 +1,5 @@
 //! What the words of a command line ask for.
-use crate::asked::{Filter, Form, Line, Wish};
+use crate::asked::{Form, Line, Wish};
 use crate::command_line::command_line;
 use crate::decimal::number_of;
 use crate::fault::{LineFault, ValueFault, WordsFault};
@@ -10,10 +10,11 @@ use crate::machine_commands::machine_commands;
 use crate::options::Word;
 use crate::subcommands::{Subcommand, named};
 use crate::usage::Usage;
-use crate::values::{status_of, which_of};
+use crate::values::which_of;
 use clap::{ArgMatches, Error};
 use hall_events::{CommandKind, HallCommand};
 use hall_types::{RequestKey, Status};
+use hallctl_texts::{Filter, status_of};
 use std::alloc::{AllocError, Global};
 
 // How long an answer is tried for, in seconds, where nothing else is said.

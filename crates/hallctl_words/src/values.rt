@@ -1,72 +1,14 @@
 //! The values that words say.
 ghost use Rattle.std.specs.Prelude.{◌≡◌, IfOk, option_map};
 ghost use Rattle.uuid.specs.Text.{parsed};
-ghost use Rattle.wire_mac.specs.MacText.{mac_of};
-ghost use Rattle.hall_types.specs.Kinds.{with_text};
-ghost use Rattle.hall_types.specs.Name.{name_of as name_in};
-ghost use Rattle.hall_types.specs.Status.{status_text};
-ghost use Rattle.hallctl_words.specs.Words.{digest_in, erase_in, status_in, uuid_in};
+ghost use Rattle.hallctl_words.specs.Words.{digest_in, erase_in, uuid_in};
 
 use crate::asked::Which;
 use crate::decimal::number_of;
-use hall_types::{Digest, Erase, MacAddress, MachineUuid, Name, RequestKey, Status};
+use hall_types::{Digest, Erase, MachineUuid, RequestKey};
+use hallctl_texts::mac_of;
 use hex::FromHex;
 use uuid::Uuid;
-
-// The statuses, in the order of their numbers.
-const STATUSES: [Status; 20] = [
-    Status::New,
-    Status::Commissioning,
-    Status::FailedCommissioning,
-    Status::Testing,
-    Status::FailedTesting,
-    Status::Ready,
-    Status::Allocated,
-    Status::Deploying,
-    Status::FailedDeployment,
-    Status::Deployed,
-    Status::Releasing,
-    Status::FailedReleasing,
-    Status::DiskErasing,
-    Status::FailedDiskErasing,
-    Status::EnteringRescue,
-    Status::FailedToEnterRescue,
-    Status::Rescue,
-    Status::ExitingRescue,
-    Status::FailedToExitRescue,
-    Status::Broken,
-];
-
-fn status_among(statuses: &[Status], text: &str) -> Option<Status>
-    ensures { result ≡ with_text status_text text.now statuses.now }
-{
-    statuses
-        .iter()
-        .copied()
-        .find(|status| status.text() == text)
-}
-
-/// The status with this text, as `Failed commissioning`.
-pub(crate) fn status_of(text: &str) -> Option<Status>
-    ensures { result ≡ status_in text.now }
-{
-    status_among(&STATUSES, text)
-}
-
-pub(crate) fn name_of(text: &str) -> Option<Name>
-    ensures { result ≡ name_in text.now }
-{
-    Name::new(text).ok()
-}
-
-pub(crate) fn mac_of(text: &str) -> Option<MacAddress>
-    ensures { result ≡ mac_of text.now }
-{
-    match wire_mac::read(text.as_bytes()) {
-        Some(octets) => Some(MacAddress::from(octets)),
-        None => None,
-    }
-}
 
 /// The digest of 64 hexadecimal digits in either case.
 pub(crate) fn digest_of(text: &str) -> Option<Digest>

@@ -1,7 +1,8 @@
 //! What a case says.
 use crate::texts::{answer_text, lines_text, list_text, refusal_text, warning_text};
 use crate::wishes::{line_text, words_of};
-use hallctl_words::{AnswerFault, LineFault, completion, read};
+use hallctl_texts::AnswerFault;
+use hallctl_words::{LineFault, completion, read};
 use std::alloc::{AllocError, Global};
 use thiserror::Error;
 

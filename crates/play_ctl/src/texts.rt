@@ -3,11 +3,12 @@ use crate::cases::PlayFault;
 use crate::wishes::words_of;
 use hall_events::HallCommand;
 use hall_types::{MacAddress, Numbered, Status};
-use hallctl_words::{
-    Filter, Form, Line, ListedMachine, Wish, answer_line, is_dangerous, listed, machine_ids,
-    machine_json, machine_lines, machine_table, machine_with, order_table, read, refusal_line,
-    refusal_of, warning, with_version,
+use hallctl_texts::{
+    Filter, ListedMachine, answer_line, is_dangerous, listed, machine_ids, machine_json,
+    machine_lines, machine_table, machine_with, order_table, refusal_line, refusal_of, warning,
+    with_version,
 };
+use hallctl_words::{Form, Line, Wish, read};
 use serde_json::Value;
 use std::alloc::Global;
 
@@ -95,24 +96,37 @@ fn status_named(text: &str) -> Option<Status> {
         .find(|status| status.text() == text)
 }
 
+fn answered(
+    alloc: Global,
+    command: &HallCommand,
+    before: &str,
+    json: &str,
+) -> Result<String, PlayFault> {
+    let answer = json_of(alloc, json)?;
+    Ok(answer_line(alloc, command, status_named(before), &answer)?)
+}
+
 /// What a command changed.
 pub(crate) fn answer_text(alloc: Global, text: &str) -> Result<String, PlayFault> {
     let (words, rest) = parts(text)?;
     let (before, json) = parts(rest)?;
     let command = command_of(alloc, words)?;
-    let answer = json_of(alloc, json)?;
-    Ok(answer_line(alloc, &command, status_named(before), &answer)?)
+    answered(alloc, &command, before, json)
+}
+
+fn refused(alloc: Global, command: Option<&HallCommand>, json: &str) -> Result<String, PlayFault> {
+    let refusal = refusal_of(&json_of(alloc, json)?)?;
+    Ok(refusal_line(alloc, command, refusal)?)
 }
 
 /// Why a command was refused.
 pub(crate) fn refusal_text(alloc: Global, text: &str) -> Result<String, PlayFault> {
     let (words, json) = parts(text)?;
-    let refusal = refusal_of(&json_of(alloc, json)?)?;
     if words == "-" {
-        return Ok(refusal_line(alloc, None, refusal)?);
+        return refused(alloc, None, json);
     }
     let command = command_of(alloc, words)?;
-    Ok(refusal_line(alloc, Some(&command), refusal)?)
+    refused(alloc, Some(&command), json)
 }
 
 fn warned(
@@ -127,20 +141,28 @@ fn warned(
     }
 }
 
+fn with_text(alloc: Global, line: &str, command: &HallCommand) -> Result<String, PlayFault> {
+    let text = command.text(alloc)?;
+    Ok(format!(in alloc; "{line}; {text}")?)
+}
+
 // What a command will do to a machine, and the command as it is sent.
 fn sent(alloc: Global, command: HallCommand, machine: &ListedMachine) -> Result<String, PlayFault> {
     let line = warned(alloc, &command, machine)?;
-    let text = with_version(command, machine.version).text(alloc)?;
-    Ok(format!(in alloc; "{line}; {text}")?)
+    with_text(
+        alloc,
+        line.as_str(),
+        &with_version(command, machine.version),
+    )
+}
+
+fn machine_of(alloc: Global, json: &str) -> Result<ListedMachine, PlayFault> {
+    Ok(listed(&json_of(alloc, json)?)?)
 }
 
 /// What a command will do, and the command as it is sent.
 pub(crate) fn warning_text(alloc: Global, text: &str) -> Result<String, PlayFault> {
     let (words, json) = parts(text)?;
-    let object = json_of(alloc, json)?;
-    let command = command_of(alloc, words)?;
-    match listed(&object) {
-        Ok(machine) => sent(alloc, command, &machine),
-        Err(fault) => Err(PlayFault::from(fault)),
-    }
+    let machine = machine_of(alloc, json)?;
+    sent(alloc, command_of(alloc, words)?, &machine)
 }

@@ -1,7 +1,8 @@
 //! What a command line asks for, in words.
 use hall_events::HallCommand;
 use hall_types::{Name, RequestKey, Status};
-use hallctl_words::{Filter, Form, Line, Which, Wish};
+use hallctl_texts::Filter;
+use hallctl_words::{Form, Line, Which, Wish};
 use std::alloc::{AllocError, Global};
 
 fn word_of(alloc: Global, word: &str) -> Result<String, AllocError> {

@@ -1,7 +1,7 @@
 //! Lines over a hall in memory, while memory ends ever later: a line that is refused as unavailable leaves the hall as it was. A line
 //! whose answer can't be kept for want of memory leaves it so too, or was carried out. Of lines that stand together one is refused.
-use crate::stops::{Seen, first_line, play_line};
 use hall_store::HallStore;
+use play_files::{Seen, first_line, play_line};
 use play_log::hold_within;
 use play_store::{Asked, Fault};
 use sqlite::{Alter, Connection};

@@ -1,12 +1,9 @@
 //! The halls of a log, over each store.
-use crate::disks::empty_files;
-use crate::tasks::{Outcome, Task, play_in};
 use crate::trials::play_stops;
-use hall_sql::SqlStore;
 use hall_types::{Digest, Name};
+use play_files::{Outcome, Task, empty_files, play_in};
 use play_log::{LogFault, admin};
 use play_store::{Asked, FILES, Fault, PlayFault, STOPS, play, read_log, write_text};
-use sqlite::{Alter, Connection};
 use std::alloc::Global;
 use std::io::{Read, Write};
 use store_memory::MemoryStore;
@@ -33,25 +30,6 @@ fn in_memory<W: Write>(
             done
         }
         Err(_) => Err(PlayFault::Log(LogFault::Memory)),
-    }
-}
-
-/// A hall over a connection, which is given back.
-pub fn play_over_tables<S: Alter + Drop>(
-    alloc: Global,
-    conn: Connection<S>,
-    (name, digest): (Name, Digest),
-    lines: &[String],
-    from: usize,
-    out: &mut Outcome,
-) -> Connection<S> {
-    match SqlStore::create(alloc, conn, name, digest) {
-        Ok(store) => {
-            let (done, store) = play(alloc, store, lines, from, &mut out.text, &mut out.asked);
-            out.done = done;
-            store.into_connection()
-        }
-        Err(refused) => refused.connection,
     }
 }
 

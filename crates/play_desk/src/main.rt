@@ -2,11 +2,11 @@
 //! input has a line `ADMIN DIGEST`, and then a line for each thing that is done with that new hall, as play_store says. Beside them:
 //!
 //! - `new ADMIN DIGEST` goes on with another new hall;
-//! - `== files` ends the halls: the lines after it are played over files, as `files.rt` says, and only in the second half;
+//! - `== files` ends the halls: the lines after it are played over files, as play_files says, and only in the second half;
 //! - `== stops` ends the files: after it come a line `look ..`, by which halls are compared, and lines `CALLS OCTETS LINE && LINE ..`,
 //!   each LINE one of the lines over a file. They are played over an empty file and then over what the lines before them left: the
 //!   answer of each LINE is written, and that of its repeat. Then the log stops after 0 calls, CALLS calls, twice as many, and so on,
-//!   until it doesn't stop any more, and after it the file. What that may leave is in `stops.rt`. After the last of them each LINE is
+//!   until it doesn't stop any more, and after it the file. What that may leave is in play_files' `stops.rt`. After the last of them each LINE is
 //!   played once more over SQLite in memory and over the store in memory, whose hall the first line makes, where memory ends after 0
 //!   octets, OCTETS octets, twice as many, and so on, 32 times as many for SQLite, as `budgets.rt` says, and then the line `look ..`. Lines
 //!   that end with `migrate` aren't played over the store in memory.
@@ -15,11 +15,7 @@
 #![tactic(auto)]
 
 mod budgets;
-mod disks;
-mod files;
 mod halls;
-mod stops;
-mod tasks;
 mod trials;
 
 use halls::play_twice;

@@ -1,7 +1,6 @@
 //! The part of a log whose lines are played while something stops: a disk, and then memory.
 use crate::budgets::{Hall, Stored, look_at, play_in_budgets};
-use crate::disks::{Image, Which};
-use crate::stops::{Run, Seen};
+use play_files::{Image, Run, Seen, Which};
 use play_log::{LogFault, admin, hold_all_but};
 use play_store::{Fault, PlayFault, first, is_comment, push_comment, write_answer, write_text};
 use sqlite::{Connection, MemStore};

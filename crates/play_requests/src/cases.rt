@@ -1,6 +1,6 @@
 //! The kinds of cases, by subject. Each function passes on the kinds that it doesn't have.
 use crate::{answers, ends, faults, logs, office, receipts, refusals, requests};
-use desk_operations::LogFormat;
+use desk_values::LogFormat;
 use play_log::{CaseAnswer, Cases, LineFault};
 use std::alloc::Global;
 

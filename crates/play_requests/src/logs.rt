@@ -1,8 +1,9 @@
 //! Lines of logs: arrivals that are played, and what a service notes.
 use boot_desk::{FrameView, frame};
 use desk_operations::{
-    Backup, Failures, LogFormat, arrival_text, backup_line, lost_line, moment_text, unstamped_line,
+    Backup, Failures, arrival_text, backup_line, lost_line, moment_text, unstamped_line,
 };
+use desk_values::LogFormat;
 use dhcp_frame::read;
 use hall_desk::{Account, Arrival, Came, Input, Notes};
 use hall_types::{Moment, Port, Token};

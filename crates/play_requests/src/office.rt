@@ -1,5 +1,6 @@
 //! What an operator gives on a command line and on standard input.
-use desk_operations::{Exit, Fault, Input, frame_run, moment_of, parse, read_input};
+use desk_operations::{Exit, Input, frame_run, parse, read_input};
+use desk_values::{Fault, moment_of};
 use play_log::{
     CaseAnswer, LineFault, Short, Slow, halves, number, place, port, string_of, text_of,
 };

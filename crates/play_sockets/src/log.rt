@@ -1,6 +1,7 @@
 //! The log of the service's turns.
 use crate::client::Client;
-use desk_operations::{LogFormat, arrival_text, is_of_note};
+use desk_operations::{arrival_text, is_of_note};
+use desk_values::LogFormat;
 use hall_desk::{Account, Answer, Arrival};
 use hall_types::{Moment, Port};
 use serve_lines::turn_line;

@@ -63,6 +63,22 @@ fn step<S: HallStore + Drop, R: BufRead>(
     Ok(Next::Line)
 }
 
+// Plays the lines over a stage, up to one that begins another hall.
+fn play_over<S: HallStore + Drop, R: BufRead>(
+    rt: &HostRuntime,
+    stage: &mut Stage<S>,
+    reader: &mut R,
+) -> Result<Option<Begun>, Fault> {
+    for _ in 0..u64::MAX {
+        match step(rt, stage, reader)? {
+            Next::Line => {}
+            Next::Hall(hall) => return Ok(Some(hall)),
+            Next::End => return Ok(None),
+        }
+    }
+    Ok(None)
+}
+
 /// Plays the lines up to one that begins another hall, which it gives.
 pub fn play<S: HallStore + Drop, R: BufRead>(
     rt: &HostRuntime,
@@ -70,12 +86,5 @@ pub fn play<S: HallStore + Drop, R: BufRead>(
     reader: &mut R,
 ) -> Result<Option<Begun>, Fault> {
     let mut stage = Stage::new(rt, store)?;
-    for _ in 0..u64::MAX {
-        match step(rt, &mut stage, reader)? {
-            Next::Line => {}
-            Next::Hall(hall) => return Ok(Some(hall)),
-            Next::End => return Ok(None),
-        }
-    }
-    Ok(None)
+    play_over(rt, &mut stage, reader)
 }

@@ -62,7 +62,7 @@ pub fn parse_rows(alloc: Global, text: &str, line: &mut String) -> Result<(), Fa
 fn push_import(
     line: &mut String,
     octets: &[u8],
-    end: Result<Imported, desk_operations::Fault>,
+    end: Result<Imported, desk_values::Fault>,
 ) -> Result<(), Fault> {
     let last = match end {
         Ok(Imported::All) => "each row was accepted\n",

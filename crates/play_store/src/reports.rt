@@ -1,7 +1,8 @@
 //! Reports on a hall, as a command line prints them.
 use crate::fault::Fault;
 use crate::words::number;
-use desk_operations::{What, export, report};
+use desk_operations::{export, report};
+use desk_values::What;
 use hall_store::HallStore;
 use std::alloc::Global;
 
@@ -9,7 +10,7 @@ use std::alloc::Global;
 pub fn push_printed(
     line: &mut String,
     octets: &[u8],
-    end: Result<(), desk_operations::Fault>,
+    end: Result<(), desk_values::Fault>,
 ) -> Result<(), Fault> {
     match str::from_utf8(octets) {
         Ok(text) => line.push_str(text)?,
@@ -17,8 +18,8 @@ pub fn push_printed(
     }
     match end {
         Ok(()) => Ok(()),
-        Err(desk_operations::Fault::Unavailable) => Err(Fault::Unavailable),
-        Err(desk_operations::Fault::Memory) => Err(Fault::Memory),
+        Err(desk_values::Fault::Unavailable) => Err(Fault::Unavailable),
+        Err(desk_values::Fault::Memory) => Err(Fault::Memory),
         Err(fault) => {
             line.push_str(fault.name())?;
             line.push('\n')?;

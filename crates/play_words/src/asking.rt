@@ -2,7 +2,7 @@
 use crate::texts::{
     addresses_text, digest_text, format_word, place_text, port_word, token_text, what_text,
 };
-use hallboot_tasks::{Asked, Serving, Task};
+use hallboot_asked::{Asked, Serving, Task};
 use std::alloc::{AllocError, Global};
 
 fn backup_text(alloc: Global, serving: &Serving) -> Result<String, AllocError> {
@@ -17,7 +17,7 @@ fn backup_text(alloc: Global, serving: &Serving) -> Result<String, AllocError> {
 
 fn serving_text(alloc: Global, serving: &Serving) -> Result<String, AllocError> {
     let path = serving.path.as_str();
-    let addresses = addresses_text(alloc, &serving.addresses)?;
+    let addresses = addresses_text(alloc, serving)?;
     let turns = serving.turns;
     let format = format_word(serving.format);
     let enlists = if serving.enlists {
@@ -36,7 +36,7 @@ fn serving_text(alloc: Global, serving: &Serving) -> Result<String, AllocError> 
     )
 }
 
-fn task_text(alloc: Global, task: Task<'_>) -> Result<String, AllocError> {
+fn task_text(alloc: Global, task: Task) -> Result<String, AllocError> {
     match task {
         Task::Request {
             place,
@@ -63,7 +63,6 @@ fn task_text(alloc: Global, task: Task<'_>) -> Result<String, AllocError> {
             let place = place_text(alloc, &place)?;
             format!(in alloc; "import {bearer} {moment} of {len} octets {place}")
         }
-        Task::Serve { .. } => String::from_str(alloc, "serve"),
     }
 }
 

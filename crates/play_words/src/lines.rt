@@ -1,7 +1,8 @@
 //! Command lines, one after another.
 use crate::asking::asked_text;
-use desk_operations::{Exit, Fault};
-use hallboot_tasks::{asked_by, reason};
+use desk_operations::Exit;
+use desk_values::Fault;
+use hallboot_asked::{asked_by, reason};
 use hallboot_words::{Words, read};
 use play_log::next_line;
 use std::alloc::{AllocError, Global};

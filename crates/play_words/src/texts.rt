@@ -1,8 +1,8 @@
 //! Values in words.
-use desk_operations::{LogFormat, What};
+use desk_values::{LogFormat, What};
 use hall_types::{Digest, Port, Token};
+use hallboot_asked::Serving;
 use pxe_vendor::Place;
-use serve_sockets::Addresses;
 use std::alloc::{AllocError, Global};
 use std::net::Ipv4Addr;
 
@@ -44,9 +44,9 @@ pub(crate) fn place_text(alloc: Global, place: &Place) -> Result<String, AllocEr
     format!(in alloc; "{server} {next} {host}")
 }
 
-pub(crate) fn addresses_text(alloc: Global, addresses: &Addresses) -> Result<String, AllocError> {
-    let discover = addresses.discover.to_string(alloc)?;
-    let boot = addresses.boot.to_string(alloc)?;
-    let http = addresses.http.to_string(alloc)?;
+pub(crate) fn addresses_text(alloc: Global, serving: &Serving) -> Result<String, AllocError> {
+    let discover = serving.discover.to_string(alloc)?;
+    let boot = serving.boot.to_string(alloc)?;
+    let http = serving.http.to_string(alloc)?;
     format!(in alloc; "{discover} {boot} {http}")
 }

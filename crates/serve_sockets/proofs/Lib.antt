@@ -1,3 +1,4 @@
+pub mod ConnectionLemmas
 pub mod PutOffLemmas
 pub mod ServingLemmas
 pub mod TableLemmas

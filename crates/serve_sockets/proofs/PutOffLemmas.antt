@@ -9,6 +9,14 @@ use Rattle.serve_sockets.specs.PutOff.{waits_at, waits_held, waits_in}
 use Rattle.serve_sockets.specs.Table.{number_at}
 use Rattle.serve_sockets.specs.declared.connection.Connection.{Connection}
 
+-- a number that is smaller in the code is no greater in a clause
+pub older_by : (a b x y : ℕ) → a ≡ x → b ≡ y → nat_lt a b ≡ true → x ≤ y
+older_by a b x y left right is = omega (arith, left, right, ltb-true a b is)
+
+-- a number that is no smaller in the code is no smaller in a clause
+pub younger_by : (a b x y : ℕ) → a ≡ x → b ≡ y → nat_lt a b ≡ false → y ≤ x
+younger_by a b x y left right is = omega (arith, left, right, ltb-false a b is)
+
 module _ {T : Type 0} (slots : List (Option (Connection T))) where
   waits_there : (k : ℕ) → k < length slots → waits_at slots k ≡ waits_in (get_or slots k None)
   waits_there k inside = ap waits_held (slice_get_read slots (length slots) k (get_or slots k None) refl inside (get_or_default slots k None (get_or slots k None) inside))

@@ -1,5 +1,5 @@
 -- The turn that a step of a connection leads to.
-use Rattle.std.proofs.Common.{◌≡◌, ℕ, List, Option, subst, sym}
+use Rattle.std.proofs.Common.{◌≡◌, ◌≢◌, ◌<◌, ◌+◌, ◌%◌, ℕ, List, Option, ap, arith, subst, sym}
 use Rattle.pxe_vendor.specs.Place.{Site}
 use Rattle.hall_types.specs.Hall.{Hall}
 use Rattle.hall_desk.specs.declared.arrival.Input.TheVariants.{Request}
@@ -12,7 +12,7 @@ use Rattle.serve_sockets.specs.declared.turn.Turn.{Turn}
 use Rattle.serve_sockets.specs.declared.turn.Turn.TheVariants as turn
 
 -- a turn that hands nothing over has no fact of what it handed
-no_handover : (t : Turn) (P : Handover → Type 0) → HandsNothing t → IfHanded t P
+pub no_handover : (t : Turn) (P : Handover → Type 0) → HandsNothing t → IfHanded t P
 no_handover (turn.Handed handover) P nothing = absurd nothing
 no_handover (turn.Unsent handover) P nothing = absurd nothing
 no_handover (turn.Accepted from instead_of) P nothing = tt
@@ -20,6 +20,14 @@ no_handover (turn.Moved from) P nothing = tt
 no_handover (turn.Closed from cause) P nothing = tt
 no_handover turn.Nothing P nothing = tt
 no_handover turn.Failed P nothing = tt
+
+-- a turn that isn't the eighth one doesn't come after the seventh
+pub not_eighth : (turns : ℕ) → turns ≡ 7 → (turns + 1) % 8 ≢ 0 → ⊥
+not_eighth turns last other = other (ap (λ (n : ℕ). (n + 1) % 8) last)
+
+-- turns are counted up to seven
+pub turns_within : (turns : ℕ) → (turns + 1) % 8 < 8
+turns_within turns = omega arith
 
 -- what the step handed over is what the turn did
 pub turn_handed : (s : Step) (t : Turn) (P Q : Handover → Type 0) → ((handover : Handover) → P handover → Q handover)

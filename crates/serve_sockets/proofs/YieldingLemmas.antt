@@ -1,10 +1,15 @@
 -- Which connection goes, and how many silent ones each group has.
-use Rattle.std.proofs.Common.{◌≡◌, ◌<◌, ◌≤◌, ◌+◌, ◌==◌, ◌∙◌, ℕ, Bool, true, false, List, Option, Some, None, cond, length, nat_lt, slice_index, slice_index_or, slice_set, take, ap, arith, refl, subst, sym}
+use Rattle.std.proofs.Common.{◌≡◌, ◌≢◌, ◌<◌, ◌≤◌, ◌+◌, ◌==◌, ◌∙◌, ℕ, Fits, w16, Bool, true, false, List, Option, Some, None, IfSome, MatchOption, cond, length, nat_lt, slice_index, slice_index_or, slice_set, take, ap, arith, refl, subst, sym}
 use Rattle.std.proofs.lemmas.Bool.{eqb-false, eqb-true, ltb-true, ltb-false}
-use Rattle.std.proofs.lemmas.List.{get_or-set_other, get_or-set_same}
-use Rattle.std.proofs.lemmas.List.Sums.{sum_by_more}
-use Rattle.serve_sockets.specs.Yielding.{IsAhead, crowd_at, crowd_of, group_in, is_group}
+use Rattle.std.proofs.lemmas.List.{take_all, length-take, get_or-set_other, get_or-set_same}
+use Rattle.std.proofs.lemmas.List.Sums.{count_by-le-length, sum_by_more}
+use Rattle.serve_sockets.specs.Table.{number_at}
+use Rattle.serve_sockets.specs.Yielding.{IsAhead, IsTally, crowd_at, crowd_by, crowd_of, group_in, is_group}
 use Rattle.serve_sockets.specs.declared.connection.Connection.{Connection}
+
+-- a smaller number is no greater
+pub less_than : (a b : ℕ) → nat_lt a b ≡ true → a ≤ b
+less_than a b is = omega (arith, ltb-true a b is)
 
 module _ {T : Type 0} (slots : List (Option (Connection T))) where
   -- a connection goes no later than itself
@@ -21,6 +26,21 @@ module _ {T : Type 0} (slots : List (Option (Connection T))) where
         omega (arith, first.1 left, next.1 right),
   )
 
+  -- a connection of a greater crowd goes first
+  pub ahead_larger : (a b crowd rival : ℕ) → crowd ≡ crowd_at slots a → rival ≡ crowd_at slots b → rival < crowd → IsAhead slots a b
+  ahead_larger a b crowd rival first other larger = (omega (arith, first, other, larger), λ same. omega (arith, first, other, larger, same))
+
+  -- the connection that goes first by its crowd, or by its number where the crowds are the same
+  pub ahead_by : (a b crowd rival number next : ℕ) → crowd ≡ crowd_at slots a → rival ≡ crowd_at slots b → number ≡ number_at slots a → next ≡ number_at slots b
+      → crowd ≡ rival → number ≤ next → IsAhead slots a b
+  ahead_by a b crowd rival number next first other left right same older = (omega (arith, first, other, same), λ equal. omega (arith, left, right, older))
+
+  -- likewise, where the crowds differ
+  pub ahead_not : (a b crowd rival : ℕ) → crowd ≡ crowd_at slots a → rival ≡ crowd_at slots b → crowd ≢ rival → rival ≤ crowd → IsAhead slots a b
+  ahead_not a b crowd rival first other unlike most =
+      let larger : rival < crowd = omega (arith, unlike, most) in
+      ahead_larger a b crowd rival first other larger
+
   -- the first of the slots before a place and of that at it
   pub ahead_to : (best new place : ℕ) → ((k : ℕ) → k < place → IsAhead slots best k) → IsAhead slots new best → IsAhead slots new place
       → (k : ℕ) → k < place + 1 → IsAhead slots new k
@@ -30,12 +50,28 @@ module _ {T : Type 0} (slots : List (Option (Connection T))) where
         | false ↦ λ e. let here : k ≡ place = omega (arith, below, ltb-false k place e) in rw here last
       ] refl
 
+  -- how many silent connections the group that was found has, by the count of each group
+  pub crowd_found : (counts : List ℕ) (found : Option ℕ) (made : ℕ) (P : ℕ → Type 0) → IsTally counts slots → IfSome found (λ group. group < 1024)
+      → MatchOption found (made ≡ 0) P → ((group : ℕ) → group < 1024 → P group → made ≡ slice_index counts group) → made ≡ crowd_by slots found
+  crowd_found counts None made P tally within is reads = is
+  crowd_found counts (Some group) made P tally within is reads = reads group within is ∙ tally group within
+
   -- what one more slot adds to how many silent connections a group has
   crowd_more : (i g : ℕ) (held : Option (Connection T)) → i < length slots → held ≡ slice_index_or slots i held
       → crowd_of (take (i + 1) slots) g ≡ crowd_of (take i slots) g + cond (is_group g (group_in held)) 1 0
   crowd_more i g held inside at =
       let counts : Option (Connection T) → ℕ = λ x. cond (is_group g (group_in x)) 1 0 in
       sum_by_more counts slots i held inside ∙ ap (λ x. crowd_of (take i slots) g + counts x) (sym at)
+
+  -- one more silent connection of a group still fits
+  pub crowd_fits : (counts : List ℕ) (i g : ℕ) → length slots ≤ 1024 → slice_index counts g ≡ crowd_of (take i slots) g → Fits w16 (slice_index counts g + 1)
+  crowd_fits counts i g few counted =
+      let within : crowd_of (take i slots) g ≤ length (take i slots) = count_by-le-length (λ held. is_group g (group_in held)) (take i slots) in
+      omega (arith, few, counted, within, length-take i slots)
+
+  -- the count of all slots
+  pub tally_whole : (counts : List ℕ) (i : ℕ) → length slots ≤ i → (g : ℕ) → slice_index counts g ≡ crowd_of (take i slots) g → slice_index counts g ≡ crowd_of slots g
+  tally_whole counts i past g counted = counted ∙ ap (λ (all : List (Option (Connection T))). crowd_of all g) (take_all i slots past)
 
   -- a slot whose connection isn't silent counts nowhere
   pub tally_same : (counts : List ℕ) (i : ℕ) (held : Option (Connection T)) → i < length slots → held ≡ slice_index_or slots i held → group_in held ≡ None

@@ -1,4 +1,4 @@
-use Rattle.std.proofs.Common.{◌≡◌, ◌≤◌, arith}
+use Rattle.std.proofs.Common.{arith}
 use Rattle.serve_sockets.proofs.PutOffLemmas.{first_waits, longest_to}
 use Rattle.serve_sockets.proofs.put_off.longest_from.Goals as goal
 use Rattle.serve_sockets.proofs.put_off.longest_from.Goals.{then-has_waited_longer, else-has_waited_longer}

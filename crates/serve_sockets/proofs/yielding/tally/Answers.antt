@@ -1,6 +1,6 @@
 use Rattle.std.proofs.Common.{rules, arith, ◌∙◌, sym, length-set}
 use Rattle.std.proofs.lemmas.List.{get_or-replicate}
-use Rattle.serve_sockets.proofs.YieldingLemmas.{tally_more, tally_same}
+use Rattle.serve_sockets.proofs.YieldingLemmas.{crowd_fits, tally_more, tally_same, tally_whole}
 use Rattle.serve_sockets.proofs.yielding.tally.Goals as goal
 use Rattle.serve_sockets.proofs.yielding.tally.Goals.{in-Some, in_default}
 
@@ -27,3 +27,24 @@ loop-slot-preserved g c =
             (sym c.group_in.ensures.group ∙ w.in_default.is) so_far.counted);
       }
     ]
+
+pub offset_bounds-slots-slot : goal.offset_bounds-slots-slot
+offset_bounds-slots-slot g c = c.loop-slot.auto.slot-end
+
+pub bounds-slots-slot : goal.bounds-slots-slot
+bounds-slots-slot g c = c.loop-slot-test.true
+
+pub offset_bounds-crowds-group : goal.offset_bounds-crowds-group
+offset_bounds-crowds-group g c = omega (arith, c.in-Some.ensures.within)
+
+pub bounds-crowds-group : goal.bounds-crowds-group
+bounds-crowds-group g c = c.in-Some.ensures.within
+
+pub overflow_add-crowds : goal.overflow_add-crowds
+overflow_add-crowds g c = crowd_fits c.args.slots.now c.loop-slot.crowds c.loop-slot.slot c.in-Some.group c.requires (c.loop-slot.invariant.counted c.in-Some.group c.in-Some.ensures.within)
+
+pub bounds-crowds-group-in-Some : goal.bounds-crowds-group-in-Some
+bounds-crowds-group-in-Some g c = c.in-Some.ensures.within
+
+pub returns : goal.returns
+returns g c = λ group below. tally_whole c.args.slots.now c.loop-slot.crowds c.loop-slot.slot c.loop-slot-test.false group (c.loop-slot.invariant.counted group below)

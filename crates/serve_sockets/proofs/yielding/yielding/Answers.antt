@@ -1,4 +1,4 @@
-use Rattle.std.proofs.Common.{◌≡◌, ◌≤◌, arith}
+use Rattle.std.proofs.Common.{◌≡◌, arith}
 use Rattle.serve_sockets.proofs.YieldingLemmas.{ahead_self, ahead_to}
 use Rattle.serve_sockets.proofs.yielding.yielding.Goals as goal
 use Rattle.serve_sockets.proofs.yielding.yielding.Goals.{then-is_ahead, else-is_ahead}
@@ -28,3 +28,12 @@ loop-slot-preserved g c =
 
 pub returns-clause-goes : goal.returns-clause-goes
 returns-clause-goes g c k below = c.loop-slot.invariant.ahead k (omega (arith, below, c.loop-slot-test.false))
+
+pub tally-crowds-requires : goal.tally-crowds-requires
+tally-crowds-requires g c = c.requires.few
+
+pub is_ahead-requires : goal.is_ahead-requires
+is_ahead-requires g c = c.tally-crowds.ensures
+
+pub returns-clause-within : goal.returns-clause-within
+returns-clause-within g c = c.loop-slot.invariant.within

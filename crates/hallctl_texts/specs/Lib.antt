@@ -1,0 +1,3 @@
+pub mod Dangers
+pub mod Listings
+pub mod Values

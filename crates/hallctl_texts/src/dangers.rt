@@ -1,0 +1,98 @@
+//! Commands that erase disks or delete machines.
+ghost use Rattle.std.specs.Prelude.{◌≡◌};
+ghost use Rattle.hallctl_texts.specs.Dangers.{is_dangerous, is_dangerous_on, unversioned, with_version};
+
+use crate::listings::ListedMachine;
+use hall_events::{HallCommand, MachineCommand};
+use hall_types::{Number, Version};
+use std::alloc::{AllocError, Global};
+
+fn is_dangerous_on(command: &MachineCommand) -> bool
+    ensures { result ≡ is_dangerous_on command.now }
+{
+    matches!(
+        command,
+        MachineCommand::Delete | MachineCommand::Release { erase: Some(_) }
+    )
+}
+
+/// Whether a command erases a machine's disks or deletes the machine.
+pub fn is_dangerous(command: &HallCommand) -> bool
+    ensures { result ≡ is_dangerous command.now }
+{
+    match command {
+        HallCommand::OnMachine { command, .. } => is_dangerous_on(command),
+        _ => false,
+    }
+}
+
+// The machine of a command that names no version, and what is done to it.
+fn unversioned(command: &HallCommand) -> Option<(Number, MachineCommand)>
+    ensures { result ≡ unversioned command.now }
+{
+    match command {
+        HallCommand::OnMachine {
+            machine,
+            version: None,
+            command,
+        } => Some((*machine, *command)),
+        _ => None,
+    }
+}
+
+/// The command with the version that the machine must have, unless it has one.
+pub fn with_version(command: HallCommand, version: Version) -> HallCommand
+    ensures { result ≡ with_version command version }
+{
+    match unversioned(&command) {
+        Some((machine, command)) => HallCommand::OnMachine {
+            machine,
+            version: Some(version),
+            command,
+        },
+        None => command,
+    }
+}
+
+// What a command will do that can't be taken back.
+fn deed(alloc: Global, command: &MachineCommand) -> Result<Option<String>, AllocError> {
+    match command {
+        MachineCommand::Delete => Ok(Some(String::from_str(alloc, "it will be deleted")?)),
+        MachineCommand::Release { erase: Some(erase) } => {
+            let kind = erase.text();
+            Ok(Some(format!(in alloc; "all of its disks will be erased, {kind}")?))
+        }
+        _ => Ok(None),
+    }
+}
+
+// A machine with what a decision about it needs.
+fn machine_text(alloc: Global, machine: &ListedMachine) -> Result<String, AllocError> {
+    let (id, version) = (machine.id.get(), machine.version.get());
+    let (status, pool) = (machine.status.text(), machine.pool);
+    match machine.owner {
+        Some(owner) => format!(in alloc;
+            "machine {id} ({status}, pool {pool}, owner {owner}, version {version})"
+        ),
+        None => {
+            format!(in alloc; "machine {id} ({status}, pool {pool}, no owner, version {version})")
+        }
+    }
+}
+
+/// A line without a line feed that says what a dangerous command will do to the machine that was listed: `machine 1 (Deployed, pool lab,
+/// owner olga, version 7): all of its disks will be erased, full`. None for a command that isn't dangerous.
+pub fn warning(
+    alloc: Global,
+    command: &HallCommand,
+    machine: &ListedMachine,
+) -> Result<Option<String>, AllocError> {
+    let HallCommand::OnMachine { command, .. } = command else {
+        return Ok(None);
+    };
+    let Some(deed) = deed(alloc, command)? else {
+        return Ok(None);
+    };
+    let machine = machine_text(alloc, machine)?;
+    Ok(Some(format!(in alloc; "{machine}: {deed}")?))
+}

@@ -1,0 +1,11 @@
+//! Lines over the tables of files, of which one may stop.
+#![tactic(auto)]
+
+mod disks;
+mod files;
+mod stops;
+mod tasks;
+
+pub use disks::{Disks, Image, Which, empty_files};
+pub use stops::{Run, Seen, Step, first_line, play_line};
+pub use tasks::{Outcome, Task, play_in};

@@ -1,0 +1,117 @@
+//! What is played over files. There is one way from files to a store for all but the steps of `stops.rt`, since each function that goes
+//! from a layer of its type to the next takes ten seconds to prove.
+use crate::disks::{close, connect};
+use crate::files::{play_file_line, play_lines};
+use hall_sql::SqlStore;
+use hall_types::{Digest, Name};
+use play_log::LogFault;
+use play_store::{Asked, PlayFault, play};
+use sqlite::{Alter, Connection, FileStore, Files};
+use sqlite_disk::Disk;
+use std::alloc::Global;
+
+/// What is played over the tables of files.
+#[derive(Clone, Copy)]
+pub enum Task<'a> {
+    /// The lines of the log from a place on, over the store of a new hall.
+    Hall {
+        admin: (Name, Digest),
+        lines: &'a [String],
+        from: usize,
+    },
+    /// The lines of the log from a place on, each over the tables as they are then.
+    File {
+        lines: &'a [String],
+        from: usize,
+    },
+    /// A line.
+    Line(&'a str),
+}
+
+/// What came of it.
+#[derive(Drop)]
+pub struct Outcome {
+    /// What is to be written for the lines of the log.
+    pub text: Vec<u8>,
+    /// Whether all of them were played.
+    pub done: Result<(), PlayFault>,
+    /// What the desk asked of its stores.
+    pub asked: Asked,
+    /// The answer to a line.
+    pub line: String,
+}
+
+impl Outcome {
+    /// Nothing was played: there was no memory for a connection.
+    pub fn none(alloc: Global, asked: Asked) -> Outcome {
+        Outcome {
+            text: Vec::new(alloc),
+            done: Err(PlayFault::Log(LogFault::Memory)),
+            asked,
+            line: String::new(alloc),
+        }
+    }
+}
+
+// Plays over the store of a new hall, and gives its connection back.
+fn play_over_tables<S: Alter + Drop>(
+    alloc: Global,
+    conn: Connection<S>,
+    (name, digest): (Name, Digest),
+    lines: &[String],
+    from: usize,
+    out: &mut Outcome,
+) -> Connection<S> {
+    match SqlStore::create(alloc, conn, name, digest) {
+        Ok(store) => {
+            let (done, store) = play(alloc, store, lines, from, &mut out.text, &mut out.asked);
+            out.done = done;
+            store.into_connection()
+        }
+        Err(refused) => refused.connection,
+    }
+}
+
+fn over_tables<S: Alter + Drop>(
+    alloc: Global,
+    conn: Connection<S>,
+    task: &Task<'_>,
+    out: &mut Outcome,
+) -> Connection<S> {
+    match task {
+        Task::Hall { admin, lines, from } => {
+            play_over_tables(alloc, conn, *admin, lines, *from, out)
+        }
+        Task::File { lines, from } => {
+            let (done, conn) = play_lines(alloc, conn, lines, *from, &mut out.text);
+            out.done = done;
+            conn
+        }
+        Task::Line(text) => {
+            let (_, conn) = play_file_line(alloc, conn, text, &mut out.line, &mut out.asked);
+            conn
+        }
+    }
+}
+
+fn over_connection<D: Disk + Drop>(
+    alloc: Global,
+    conn: Connection<FileStore<D>>,
+    task: &Task<'_>,
+    out: &mut Outcome,
+) -> (bool, Files<D>) {
+    close(over_tables(alloc, conn, task, out))
+}
+
+/// Plays over files, and closes them; whether the closing went well.
+pub fn play_in<D: Disk + Drop>(
+    alloc: Global,
+    files: Files<D>,
+    task: &Task<'_>,
+    out: &mut Outcome,
+) -> (bool, Files<D>) {
+    match connect(alloc, files) {
+        Ok(conn) => over_connection(alloc, conn, task, out),
+        Err(files) => (false, files),
+    }
+}

@@ -1,0 +1,135 @@
+use Rattle.std.proofs.Common.{arith, refl}
+use Rattle.serve_sockets.proofs.TurnLemmas.{no_handover, not_eighth, turns_within}
+use Rattle.serve_sockets.proofs.service.Service.turn.Goals as goal
+
+pub overflow_add-self : goal.overflow_add-self
+overflow_add-self g c = omega (arith, c.args.self.now.few)
+
+pub invariant_of-self : goal.invariant_of-self
+invariant_of-self g c = record { few = turns_within c.args.self.now.turns }
+
+pub returns-then-self-eq0-clause-clean : goal.returns-then-self-eq0-clause-clean
+returns-then-self-eq0-clause-clean g c = c.quiet.ensures.clean
+
+pub returns-then-self-eq0-clause-site : goal.returns-then-self-eq0-clause-site
+returns-then-self-eq0-clause-site g c = c.quiet.ensures.site
+
+pub returns-then-self-eq0-clause-handed : goal.returns-then-self-eq0-clause-handed
+returns-then-self-eq0-clause-handed g c = c.quiet.ensures.handed
+
+pub returns-then-self-eq0-clause-same : goal.returns-then-self-eq0-clause-same
+returns-then-self-eq0-clause-same g c = λ nothing. absurd nothing
+
+pub returns-then-self-eq0-clause-turns : goal.returns-then-self-eq0-clause-turns
+returns-then-self-eq0-clause-turns g c = c.quiet.ensures.turns
+
+pub returns-then-self-eq0-clause-eighth : goal.returns-then-self-eq0-clause-eighth
+returns-then-self-eq0-clause-eighth g c = λ last. c.quiet.ensures.kind
+
+pub invariant_of-self-in-Some-1 : goal.invariant_of-self-in-Some-1
+invariant_of-self-in-Some-1 g c = record { few = turns_within c.args.self.now.turns }
+
+pub returns-in-Some-clause-clean : goal.returns-in-Some-clause-clean
+returns-in-Some-clause-clean g c = λ clean. clean
+
+pub returns-in-Some-clause-site : goal.returns-in-Some-clause-site
+returns-in-Some-clause-site g c = refl
+
+pub returns-in-Some-clause-handed : goal.returns-in-Some-clause-handed
+returns-in-Some-clause-handed g c = λ clean. no_handover c.in-Some.turn _ c.in-Some.ensures
+
+pub returns-in-Some-clause-same : goal.returns-in-Some-clause-same
+returns-in-Some-clause-same g c = λ nothing. refl
+
+pub returns-in-Some-clause-turns : goal.returns-in-Some-clause-turns
+returns-in-Some-clause-turns g c = refl
+
+pub returns-in-Some-clause-eighth : goal.returns-in-Some-clause-eighth
+returns-in-Some-clause-eighth g c = λ last. absurd (not_eighth c.args.self.now.turns last c.if-self-eq0.false)
+
+pub invariant_of-self-in-None : goal.invariant_of-self-in-None
+invariant_of-self-in-None g c = record { few = turns_within c.args.self.now.turns }
+
+pub invariant_of-self-in-Port-1 : goal.invariant_of-self-in-Port-1
+invariant_of-self-in-Port-1 g c = record { few = turns_within c.args.self.now.turns }
+
+pub invariant_of-self-in-Some-Listener : goal.invariant_of-self-in-Some-Listener
+invariant_of-self-in-Some-Listener g c = record { few = turns_within c.args.self.now.turns }
+
+pub invariant_of-self-in-Connection-1 : goal.invariant_of-self-in-Connection-1
+invariant_of-self-in-Connection-1 g c = record { few = turns_within c.args.self.now.turns }
+
+pub connection-requires : goal.connection-requires
+connection-requires g c = rw c.in-Some-Connection.field-0-is at c.in-Some-Connection.ensures
+
+pub returns-in-None-clause-clean : goal.returns-in-None-clause-clean
+returns-in-None-clause-clean g c = c.quiet-in-None.ensures.clean
+
+pub returns-in-None-clause-site : goal.returns-in-None-clause-site
+returns-in-None-clause-site g c = c.quiet-in-None.ensures.site
+
+pub returns-in-None-clause-handed : goal.returns-in-None-clause-handed
+returns-in-None-clause-handed g c = c.quiet-in-None.ensures.handed
+
+pub returns-in-None-clause-same : goal.returns-in-None-clause-same
+returns-in-None-clause-same g c = λ nothing. absurd nothing
+
+pub returns-in-None-clause-turns : goal.returns-in-None-clause-turns
+returns-in-None-clause-turns g c = c.quiet-in-None.ensures.turns
+
+pub returns-in-None-clause-eighth : goal.returns-in-None-clause-eighth
+returns-in-None-clause-eighth g c = λ last. c.quiet-in-None.ensures.kind
+
+pub returns-in-Some-Port-clause-clean : goal.returns-in-Some-Port-clause-clean
+returns-in-Some-Port-clause-clean g c = c.datagram.ensures.clean
+
+pub returns-in-Some-Port-clause-site : goal.returns-in-Some-Port-clause-site
+returns-in-Some-Port-clause-site g c = c.datagram.ensures.site
+
+pub returns-in-Some-Port-clause-handed : goal.returns-in-Some-Port-clause-handed
+returns-in-Some-Port-clause-handed g c = c.datagram.ensures.handed
+
+pub returns-in-Some-Port-clause-same : goal.returns-in-Some-Port-clause-same
+returns-in-Some-Port-clause-same g c = c.datagram.ensures.same
+
+pub returns-in-Some-Port-clause-turns : goal.returns-in-Some-Port-clause-turns
+returns-in-Some-Port-clause-turns g c = c.datagram.ensures.turns
+
+pub returns-in-Some-Port-clause-eighth : goal.returns-in-Some-Port-clause-eighth
+returns-in-Some-Port-clause-eighth g c = λ last. absurd (not_eighth c.args.self.now.turns last c.if-self-eq0.false)
+
+pub returns-in-Some-Listener-clause-clean : goal.returns-in-Some-Listener-clause-clean
+returns-in-Some-Listener-clause-clean g c = λ clean. clean
+
+pub returns-in-Some-Listener-clause-site : goal.returns-in-Some-Listener-clause-site
+returns-in-Some-Listener-clause-site g c = refl
+
+pub returns-in-Some-Listener-clause-handed : goal.returns-in-Some-Listener-clause-handed
+returns-in-Some-Listener-clause-handed g c = λ clean. no_handover c.accept.result _ c.accept.ensures
+
+pub returns-in-Some-Listener-clause-same : goal.returns-in-Some-Listener-clause-same
+returns-in-Some-Listener-clause-same g c = λ nothing. refl
+
+pub returns-in-Some-Listener-clause-turns : goal.returns-in-Some-Listener-clause-turns
+returns-in-Some-Listener-clause-turns g c = refl
+
+pub returns-in-Some-Listener-clause-eighth : goal.returns-in-Some-Listener-clause-eighth
+returns-in-Some-Listener-clause-eighth g c = λ last. absurd (not_eighth c.args.self.now.turns last c.if-self-eq0.false)
+
+pub returns-in-Some-Connection-clause-clean : goal.returns-in-Some-Connection-clause-clean
+returns-in-Some-Connection-clause-clean g c = c.connection.ensures.clean
+
+pub returns-in-Some-Connection-clause-site : goal.returns-in-Some-Connection-clause-site
+returns-in-Some-Connection-clause-site g c = c.connection.ensures.site
+
+pub returns-in-Some-Connection-clause-handed : goal.returns-in-Some-Connection-clause-handed
+returns-in-Some-Connection-clause-handed g c = c.connection.ensures.handed
+
+pub returns-in-Some-Connection-clause-same : goal.returns-in-Some-Connection-clause-same
+returns-in-Some-Connection-clause-same g c = c.connection.ensures.same
+
+pub returns-in-Some-Connection-clause-turns : goal.returns-in-Some-Connection-clause-turns
+returns-in-Some-Connection-clause-turns g c = c.connection.ensures.turns
+
+pub returns-in-Some-Connection-clause-eighth : goal.returns-in-Some-Connection-clause-eighth
+returns-in-Some-Connection-clause-eighth g c = λ last. absurd (not_eighth c.args.self.now.turns last c.if-self-eq0.false)
