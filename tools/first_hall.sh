@@ -4,6 +4,7 @@
 set -euo pipefail
 here=$(cd "$(dirname "$0")" && pwd)
 . "$here/program.sh"
+program hallboot
 frame=$(tail -n 1 "$here/../crates/hallboot/stdin")
 umask 077
 work=$(mktemp -d)

@@ -40,11 +40,8 @@ if [ $$ != 1 ]; then    # not yet the first process of a namespace
     ls "${LINUX:-}"/boot/vmlinuz-*-amd64 > /dev/null 2>&1 || { echo 'follow_guide: there is no kernel (Debian'"'"'s package linux-image-cloud-amd64)' >&2; exit 1; }
     [ "$(id -u)" = 0 ] || { echo 'follow_guide: only root can make network namespaces' >&2; exit 1; }
     . "$here/program.sh"
-    if [ -z "${HALLCTL:-}" ]; then
-        HALLCTL=$(cd "$here/../crates/hallctl" && pwd)/out/hallctl
-        (cd "$here/../crates/hallctl" && rt run -- --help > /dev/null)
-    fi
-    export HALLCTL
+    program hallboot
+    program hallctl
     exec 9< /proc/self/ns/net    # the system's own, for sysctl
     exec unshare --net --mount --pid --uts --fork --kill-child --mount-proc "$here/follow_guide.sh"
 fi

@@ -6,10 +6,8 @@ set -euo pipefail
 here=$(cd "$(dirname "$0")" && pwd)
 seed=${1:-1}
 . "$here/program.sh"
-if [ -z "${HALLCTL:-}" ]; then
-    HALLCTL=$(cd "$here/../crates/hallctl" && pwd)/out/hallctl
-    (cd "$here/../crates/hallctl" && rt run -- --help > /dev/null)
-fi
+program hallboot
+program hallctl
 umask 077
 work=$(mktemp -d)
 started=()

@@ -1,14 +1,6 @@
 # Sourced by desk_speed.sh and store_speed.sh, which set `work`, a folder: the least times of runs of a program. bench_hall plays logs
 # that bench_log.py writes.
 declare -A processor_of clock_of
-# built CRATE WORD..: the program of a crate, which is proved, built and run once with these words, its input at hand. Where a variable
-# with the crate's name in capitals names a program that is built already, it's that one.
-built() {
-    local given=${1^^}
-    if [ -n "${!given:-}" ]; then echo "${!given}"; return; fi
-    (cd "$here/../crates/$1" && rt run -- "${@:2}" > "$work/log" 2>&1) || { cat "$work/log" >&2; return 1; }
-    echo "$here/../crates/$1/out/$1"
-}
 # keep KEY COMMAND..: runs a command, and keeps the least of its times under KEY, in microseconds; what it printed is the file said.
 keep() {
     local key=$1 TIMEFORMAT='%3U %3S %3R' times processor clock

@@ -7,6 +7,7 @@
 set -euo pipefail
 here=$(cd "$(dirname "$0")" && pwd)
 . "$here/program.sh"
+program hallboot
 log=$here/../crates/play_desk/stdin
 apart=${1:-1}
 work=$(mktemp -d)

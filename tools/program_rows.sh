@@ -4,6 +4,7 @@
 set -euo pipefail
 here=$(cd "$(dirname "$0")" && pwd)
 . "$here/program.sh"
+program hallboot
 crate=$here/../crates/hallboot
 work=$(mktemp -d)
 trap 'rm -rf "$work"' EXIT

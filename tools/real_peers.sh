@@ -10,6 +10,7 @@ has() { type -P "$1" > /dev/null; }
 need() { has "$1" || { echo "real_peers: $1 is missing (Debian's package $2)" >&2; exit 1; }; }
 need curl curl; need python3 python3
 . "$here/program.sh"
+program hallboot
 
 umask 077    # the hall's file is for its owner alone: the desk would say otherwise
 ulimit -n 4096    # for 1,024 connections

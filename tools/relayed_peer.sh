@@ -9,6 +9,7 @@ if [ $$ != 1 ]; then    # not yet the first process of a namespace
     need python3 python3; need ip iproute2; need unshare util-linux; need nsenter util-linux; need dhcrelay isc-dhcp-relay
     [ "$(id -u)" = 0 ] || { echo 'relayed_peer: only root can make network namespaces' >&2; exit 1; }
     . "$here/program.sh"
+    program hallboot
     exec unshare --net --pid --fork --kill-child --mount-proc "$here/relayed_peer.sh"
 fi
 work=$(mktemp -d)

@@ -15,6 +15,7 @@ need setpriv util-linux; need taskset util-linux
 
 if [ "${SERVE_SPEED_INSIDE:-}" != yes ]; then
     . "$here/program.sh"
+    program hallboot
     export SERVE_SPEED_INSIDE=yes
     [ "$(nproc)" -ge 2 ] || { echo "serve_speed: two processors are needed" >&2; exit 1; }
     exec unshare --net --pid --fork --kill-child --mount-proc "$here/serve_speed.sh" "$@"

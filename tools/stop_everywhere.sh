@@ -5,12 +5,8 @@
 set -euo pipefail
 here=$(cd "$(dirname "$0")" && pwd)
 crate=$here/../crates/play_desk
-if [ -z "${PLAY_DESK:-}" ]; then
-    built=$(mktemp)
-    (cd "$crate" && rt run < /dev/null) > "$built" 2>&1 || [ -x "$crate/out/play_desk" ] || { cat "$built" >&2; rm -f "$built"; exit 1; }
-    rm -f "$built"
-    PLAY_DESK=$crate/out/play_desk
-fi
+. "$here/program.sh"
+program play_desk
 work=$(mktemp -d)
 trap 'rm -rf "$work"' EXIT
 # after the line `== stops` a line begins with the calls that there are more at each stop

@@ -10,4 +10,5 @@ here=$(cd "$(dirname "$0")" && pwd)
 need() { type -P "$1" > /dev/null || { echo "stop_torture: $1 is missing (Debian's package $2)" >&2; exit 1; }; }
 need python3 python3; need strace strace
 . "$here/program.sh"
+program hallboot
 exec python3 "$here/stop_torture.py" "$HALLBOOT" "${1:-20}" "${2:-$RANDOM}"

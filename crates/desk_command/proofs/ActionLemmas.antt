@@ -1,5 +1,5 @@
 -- A hall stays sound if a machine enters the status that an operator's action leads to.
-use Rattle.std.specs.Prelude.{◌≡◌, ◌&&◌, ◌||◌, ℕ, Bool, true, false, List, Option, Some, None, Ok, is_some, IsSome, option_map}
+use Rattle.std.specs.Prelude.{◌≡◌, ◌&&◌, ◌||◌, ℕ, Bool, true, false, List, Option, Some, None, Ok, Err, is_some, IsSome, option_map}
 use Rattle.std.specs.List.{list_all}
 use Rattle.std.proofs.Common.{refl, sym, ap, subst, ◌∙◌}
 use Rattle.std.proofs.lemmas.Bool.{and_parts}
@@ -15,6 +15,7 @@ use Rattle.hall_types.specs.declared.kinds.Purpose.{Purpose}
 use Rattle.hall_types.specs.declared.machine.Machine.{Machine}
 use Rattle.hall_types.specs.declared.number.Numbers.{Numbers}
 use Rattle.hall_types.specs.declared.operator.Operator.{Operator}
+use Rattle.hall_types.specs.declared.refusal.Refusal.{Refusal}
 use Rattle.hall_types.specs.declared.status.Status.{Status}
 use Rattle.hall_types.specs.declared.status.Status.TheVariants.{Commissioning, Testing, Deploying, DiskErasing, EnteringRescue}
 use Rattle.hall_events.specs.Reply.{Content}
@@ -146,6 +147,10 @@ module _ (h : Hall) (s : IsSound h) (in_second : h.schema ≡ second) (m : Machi
           works = works;
         })
         m e is
+
+-- a refusal has no rows
+pub refused_never : {P : Type 0} (cause : Refusal) (d : List RowWrite × Content) → ◌≡◌ {A = Effect} (Err cause) (Ok d) → P
+refused_never cause d is = cc
 
 -- the rows of an effect
 pub same_rows_of : (x y : List RowWrite × Content) → ◌≡◌ {A = Effect} (Ok x) (Ok y) → x.0 ≡ y.0

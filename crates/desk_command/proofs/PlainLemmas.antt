@@ -18,11 +18,12 @@ use Rattle.hall_types.specs.declared.image.Live.{Live}
 use Rattle.hall_types.specs.declared.kinds.Role.{Role}
 use Rattle.hall_types.specs.declared.machine.Machine.{Machine}
 use Rattle.hall_types.specs.declared.operator.Operator.{Operator}
+use Rattle.hall_types.specs.declared.refusal.Refusal.TheVariants as cause
 use Rattle.hall_events.specs.Reply.{Content, done}
 use Rattle.boot_desk.specs.Sound.{IsSound}
 use Rattle.desk_command.specs.Effect.{Effect, disabled, live_image}
 use Rattle.desk_command.specs.View.{image_arch}
-use Rattle.desk_command.proofs.ActionLemmas.{same_rows_of}
+use Rattle.desk_command.proofs.ActionLemmas.{refused_never, same_rows_of}
 use Rattle.desk_command.proofs.OtherRowLemmas.{image_gone_sound, live_sound, operator_sound}
 
 -- where neither of two holds
@@ -65,7 +66,7 @@ module _ (h : Hall) (s : IsSound h) where
       by_enabled o there false e = subst (λ r. IsSound (applied r h)) (same_rows_of ([], done) (rows, content) e) s
 
       by : (o : Option Operator) → at h.operators name ≡ o → disabled o ≡ Ok (rows, content) → IsSound (applied rows h)
-      by None there e = cc
+      by None there e = refused_never cause.NoOperator (rows, content) e
       by (Some o) there e = by_enabled o there o.enabled e
 
   -- an image that nothing refers to goes
@@ -83,7 +84,7 @@ module _ (h : Hall) (s : IsSound h) where
   set_live_sound image rows content is = by (at h.images image) refl is
     where
       by : (o : Option BootImage) → at h.images image ≡ o → live_image image (option_map (λ (i : BootImage). i.arch) o) ≡ Ok (rows, content) → IsSound (applied rows h)
-      by None there e = cc
+      by None there e = refused_never cause.NoImage (rows, content) e
       by (Some i) there e =
           subst (λ r. IsSound (applied r h)) (same_rows_of (write.PutLive (record { arch = i.arch; image = image }) ∷ [], done) (rows, content) e)
           (live_sound h s (record { arch = i.arch; image = image }) (ap (λ o. is_some o) there))

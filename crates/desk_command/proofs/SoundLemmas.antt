@@ -28,7 +28,7 @@ use Rattle.desk_command.specs.Causes.{causes, causes_at, first_of, is_deployed, 
 use Rattle.desk_command.specs.Command.{command_decision, commanded, keyed, may_send, needs_admin, of_sender, receipt_of, unless, with_receipt}
 use Rattle.desk_command.specs.Effect.{Effect, about, effect, machine_effect, machine_effect_if, raised}
 use Rattle.desk_command.specs.View.{command_view, has_pool, image_arch, machine_view, machine_view_if}
-use Rattle.desk_command.proofs.ActionLemmas.{same_rows_of}
+use Rattle.desk_command.proofs.ActionLemmas.{refused_never, same_rows_of}
 use Rattle.desk_command.proofs.AddMachineLemmas.{add_machine_sound}
 use Rattle.desk_command.specs.AllowedLaws.{IsAllowed, allowed, first_none, unless_none, when_none}
 use Rattle.desk_command.proofs.DeleteLemmas.{without_machine_sound}
@@ -137,7 +137,7 @@ module _ (h : Hall) (s : IsSound h) (in_second : h.schema ≡ second) (key : Lis
   commanded_keeps o known is = by_cause (first_of (causes (command_view h o command) o command)) refl is
     where
       by_effect : first_of (causes (command_view h o command) o command) ≡ None → (d : Effect) → effect (command_view h o command) o command moment ≡ d → with_receipt o key command d ≡ Ok (rows, content) → IsSound (applied rows h)
-      by_effect none (Err refusal) made e = cc
+      by_effect none (Err refusal) made e = refused_never refusal (rows, content) e
       by_effect none (Ok d) made e =
           let r = receipt_of o key command d.1 in
           subst (λ x. IsSound (applied x h)) (same_rows_of (d.0 ++ write.PutReceipt r ∷ [], d.1) (rows, content) e)
@@ -145,7 +145,7 @@ module _ (h : Hall) (s : IsSound h) (in_second : h.schema ≡ second) (key : Lis
           (receipt_sound (applied d.0 h) (effect_keeps h s in_second o known moment d.0 d.1 command none made) r (operators_stay d.0 h o.name known)))
 
       by_cause : (c : Option Refusal) → first_of (causes (command_view h o command) o command) ≡ c → unless c (with_receipt o key command (effect (command_view h o command) o command moment)) ≡ Ok (rows, content) → IsSound (applied rows h)
-      by_cause (Some refusal) none e = cc
+      by_cause (Some refusal) none e = refused_never refusal (rows, content) e
       by_cause None none e = by_effect none (effect (command_view h o command) o command moment) refl e
 
   keyed_keeps : (o : Operator) → HasRow h.operators o.name → (r : Option Receipt) → keyed h o r key command moment ≡ Ok (rows, content) → IsSound (applied rows h)
@@ -153,19 +153,19 @@ module _ (h : Hall) (s : IsSound h) (in_second : h.schema ≡ second) (key : Lis
     where
       by : (b : Bool) → ◌≡◌ {A = Effect} (if b then Ok ([], stored r.status r.body) else Err cause.KeyReused) (Ok (rows, content)) → IsSound (applied rows h)
       by true e = subst (λ x. IsSound (applied x h)) (same_rows_of ([], stored r.status r.body) (rows, content) e) s
-      by false e = cc
+      by false e = refused_never cause.KeyReused (rows, content) e
   keyed_keeps o known None is = by (may_send o.role (needs_admin command)) is
     where
       by : (b : Bool) → ◌≡◌ {A = Effect} (if b then commanded (command_view h o command) o key command moment else Err cause.RoleNeeded) (Ok (rows, content)) → IsSound (applied rows h)
       by true e = commanded_keeps o known e
-      by false e = cc
+      by false e = refused_never cause.RoleNeeded (rows, content) e
 
   of_sender_keeps : (o : Operator) → HasRow h.operators o.name → of_sender h (Some o) key command moment ≡ Ok (rows, content) → IsSound (applied rows h)
   of_sender_keeps o known is = by o.enabled is
     where
       by : (b : Bool) → ◌≡◌ {A = Effect} (if b then keyed h o (at h.receipts (pair o.name key)) key command moment else Err cause.UnknownToken) (Ok (rows, content)) → IsSound (applied rows h)
       by true e = keyed_keeps o known (at h.receipts (pair o.name key)) e
-      by false e = cc
+      by false e = refused_never cause.UnknownToken (rows, content) e
 
   sender_known : (digest : List ℕ) (o : Operator) → operator_with_digest h digest ≡ Some o → HasRow h.operators o.name
   sender_known digest o found =
@@ -174,11 +174,11 @@ module _ (h : Hall) (s : IsSound h) (in_second : h.schema ≡ second) (key : Lis
   -- the rows of a command leave the hall sound
   pub command_keeps : (bearer : Option (List ℕ)) → command_decision h bearer key command moment ≡ Ok (rows, content) → IsSound (applied rows h)
   unfolding command_decision
-  command_keeps None is = cc
+  command_keeps None is = refused_never cause.UnknownToken (rows, content) is
   command_keeps (Some digest) is = by (operator_with_digest h digest) refl is
     where
       by : (o : Option Operator) → operator_with_digest h digest ≡ o → of_sender h o key command moment ≡ Ok (rows, content) → IsSound (applied rows h)
-      by None found e = cc
+      by None found e = refused_never cause.UnknownToken (rows, content) e
       by (Some o) found e =
           of_sender_keeps o
           (sender_known digest o found) e

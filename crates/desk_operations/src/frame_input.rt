@@ -32,16 +32,18 @@ pub fn read_input<R: Read>(alloc: Global, reader: &mut R) -> Result<Vec<u8>, Fau
     let mut input = Vec::new(alloc);
     let mut buffer = [0u8; 4096];
     for _ in 0..MAX_READS {
-        let count = reader.read(&mut buffer).map_err(|_| Fault::Io)?;
+        let Ok(count) = reader.read(&mut buffer) else {
+            return Err(Fault::Io);
+        };
         if count == 0 {
             return Ok(input);
         }
         if input.len() + count > MAX_OCTETS {
             return Err(Fault::BadInput);
         }
-        input
-            .extend_from_slice(&buffer[..count])
-            .map_err(|_| Fault::Memory)?;
+        if input.extend_from_slice(&buffer[..count]).is_err() {
+            return Err(Fault::Memory);
+        }
     }
     Err(Fault::Io)
 }

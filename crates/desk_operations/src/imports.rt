@@ -66,7 +66,9 @@ fn answer_row<S: HallStore>(
     steps_keep_halls_sound();
     decisions_keep_the_rules();
     let event = event_of(row, bearer);
-    match desk.step(alloc, &event, moment, Token::from(UNUSED)) {
+    let stepped = desk.step(alloc, &event, moment, Token::from(UNUSED));
+    drop(event);
+    match stepped {
         Ok(reply) => Ok(reply),
         Err(Unavailable) => Reply::refused(alloc, Refusal::Unavailable),
     }

@@ -80,7 +80,7 @@ pub(crate) fn carry_request<S: HallStore>(
         (λ h answer. answer ≡ response_answer (decision_of place.now h event.now moment fresh).content) }
 {
     let (change, reply) = planned(alloc, store, place, event, moment, fresh, notes)?;
-    let answer = response(alloc, &reply)?;
+    let answer = response(alloc, reply)?;
     write(store, &change)?;
     notes.note_change(&change);
     Ok(answer)
@@ -99,7 +99,8 @@ pub(crate) fn carry_quiet<S: HallStore>(
         (λ h. (decision_of place.now h event.Quiet moment fresh).rows)
         (λ h answer. answer ≡ no_answer (decision_of place.now h event.Quiet moment fresh).content) }
 {
-    let (change, _) = planned(alloc, store, place, &Event::Quiet, moment, fresh, notes)?;
+    let (change, reply) = planned(alloc, store, place, &Event::Quiet, moment, fresh, notes)?;
+    drop(reply);
     write(store, &change)?;
     notes.note_change(&change);
     Ok(Answer::Silence)

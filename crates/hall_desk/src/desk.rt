@@ -221,7 +221,8 @@ impl<S: HallStore> Desk<S> {
         ensures enlists { enlists_of self.new ≡ enlists_of self.old }
         ensures unlisted { enlists_of self.old ≡ false → IsDatagram arrival.now.input → S.HallStore.is_clean (store_of self.new) → (h : Hall) → S.HallStore.holds (store_of self.old) h → S.HallStore.holds (store_of self.new) h }
     {
-        let (answer, _) = self.answer_with_account(alloc, arrival);
+        let (answer, account) = self.answer_with_account(alloc, arrival);
+        drop(account);
         answer
     }
 

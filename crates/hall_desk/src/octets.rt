@@ -31,9 +31,8 @@ fn is_status(status: u16) -> bool
     )
 }
 
-/// The response with an answer by HTTP. `Unavailable` if memory is wanting, or a receipt kept a status that no response
-/// has.
-pub(crate) fn response(alloc: Global, reply: &Reply) -> Result<Answer, Unavailable>
+// The response with an answer by HTTP.
+fn response_with(alloc: Global, reply: &Reply) -> Result<Answer, Unavailable>
     ensures { (said : Content) → reply.now ≡ reply_of second said → IfOk result (λ answer. answer ≡ response_answer said) }
 {
     let Reply::Http { status, .. } = reply else {
@@ -46,6 +45,16 @@ pub(crate) fn response(alloc: Global, reply: &Reply) -> Result<Answer, Unavailab
         Ok(octets) => Ok(Answer::Octets(Octets::from(octets))),
         Err(_) => Err(Unavailable),
     }
+}
+
+/// The response with an answer by HTTP. `Unavailable` if memory is wanting, or a receipt kept a status that no response
+/// has.
+pub(crate) fn response(alloc: Global, reply: Reply) -> Result<Answer, Unavailable>
+    ensures { (said : Content) → reply ≡ reply_of second said → IfOk result (λ answer. answer ≡ response_answer said) }
+{
+    let response = response_with(alloc, &reply);
+    drop(reply);
+    response
 }
 
 // The refusal of a request that makes no event.
@@ -67,7 +76,7 @@ pub(crate) fn fault_response(alloc: Global, fault: HttpFault) -> Result<Answer, 
     ensures { IfOk result (λ answer. answer ≡ response_answer (content.refused (refusal_of fault))) }
 {
     match Reply::refused(alloc, refusal_of(fault)) {
-        Ok(reply) => response(alloc, &reply),
+        Ok(reply) => response(alloc, reply),
         Err(_) => Err(Unavailable),
     }
 }

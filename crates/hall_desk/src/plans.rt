@@ -151,10 +151,12 @@ pub(crate) fn plan_script<S: HallStore>(
 {
     let view = view_at(alloc, store, mac)?;
     notes.note_boot_view(&view);
-    match view {
-        Some(view) => script_plan(alloc, fetch(alloc, &view, place, moment, fresh)),
+    let plan = match &view {
+        Some(view) => script_plan(alloc, fetch(alloc, view, place, moment, fresh)),
         None => refused(alloc, Refusal::NoMachine),
-    }
+    };
+    drop(view);
+    plan
 }
 
 // The answer that says whether it counted.
@@ -199,7 +201,9 @@ pub(crate) fn plan_report<S: HallStore>(
 {
     let view = report_view(alloc, store, boot)?;
     notes.note_report_view(&view);
-    verdict_plan(alloc, report(alloc, view.as_ref(), token, progress, moment))
+    let plan = verdict_plan(alloc, report(alloc, view.as_ref(), token, progress, moment));
+    drop(view);
+    plan
 }
 
 /// The answer to an order, of a sender that may answer.
@@ -216,7 +220,9 @@ pub(crate) fn judge_answer<S: HallStore>(
 {
     let view = order_view(alloc, store, order)?;
     notes.note_order_view(&view);
-    verdict_plan(alloc, order_answer(alloc, view.as_ref(), outcome, moment))
+    let plan = verdict_plan(alloc, order_answer(alloc, view.as_ref(), outcome, moment));
+    drop(view);
+    plan
 }
 
 // No answer, with the rows of what expired.
@@ -242,5 +248,7 @@ pub(crate) fn plan_quiet<S: HallStore>(
 {
     let view = expired_view(alloc, store, moment)?;
     notes.note_boot_view(&view);
-    quiet_plan(sweep(alloc, view.as_ref(), moment))
+    let plan = quiet_plan(sweep(alloc, view.as_ref(), moment));
+    drop(view);
+    plan
 }

@@ -72,7 +72,9 @@ fn plan_new_command<S: HallStore>(
     }
     let view = command_view(alloc, store, by, wish)?;
     notes.note_command_view(&view);
-    command_plan(alloc, command(alloc, &view, by, key, wish, moment))
+    let plan = command_plan(alloc, command(alloc, &view, by, key, wish, moment));
+    drop(view);
+    plan
 }
 
 // A command of an operator that is known.
@@ -89,7 +91,11 @@ fn plan_keyed<S: HallStore>(
         (λ h planned. Plans (commanded (commands.keyed h by.now (at h.receipts (pair by.now.name key)) key wish.now moment)) planned) }
 {
     match store.receipt(alloc, &by.name, key)? {
-        Some(receipt) => command_plan(alloc, repeated(alloc, &receipt, wish)),
+        Some(receipt) => {
+            let plan = command_plan(alloc, repeated(alloc, &receipt, wish));
+            drop(receipt);
+            plan
+        }
         None => plan_new_command(alloc, store, by, key, wish, moment, notes),
     }
 }

@@ -153,11 +153,15 @@ pub(crate) fn file<'a>(words: &Words<'a>) -> Result<&'a str, Fault> {
     text(words.file)
 }
 
+fn address(option: Option<&str>) -> Result<SocketAddr, Fault> {
+    socket(text(option)?)
+}
+
 /// The addresses of `--discover`, `--boot` and `--http`.
 pub(crate) fn addresses(words: &Words<'_>) -> Result<(SocketAddr, SocketAddr, SocketAddr), Fault> {
-    let discover = socket(text(words.discover)?)?;
-    let boot = socket(text(words.boot)?)?;
-    let http = socket(text(words.http)?)?;
+    let discover = address(words.discover)?;
+    let boot = address(words.boot)?;
+    let http = address(words.http)?;
     Ok((discover, boot, http))
 }
 

@@ -1,6 +1,6 @@
 //! Copies of a hall's file that are made while it is served, between two turns.
 use crate::served_file::ServedFile;
-use desk_operations::Backup;
+use desk_lines::Backup;
 use hallboot_asked::BackupPlan;
 use std::alloc::Global;
 use std::fs::{self, File, OpenOptions};

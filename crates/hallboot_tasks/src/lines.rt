@@ -1,6 +1,6 @@
 //! The log of a service's turns.
 use crate::outlet::Outlet;
-use desk_operations::{
+use desk_lines::{
     Backup, Failures, arrival_members, arrival_text, backup_line, is_of_note, unstamped_line,
 };
 use desk_values::LogFormat;

@@ -1,5 +1,5 @@
 //! Where the lines of a log go. A stream that takes no octets now, as a pipe that nobody reads, isn't waited for.
-use desk_operations::lost_line;
+use desk_lines::lost_line;
 use desk_values::{Fault, LogFormat};
 use hall_types::Moment;
 use hallboot_asked::fault_of;

@@ -5,7 +5,7 @@ use crate::outlet::tell;
 use crate::served_file::ServedFile;
 use crate::stamps::{Stamps, now};
 use crate::suspended::{Bound, Suspended};
-use desk_operations::Backup;
+use desk_lines::Backup;
 use desk_values::Fault;
 use hall_desk::Desk;
 use hall_store::HallStore;

@@ -1,4 +1,5 @@
 //! The command line, built of the tables.
+use crate::lists::push;
 use crate::options::{Given, PLACE, Word};
 use crate::subcommands::{ENTRIES, Entry};
 use clap::{Arg, ArgAction, Command};
@@ -34,16 +35,32 @@ fn why<'a>(alloc: Global) -> Arg<'a> {
         .action(ArgAction::SetTrue)
 }
 
-fn with<'a>(
-    alloc: Global,
-    command: Command<'a>,
-    words: &[Word],
-) -> Result<Command<'a>, AllocError> {
-    let mut command = command;
+fn push_args<'a>(alloc: Global, args: &mut Vec<Arg<'a>>, words: &[Word]) -> Result<(), AllocError> {
     for word in words {
-        command = command.arg(arg(alloc, word))?;
+        push(args, arg(alloc, word))?;
     }
-    Ok(command)
+    Ok(())
+}
+
+fn push_place<'a>(
+    alloc: Global,
+    args: &mut Vec<Arg<'a>>,
+    has_place: bool,
+) -> Result<(), AllocError> {
+    if has_place {
+        push_args(alloc, args, &PLACE)
+    } else {
+        Ok(())
+    }
+}
+
+// The options of these words, that of the reason, and then those of the place.
+fn args_of<'a>(alloc: Global, words: &[Word], has_place: bool) -> Result<Vec<Arg<'a>>, AllocError> {
+    let mut args = Vec::new(alloc);
+    push_args(alloc, &mut args, words)?;
+    push(&mut args, why(alloc))?;
+    push_place(alloc, &mut args, has_place)?;
+    Ok(args)
 }
 
 fn new<'a>(
@@ -55,35 +72,36 @@ fn new<'a>(
     Command::new(alloc, name).about(about).after_help(example)
 }
 
-fn command_of<'a>(alloc: Global, entry: &Entry) -> Result<Command<'a>, AllocError> {
-    let command = new(alloc, entry.name, entry.about, entry.example);
-    let command = with(alloc, command, entry.words)?.arg(why(alloc))?;
-    if entry.has_place {
-        with(alloc, command, &PLACE)
-    } else {
-        Ok(command)
-    }
-}
-
-fn with_subcommand<'a>(
+fn push_command<'a>(
     alloc: Global,
-    command: Command<'a>,
+    commands: &mut Vec<Command<'a>>,
     entry: &Entry,
-) -> Result<Command<'a>, AllocError> {
-    command.subcommand(command_of(alloc, entry)?)
+) -> Result<(), AllocError> {
+    let args = args_of(alloc, entry.words, entry.has_place)?;
+    let command = new(alloc, entry.name, entry.about, entry.example).args(args)?;
+    push(commands, command)
 }
 
-/// The command line. Without a subcommand it is `frame` with its defaults.
-pub(crate) fn command_line<'a>(alloc: Global) -> Result<Command<'a>, AllocError> {
-    let mut command = new(
+fn commands<'a>(alloc: Global) -> Result<Vec<Command<'a>>, AllocError> {
+    let mut commands = Vec::new(alloc);
+    for entry in &ENTRIES {
+        push_command(alloc, &mut commands, entry)?;
+    }
+    Ok(commands)
+}
+
+// The command line without its subcommands.
+fn front<'a>(alloc: Global) -> Command<'a> {
+    new(
         alloc,
         "hallboot",
         "The boot desk of a server hall",
         "Exit status: 0 done, 1 fault, 2 wrong usage, 3 no answer.",
     )
-    .version(VERSION);
-    for entry in &ENTRIES {
-        command = with_subcommand(alloc, command, entry)?;
-    }
-    Ok(command)
+    .version(VERSION)
+}
+
+/// The command line. Without a subcommand it is `frame` with its defaults.
+pub(crate) fn command_line<'a>(alloc: Global) -> Result<Command<'a>, AllocError> {
+    front(alloc).subcommands(commands(alloc)?)
 }

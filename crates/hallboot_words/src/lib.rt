@@ -3,6 +3,7 @@
 #![tactic(auto)]
 
 mod command_line;
+mod lists;
 mod options;
 mod refusal;
 mod subcommands;

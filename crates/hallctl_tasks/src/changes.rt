@@ -121,7 +121,11 @@ fn sent_after<S: Surroundings>(
         Look::Unneeded => sent_as(alloc, surroundings, desk, manner, look, command),
         Look::Refused => Ok(Ended::Refused),
         Look::Listed(before) => match as_listed(command, before.version) {
-            Some(command) => sent_as(alloc, surroundings, desk, manner, look, &command),
+            Some(command) => {
+                let end = sent_as(alloc, surroundings, desk, manner, look, &command);
+                drop(command);
+                end
+            }
             None => sent_as(alloc, surroundings, desk, manner, look, command),
         },
     }

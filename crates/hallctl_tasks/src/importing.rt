@@ -1,7 +1,7 @@
 //! The machines of a file are added.
 use crate::desk::Desk;
 use crate::fault::{Ended, TaskFault};
-use crate::saying::{misused, progress};
+use crate::saying::{misused_file, progress};
 use crate::sending::{Sending, sent};
 use crate::surroundings::Surroundings;
 use hall_events::HallCommand;
@@ -32,7 +32,9 @@ fn add_row<S: Surroundings>(
         beside: ", or import the file again",
         json,
     };
-    sent(alloc, surroundings, desk, &sending)
+    let end = sent(alloc, surroundings, desk, &sending);
+    drop(command);
+    end
 }
 
 // How an import ends with one more row.
@@ -69,11 +71,11 @@ pub(crate) fn import<S: Surroundings>(
 ) -> Result<Ended, TaskFault> {
     let octets = match surroundings.octets_of(alloc, path) {
         Ok(octets) => octets,
-        Err(fault) => return unread(alloc, surroundings, path, fault.words()),
+        Err(fault) => return misused_file(alloc, surroundings, path, fault.words()),
     };
     match import_rows(alloc, octets.as_slice()) {
         Ok(rows) => add_rows(alloc, surroundings, desk, rows.as_slice(), json),
-        Err(ImportFault::BadHeader) => unread(
+        Err(ImportFault::BadHeader) => misused_file(
             alloc,
             surroundings,
             path,
@@ -83,19 +85,8 @@ pub(crate) fn import<S: Surroundings>(
             let words = format!(in alloc;
                 "row {number} is bad: a key, an address, an architecture, a UUID or nothing, a pool"
             )?;
-            unread(alloc, surroundings, path, words.as_str())
+            misused_file(alloc, surroundings, path, words.as_str())
         }
         Err(ImportFault::Memory) => Err(TaskFault::Memory),
     }
-}
-
-// A file that isn't imported, for this reason.
-fn unread<S: Surroundings>(
-    alloc: Global,
-    surroundings: &mut S,
-    path: &str,
-    words: &str,
-) -> Result<Ended, TaskFault> {
-    let reason = format!(in alloc; "{path}: {words}")?;
-    misused(alloc, surroundings, reason.as_str())
 }

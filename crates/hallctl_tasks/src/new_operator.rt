@@ -3,7 +3,7 @@ use crate::changes::Manner;
 use crate::desk::Desk;
 use crate::fault::{Ended, TaskFault};
 use crate::keys::new_key;
-use crate::saying::{misused, tell};
+use crate::saying::{misused_file, tell};
 use crate::sending::{Sending, sent};
 use crate::surroundings::Surroundings;
 use hall_events::HallCommand;
@@ -71,31 +71,6 @@ fn send<S: Surroundings>(
     sent(alloc, surroundings, desk, &sending)
 }
 
-// Adds the operator, whose token is in its file.
-fn add<S: Surroundings>(
-    alloc: Global,
-    surroundings: &mut S,
-    desk: &Desk,
-    manner: &Manner,
-    new: &NewOperator<'_>,
-    digest: Digest,
-) -> Result<Ended, TaskFault> {
-    let command = HallCommand::AddOperator {
-        operator: new.operator,
-        role: new.role,
-        digest,
-    };
-    send(
-        alloc,
-        surroundings,
-        desk,
-        manner,
-        new.path,
-        digest,
-        &command,
-    )
-}
-
 // Tells that the token in a file is nobody's, where the operator wasn't added.
 fn tell_if_refused<S: Surroundings>(
     alloc: Global,
@@ -110,6 +85,33 @@ fn tell_if_refused<S: Surroundings>(
     Ok(end)
 }
 
+// Adds the operator, whose token is in its file, and tells where that is nobody's.
+fn add<S: Surroundings>(
+    alloc: Global,
+    surroundings: &mut S,
+    desk: &Desk,
+    manner: &Manner,
+    new: &NewOperator<'_>,
+    digest: Digest,
+) -> Result<Ended, TaskFault> {
+    let command = HallCommand::AddOperator {
+        operator: new.operator,
+        role: new.role,
+        digest,
+    };
+    let end = send(
+        alloc,
+        surroundings,
+        desk,
+        manner,
+        new.path,
+        digest,
+        &command,
+    );
+    drop(command);
+    tell_if_refused(alloc, surroundings, new.path, end?)
+}
+
 /// Makes a token, writes it to a new file, and adds the operator with its digest. Nothing is sent where the file can't be made.
 pub(crate) fn add_operator<S: Surroundings>(
     alloc: Global,
@@ -121,15 +123,11 @@ pub(crate) fn add_operator<S: Surroundings>(
     let token = new_token(alloc, surroundings)?;
     let digest = Digest::from(Sha256::digest(token.as_bytes()));
     let text = format!(in alloc; "{token}\n")?;
-    match surroundings.make_file(new.path, text.as_bytes()) {
-        Ok(()) => {
-            let end = add(alloc, surroundings, desk, manner, new, digest)?;
-            tell_if_refused(alloc, surroundings, new.path, end)
-        }
-        Err(fault) => {
-            let (path, words) = (new.path, fault.words());
-            let reason = format!(in alloc; "{path}: {words}")?;
-            misused(alloc, surroundings, reason.as_str())
-        }
+    drop(token);
+    let made = surroundings.make_file(new.path, text.as_bytes());
+    drop(text);
+    match made {
+        Ok(()) => add(alloc, surroundings, desk, manner, new, digest),
+        Err(fault) => misused_file(alloc, surroundings, new.path, fault.words()),
     }
 }

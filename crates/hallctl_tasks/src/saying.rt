@@ -60,6 +60,17 @@ pub(crate) fn misused<S: Surroundings>(
     Ok(Ended::Usage)
 }
 
+/// A file can't be read or made, or isn't what it must be, for this reason.
+pub(crate) fn misused_file<S: Surroundings>(
+    alloc: Global,
+    surroundings: &mut S,
+    path: &str,
+    words: &str,
+) -> Result<Ended, TaskFault> {
+    let reason = format!(in alloc; "{path}: {words}")?;
+    misused(alloc, surroundings, reason.as_str())
+}
+
 /// There was no answer to what was only to be read.
 pub(crate) fn unanswered<S: Surroundings>(
     alloc: Global,

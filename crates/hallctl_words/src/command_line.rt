@@ -1,5 +1,6 @@
 //! The command line, built of the tables.
 use crate::entries::entries;
+use crate::lists::push;
 use crate::options::{Given, Word, WordEntry};
 use crate::subcommands::{Common, Entry};
 use clap::{Arg, ArgAction, Command};
@@ -45,16 +46,19 @@ fn arg<'a>(alloc: Global, word: &WordEntry) -> Arg<'a> {
     }
 }
 
-fn with<'a>(
-    alloc: Global,
-    command: Command<'a>,
-    words: &[Word],
-) -> Result<Command<'a>, AllocError> {
-    let mut command = command;
+fn push_args<'a>(alloc: Global, args: &mut Vec<Arg<'a>>, words: &[Word]) -> Result<(), AllocError> {
     for word in words {
-        command = command.arg(arg(alloc, word.entry()))?;
+        push(args, arg(alloc, word.entry()))?;
     }
-    Ok(command)
+    Ok(())
+}
+
+// The options of these words, and then the common ones.
+fn args_of<'a>(alloc: Global, words: &[Word], common: Common) -> Result<Vec<Arg<'a>>, AllocError> {
+    let mut args = Vec::new(alloc);
+    push_args(alloc, &mut args, words)?;
+    push_args(alloc, &mut args, common.words())?;
+    Ok(args)
 }
 
 fn new<'a>(
@@ -66,39 +70,39 @@ fn new<'a>(
     Command::new(alloc, name).about(about).after_help(example)
 }
 
-fn command_of<'a>(alloc: Global, entry: &Entry) -> Result<Command<'a>, AllocError> {
-    let command = new(alloc, entry.name, entry.about, entry.example);
-    let command = with(alloc, command, entry.words)?;
-    with(alloc, command, entry.common.words())
-}
-
-fn with_subcommand<'a>(
+fn push_command<'a>(
     alloc: Global,
-    command: Command<'a>,
+    commands: &mut Vec<Command<'a>>,
     entry: &Entry,
-) -> Result<Command<'a>, AllocError> {
-    command.subcommand(command_of(alloc, entry)?)
+) -> Result<(), AllocError> {
+    let args = args_of(alloc, entry.words, entry.common)?;
+    let command = new(alloc, entry.name, entry.about, entry.example).args(args)?;
+    push(commands, command)
 }
 
-fn front<'a>(alloc: Global) -> Result<Command<'a>, AllocError> {
-    let command = new(
+fn commands<'a>(alloc: Global) -> Result<Vec<Command<'a>>, AllocError> {
+    let mut commands = Vec::new(alloc);
+    for entry in entries() {
+        push_command(alloc, &mut commands, entry)?;
+    }
+    Ok(commands)
+}
+
+// The command line without its options and subcommands.
+fn front<'a>(alloc: Global) -> Command<'a> {
+    new(
         alloc,
         "hallctl",
         "Asks the boot desk of a server hall",
         "Exit status: 0 done, 1 refused, 2 wrong usage, 3 no answer.",
-    );
-    with(
-        alloc,
-        command.version(VERSION).subcommand_required(true),
-        Common::Reading.words(),
     )
+    .version(VERSION)
+    .subcommand_required(true)
 }
 
 /// The command line.
 pub(crate) fn command_line<'a>(alloc: Global) -> Result<Command<'a>, AllocError> {
-    let mut command = front(alloc)?;
-    for entry in entries() {
-        command = with_subcommand(alloc, command, entry)?;
-    }
-    Ok(command)
+    let args = args_of(alloc, &[], Common::Reading)?;
+    let commands = commands(alloc)?;
+    front(alloc).args(args)?.subcommands(commands)
 }

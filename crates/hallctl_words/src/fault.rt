@@ -1,6 +1,7 @@
 //! Why a command line asks for nothing.
 use crate::options::{Given, Word};
 use crate::usage::Usage;
+use clap::ArgMatches;
 use std::alloc::{AllocError, Global};
 
 /// A word of a command line that isn't what it must be. Its text names the option, the word and what it must be.
@@ -39,14 +40,37 @@ impl<'a> WordsFault<'a> {
     }
 }
 
-/// Why words can't be read as values.
+/// An option that isn't what it must be, and the place of the word at fault among the option's words. No one word is at fault where the
+/// option is missing, may not be given, or has too many words.
 #[derive(Clone, Copy)]
-pub(crate) enum ValueFault<'a> {
-    Words(WordsFault<'a>),
+pub(crate) struct OptionFault {
+    word: Word,
+    place: Option<usize>,
+}
+
+/// Why options can't be read as values.
+#[derive(Clone, Copy)]
+pub(crate) enum ValueFault {
+    Words(OptionFault),
     Memory,
 }
 
-impl From<AllocError> for ValueFault<'_> {
+impl ValueFault {
+    /// The option isn't what it must be, by no one word of it.
+    pub(crate) fn of(word: Word) -> ValueFault {
+        ValueFault::Words(OptionFault { word, place: None })
+    }
+
+    /// The option's word at this place isn't what it must be.
+    pub(crate) fn at(word: Word, place: usize) -> ValueFault {
+        ValueFault::Words(OptionFault {
+            word,
+            place: Some(place),
+        })
+    }
+}
+
+impl From<AllocError> for ValueFault {
     ghost use Rattle.std.specs.Prelude.{◌≡◌};
     ghost use Rattle.hallctl_words.specs.declared.fault.ValueFault.TheVariants.{Memory};
 
@@ -54,12 +78,6 @@ impl From<AllocError> for ValueFault<'_> {
 
     fn from(_error: AllocError) -> Self {
         ValueFault::Memory
-    }
-}
-
-impl<'a> From<WordsFault<'a>> for ValueFault<'a> {
-    fn from(fault: WordsFault<'a>) -> Self {
-        ValueFault::Words(fault)
     }
 }
 
@@ -73,10 +91,20 @@ pub enum LineFault<'a> {
     Memory,
 }
 
-impl<'a> From<ValueFault<'a>> for LineFault<'a> {
-    fn from(fault: ValueFault<'a>) -> Self {
+// The word at a place among the words of an option.
+fn word_at<'a>(matches: &ArgMatches<'a>, word: Word, place: usize) -> Option<&'a str> {
+    let texts = matches.get_strs(word.name())?;
+    texts.get(place).copied()
+}
+
+impl<'a> LineFault<'a> {
+    /// The fault with the word that it is about, of these options.
+    pub(crate) fn of(matches: &ArgMatches<'a>, fault: ValueFault) -> LineFault<'a> {
         match fault {
-            ValueFault::Words(fault) => LineFault::Words(fault),
+            ValueFault::Words(OptionFault { word, place }) => {
+                let given = place.and_then(|place| word_at(matches, word, place));
+                LineFault::Words(WordsFault::of(word, given))
+            }
             ValueFault::Memory => LineFault::Memory,
         }
     }

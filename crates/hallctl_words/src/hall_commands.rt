@@ -1,5 +1,5 @@
 //! Commands on no machine, from the words of a command line.
-use crate::fault::{ValueFault, WordsFault};
+use crate::fault::ValueFault;
 use crate::given::{arch_at, digest_if, mac_at, name_at, role_at, uri_at, uuid_if};
 use crate::lists::push;
 use crate::options::Word;
@@ -9,39 +9,34 @@ use hall_types::Image;
 use ipxe_script::WordFault;
 use std::alloc::Global;
 
-// The argument of an image, which doesn't begin `hall.`.
-fn argument_of<'a>(alloc: Global, text: &'a str) -> Result<ipxe_script::Word, ValueFault<'a>> {
+// The argument of an image, which doesn't begin `hall.`, at its place among the arguments.
+fn argument_of(alloc: Global, text: &str, place: usize) -> Result<ipxe_script::Word, ValueFault> {
     match ipxe_script::Word::new(alloc, text) {
         Ok(word) if !word.is_hall_word() => Ok(word),
-        Ok(_) | Err(WordFault::BadWord) => {
-            Err(ValueFault::Words(WordsFault::of(Word::Arg, Some(text))))
-        }
+        Ok(_) | Err(WordFault::BadWord) => Err(ValueFault::at(Word::Arg, place)),
         Err(WordFault::Memory) => Err(ValueFault::Memory),
     }
 }
 
-fn arguments_of<'a>(
-    alloc: Global,
-    texts: &[&'a str],
-) -> Result<Vec<ipxe_script::Word>, ValueFault<'a>> {
+fn arguments_of(alloc: Global, texts: &[&str]) -> Result<Vec<ipxe_script::Word>, ValueFault> {
     let mut words = Vec::new(alloc);
-    for text in texts {
-        push(&mut words, argument_of(alloc, text)?)?;
+    for (place, text) in texts.iter().enumerate() {
+        push(&mut words, argument_of(alloc, text, place)?)?;
     }
     Ok(words)
 }
 
-fn arguments_at<'a>(
+fn arguments_at(
     alloc: Global,
-    matches: &ArgMatches<'a>,
-) -> Result<Vec<ipxe_script::Word>, ValueFault<'a>> {
+    matches: &ArgMatches<'_>,
+) -> Result<Vec<ipxe_script::Word>, ValueFault> {
     match matches.get_strs(Word::Arg.name()) {
         Some(texts) => arguments_of(alloc, texts),
         None => Ok(Vec::new(alloc)),
     }
 }
 
-fn image_at<'a>(alloc: Global, matches: &ArgMatches<'a>) -> Result<Image, ValueFault<'a>> {
+fn image_at(alloc: Global, matches: &ArgMatches<'_>) -> Result<Image, ValueFault> {
     let name = name_at(matches, Word::ImageName)?;
     let arch = arch_at(matches, Word::Arch)?;
     let kernel = uri_at(alloc, matches, Word::Kernel)?;
@@ -49,11 +44,11 @@ fn image_at<'a>(alloc: Global, matches: &ArgMatches<'a>) -> Result<Image, ValueF
     let args = arguments_at(alloc, matches)?;
     match Image::new(name, arch, kernel, initrd, args) {
         Ok(image) => Ok(image),
-        Err(_) => Err(ValueFault::Words(WordsFault::of(Word::Arg, None))),
+        Err(_) => Err(ValueFault::of(Word::Arg)),
     }
 }
 
-fn machine_at<'a>(matches: &ArgMatches<'a>) -> Result<HallCommand, WordsFault<'a>> {
+fn machine_at(matches: &ArgMatches<'_>) -> Result<HallCommand, ValueFault> {
     let mac = mac_at(matches, Word::Mac)?;
     let arch = arch_at(matches, Word::Arch)?;
     let pool = name_at(matches, Word::Pool)?;
@@ -67,7 +62,7 @@ fn machine_at<'a>(matches: &ArgMatches<'a>) -> Result<HallCommand, WordsFault<'a
 }
 
 // An operator whose token's digest is given.
-fn operator_at<'a>(matches: &ArgMatches<'a>) -> Result<HallCommand, WordsFault<'a>> {
+fn operator_at(matches: &ArgMatches<'_>) -> Result<HallCommand, ValueFault> {
     let operator = name_at(matches, Word::OperatorName)?;
     let role = role_at(matches, Word::Role)?;
     match digest_if(matches, Word::Digest)? {
@@ -76,15 +71,12 @@ fn operator_at<'a>(matches: &ArgMatches<'a>) -> Result<HallCommand, WordsFault<'
             role,
             digest,
         }),
-        None => Err(WordsFault::of(Word::NewToken, None)),
+        None => Err(ValueFault::of(Word::NewToken)),
     }
 }
 
 // A command of names alone.
-fn named_at<'a>(
-    kind: CommandKind,
-    matches: &ArgMatches<'a>,
-) -> Result<HallCommand, WordsFault<'a>> {
+fn named_at(kind: CommandKind, matches: &ArgMatches<'_>) -> Result<HallCommand, ValueFault> {
     match kind {
         CommandKind::DisableOperator => {
             let operator = name_at(matches, Word::OperatorName)?;
@@ -111,18 +103,18 @@ fn named_at<'a>(
 }
 
 /// The command of this kind.
-pub(crate) fn hall_command<'a>(
+pub(crate) fn hall_command(
     alloc: Global,
     kind: CommandKind,
-    matches: &ArgMatches<'a>,
-) -> Result<HallCommand, ValueFault<'a>> {
+    matches: &ArgMatches<'_>,
+) -> Result<HallCommand, ValueFault> {
     match kind {
         CommandKind::AddImage => {
             let image = image_at(alloc, matches)?;
             Ok(HallCommand::AddImage { image })
         }
-        CommandKind::AddMachine => Ok(machine_at(matches)?),
-        CommandKind::AddOperator => Ok(operator_at(matches)?),
-        _ => Ok(named_at(kind, matches)?),
+        CommandKind::AddMachine => machine_at(matches),
+        CommandKind::AddOperator => operator_at(matches),
+        _ => named_at(kind, matches),
     }
 }

@@ -1,7 +1,7 @@
 //! Commands on machines, from the words of a command line.
-use crate::decimal::{number_of, version_of};
-use crate::fault::{ValueFault, WordsFault};
-use crate::given::{erase_at, known, mac_at, name_at, text_at};
+use crate::decimal::version_of;
+use crate::fault::ValueFault;
+use crate::given::{erase_at, known, mac_at, name_at, number_at};
 use crate::lists::{one, push};
 use crate::options::Word;
 use crate::spans::machines_of;
@@ -11,10 +11,7 @@ use hall_types::{Number, Version};
 use std::alloc::{AllocError, Global};
 
 // A command whose option has a value.
-fn with_value<'a>(
-    kind: MachineKind,
-    matches: &ArgMatches<'a>,
-) -> Result<MachineCommand, WordsFault<'a>> {
+fn with_value(kind: MachineKind, matches: &ArgMatches<'_>) -> Result<MachineCommand, ValueFault> {
     match kind {
         MachineKind::AddInterface => {
             let mac = mac_at(matches, Word::Mac)?;
@@ -39,10 +36,10 @@ fn with_value<'a>(
     }
 }
 
-fn machine_command<'a>(
+fn machine_command(
     kind: MachineKind,
-    matches: &ArgMatches<'a>,
-) -> Result<MachineCommand, WordsFault<'a>> {
+    matches: &ArgMatches<'_>,
+) -> Result<MachineCommand, ValueFault> {
     match kind {
         MachineKind::Commission => {
             let tests = matches.get_flag(Word::Tests.name());
@@ -68,35 +65,31 @@ fn machine_command<'a>(
 }
 
 // The machines of a command that is for one or for several.
-fn machines_at<'a>(
+fn machines_at(
     alloc: Global,
     kind: MachineKind,
-    matches: &ArgMatches<'a>,
-) -> Result<Vec<Number>, ValueFault<'a>> {
+    matches: &ArgMatches<'_>,
+) -> Result<Vec<Number>, ValueFault> {
     match kind {
         MachineKind::AddInterface | MachineKind::RemoveInterface => {
-            let text = text_at(matches, Word::Machine)?;
-            let machine = known(Word::Machine, text, number_of(text.as_bytes()))?;
+            let machine = number_at(matches, Word::Machine)?;
             Ok(one(alloc, machine)?)
         }
         _ => match matches.get_strs(Word::Machines.name()) {
             Some(words) => machines_of(alloc, words),
-            None => Err(ValueFault::Words(WordsFault::of(Word::Machines, None))),
+            None => Err(ValueFault::of(Word::Machines)),
         },
     }
 }
 
 // The version that one machine must have.
-fn version_at<'a>(
-    matches: &ArgMatches<'a>,
-    machines: usize,
-) -> Result<Option<Version>, WordsFault<'a>> {
+fn version_at(matches: &ArgMatches<'_>, machines: usize) -> Result<Option<Version>, ValueFault> {
     match matches.get_str(Word::Version.name()) {
         Some(text) if machines == 1 => {
-            let version = known(Word::Version, text, version_of(text.as_bytes()))?;
+            let version = known(Word::Version, version_of(text.as_bytes()))?;
             Ok(Some(version))
         }
-        Some(text) => Err(WordsFault::of(Word::Version, Some(text))),
+        Some(_) => Err(ValueFault::at(Word::Version, 0)),
         None => Ok(None),
     }
 }
@@ -123,11 +116,11 @@ fn commands_on(
 }
 
 /// A command for each machine that is named.
-pub(crate) fn machine_commands<'a>(
+pub(crate) fn machine_commands(
     alloc: Global,
     kind: MachineKind,
-    matches: &ArgMatches<'a>,
-) -> Result<Vec<HallCommand>, ValueFault<'a>> {
+    matches: &ArgMatches<'_>,
+) -> Result<Vec<HallCommand>, ValueFault> {
     let command = machine_command(kind, matches)?;
     let machines = machines_at(alloc, kind, matches)?;
     let version = version_at(matches, machines.len())?;

@@ -1,9 +1,10 @@
 //! What the words of a command line ask for.
 use crate::asked::{Form, Line, Wish};
 use crate::command_line::command_line;
-use crate::decimal::number_of;
 use crate::fault::{LineFault, ValueFault, WordsFault};
-use crate::given::{key_if, known, name_at, name_if, role_at, seconds_or, status_if, text_at};
+use crate::given::{
+    key_if, known, name_at, name_if, number_at, role_at, seconds_or, status_at, status_if, text_at,
+};
 use crate::hall_commands::hall_command;
 use crate::lists::{one, push};
 use crate::machine_commands::machine_commands;
@@ -23,7 +24,7 @@ const TRIES: u64 = 60;
 // How long a status is waited for.
 const WAITS: u64 = 1800;
 
-fn filter_at<'a>(matches: &ArgMatches<'a>) -> Result<Filter, WordsFault<'a>> {
+fn filter_at(matches: &ArgMatches<'_>) -> Result<Filter, ValueFault> {
     let status = status_if(matches, Word::Status)?;
     let pool = name_if(matches, Word::InPool)?;
     let owner = name_if(matches, Word::Owner)?;
@@ -34,52 +35,53 @@ fn filter_at<'a>(matches: &ArgMatches<'a>) -> Result<Filter, WordsFault<'a>> {
     })
 }
 
-fn form_at<'a>(matches: &ArgMatches<'a>, json: bool) -> Result<Form, WordsFault<'a>> {
+fn form_at(matches: &ArgMatches<'_>, json: bool) -> Result<Form, ValueFault> {
     match (matches.get_flag(Word::Ids.name()), json) {
-        (true, true) => Err(WordsFault::of(Word::Ids, None)),
+        (true, true) => Err(ValueFault::of(Word::Ids)),
         (true, false) => Ok(Form::Ids),
         (false, true) => Ok(Form::Json),
         (false, false) => Ok(Form::Table),
     }
 }
 
-fn machines_wish<'a>(matches: &ArgMatches<'a>, json: bool) -> Result<Wish<'a>, WordsFault<'a>> {
+fn machines_wish<'a>(matches: &ArgMatches<'a>, json: bool) -> Result<Wish<'a>, ValueFault> {
     let filter = filter_at(matches)?;
     let form = form_at(matches, json)?;
     Ok(Wish::Machines(filter, form))
 }
 
-fn machine_wish<'a>(matches: &ArgMatches<'a>) -> Result<Wish<'a>, WordsFault<'a>> {
-    let text = text_at(matches, Word::Which)?;
-    let which = known(Word::Which, text, which_of(text))?;
+fn machine_wish<'a>(matches: &ArgMatches<'a>) -> Result<Wish<'a>, ValueFault> {
+    let which = known(Word::Which, which_of(text_at(matches, Word::Which)?))?;
     Ok(Wish::Machine(which))
 }
 
-fn push_statuses<'a>(statuses: &mut Vec<Status>, texts: &[&'a str]) -> Result<(), ValueFault<'a>> {
-    for text in texts {
-        push(statuses, known(Word::Or, text, status_of(text))?)?;
+// The status that a word of `--or` says, the one at this place.
+fn other_status(text: &str, place: usize) -> Result<Status, ValueFault> {
+    match status_of(text) {
+        Some(status) => Ok(status),
+        None => Err(ValueFault::at(Word::Or, place)),
+    }
+}
+
+fn push_statuses(statuses: &mut Vec<Status>, texts: &[&str]) -> Result<(), ValueFault> {
+    for (place, text) in texts.iter().enumerate() {
+        push(statuses, other_status(text, place)?)?;
     }
     Ok(())
 }
 
-fn statuses_at<'a>(alloc: Global, matches: &ArgMatches<'a>) -> Result<Vec<Status>, ValueFault<'a>> {
-    let text = text_at(matches, Word::For)?;
-    let first = known(Word::For, text, status_of(text))?;
-    let mut statuses = one(alloc, first)?;
+fn statuses_at(alloc: Global, matches: &ArgMatches<'_>) -> Result<Vec<Status>, ValueFault> {
+    let mut statuses = one(alloc, status_at(matches, Word::For)?)?;
     if let Some(texts) = matches.get_strs(Word::Or.name()) {
         push_statuses(&mut statuses, texts)?;
     }
     Ok(statuses)
 }
 
-fn wait_wish<'a>(alloc: Global, matches: &ArgMatches<'a>) -> Result<Wish<'a>, ValueFault<'a>> {
-    let text = text_at(matches, Word::Machine)?;
-    let machine = known(Word::Machine, text, number_of(text.as_bytes()))?;
-    let patience = seconds_or(
-        Word::Patience,
-        matches.get_str(Word::Patience.name()),
-        WAITS,
-    )?;
+fn wait_wish<'a>(alloc: Global, matches: &ArgMatches<'a>) -> Result<Wish<'a>, ValueFault> {
+    let machine = number_at(matches, Word::Machine)?;
+    let seconds = seconds_or(matches.get_str(Word::Patience.name()), WAITS);
+    let patience = known(Word::Patience, seconds)?;
     let statuses = statuses_at(alloc, matches)?;
     Ok(Wish::Wait {
         machine,
@@ -88,12 +90,9 @@ fn wait_wish<'a>(alloc: Global, matches: &ArgMatches<'a>) -> Result<Wish<'a>, Va
     })
 }
 
-fn new_operator<'a>(
-    matches: &ArgMatches<'a>,
-    new_token: &'a str,
-) -> Result<Wish<'a>, WordsFault<'a>> {
+fn new_operator<'a>(matches: &ArgMatches<'a>, new_token: &'a str) -> Result<Wish<'a>, ValueFault> {
     if matches.get_str(Word::Digest.name()).is_some() {
-        return Err(WordsFault::of(Word::NewToken, Some(new_token)));
+        return Err(ValueFault::at(Word::NewToken, 0));
     }
     let operator = name_at(matches, Word::OperatorName)?;
     let role = role_at(matches, Word::Role)?;
@@ -104,11 +103,11 @@ fn new_operator<'a>(
     })
 }
 
-fn commands_at<'a>(
+fn commands_at(
     alloc: Global,
     kind: CommandKind,
-    matches: &ArgMatches<'a>,
-) -> Result<Vec<HallCommand>, ValueFault<'a>> {
+    matches: &ArgMatches<'_>,
+) -> Result<Vec<HallCommand>, ValueFault> {
     match kind {
         CommandKind::OnMachine(kind) => machine_commands(alloc, kind, matches),
         _ => Ok(one(alloc, hall_command(alloc, kind, matches)?)?),
@@ -119,9 +118,9 @@ fn change_wish<'a>(
     alloc: Global,
     kind: CommandKind,
     matches: &ArgMatches<'a>,
-) -> Result<Wish<'a>, ValueFault<'a>> {
+) -> Result<Wish<'a>, ValueFault> {
     match (kind, matches.get_str(Word::NewToken.name())) {
-        (CommandKind::AddOperator, Some(file)) => Ok(new_operator(matches, file)?),
+        (CommandKind::AddOperator, Some(file)) => new_operator(matches, file),
         _ => Ok(Wish::Change(commands_at(alloc, kind, matches)?)),
     }
 }
@@ -131,10 +130,10 @@ fn wish_of<'a>(
     subcommand: Subcommand,
     matches: &ArgMatches<'a>,
     json: bool,
-) -> Result<Wish<'a>, ValueFault<'a>> {
+) -> Result<Wish<'a>, ValueFault> {
     match subcommand {
-        Subcommand::Machines => Ok(machines_wish(matches, json)?),
-        Subcommand::Machine => Ok(machine_wish(matches)?),
+        Subcommand::Machines => machines_wish(matches, json),
+        Subcommand::Machine => machine_wish(matches),
         Subcommand::Orders => Ok(Wish::Orders),
         Subcommand::Change(kind) => change_wish(alloc, kind, matches),
         Subcommand::Wait => wait_wish(alloc, matches),
@@ -152,13 +151,10 @@ fn is_one(wish: &Wish<'_>) -> bool {
     }
 }
 
-fn key_for<'a>(
-    matches: &ArgMatches<'a>,
-    wish: &Wish<'a>,
-) -> Result<Option<RequestKey>, WordsFault<'a>> {
+fn key_for(matches: &ArgMatches<'_>, wish: &Wish<'_>) -> Result<Option<RequestKey>, ValueFault> {
     match key_if(matches, Word::Key)? {
         Some(key) if is_one(wish) => Ok(Some(key)),
-        Some(_) => Err(WordsFault::of(Word::Key, matches.get_str(Word::Key.name()))),
+        Some(_) => Err(ValueFault::at(Word::Key, 0)),
         None => Ok(None),
     }
 }
@@ -171,25 +167,27 @@ fn either<'a>(before: &ArgMatches<'a>, after: &ArgMatches<'a>, name: &str) -> Op
     }
 }
 
-// How long an answer is tried for. After `wait`, `--timeout` says how long is waited.
-fn timeout_of<'a>(
+// How long an answer is tried for, if that is said. After `wait`, `--timeout` says how long is waited.
+fn timeout_text<'a>(
     before: &ArgMatches<'a>,
     after: &ArgMatches<'a>,
     subcommand: Subcommand,
-) -> Result<u64, WordsFault<'a>> {
-    let text = match subcommand {
+) -> Option<&'a str> {
+    match subcommand {
         Subcommand::Wait => before.get_str(Word::Timeout.name()),
         _ => either(before, after, Word::Timeout.name()),
-    };
-    seconds_or(Word::Timeout, text, TRIES)
+    }
 }
 
 fn line_of<'a>(
+    alloc: Global,
     before: &ArgMatches<'a>,
     after: &ArgMatches<'a>,
+    subcommand: Subcommand,
     timeout: u64,
-    wish: Wish<'a>,
-) -> Result<Line<'a>, WordsFault<'a>> {
+) -> Result<Line<'a>, ValueFault> {
+    let json = before.get_flag(Word::Json.name()) || after.get_flag(Word::Json.name());
+    let wish = wish_of(alloc, subcommand, after, json)?;
     let key = key_for(after, &wish)?;
     Ok(Line {
         desk: either(before, after, Word::Desk.name()),
@@ -197,7 +195,7 @@ fn line_of<'a>(
         timeout,
         key,
         yes: after.get_flag(Word::Yes.name()),
-        json: before.get_flag(Word::Json.name()) || after.get_flag(Word::Json.name()),
+        json,
         wish,
     })
 }
@@ -207,21 +205,25 @@ fn asked<'a>(
     before: &ArgMatches<'a>,
     after: &ArgMatches<'a>,
     subcommand: Subcommand,
-) -> Result<Line<'a>, ValueFault<'a>> {
-    let timeout = timeout_of(before, after, subcommand)?;
-    let json = before.get_flag(Word::Json.name()) || after.get_flag(Word::Json.name());
-    let wish = wish_of(alloc, subcommand, after, json)?;
-    Ok(line_of(before, after, timeout, wish)?)
+) -> Result<Line<'a>, LineFault<'a>> {
+    let text = timeout_text(before, after, subcommand);
+    let Some(timeout) = seconds_or(text, TRIES) else {
+        return Err(LineFault::Words(WordsFault::of(Word::Timeout, text)));
+    };
+    match line_of(alloc, before, after, subcommand, timeout) {
+        Ok(line) => Ok(line),
+        Err(fault) => Err(LineFault::of(after, fault)),
+    }
 }
 
-fn asked_by<'a>(alloc: Global, matches: &ArgMatches<'a>) -> Result<Line<'a>, ValueFault<'a>> {
+fn asked_by<'a>(alloc: Global, matches: &ArgMatches<'a>) -> Result<Line<'a>, LineFault<'a>> {
     if let Some((name, after)) = matches.subcommand()
         && let Some(subcommand) = named(name)
     {
         return asked(alloc, matches, after, subcommand);
     }
     // The command line asks for a subcommand, and has those of the table alone.
-    Err(ValueFault::Words(WordsFault::of(Word::Which, None)))
+    Err(LineFault::Words(WordsFault::of(Word::Which, None)))
 }
 
 fn matched<'a>(alloc: Global, words: &'a [String]) -> Result<ArgMatches<'a>, Error> {
@@ -235,7 +237,7 @@ fn matched<'a>(alloc: Global, words: &'a [String]) -> Result<ArgMatches<'a>, Err
 /// `Usage` where the words are none of the command line's or ask for help, `Words` where one of them isn't what it must be, and `Memory`.
 pub fn read<'a>(alloc: Global, words: &'a [String]) -> Result<Line<'a>, LineFault<'a>> {
     match matched(alloc, words) {
-        Ok(matches) => Ok(asked_by(alloc, &matches)?),
+        Ok(matches) => asked_by(alloc, &matches),
         Err(error) => Err(LineFault::Usage(Usage::of(error))),
     }
 }

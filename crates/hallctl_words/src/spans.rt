@@ -4,7 +4,7 @@ ghost use Rattle.hall_types.specs.Number.{max_number};
 ghost use Rattle.hallctl_words.specs.Spans.{between, machines_in, max_machines, numbers_from, span_in, with_word, IsWordsFault};
 
 use crate::decimal::number_of;
-use crate::fault::{ValueFault, WordsFault};
+use crate::fault::ValueFault;
 use crate::options::Word;
 use hall_types::Number;
 use std::alloc::{AllocError, Global};
@@ -72,35 +72,31 @@ fn push_from(machines: &mut Vec<Number>, first: u64, count: u64) -> Result<(), A
     Ok(())
 }
 
-// Adds the machines of a word, if they aren't too many.
-fn push_word<'a>(machines: &mut Vec<Number>, word: &'a str) -> Result<(), ValueFault<'a>>
+// Adds the machines of the word at this place, if they aren't too many.
+fn push_word(machines: &mut Vec<Number>, word: &str, place: usize) -> Result<(), ValueFault>
     requires { vec_len machines.old ≤ max_machines }
     ensures ok { OnOk result (with_word machines.old.items word.entry.now ≡ Some machines.new.items) }
     ensures few { OnOk result (vec_len machines.new ≤ max_machines) }
     ensures fault { IfErr result (λ fault. IsWordsFault fault → with_word machines.old.items word.entry.now ≡ None) }
 {
-    let fault = WordsFault::of(Word::Machines, Some(word));
     let Some(span) = span_of(word.as_bytes()) else {
-        return Err(ValueFault::Words(fault));
+        return Err(ValueFault::at(Word::Machines, place));
     };
     if span.count > (MAX_MACHINES - machines.len()) as u64 {
-        return Err(ValueFault::Words(fault));
+        return Err(ValueFault::at(Word::Machines, place));
     }
     push_from(machines, span.first, span.count)?;
     Ok(())
 }
 
 /// The machines that words name, each by its number or in a range of numbers as `5-9`: 1,000 at most.
-pub(crate) fn machines_of<'a>(
-    alloc: Global,
-    words: &[&'a str],
-) -> Result<Vec<Number>, ValueFault<'a>>
+pub(crate) fn machines_of(alloc: Global, words: &[&str]) -> Result<Vec<Number>, ValueFault>
     ensures ok { IfOk result (λ machines. machines_in (map (λ word. word.now) words.entry.now) ≡ Some machines.items) }
     ensures fault { IfErr result (λ fault. IsWordsFault fault → machines_in (map (λ word. word.now) words.entry.now) ≡ None) }
 {
     let mut machines = Vec::new(alloc);
-    for word in words {
-        push_word(&mut machines, word)?;
+    for (place, word) in words.iter().enumerate() {
+        push_word(&mut machines, word, place)?;
     }
     Ok(machines)
 }

@@ -34,6 +34,10 @@ fn first_missing(json: &Value, names: &[&'static str]) -> Option<&'static str> {
     None
 }
 
+fn is_there<T: Drop>(value: Option<T>) -> bool {
+    value.is_some()
+}
+
 // Whether a member has a value that can be, by its name; an optional one may be absent.
 fn is_good(alloc: Global, json: &Value, name: &str) -> Result<bool, AllocError> {
     Ok(match name {
@@ -47,8 +51,8 @@ fn is_good(alloc: Global, json: &Value, name: &str) -> Result<bool, AllocError> 
         "digest" => digest_at(json).is_some(),
         "tests" => tests_at(json).is_some(),
         "erase" => erase_at(json).is_some(),
-        "kernel" | "initrd" => uri_at(alloc, json, name)?.is_some(),
-        "args" => words_at(alloc, json)?.is_some(),
+        "kernel" | "initrd" => is_there(uri_at(alloc, json, name)?),
+        "args" => is_there(words_at(alloc, json)?),
         "operator" | "pool" | "image" => name_at(json, name).is_some(),
         _ => true,
     })
@@ -82,7 +86,7 @@ fn bad_member(
         return Ok(Some(name));
     }
     // Words that are good each for itself may be too many, or begin `hall.`.
-    if matches!(kind, CommandKind::AddImage) && image_at(alloc, json)?.is_none() {
+    if matches!(kind, CommandKind::AddImage) && !is_there(image_at(alloc, json)?) {
         return Ok(Some("args"));
     }
     Ok(None)

@@ -146,6 +146,7 @@ fn print_image(out: &mut CaseAnswer, image: &Image) {
 fn print_copy(alloc: Global, out: &mut CaseAnswer, image: &Image) -> Result<(), AllocError> {
     let copy = image.copy(alloc)?;
     print_image(out, &copy);
+    drop(copy);
     Ok(())
 }
 
@@ -203,6 +204,7 @@ fn image_of(alloc: Global, rest: &str) -> Result<Result<Image, ImageFault>, Line
 /// The image live64 with these arguments: a copy of it, and itself.
 pub fn image(alloc: Global, rest: &str, out: &mut CaseAnswer) -> Result<(), LineFault> {
     let made = image_of(alloc, rest)?;
-    print_made(alloc, out, &made)?;
-    Ok(())
+    let printed = print_made(alloc, out, &made);
+    drop(made);
+    Ok(printed?)
 }

@@ -44,7 +44,8 @@ pub fn play_part<W: Write>(
         return Err(PlayFault::Log(LogFault::Memory));
     };
     let mut out = Outcome::none(alloc, *asked);
-    let _ = play_in(alloc, files, task, &mut out);
+    let (_, files) = play_in(alloc, files, task, &mut out);
+    drop(files);
     *asked = out.asked;
     if writer.write_all(out.text.as_slice()).is_err() {
         return Err(PlayFault::Log(LogFault::Io));
@@ -96,9 +97,12 @@ fn play_halls<W: Write>(
             break;
         }
         let from = at.saturating_add(1);
-        if at == 0 {
-            play_hall(alloc, over, text, lines, from, writer, &mut asked)?;
-        } else if let Some(words) = text.strip_prefix("new ") {
+        let head = if at == 0 {
+            Some(text)
+        } else {
+            text.strip_prefix("new ")
+        };
+        if let Some(words) = head {
             play_hall(alloc, over, words, lines, from, writer, &mut asked)?;
         }
     }

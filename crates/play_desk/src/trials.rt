@@ -58,6 +58,21 @@ fn push_steps(run: &Run<'_>, line: &mut String) -> Result<(), Fault> {
     Ok(())
 }
 
+// Stops each of the files ever later, while lines are played over them.
+fn push_stops(
+    alloc: Global,
+    run: &Run<'_>,
+    image: &Image,
+    calls: u64,
+    line: &mut String,
+) -> Result<(), Fault> {
+    push_steps(run, line)?;
+    let log = run.stop_at_each(alloc, image, Which::Log, calls)?;
+    push_seen(alloc, line, "the log that stops", log)?;
+    let file = run.stop_at_each(alloc, image, Which::File, calls)?;
+    push_seen(alloc, line, "the file that stops", file)
+}
+
 // Plays lines over files of which one stops, and gives what the files hold after them.
 fn stop_disks(
     alloc: Global,
@@ -68,11 +83,9 @@ fn stop_disks(
 ) -> Result<Image, Fault> {
     let trial = Trial::parse(text)?;
     let (run, then) = Run::new(alloc, image, look, trial.texts)?;
-    push_steps(&run, line)?;
-    let log = run.stop_at_each(alloc, image, Which::Log, trial.calls)?;
-    push_seen(alloc, line, "the log that stops", log)?;
-    let file = run.stop_at_each(alloc, image, Which::File, trial.calls)?;
-    push_seen(alloc, line, "the file that stops", file)?;
+    let pushed = push_stops(alloc, &run, image, trial.calls, line);
+    drop(run);
+    pushed?;
     Ok(then)
 }
 

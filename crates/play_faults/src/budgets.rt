@@ -73,13 +73,13 @@ fn misses_some(alloc: Global, log: &Log, played: &Played) -> Result<bool, AllocE
     let Ok(without) = without else {
         return Err(AllocError);
     };
-    Ok(
-        same_but(
-            played.answers.as_slice(),
-            places.as_slice(),
-            without.answers.as_slice(),
-        ) && same_tables(&played.tables, &without.tables),
-    )
+    let is_same = same_but(
+        played.answers.as_slice(),
+        places.as_slice(),
+        without.answers.as_slice(),
+    ) && same_tables(&played.tables, &without.tables);
+    drop(without);
+    Ok(is_same)
 }
 
 // The first budget with which something else happens, if there is one.
@@ -87,7 +87,9 @@ fn first_wrong(alloc: Global, log: &Log) -> Result<Option<u64>, AllocError> {
     for budget in 0..BUDGETS {
         let octets = (budget as usize).saturating_mul(STEP);
         if let Some(played) = play_within(alloc, log, octets) {
-            if !misses_some(alloc, log, &played)? {
+            let misses = misses_some(alloc, log, &played);
+            drop(played);
+            if !misses? {
                 return Ok(Some(budget));
             }
         }

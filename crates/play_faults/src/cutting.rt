@@ -4,13 +4,13 @@ use crate::playing::desk_over;
 use crate::trials::ProbeFault;
 use hall_desk::{Answer, Arrival, Desk, Input, Served};
 use hall_http::Noted;
-use hall_store::{HallStore, Unavailable};
+use hall_store::HallStore;
 use play_log::{Short, Slow};
 use std::alloc::Global;
 use store_memory::MemoryStore;
 
 /// How many were cut.
-#[derive(Clone, Copy, PartialEq, Eq)]
+#[derive(Clone, Copy)]
 pub struct Cuts {
     pub requests: u64,
     pub answers: u64,
@@ -81,25 +81,16 @@ fn is_answered_alike(octets: &[u8]) -> bool {
     octets.starts_with(b"POST /commands ") || octets.starts_with(b"GET ")
 }
 
-// Cuts a request and its answer; the other desk answers it whole.
-fn cut<S: HallStore>(
+// Cuts a request and its answer.
+fn cut_request<S: HallStore>(
     alloc: Global,
     desk: &mut Desk<S>,
-    other: &mut Desk<S>,
     arrival: &Arrival,
+    octets: &[u8],
+    answer: &[u8],
     line: u64,
     cuts: &mut Cuts,
 ) -> Result<(), ProbeFault> {
-    let answer = other.answer(alloc, arrival);
-    let Input::Request(octets) = &arrival.input else {
-        let _ = desk.answer(alloc, arrival);
-        return Ok(());
-    };
-    let octets = octets.as_slice();
-    let Answer::Octets(answer) = answer else {
-        return Err(ProbeFault::Slow(line));
-    };
-    let answer = answer.as_slice();
     cut_reads(alloc, desk, arrival, octets, line)?;
     let (served, written) = serve(alloc, desk, arrival, octets, 1, None, usize::MAX);
     if served != Served::Answered || written.as_slice() != answer {
@@ -113,6 +104,49 @@ fn cut<S: HallStore>(
     Ok(())
 }
 
+// Cuts a request and its answer; the other desk answers it whole.
+fn cut<S: HallStore>(
+    alloc: Global,
+    desk: &mut Desk<S>,
+    other: &mut Desk<S>,
+    arrival: &Arrival,
+    line: u64,
+    cuts: &mut Cuts,
+) -> Result<(), ProbeFault> {
+    let answer = other.answer(alloc, arrival);
+    let done = match (&arrival.input, &answer) {
+        (Input::Request(octets), Answer::Octets(answer)) => {
+            let (octets, answer) = (octets.as_slice(), answer.as_slice());
+            cut_request(alloc, desk, arrival, octets, answer, line, cuts)
+        }
+        (Input::Request(_), _) => Err(ProbeFault::Slow(line)),
+        _ => {
+            drop(desk.answer(alloc, arrival));
+            Ok(())
+        }
+    };
+    drop(answer);
+    done
+}
+
+// Each request is cut at one desk; the other one answers it whole.
+fn cut_all<S: HallStore>(
+    alloc: Global,
+    desk: &mut Desk<S>,
+    other: &mut Desk<S>,
+    log: &Log,
+) -> Result<Cuts, ProbeFault> {
+    let mut cuts = Cuts {
+        requests: 0,
+        answers: 0,
+    };
+    for (at, arrival) in log.arrivals.iter().enumerate() {
+        let line = (at as u64).saturating_add(2);
+        cut(alloc, desk, other, arrival, line, &mut cuts)?;
+    }
+    Ok(cuts)
+}
+
 fn cut_over<S: HallStore + Drop>(
     alloc: Global,
     store: S,
@@ -121,32 +155,16 @@ fn cut_over<S: HallStore + Drop>(
 ) -> Result<Cuts, ProbeFault> {
     let mut cut_desk = desk_over(alloc, store)?;
     let mut whole_desk = desk_over(alloc, other)?;
-    let mut cuts = Cuts {
-        requests: 0,
-        answers: 0,
-    };
-    for (at, arrival) in log.arrivals.iter().enumerate() {
-        let line = (at as u64).saturating_add(2);
-        cut(
-            alloc,
-            &mut cut_desk,
-            &mut whole_desk,
-            arrival,
-            line,
-            &mut cuts,
-        )?;
-    }
-    Ok(cuts)
+    let cuts = cut_all(alloc, &mut cut_desk, &mut whole_desk, log);
+    drop(whole_desk);
+    drop(cut_desk);
+    cuts
 }
 
 /// Cuts each request of a log, and the answers of those that may be sent again: from a reader that fails at each of its
 /// calls in turn, one octet a call, and to a writer that fails after each number of octets.
 pub fn cut_each_request(alloc: Global, log: &Log) -> Result<Cuts, ProbeFault> {
-    match (
-        MemoryStore::create(alloc, log.admin, log.digest),
-        MemoryStore::create(alloc, log.admin, log.digest),
-    ) {
-        (Ok(store), Ok(other)) => cut_over(alloc, store, other, log),
-        _ => Err(ProbeFault::from(Unavailable)),
-    }
+    let store = MemoryStore::create(alloc, log.admin, log.digest)?;
+    let other = MemoryStore::create(alloc, log.admin, log.digest)?;
+    cut_over(alloc, store, other, log)
 }

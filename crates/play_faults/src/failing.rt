@@ -30,10 +30,14 @@ fn same_but_one(answers: &[Answer], at: usize, others: &[Answer]) -> bool {
         && first_other(after, others_after).is_none()
 }
 
-// Whether, where a call fails, one arrival is missed and all else is as without it, or nothing is seen.
-fn misses_one(alloc: Global, log: &Log, whole: &Played, call: u64) -> Result<bool, Unavailable> {
+// Whether one arrival was missed and all else is as without it, or nothing is seen.
+fn has_missed_one(
+    alloc: Global,
+    log: &Log,
+    whole: &Played,
+    played: &Played,
+) -> Result<bool, Unavailable> {
     let arrivals = log.arrivals.as_slice();
-    let played = play(alloc, log.admin, log.digest, arrivals, &[], Some(call))?;
     let Some(at) = first_other(played.answers.as_slice(), whole.answers.as_slice()) else {
         return Ok(same_tables(&played.tables, &whole.tables));
     };
@@ -44,10 +48,19 @@ fn misses_one(alloc: Global, log: &Log, whole: &Played, call: u64) -> Result<boo
         return Ok(false);
     }
     let without = play(alloc, log.admin, log.digest, arrivals, &[at], None)?;
-    Ok(
-        same_but_one(played.answers.as_slice(), at, without.answers.as_slice())
-            && same_tables(&played.tables, &without.tables),
-    )
+    let is_same = same_but_one(played.answers.as_slice(), at, without.answers.as_slice())
+        && same_tables(&played.tables, &without.tables);
+    drop(without);
+    Ok(is_same)
+}
+
+// Whether, where a call fails, one arrival is missed and all else is as without it, or nothing is seen.
+fn misses_one(alloc: Global, log: &Log, whole: &Played, call: u64) -> Result<bool, Unavailable> {
+    let arrivals = log.arrivals.as_slice();
+    let played = play(alloc, log.admin, log.digest, arrivals, &[], Some(call))?;
+    let misses = has_missed_one(alloc, log, whole, &played);
+    drop(played);
+    misses
 }
 
 /// Plays a log over stores that fail at each of its calls in turn: each time one arrival counts as not having come, and

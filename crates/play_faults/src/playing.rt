@@ -104,7 +104,7 @@ fn answers_of<S: HallStore>(
     for (at, arrival) in arrivals.iter().enumerate() {
         if !without.contains(&at) {
             let answer = desk.answer(alloc, arrival);
-            answers.push(answer).map_err(|_| Unavailable)?;
+            answers.push(answer).ok().ok_or(Unavailable)?;
         }
     }
     Ok(answers)

@@ -2,8 +2,8 @@
 use crate::budgets::lower_memory;
 use crate::cutting::cut_each_request;
 use crate::failing::fail_each_call;
-use crate::log::read_log;
-use crate::playing::play;
+use crate::log::{Log, read_log};
+use crate::playing::{Played, play};
 use hall_desk::Answer;
 use hall_store::Unavailable;
 use play_log::{LogFault, answer_line};
@@ -12,7 +12,7 @@ use std::io::{Read, Write};
 use thiserror::Error;
 
 /// Why not every trial was made.
-#[derive(Clone, Copy, Debug, PartialEq, Eq, Error)]
+#[derive(Clone, Copy, Debug, Error)]
 pub enum ProbeFault {
     #[error("{0}")]
     Log(LogFault),
@@ -58,6 +58,28 @@ fn write_answers<W: Write>(
     Ok(())
 }
 
+// Makes the trials of a log, of which this is what it gives whole.
+fn try_whole<W: Write>(
+    alloc: Global,
+    log: &Log,
+    whole: &Played,
+    writer: &mut W,
+) -> Result<(), ProbeFault> {
+    write_answers(alloc, writer, whole.answers.as_slice())?;
+    fail_each_call(alloc, log, whole)?;
+    let budgets = lower_memory(alloc, log)?;
+    let cuts = cut_each_request(alloc, log)?;
+    let lines = format!(in alloc;
+        "{} calls failed in turn\n{budgets} budgets of memory\n{} requests and {} answers cut\n",
+        whole.calls, cuts.requests, cuts.answers
+    );
+    let Ok(lines) = lines else {
+        return Err(ProbeFault::Log(LogFault::Memory));
+    };
+    write_text(writer, lines.as_str())?;
+    Ok(())
+}
+
 /// Plays a log over a store that fails at no call, and writes the answers; then over stores that fail at each of its calls
 /// in turn, and with memory that ends ever earlier, and with requests and answers that are cut, and writes how many calls,
 /// budgets and cuts there were.
@@ -69,17 +91,7 @@ pub fn try_log<R: Read + Drop, W: Write>(
     let log = read_log(alloc, reader)?;
     let arrivals = log.arrivals.as_slice();
     let whole = play(alloc, log.admin, log.digest, arrivals, &[], None)?;
-    write_answers(alloc, writer, whole.answers.as_slice())?;
-    fail_each_call(alloc, &log, &whole)?;
-    let budgets = lower_memory(alloc, &log)?;
-    let cuts = cut_each_request(alloc, &log)?;
-    let lines = format!(in alloc;
-        "{} calls failed in turn\n{budgets} budgets of memory\n{} requests and {} answers cut\n",
-        whole.calls, cuts.requests, cuts.answers
-    );
-    let Ok(lines) = lines else {
-        return Err(ProbeFault::Log(LogFault::Memory));
-    };
-    write_text(writer, lines.as_str())?;
-    Ok(())
+    let tried = try_whole(alloc, &log, &whole, writer);
+    drop(whole);
+    tried
 }

@@ -144,7 +144,10 @@ pub fn crash(alloc: Global, files: Disks, turn: u64) -> Result<(Image, Image), A
     let written = Image::of(alloc, &files)?;
     files.log.crash();
     files.db.crash();
-    let synced = Image::of(alloc, &files)?;
-    let partly = partly_lost(alloc, &synced, &written, turn)?;
-    Ok((synced, partly))
+    let synced = Image::of(alloc, &files);
+    drop(files);
+    let synced = synced?;
+    let partly = partly_lost(alloc, &synced, &written, turn);
+    drop(written);
+    Ok((synced, partly?))
 }

@@ -61,7 +61,10 @@ fn played(alloc: Global, image: &Image, text: &str) -> Result<(String, Image), F
     let mut out = Outcome::none(alloc, Asked::NONE);
     let (_, files) = play_in(alloc, files, &Task::Line(text), &mut out);
     let answer = mem::replace(&mut out.line, String::new(alloc));
-    Ok((answer, Image::of(alloc, &files)?))
+    drop(out);
+    let image = Image::of(alloc, &files);
+    drop(files);
+    Ok((answer, image?))
 }
 
 fn answer_of(alloc: Global, image: &Image, text: &str) -> Result<String, Fault> {
@@ -85,10 +88,8 @@ fn step_of(alloc: Global, image: &Image, look: &str, text: &str) -> Result<(Step
 
 fn push_step(alloc: Global, run: &mut Run<'_>, image: &Image, text: &str) -> Result<Image, Fault> {
     let (step, then) = step_of(alloc, image, run.look, text)?;
-    match run.steps.push(step) {
-        Ok(()) => Ok(then),
-        Err(_) => Err(Fault::Memory),
-    }
+    run.steps.push(step).ok().ok_or(Fault::Memory)?;
+    Ok(then)
 }
 
 // The lines one after the other, up to the first that isn't answered as it is without a stop; how many are.

@@ -94,6 +94,10 @@ fn interface(mac: [u8; 6]) -> Interface {
     }
 }
 
+fn made(reply: Result<Reply, AllocError>) -> Result<Reply, LineFault> {
+    reply.ok().ok_or(LineFault::Memory)
+}
+
 fn orders(alloc: Global) -> Result<Reply, LineFault> {
     let cycle = Order {
         number: Number::FIRST,
@@ -106,7 +110,7 @@ fn orders(alloc: Global) -> Result<Reply, LineFault> {
         kind: OrderKind::Off,
         ..cycle
     };
-    Ok(Reply::orders(alloc, &[cycle, off])?)
+    made(Reply::orders(alloc, &[cycle, off]))
 }
 
 fn one_machine(alloc: Global, is_whole: bool) -> Result<Reply, LineFault> {
@@ -114,9 +118,9 @@ fn one_machine(alloc: Global, is_whole: bool) -> Result<Reply, LineFault> {
     let machine = failed(ready, name("olga")?, name("jammy")?, issued(4)?, issued(5)?);
     if is_whole {
         let interfaces = [interface(FIRST), interface(SECOND)];
-        return Ok(Reply::one_machine(alloc, &machine, &interfaces)?);
+        return made(Reply::one_machine(alloc, &machine, &interfaces));
     }
-    Ok(Reply::machine(alloc, &machine)?)
+    made(Reply::machine(alloc, &machine))
 }
 
 fn listed(alloc: Global, machine: &Machine) -> Result<Reply, AllocError> {
@@ -147,10 +151,6 @@ fn loader(alloc: Global) -> Result<Reply, AllocError> {
     Ok(Reply::boot_file(String::from_str(alloc, "ipxe.efi")?))
 }
 
-fn made(reply: Result<Reply, AllocError>) -> Result<Reply, LineFault> {
-    reply.ok().ok_or(LineFault::Memory)
-}
-
 fn reply_of(alloc: Global, word: &str) -> Result<Reply, LineFault> {
     match word {
         "done" => made(Reply::done(alloc)),
@@ -177,6 +177,7 @@ pub fn answered(alloc: Global, rest: &str, out: &mut CaseAnswer) -> Result<(), L
         return Ok(());
     }
     let reply = reply_of(alloc, rest)?;
-    print_response(alloc, out, &reply)?;
-    Ok(())
+    let printed = print_response(alloc, out, &reply);
+    drop(reply);
+    Ok(printed?)
 }

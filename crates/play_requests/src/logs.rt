@@ -1,11 +1,11 @@
 //! Lines of logs: arrivals that are played, and what a service notes.
 use boot_desk::{FrameView, frame};
-use desk_operations::{
+use desk_lines::{
     Backup, Failures, arrival_text, backup_line, lost_line, moment_text, unstamped_line,
 };
 use desk_values::LogFormat;
 use dhcp_frame::read;
-use hall_desk::{Account, Arrival, Came, Input, Notes};
+use hall_desk::{Account, Answer, Arrival, Came, Input, Notes};
 use hall_types::{Moment, Port, Token};
 use play_log::{CaseAnswer, LineFault, halves, moment, number, numbers, octets_of};
 use pxe_vendor::{Octets, client};
@@ -56,6 +56,13 @@ fn turn_of(word: &str) -> Result<Turn, LineFault> {
     }
 }
 
+fn push_line(out: &mut CaseAnswer, line: Option<String>, none: &str) {
+    match &line {
+        Some(line) => out.escaped(line.as_bytes()),
+        None => out.push(none),
+    }
+}
+
 /// The line of a turn at the moment 1,790,000,000, `TURN` or `TURN ARRIVAL`, with the text or the members of its arrival.
 pub fn turn(
     alloc: Global,
@@ -68,10 +75,8 @@ pub fn turn(
         None => (rest, None),
     };
     let turn = turn_of(word)?;
-    match &turn_line(alloc, format, moment(1_790_000_000)?, &turn, arrival)? {
-        Some(line) => out.escaped(line.as_bytes()),
-        None => out.push("none"),
-    }
+    let line = turn_line(alloc, format, moment(1_790_000_000)?, &turn, arrival)?;
+    push_line(out, line, "none");
     Ok(())
 }
 
@@ -84,10 +89,8 @@ pub fn failures(
 ) -> Result<(), LineFault> {
     let mut failures = Failures::NONE;
     for word in rest.split(' ') {
-        match &failures.line(alloc, format, moment(number(word)?)?)? {
-            Some(line) => out.escaped(line.as_bytes()),
-            None => out.push("none "),
-        }
+        let line = failures.line(alloc, format, moment(number(word)?)?)?;
+        push_line(out, line, "none ");
     }
     Ok(())
 }
@@ -165,6 +168,14 @@ fn discover(moment: Moment, octets: Vec<u8>) -> Arrival {
     }
 }
 
+// What is noted of an arrival whose answer is silence.
+fn silent_text(alloc: Global, arrival: &Arrival, account: &Account) -> Result<String, AllocError> {
+    let silence = Answer::Silence;
+    let text = arrival_text(alloc, arrival, &silence, account);
+    drop(silence);
+    text
+}
+
 // What is noted of these octets, come at a moment, if the answer is silence.
 fn silence_text(
     alloc: Global,
@@ -174,11 +185,11 @@ fn silence_text(
     octets: Vec<u8>,
 ) -> Result<String, LineFault> {
     let account = account(alloc, &octets, machines, last)?;
-    let silence = hall_desk::Answer::Silence;
-    match arrival_text(alloc, &discover(moment, octets), &silence, &account) {
-        Ok(text) => Ok(text),
-        Err(AllocError) => Err(LineFault::Memory),
-    }
+    let arrival = discover(moment, octets);
+    let text = silent_text(alloc, &arrival, &account);
+    drop(arrival);
+    drop(account);
+    Ok(text?)
 }
 
 /// What is noted of a DISCOVER of an unknown client that got silence, `MACHINES LAST, OCTETS`: how many machines the hall has, and

@@ -1,6 +1,7 @@
 //! What an operator gives on a command line and on standard input.
 use desk_operations::{Exit, Input, frame_run, parse, read_input};
 use desk_values::{Fault, moment_of};
+use hall_types::Port;
 use play_log::{
     CaseAnswer, LineFault, Short, Slow, halves, number, place, port, string_of, text_of,
 };
@@ -38,13 +39,14 @@ pub fn run(alloc: Global, rest: &str, out: &mut CaseAnswer) -> Result<(), LineFa
     Ok(())
 }
 
-/// How such a run ends from a reader of one octet a call, which fails at a call, to a writer that takes so many octets and then
-/// fails: `CALL ROOM PORT TEXT`. At the call 0 none fails.
-pub fn cut_run(alloc: Global, rest: &str, out: &mut CaseAnswer) -> Result<(), LineFault> {
-    let (call, rest) = halves(rest, " ")?;
-    let (room, rest) = halves(rest, " ")?;
-    let (at, input) = halves(rest, " ")?;
-    let (call, room, port) = (number(call)?, number(room)?, port(at)?);
+fn print_cut_run(
+    alloc: Global,
+    out: &mut CaseAnswer,
+    call: u64,
+    room: u64,
+    port: Port,
+    input: &str,
+) -> Result<(), LineFault> {
     let place = place(alloc)?;
     let input = text_of(alloc, input)?;
     let mut reader = Slow::new(input.as_slice(), 1, Some(call));
@@ -52,6 +54,16 @@ pub fn cut_run(alloc: Global, rest: &str, out: &mut CaseAnswer) -> Result<(), Li
     let exit = frame_run(alloc, &mut reader, &mut writer, port, &place);
     print_run(out, exit, writer.into_taken().as_slice());
     Ok(())
+}
+
+/// How such a run ends from a reader of one octet a call, which fails at a call, to a writer that takes so many octets and then
+/// fails: `CALL ROOM PORT TEXT`. At the call 0 none fails.
+pub fn cut_run(alloc: Global, rest: &str, out: &mut CaseAnswer) -> Result<(), LineFault> {
+    let (call, rest) = halves(rest, " ")?;
+    let (room, rest) = halves(rest, " ")?;
+    let (at, input) = halves(rest, " ")?;
+    let (call, room, port) = (number(call)?, number(room)?, port(at)?);
+    print_cut_run(alloc, out, call, room, port, input)
 }
 
 fn line_of(input: &Input, address: &[u8; 6]) -> u64 {

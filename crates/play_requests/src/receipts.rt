@@ -49,14 +49,22 @@ fn print_copied(alloc: Global, out: &mut CaseAnswer, receipt: &Receipt) -> Resul
 /// A copy of such a receipt.
 pub fn receipt(alloc: Global, rest: &str, out: &mut CaseAnswer) -> Result<(), LineFault> {
     let receipt = receipt_of(alloc, rest)?;
-    print_copied(alloc, out, &receipt)?;
-    Ok(())
+    let printed = print_copied(alloc, out, &receipt);
+    drop(receipt);
+    Ok(printed?)
+}
+
+fn print_stored(alloc: Global, out: &mut CaseAnswer, receipt: &Receipt) -> Result<(), AllocError> {
+    let reply = Reply::stored(alloc, receipt)?;
+    let printed = print_response(alloc, out, &reply);
+    drop(reply);
+    printed
 }
 
 /// The response that a receipt keeps, `STATUS COMMAND BODY`.
 pub fn stored(alloc: Global, rest: &str, out: &mut CaseAnswer) -> Result<(), LineFault> {
     let receipt = receipt_of(alloc, rest)?;
-    let reply = Reply::stored(alloc, &receipt)?;
-    print_response(alloc, out, &reply)?;
-    Ok(())
+    let printed = print_stored(alloc, out, &receipt);
+    drop(receipt);
+    Ok(printed?)
 }

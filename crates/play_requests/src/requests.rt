@@ -85,10 +85,12 @@ fn print_event(alloc: Global, out: &mut CaseAnswer, event: &Event) {
 }
 
 fn print_request(alloc: Global, out: &mut CaseAnswer, octets: &[u8]) {
-    match &event_of(alloc, octets) {
+    let event = event_of(alloc, octets);
+    match &event {
         Ok(event) => print_event(alloc, out, event),
         Err(fault) => out.fault(*fault as u8, *fault),
     }
+    drop(event);
 }
 
 /// The event of a request.

@@ -57,6 +57,20 @@ impl Client {
     }
 }
 
+/// The last client of a name sends octets.
+pub fn send_from(clients: &mut [Client], name: &str, octets: &[u8]) -> Result<(), Fault> {
+    named(clients, name)?.send(octets)
+}
+
+/// Reads what has come to the last client of a name, and says how its connection is then.
+pub fn take_at(
+    clients: &mut [Client],
+    name: &str,
+    octets: &mut Vec<u8>,
+) -> Result<&'static str, Fault> {
+    named(clients, name)?.take(octets)
+}
+
 /// The last client of a name.
 pub fn named<'a>(clients: &'a mut [Client], name: &str) -> Result<&'a mut Client, Fault> {
     for client in clients.iter_mut().rev() {

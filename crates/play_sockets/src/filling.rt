@@ -34,7 +34,7 @@ fn machine(id: u64) -> Result<Machine, Fault> {
 }
 
 fn add(rows: &mut Vec<RowWrite>, row: RowWrite) -> Result<(), Fault> {
-    rows.push(row).map_err(|_| Fault::Memory)
+    rows.push(row).ok().ok_or(Fault::Memory)
 }
 
 // Adds a machine and its eight interfaces, 52:54:00:HH:HH:00 to 52:54:00:HH:HH:07, where HH:HH is the machine's number.

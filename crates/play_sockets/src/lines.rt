@@ -1,5 +1,5 @@
 //! The lines of a script, and what each is answered.
-use crate::client::{Client, named};
+use crate::client::{Client, named, send_from, take_at};
 use crate::datagrams::{push_reply, send_datagrams};
 use crate::fault::Fault;
 use crate::stage::Stage;
@@ -18,7 +18,7 @@ fn connect<S: HallStore + Drop>(
     let service = stage.service.sockets().http_address()?;
     for _ in 0..number(count)? {
         let client = Client::connect(rt, name, service)?;
-        stage.clients.push(client).map_err(|_| Fault::Memory)?;
+        stage.clients.push(client).ok().ok_or(Fault::Memory)?;
     }
     Ok(())
 }
@@ -42,24 +42,29 @@ fn request<S: HallStore + Drop>(stage: &mut Stage<S>, text: &str) -> Result<Octe
 // A client sends a request.
 fn ask<S: HallStore + Drop>(stage: &mut Stage<S>, name: &str, text: &str) -> Result<(), Fault> {
     let octets = request(stage, text)?;
-    named(stage.clients.as_mut_slice(), name)?.send(octets.as_slice())
+    send_from(stage.clients.as_mut_slice(), name, octets.as_slice())
 }
 
-// Each client of a name sends a request.
-fn ask_all<S: HallStore + Drop>(stage: &mut Stage<S>, name: &str, text: &str) -> Result<(), Fault> {
-    let octets = request(stage, text)?;
-    for client in stage.clients.iter_mut() {
+// Each client of a name sends octets.
+fn send_each(clients: &mut [Client], name: &str, octets: &[u8]) -> Result<(), Fault> {
+    for client in clients.iter_mut() {
         if client.name.as_str() == name {
-            client.send(octets.as_slice())?;
+            client.send(octets)?;
         }
     }
     Ok(())
 }
 
+// Each client of a name sends a request.
+fn ask_all<S: HallStore + Drop>(stage: &mut Stage<S>, name: &str, text: &str) -> Result<(), Fault> {
+    let octets = request(stage, text)?;
+    send_each(stage.clients.as_mut_slice(), name, octets.as_slice())
+}
+
 // A client sends a text.
 fn send<S: HallStore + Drop>(stage: &mut Stage<S>, name: &str, text: &str) -> Result<(), Fault> {
     let text = unescaped(stage.alloc, text)?;
-    named(stage.clients.as_mut_slice(), name)?.send(text.as_bytes())
+    send_from(stage.clients.as_mut_slice(), name, text.as_bytes())
 }
 
 // Each client of a name sends a text.
@@ -69,12 +74,7 @@ fn send_all<S: HallStore + Drop>(
     text: &str,
 ) -> Result<(), Fault> {
     let text = unescaped(stage.alloc, text)?;
-    for client in stage.clients.iter_mut() {
-        if client.name.as_str() == name {
-            client.send(text.as_bytes())?;
-        }
-    }
-    Ok(())
+    send_each(stage.clients.as_mut_slice(), name, text.as_bytes())
 }
 
 // A client sends a request octet by octet, and looks before each whether something came back.
@@ -87,9 +87,8 @@ fn trickle<S: HallStore + Drop>(
     let octets = request(stage, text)?;
     let mut early = Vec::new(stage.alloc);
     for octet in octets.as_slice() {
-        let client = named(stage.clients.as_mut_slice(), name)?;
-        client.take(&mut early)?;
-        client.send(&[*octet])?;
+        take_at(stage.clients.as_mut_slice(), name, &mut early)?;
+        send_from(stage.clients.as_mut_slice(), name, &[*octet])?;
         let _ = stage.turns(2);
     }
     let (count, early) = (octets.as_slice().len(), early.len());
@@ -113,7 +112,7 @@ fn push_what_came<S: HallStore + Drop>(
     line: &mut String,
 ) -> Result<(), Fault> {
     let mut octets = Vec::new(stage.alloc);
-    let state = named(stage.clients.as_mut_slice(), name)?.take(&mut octets)?;
+    let state = take_at(stage.clients.as_mut_slice(), name, &mut octets)?;
     push_got(stage.alloc, line, state, octets.as_slice())?;
     Ok(())
 }

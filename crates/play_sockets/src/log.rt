@@ -1,6 +1,6 @@
 //! The log of the service's turns.
 use crate::client::Client;
-use desk_operations::{arrival_text, is_of_note};
+use desk_lines::{arrival_text, is_of_note};
 use desk_values::LogFormat;
 use hall_desk::{Account, Answer, Arrival};
 use hall_types::{Moment, Port};

@@ -86,5 +86,7 @@ pub fn play<S: HallStore + Drop, R: BufRead>(
     reader: &mut R,
 ) -> Result<Option<Begun>, Fault> {
     let mut stage = Stage::new(rt, store)?;
-    play_over(rt, &mut stage, reader)
+    let next = play_over(rt, &mut stage, reader);
+    drop(stage);
+    next
 }

@@ -1,5 +1,5 @@
 //! A service, its log and its clock, and the clients.
-use crate::client::{Client, named};
+use crate::client::{Client, take_at};
 use crate::fault::Fault;
 use crate::log::Log;
 use hall_desk::{Desk, Input};
@@ -101,7 +101,7 @@ impl<S: HallStore + Drop> Stage<S> {
         let socket = UdpSocket::bind(rt, loopback(2))?;
         socket.set_nonblocking(true)?;
         let client = asker(alloc, socket.local_addr()?)?;
-        let clients = Vec::from_array(alloc, [client]).map_err(|_| Fault::Memory)?;
+        let clients = Vec::from_array(alloc, [client]).ok().ok_or(Fault::Memory)?;
         Ok(Stage {
             alloc,
             service: service(rt, store)?,
@@ -158,7 +158,7 @@ impl<S: HallStore + Drop> Stage<S> {
         let mut octets = Vec::new(self.alloc);
         self.log.still = 0;
         for _ in 0..10_000 {
-            let state = named(self.clients.as_mut_slice(), name)?.take(&mut octets)?;
+            let state = take_at(self.clients.as_mut_slice(), name, &mut octets)?;
             if state != "open" || self.log.still >= 100 {
                 return Ok((octets, state));
             }

@@ -1,7 +1,7 @@
 //! Arrivals at a desk over a store.
 use crate::asking::Asked;
 use crate::fault::Fault;
-use desk_operations::{arrival_members, arrival_text, is_of_note};
+use desk_lines::{arrival_members, arrival_text, is_of_note};
 use hall_desk::{Account, Answer, Arrival, Desk};
 use hall_store::{HallStore, Probe};
 use play_log::{answer_line, answer_text, arrival, is_readable};
@@ -127,6 +127,9 @@ fn log_of<S: HallStore>(
     };
     let (answer, account) = desk.answer_with_account(alloc, &arrival);
     let done = push_log(alloc, line, form, &arrival, &answer, &account);
+    drop(account);
+    drop(answer);
+    drop(arrival);
     (done, desk.into_store())
 }
 

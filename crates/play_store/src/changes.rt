@@ -175,9 +175,7 @@ pub fn change(alloc: Global, words: &str) -> Result<Change, Fault> {
         return Ok(Change::from(rows));
     }
     for text in words.split("; ") {
-        if rows.push(row(alloc, text)?).is_err() {
-            return Err(Fault::Memory);
-        }
+        rows.push(row(alloc, text)?)?;
     }
     Ok(Change::from(rows))
 }

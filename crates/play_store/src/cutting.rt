@@ -49,8 +49,12 @@ fn answer_to_front<S: HallStore>(
         fresh: arrival.fresh,
         input: cut(alloc, &arrival.input, len)?,
     };
+    let answer = desk.answer(alloc, &arrival);
+    drop(arrival);
     let mut text = String::new(alloc);
-    push_answer(alloc, &mut text, kind, &desk.answer(alloc, &arrival))?;
+    let done = push_answer(alloc, &mut text, kind, &answer);
+    drop(answer);
+    done?;
     Ok(text)
 }
 

@@ -1,7 +1,7 @@
 //! Why a log isn't played to its end.
 use hall_store::Unavailable;
 use play_log::{LineFault, LogFault};
-use std::alloc::AllocError;
+use std::alloc::{AllocError, AllocFailed};
 
 /// Why a line isn't answered.
 #[derive(Clone, Copy)]
@@ -25,6 +25,12 @@ impl Fault {
 
 impl From<AllocError> for Fault {
     fn from(_: AllocError) -> Fault {
+        Fault::Memory
+    }
+}
+
+impl<T: Drop> From<AllocFailed<T>> for Fault {
+    fn from(_: AllocFailed<T>) -> Fault {
         Fault::Memory
     }
 }

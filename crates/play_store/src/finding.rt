@@ -140,7 +140,9 @@ pub fn image<S: HallStore>(
     let Some(image) = store.image(alloc, name)? else {
         return Ok(false);
     };
-    push_image(line, &image)?;
+    let done = push_image(line, &image);
+    drop(image);
+    done?;
     Ok(true)
 }
 
@@ -177,7 +179,9 @@ pub fn receipt<S: HallStore>(
     let Some(receipt) = store.receipt(alloc, operator, key)? else {
         return Ok(false);
     };
-    push_receipt(alloc, line, &receipt)?;
+    let done = push_receipt(alloc, line, &receipt);
+    drop(receipt);
+    done?;
     Ok(true)
 }
 

@@ -107,10 +107,11 @@ fn push_use(line: &mut String, machine: &Machine) -> Result<(), AllocError> {
     some_name(line, "image", machine.image)?;
     truth(line, "tests", machine.tests)?;
     some_status(line, "back", machine.back)?;
-    match machine.erase {
-        Some(erase) => field(line, "erase", erase.text())?,
-        None => field(line, "erase", ABSENT)?,
-    }
+    let erase = match machine.erase {
+        Some(erase) => erase.text(),
+        None => ABSENT,
+    };
+    field(line, "erase", erase)?;
     truth(line, "locked", machine.locked)
 }
 

@@ -187,10 +187,12 @@ fn client_inner(alloc: Global, frame: &Frame<'_>) -> Result<Client, NotServed>
     ensures { Answers result (client_of frame.now) }
 {
     let mut values = Values::new();
-    match values.join(alloc, frame) {
+    let client = match values.join(alloc, frame) {
         Ok(()) => client_with(alloc, frame, &values),
         Err(AllocError) => Err(NotServed::Memory),
-    }
+    };
+    drop(values);
+    client
 }
 
 /// Identifies the PXE client that sent a frame (PXE 2.1; RFC 4578). An error is the first cause not to

@@ -1,5 +1,5 @@
 //! The line of a turn in a log.
-use desk_operations::{Members, moment_text, stamped};
+use desk_lines::{Members, moment_text, stamped};
 use desk_values::LogFormat;
 use hall_types::Moment;
 use serve_sockets::{Close, Handover, Kind, Said, Turn};

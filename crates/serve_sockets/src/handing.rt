@@ -30,6 +30,8 @@ pub(crate) fn hand<S: HallStore, L: TurnLog>(
     };
     let (answer, account) = desk.answer_with_account(alloc, &arrival);
     log.arrived(&arrival, &answer, &account);
+    drop(account);
+    drop(arrival);
     answer
 }
 

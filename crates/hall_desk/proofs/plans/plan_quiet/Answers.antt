@@ -11,9 +11,9 @@ returns g c clean =
     let look = read.1 in (
       read.0,
       record {
-        answer = each_right _ c.quiet_plan.result (λ h is.
+        answer = each_right _ c.quiet_plan-plan.result (λ h is.
             let found : option_copied c.as_ref.result ≡ view.machine_view h (next_expired h c.args.moment) = search (rules, look.answer h is) in
-            c.quiet_plan.ensures (swept (view.machine_view h (next_expired h c.args.moment)) c.args.moment)
+            c.quiet_plan-plan.ensures (swept (view.machine_view h (next_expired h c.args.moment)) c.args.moment)
             (subst (λ v. IfOk c.sweep.result (λ change. change ≡ swept v c.args.moment)) found c.sweep.ensures));
         same = look.same;
         crash = look.crash;
