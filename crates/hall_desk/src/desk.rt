@@ -82,6 +82,7 @@ impl<S: HallStore> Desk<S> {
         fresh: Token,
     ) -> Result<(Change, Reply), Unavailable>
         ensures site { site_of self.new ≡ site_of self.old }
+        ensures enlists { enlists_of self.new ≡ enlists_of self.old }
         ensures plan { Looks S.HallStore.is_clean S.HallStore.holds S.HallStore.leaves (store_of self.old) (store_of self.new) result
             (λ h planned. Plans (decision_of (site_of self.old) h event.now moment fresh) planned) }
     {
@@ -109,6 +110,7 @@ impl<S: HallStore> Desk<S> {
         fresh: Token,
     ) -> Result<Reply, Unavailable>
         ensures site { site_of self.new ≡ site_of self.old }
+        ensures enlists { enlists_of self.new ≡ enlists_of self.old }
         ensures step { CarriesOut S.HallStore.is_clean S.HallStore.holds S.HallStore.leaves (store_of self.old) (store_of self.new) result
             (λ h. (decision_of (site_of self.old) h event.now moment fresh).rows)
             (λ h reply. reply ≡ reply_of second (decision_of (site_of self.old) h event.now moment fresh).content) }
@@ -137,6 +139,7 @@ impl<S: HallStore> Desk<S> {
         fresh: Token,
     ) -> Result<Reply, Unavailable>
         ensures site { site_of self.new ≡ site_of self.old }
+        ensures enlists { enlists_of self.new ≡ enlists_of self.old }
         ensures step { CarriesOut S.HallStore.is_clean S.HallStore.holds S.HallStore.leaves (store_of self.old) (store_of self.new) result
             (λ h. (decision_of (site_of self.old) h event.now moment fresh).rows)
             (λ h reply. reply ≡ reply_of second (decision_of (site_of self.old) h event.now moment fresh).content) }
@@ -233,6 +236,7 @@ impl<S: HallStore> Desk<S> {
     pub fn run(&mut self, alloc: Global, arrivals: &[Arrival]) -> Result<Vec<Answer>, AllocError>
         ensures clean { S.HallStore.is_clean (store_of self.new) → S.HallStore.is_clean (store_of self.old) }
         ensures site { site_of self.new ≡ site_of self.old }
+        ensures enlists { enlists_of self.new ≡ enlists_of self.old }
         ensures run { S.HallStore.is_clean (store_of self.new) → IfOk result (λ answers. (h : Hall) → S.HallStore.holds (store_of self.old) h → IsSound h
             → HasRun S.HallStore.holds S.HallStore.leaves (store_of self.old) (store_of self.new) (site_of self.old) h arrivals.now answers.items) }
         ensures one_each { IfOk result (λ answers. length answers.items ≡ length arrivals.now) }

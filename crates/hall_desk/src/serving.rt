@@ -3,7 +3,7 @@ ghost use Rattle.std.specs.Prelude.{◌≡◌, ◌<◌, ◌≤◌, ◌+◌, ◌�
 ghost use Rattle.std.specs.Io.KnownBytes.{Appends};
 ghost use Rattle.hall_http.specs.Noted.{failed_of, inner_of, takes_of};
 ghost use Rattle.hall_desk.specs.Attempt.{IsAnswered};
-ghost use Rattle.hall_desk.specs.Desk.{site_of, store_of};
+ghost use Rattle.hall_desk.specs.Desk.{enlists_of, site_of, store_of};
 ghost use Rattle.hall_desk.specs.Headline.{HasHistory, HasServed};
 ghost use Rattle.hall_desk.specs.History.{Item};
 ghost use Rattle.hall_desk.specs.Octets.{octets_of};
@@ -88,6 +88,7 @@ impl<S: HallStore> Desk<S> {
         requires read { failed_of reader.old ≡ false }
         ensures clean { S.HallStore.is_clean (store_of self.new) → S.HallStore.is_clean (store_of self.old) }
         ensures site { site_of self.new ≡ site_of self.old }
+        ensures enlists { enlists_of self.new ≡ enlists_of self.old }
         ensures step { S.HallStore.is_clean (store_of self.new) → IfSome result (λ answer. IfSome (R.remaining (inner_of reader.old)) (λ octets.
             IsAnswered S.HallStore.holds S.HallStore.leaves (store_of self.old) (store_of self.new) (site_of self.old) (input.Request octets) moment fresh answer)) }
         ensures same { IfNone result (self.new ≡ self.old) }
@@ -126,6 +127,7 @@ impl<S: HallStore> Desk<S> {
         requires written { failed_of writer.old ≡ false }
         ensures clean { S.HallStore.is_clean (store_of self.new) → S.HallStore.is_clean (store_of self.old) }
         ensures site { site_of self.new ≡ site_of self.old }
+        ensures enlists { enlists_of self.new ≡ enlists_of self.old }
         ensures served { S.HallStore.is_clean (store_of self.new) → IfSome (R.remaining (inner_of reader.old)) (λ octets. IfSome (W.contents (inner_of writer.old)) (λ before.
             IsServed S.HallStore.holds S.HallStore.leaves (store_of self.old) (store_of self.new) (site_of self.old) moment fresh octets before result (W.contents (inner_of writer.new)))) }
         ensures history { S.HallStore.is_clean (store_of self.new) → IfSome (R.remaining (inner_of reader.old)) (λ octets. IfSome (W.contents (inner_of writer.old)) (λ before.

@@ -22,6 +22,19 @@ pub struct Manner {
     pub json: bool,
 }
 
+impl Manner {
+    // The key of a command: that which is said, or a new one.
+    pub(crate) fn key_of<S: Surroundings>(
+        &self,
+        surroundings: &mut S,
+    ) -> Result<RequestKey, TaskFault> {
+        match self.key {
+            Some(key) => Ok(key),
+            None => new_key(surroundings),
+        }
+    }
+}
+
 // The version that a command says.
 fn version_of(command: &HallCommand) -> Option<Version> {
     match command {
@@ -60,13 +73,6 @@ fn as_listed(command: &HallCommand, listed: Version) -> Option<HallCommand> {
     }
 }
 
-fn key_of<S: Surroundings>(surroundings: &mut S, manner: &Manner) -> Result<RequestKey, TaskFault> {
-    match manner.key {
-        Some(key) => Ok(key),
-        None => new_key(surroundings),
-    }
-}
-
 // The machine before a command: as it was listed, or as a glance at it shows it, unless the answer is printed as it is or is that of a
 // command that was sent before.
 fn before<S: Surroundings>(
@@ -94,7 +100,7 @@ fn sent_as<S: Surroundings>(
     look: &Look,
     command: &HallCommand,
 ) -> Result<Ended, TaskFault> {
-    let key = key_of(surroundings, manner)?;
+    let key = manner.key_of(surroundings)?;
     let beside = beside(alloc, command)?;
     let before = before(alloc, surroundings, desk, manner, look, command)?;
     let json = manner.json;
@@ -152,11 +158,6 @@ fn look_of(looks: &[Look], place: usize) -> Look {
     }
 }
 
-// How a line ends with one more command.
-fn after(end: Ended, one: Ended) -> Ended {
-    if one == Ended::Done { end } else { one }
-}
-
 // Sends the commands, each after the look at its machine. One without an answer is the last.
 fn sent_all<S: Surroundings>(
     alloc: Global,
@@ -169,10 +170,7 @@ fn sent_all<S: Surroundings>(
     let mut end = Ended::Done;
     for (place, command) in commands.iter().enumerate() {
         let look = look_of(looks, place);
-        end = after(
-            end,
-            sent_after(alloc, surroundings, desk, manner, &look, command)?,
-        );
+        end = end.and_then(sent_after(alloc, surroundings, desk, manner, &look, command)?);
         if end == Ended::NoAnswer {
             let unsent = commands.len().saturating_sub(place).saturating_sub(1);
             tell_of_unsent(alloc, surroundings, unsent)?;

@@ -14,6 +14,11 @@ pub enum Ended {
 }
 
 impl Ended {
+    /// How several things end with one more: as the last that wasn't done.
+    pub(crate) fn and_then(self, one: Ended) -> Ended {
+        if one == Ended::Done { self } else { one }
+    }
+
     /// The exit status of the program.
     pub fn status(self) -> u8 {
         match self {

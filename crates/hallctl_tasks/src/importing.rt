@@ -37,11 +37,6 @@ fn add_row<S: Surroundings>(
     end
 }
 
-// How an import ends with one more row.
-fn after(end: Ended, one: Ended) -> Ended {
-    if one == Ended::Done { end } else { one }
-}
-
 // Adds the machines of the rows. A row without an answer is the last.
 fn add_rows<S: Surroundings>(
     alloc: Global,
@@ -52,7 +47,7 @@ fn add_rows<S: Surroundings>(
 ) -> Result<Ended, TaskFault> {
     let mut end = Ended::Done;
     for (place, row) in rows.iter().enumerate() {
-        end = after(end, add_row(alloc, surroundings, desk, row, json)?);
+        end = end.and_then(add_row(alloc, surroundings, desk, row, json)?);
         if end == Ended::NoAnswer {
             return Ok(end);
         }

@@ -2,12 +2,11 @@
 use crate::changes::Manner;
 use crate::desk::Desk;
 use crate::fault::{Ended, TaskFault};
-use crate::keys::new_key;
 use crate::saying::{misused_file, tell};
 use crate::sending::{Sending, sent};
 use crate::surroundings::Surroundings;
 use hall_events::HallCommand;
-use hall_types::{Digest, Name, RequestKey, Role};
+use hall_types::{Digest, Name, Role};
 use sha2::{Digest as _, Sha256};
 use std::alloc::{AllocError, Global};
 
@@ -43,13 +42,6 @@ fn beside(alloc: Global, path: &str, digest: Digest) -> Result<String, AllocErro
     format!(in alloc; " and --digest {digest} in place of --new-token {path}")
 }
 
-fn key_of<S: Surroundings>(surroundings: &mut S, manner: &Manner) -> Result<RequestKey, TaskFault> {
-    match manner.key {
-        Some(key) => Ok(key),
-        None => new_key(surroundings),
-    }
-}
-
 // Sends the command that adds an operator with this digest.
 fn send<S: Surroundings>(
     alloc: Global,
@@ -62,7 +54,7 @@ fn send<S: Surroundings>(
 ) -> Result<Ended, TaskFault> {
     let beside = beside(alloc, path, digest)?;
     let sending = Sending {
-        key: key_of(surroundings, manner)?,
+        key: manner.key_of(surroundings)?,
         command,
         before: None,
         beside: beside.as_str(),

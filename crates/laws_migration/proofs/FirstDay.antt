@@ -19,7 +19,8 @@ use Rattle.laws_migration.specs.FirstSchema.{IsFirstRun, IsFirstStep, plain, wit
 use Rattle.laws_migration.proofs.Computing.{computed}
 use Rattle.laws_migration.proofs.FirstSteps.{IsPair, first_is, first_step, next_pair}
 use Rattle.laws_migration.proofs.Forgetting.{carried_again, new_forgotten, no_machines}
-use Rattle.laws_migration.proofs.WholeDay.{ada, asks_script, commission_booted, commission_booted-decision, commission_booted-is, commission_done, commission_done-arrival, commission_done-decision, commission_done-is, commissioned, commissioned-arrival, commissioned-decision, commissioned-is, erase_booted, erase_booted-decision, erase_booted-is, erase_given, erase_given-is, erase_script, erasing_begun, erasing_begun-arrival, erasing_begun-decision, erasing_begun-is, erasing_booted, image_added, image_added-arrival, image_added-decision, image_added-is, image_live, image_live-arrival, image_live-decision, image_live-is, machine_added, machine_added-arrival, machine_added-decision, machine_added-is, machine_allocated, machine_allocated-arrival, machine_allocated-decision, machine_allocated-is, start}
+use Rattle.laws_past.specs.Worked.{ada, start}
+use Rattle.laws_migration.proofs.WholeDay.{asks_script, commission_booted, commission_booted-decision, commission_booted-is, commission_done, commission_done-arrival, commission_done-decision, commission_done-is, commissioned, commissioned-arrival, commissioned-decision, commissioned-is, erase_booted, erase_booted-decision, erase_booted-is, erase_given, erase_given-is, erase_script, erasing_begun, erasing_begun-arrival, erasing_begun-decision, erasing_begun-is, erasing_booted, image_added, image_added-arrival, image_added-decision, image_added-is, image_live, image_live-arrival, image_live-decision, image_live-is, machine_added, machine_added-arrival, machine_added-decision, machine_added-is, machine_allocated, machine_allocated-arrival, machine_allocated-decision, machine_allocated-is}
 
 -- ---- the day
 

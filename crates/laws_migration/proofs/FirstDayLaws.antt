@@ -1,55 +1,27 @@
 -- The laws of erasing aren't empty: their premises hold of the day in the first schema, and of what comes after.
-use Rattle.std.proofs.Common.{◌≡◌, ◌<◌, ℕ, zero, suc, List, [], ◌∷◌, Option, slice_index, refl, subst, All, arith}
+use Rattle.std.proofs.Common.{ℕ, List, [], ◌∷◌, refl, All, arith}
 use Rattle.std.specs.Prelude.{None, Some, codes}
 use Rattle.std.specs.Fmt.{digits}
-use Rattle.std.specs.List.{AllByRecursion}
 use Rattle.std.proofs.lemmas.List.Elements.{All-from_recursion}
 use Rattle.hex.specs.Hex.{encode_with}
-use Rattle.pxe_vendor.specs.Place.{is_host}
 use Rattle.ipxe_script.specs.Purpose.{IsErasing}
 use Rattle.ipxe_script.specs.PurposeLaws.{HasKernelWord-boot, IsArgument-hall}
 use Rattle.ipxe_script.specs.Script.{IsScript, spelling}
 use Rattle.ipxe_script.specs.ScriptLaws.{IsScript-boot}
 use Rattle.ipxe_script.specs.Word.{IsWord, is_first_octet, is_uri, is_word, is_word_octet}
-use Rattle.hall_types.specs.Image.{BootImage, IsImage}
 use Rattle.hall_types.specs.Kinds.{erase_text, purpose_text}
 use Rattle.hall_types.specs.declared.kinds.Erase.TheVariants.{Full}
 use Rattle.hall_types.specs.declared.kinds.Purpose.TheVariants as purpose
 use Rattle.hall_types.specs.declared.kinds.Stage.TheVariants as stage
-use Rattle.hall_events.specs.Event.{BringsImage}
-use Rattle.hall_events.specs.declared.command.HallCommand.TheVariants.{AddImage}
-use Rattle.hall_events.specs.declared.event.Event.{Event}
-use Rattle.hall_events.specs.declared.event.Event.TheVariants as event
 use Rattle.boot_desk.specs.Texts.{desk_arguments, work_script}
-use Rattle.laws_model.specs.Step.{IsTyped}
 use Rattle.laws_past.specs.Laws.{AreTyped, GivesText}
 use Rattle.laws_migration.specs.FirstSchema.{plain}
 use Rattle.laws_migration.proofs.FirstDay.{first_day, first_erase_booted}
-use Rattle.laws_migration.proofs.WholeDay.{boot, erase_given, erase_script, host, live, mac, site, token}
+use Rattle.laws_past.specs.Worked.{boot, host, live, mac}
+use Rattle.laws_past.specs.WorkedLaws.{the_image, typed}
+use Rattle.laws_migration.proofs.WholeDay.{erase_given, erase_script}
 
 -- ---- types
-
-all_octets : (its : List ℕ) → AllByRecursion (λ octet. octet < 256) its → (i : ℕ) → slice_index its i < 256
-all_octets [] are i = omega arith
-all_octets (octet ∷ its) are zero = are.0
-all_octets (octet ∷ its) are (suc i) = all_octets its are.1 i
-
-typed : (e : Event) → BringsImage e → IsTyped site e token
-unfolding is_host
-typed e image = record { host = refl; octets = (refl, all_octets token all_small); image = image }
-  where
-    small : 9 < 256
-    small = omega arith
-
-    all_small : AllByRecursion (λ octet. octet < 256) token
-    all_small = (small, (small, (small, (small, (small, (small, (small, (small, (small, (small, (small, (small, (small, (small, (small, (small, tt))))))))))))))))
-
-the_image : (bearer : Option (List ℕ)) (key : List ℕ) → BringsImage (event.Command bearer key (AddImage live))
-unfolding is_word is_first_octet is_word_octet is_uri
-the_image bearer key its its_key image is = subst IsImage (same live image is) (record { kernel = refl; initrd = refl; words = All-from_recursion IsWord [] tt; few = omega arith; free = refl })
-  where
-    same : (a b : BootImage) → event.Command bearer key (AddImage a) ≡ event.Command its its_key (AddImage b) → a ≡ b
-    same a b e = cc
 
 -- what the day's arrivals bring is of its type
 first_day_is_typed : AreTyped first_day

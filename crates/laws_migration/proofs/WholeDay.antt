@@ -1,37 +1,25 @@
 -- A day in the second schema, by computation: a machine is added, commissioned, allocated, and released for erasing its disks in full.
-use Rattle.std.proofs.Common.{◌≡◌, ℕ, true, false, List, [], ◌∷◌, Some, None, sym, ap, inl}
+use Rattle.std.proofs.Common.{◌≡◌, false, List, [], ◌∷◌, Some, None, sym, ap, inl}
 use Rattle.std.specs.Prelude.{codes}
-use Rattle.pxe_vendor.specs.Place.{Site}
 use Rattle.pxe_vendor.specs.declared.arch.Arch.TheVariants.{Uefi64}
 use Rattle.ipxe_script.specs.declared.command.Command.{Command as Line}
-use Rattle.hall_types.specs.Hall.{Hall, applied, new_hall, second}
-use Rattle.hall_types.specs.Image.{BootImage}
+use Rattle.hall_types.specs.Hall.{Hall, applied}
 use Rattle.hall_types.specs.Kinds.{arch_number}
 use Rattle.hall_types.specs.Rows.{numbers, pairs, texts}
 use Rattle.hall_types.specs.Status.{status_number}
-use Rattle.hall_types.specs.declared.boot.Boot.{Boot}
-use Rattle.hall_types.specs.declared.change.RowWrite.{RowWrite}
-use Rattle.hall_types.specs.declared.change.RowWrite.TheVariants.{PutBoot, PutImage, PutInterface, PutLive, PutMachine, PutNumbers, PutOrder, PutReceipt}
+use Rattle.hall_types.specs.declared.change.RowWrite.TheVariants.{PutBoot, PutImage, PutInterface, PutLive, PutMachine, PutOrder}
 use Rattle.hall_types.specs.declared.kinds.Erase.TheVariants.{Full}
-use Rattle.hall_types.specs.declared.kinds.OrderKind.TheVariants.{Cycle}
-use Rattle.hall_types.specs.declared.kinds.OrderStage.{OrderStage}
 use Rattle.hall_types.specs.declared.kinds.OrderStage.TheVariants.{Waiting, Withdrawn}
 use Rattle.hall_types.specs.declared.kinds.Progress.TheVariants as report
-use Rattle.hall_types.specs.declared.kinds.Purpose.{Purpose}
 use Rattle.hall_types.specs.declared.kinds.Purpose.TheVariants as purpose
-use Rattle.hall_types.specs.declared.kinds.Role.TheVariants.{Admin}
-use Rattle.hall_types.specs.declared.kinds.Stage.{Stage}
 use Rattle.hall_types.specs.declared.kinds.Stage.TheVariants as stage
 use Rattle.hall_types.specs.declared.machine.Machine.{Machine}
-use Rattle.hall_types.specs.declared.operator.Operator.{Operator}
-use Rattle.hall_types.specs.declared.order.Order.{Order}
 use Rattle.hall_types.specs.declared.status.Status.TheVariants.{Allocated, Commissioning, DiskErasing, New, Ready}
-use Rattle.hall_events.specs.Reply.{Content, counted, done, machine_is, script}
+use Rattle.hall_events.specs.Reply.{counted, done, machine_is, script}
 use Rattle.hall_events.specs.declared.command.HallCommand.{HallCommand}
 use Rattle.hall_events.specs.declared.command.HallCommand.TheVariants.{AddImage, AddMachine, OnMachine, SetLive}
 use Rattle.hall_events.specs.declared.command.MachineCommand.TheVariants as on
-use Rattle.hall_events.specs.declared.event.Event.{Event}
-use Rattle.hall_events.specs.declared.event.Event.TheVariants.{Command, Report, Script}
+use Rattle.hall_events.specs.declared.event.Event.TheVariants.{Report, Script}
 use Rattle.life_cycle.specs.Entering.{back_after, boot_after, is_origin, is_rescue, keeps_erase, keeps_owner, limit_of}
 use Rattle.life_cycle.specs.Table.{step_of, who_gives}
 use Rattle.boot_desk.specs.Class.{class_in}
@@ -40,61 +28,19 @@ use Rattle.boot_desk.specs.Following.{followed}
 use Rattle.boot_desk.specs.Report.{reported}
 use Rattle.boot_desk.specs.Texts.{work_script}
 use Rattle.desk_command.specs.Causes.{causes}
-use Rattle.desk_command.specs.Command.{command_decision, commanded, receipt_of}
+use Rattle.desk_command.specs.Command.{command_decision, commanded}
 use Rattle.desk_command.specs.Effect.{added_machine, effect}
 use Rattle.desk_command.specs.View.{command_view}
 use Rattle.laws_model.specs.Decision.{Decided, decision_of}
 use Rattle.laws_model.specs.Step.{Arrival, IsStep, Step}
+use Rattle.laws_past.specs.Worked.{ada, boot, came, command, host, lasts, live, mac, order, receipt, start, token}
 use Rattle.laws_migration.proofs.Computing.{computed}
 use Rattle.laws_migration.proofs.FirstSteps.{whole_step}
 
--- ---- who and what there is
-
-abbrev pub host : List ℕ
-host = codes "hall.example"
-
-abbrev pub site : Site
-site = record { server = 192 ∷ 0 ∷ 2 ∷ 1 ∷ []; next = 192 ∷ 0 ∷ 2 ∷ 2 ∷ []; host = host }
-
-abbrev pub ada : Operator
-ada = record { name = codes "ada"; role = Admin; digest = 1 ∷ []; enabled = true }
-
-abbrev pub live : BootImage
-live = record { name = codes "live"; arch = Uefi64; kernel = codes "http://files.example/k"; initrd = codes "http://files.example/i"; args = [] }
-
-abbrev pub mac : List ℕ
-mac = 82 ∷ 84 ∷ 0 ∷ 18 ∷ 52 ∷ 86 ∷ []
-
-abbrev pub token : List ℕ
-token = 9 ∷ 9 ∷ 9 ∷ 9 ∷ 9 ∷ 9 ∷ 9 ∷ 9 ∷ 9 ∷ 9 ∷ 9 ∷ 9 ∷ 9 ∷ 9 ∷ 9 ∷ 9 ∷ []
-
-abbrev pub boot : ℕ → Purpose → Stage → Boot
-boot number its at = record { number = number; machine = 1; purpose = its; token = token; stage = at }
-
-abbrev order : ℕ → OrderStage → Order
-order number its = record { number = number; machine = 1; kind = Cycle; stage = its }
-
--- ---- what comes, and what it writes
-
-abbrev came : Event → Arrival
-came e = record { site = site; event = e; moment = 1000; fresh = token }
-
--- a command of ada's
-abbrev command : ℕ → HallCommand → Arrival
-command key c = came (Command (Some ada.digest) (key ∷ []) c)
-
-abbrev receipt : ℕ → HallCommand → Content → RowWrite
-receipt key c content = PutReceipt (receipt_of ada (key ∷ []) c content)
-
--- the last numbers of machines, boots and orders
-abbrev lasts : ℕ → ℕ → ℕ → RowWrite
-lasts machine boot order = PutNumbers (record { machine = machine; boot = boot; order = order })
+-- ---- what is decided
 
 model : (h : Hall) (a : Arrival) (its : Decided) → decision_of a.site h a.event a.moment a.fresh ≡ its → IsStep (whole_step h a its)
 model h a its is = inl (record { answer = ap (λ (d : Decided). Some d.content) (sym is); after = ap (λ (d : Decided). applied d.rows h) (sym is) })
-
-abbrev pub start : Hall
-start = new_hall second ada.name ada.digest
 
 -- ---- an image and a machine
 

@@ -1,34 +1,26 @@
 -- A day, from a new hall, by computation: a machine is added, commissioned, deployed, and released for erasing its disks.
-use Rattle.std.proofs.Common.{◌≡◌, ℕ, List, [], ◌∷◌, ◌++◌, true, false, Some, None, refl, sym, ap, inl}
+use Rattle.std.proofs.Common.{◌≡◌, List, [], ◌∷◌, ◌++◌, true, false, Some, None, refl, sym, ap, inl}
 use Rattle.std.specs.Prelude.{codes}
 use Rattle.pxe_vendor.specs.BootFile.{boot_file_of}
-use Rattle.pxe_vendor.specs.Place.{Site}
 use Rattle.pxe_vendor.specs.declared.arch.Arch.TheVariants.{Uefi64}
 use Rattle.pxe_vendor.specs.declared.clients.Client.{Client}
 use Rattle.pxe_vendor.specs.declared.clients.Kind.TheVariants.{Discover}
 use Rattle.ipxe_script.specs.declared.command.Command.{Command as Line}
-use Rattle.hall_types.specs.Hall.{Hall, applied, new_hall, second}
-use Rattle.hall_types.specs.Image.{BootImage}
+use Rattle.hall_types.specs.Hall.{Hall, applied, second}
 use Rattle.hall_types.specs.Kinds.{arch_number}
 use Rattle.hall_types.specs.Rows.{numbers, texts, pairs}
 use Rattle.hall_types.specs.Status.{status_number}
-use Rattle.hall_types.specs.declared.boot.Boot.{Boot}
 use Rattle.hall_types.specs.declared.change.RowWrite.{RowWrite}
-use Rattle.hall_types.specs.declared.change.RowWrite.TheVariants.{PutBoot, PutImage, PutInterface, PutLive, PutMachine, PutNumbers, PutOperator, PutOrder, PutReceipt}
+use Rattle.hall_types.specs.declared.change.RowWrite.TheVariants.{PutBoot, PutImage, PutInterface, PutLive, PutMachine, PutOperator, PutOrder}
 use Rattle.hall_types.specs.declared.kinds.Erase.TheVariants.{Full}
-use Rattle.hall_types.specs.declared.kinds.OrderKind.TheVariants.{Cycle}
-use Rattle.hall_types.specs.declared.kinds.OrderStage.{OrderStage}
 use Rattle.hall_types.specs.declared.kinds.OrderStage.TheVariants.{Waiting, Withdrawn, Done as Ended}
 use Rattle.hall_types.specs.declared.kinds.Outcome.TheVariants.{Done as Turned}
 use Rattle.hall_types.specs.declared.kinds.Progress.TheVariants.{Done, Started}
-use Rattle.hall_types.specs.declared.kinds.Purpose.{Purpose}
 use Rattle.hall_types.specs.declared.kinds.Purpose.TheVariants as purpose
-use Rattle.hall_types.specs.declared.kinds.Role.TheVariants.{Admin, Power}
-use Rattle.hall_types.specs.declared.kinds.Stage.{Stage}
+use Rattle.hall_types.specs.declared.kinds.Role.TheVariants.{Power}
 use Rattle.hall_types.specs.declared.kinds.Stage.TheVariants as stage
 use Rattle.hall_types.specs.declared.machine.Machine.{Machine}
 use Rattle.hall_types.specs.declared.operator.Operator.{Operator}
-use Rattle.hall_types.specs.declared.order.Order.{Order}
 use Rattle.hall_types.specs.declared.port.Port.TheVariants as port
 use Rattle.hall_types.specs.declared.refusal.Refusal.TheVariants.{UnknownToken}
 use Rattle.hall_types.specs.declared.status.Status.TheVariants.{New, Commissioning, Ready, Allocated, Deploying, Deployed, DiskErasing}
@@ -36,8 +28,7 @@ use Rattle.hall_events.specs.Reply.{Content, boot_file, counted, done, machine_i
 use Rattle.hall_events.specs.declared.command.HallCommand.{HallCommand}
 use Rattle.hall_events.specs.declared.command.HallCommand.TheVariants.{AddImage, AddMachine, AddOperator, OnMachine, SetLive}
 use Rattle.hall_events.specs.declared.command.MachineCommand.TheVariants as on
-use Rattle.hall_events.specs.declared.event.Event.{Event}
-use Rattle.hall_events.specs.declared.event.Event.TheVariants.{Command, Frame, OrderAnswer, Orders, Report, Script}
+use Rattle.hall_events.specs.declared.event.Event.TheVariants.{Frame, OrderAnswer, Orders, Report, Script}
 use Rattle.life_cycle.specs.Entering.{back_after, boot_after, is_origin, is_rescue, keeps_erase, keeps_owner, limit_of}
 use Rattle.life_cycle.specs.Table.{step_of, who_gives}
 use Rattle.boot_desk.specs.Class.{class_in}
@@ -48,61 +39,18 @@ use Rattle.boot_desk.specs.OrderAnswer.{answered}
 use Rattle.boot_desk.specs.Report.{reported}
 use Rattle.boot_desk.specs.Texts.{local_script, work_script}
 use Rattle.desk_command.specs.Causes.{causes}
-use Rattle.desk_command.specs.Command.{body_of, command_decision, commanded, receipt_of}
+use Rattle.desk_command.specs.Command.{body_of, command_decision, commanded}
 use Rattle.desk_command.specs.Effect.{added_machine, effect}
 use Rattle.desk_command.specs.View.{command_view}
 use Rattle.laws_model.specs.Decision.{Decided, decision_of}
 use Rattle.laws_model.specs.Step.{Arrival, IsRun, IsStep, Step}
+use Rattle.laws_past.specs.Worked.{ada, boot, came, command, host, lasts, live, mac, order, receipt, site, start, token}
 use Rattle.laws_past.proofs.Computing.{bytes_eq-itself, computed}
 
--- ---- who and what there is
-
-abbrev pub host : List ℕ
-host = codes "hall.example"
-
-abbrev pub site : Site
-site = record { server = 192 ∷ 0 ∷ 2 ∷ 1 ∷ []; next = 192 ∷ 0 ∷ 2 ∷ 2 ∷ []; host = host }
-
-abbrev pub ada : Operator
-ada = record { name = codes "ada"; role = Admin; digest = 1 ∷ []; enabled = true }
-
-abbrev pub start : Hall
-start = new_hall second ada.name ada.digest
+-- ---- what is decided
 
 abbrev pub pow : Operator
 pow = record { name = codes "pow"; role = Power; digest = 2 ∷ []; enabled = true }
-
-abbrev pub live : BootImage
-live = record { name = codes "live"; arch = Uefi64; kernel = codes "http://files.example/k"; initrd = codes "http://files.example/i"; args = [] }
-
-abbrev pub mac : List ℕ
-mac = 82 ∷ 84 ∷ 0 ∷ 18 ∷ 52 ∷ 86 ∷ []
-
-abbrev pub token : List ℕ
-token = 9 ∷ 9 ∷ 9 ∷ 9 ∷ 9 ∷ 9 ∷ 9 ∷ 9 ∷ 9 ∷ 9 ∷ 9 ∷ 9 ∷ 9 ∷ 9 ∷ 9 ∷ 9 ∷ []
-
--- a boot of the machine, and an order to turn it off and on
-abbrev pub boot : ℕ → Purpose → Stage → Boot
-boot number its at = record { number = number; machine = 1; purpose = its; token = token; stage = at }
-
-abbrev pub order : ℕ → OrderStage → Order
-order number its = record { number = number; machine = 1; kind = Cycle; stage = its }
-
--- ---- what comes, and what it writes
-
-abbrev pub came : Event → Arrival
-came e = record { site = site; event = e; moment = 1000; fresh = token }
-
--- a command of ada's
-abbrev pub command : ℕ → HallCommand → Arrival
-command key c = came (Command (Some ada.digest) (key ∷ []) c)
-
-abbrev receipt : ℕ → HallCommand → Content → RowWrite
-receipt key c content = PutReceipt (receipt_of ada (key ∷ []) c content)
-
--- the last numbers of machines, boots and orders
-abbrev lasts : ℕ → ℕ → ℕ → RowWrite
-lasts machine boot order = PutNumbers (record { machine = machine; boot = boot; order = order })
 
 -- what is answered, and the rows that are written
 abbrev pub made : Content → List RowWrite → Decided

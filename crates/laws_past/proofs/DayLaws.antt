@@ -1,7 +1,6 @@
 -- No law is empty: at some step of the day its premise holds.
-use Rattle.std.proofs.Common.{◌≡◌, ◌≢◌, ◌<◌, ℕ, zero, suc, List, [], ◌∷◌, ◌++◌, Option, Some, None, slice_index, refl, sym, ap, subst, ◌∙◌, inl, inr, All, arith}
+use Rattle.std.proofs.Common.{◌≡◌, ◌≢◌, ℕ, List, [], ◌∷◌, ◌++◌, Some, None, refl, sym, ap, ◌∙◌, inl, inr, All, arith}
 use Rattle.std.specs.Prelude.{codes}
-use Rattle.std.specs.List.{AllByRecursion}
 use Rattle.std.proofs.lemmas.List.Elements.{All-from_recursion}
 use Rattle.ipxe_script.specs.Purpose.{IsDeploying, IsErasing}
 use Rattle.ipxe_script.specs.PurposeLaws.{HasKernelWord-boot, IsArgument-hall}
@@ -11,7 +10,6 @@ use Rattle.ipxe_script.specs.Word.{IsWord, is_first_octet, is_uri, is_word, is_w
 use Rattle.std.specs.Fmt.{digits}
 use Rattle.hex.specs.Hex.{encode_with}
 use Rattle.hall_types.specs.Hall.{Hall, second}
-use Rattle.hall_types.specs.Image.{BootImage, IsImage}
 use Rattle.hall_types.specs.Kinds.{erase_text, purpose_text}
 use Rattle.hall_types.specs.Rows.{at, numbers, texts}
 use Rattle.hall_types.specs.declared.kinds.Erase.TheVariants.{Full}
@@ -24,44 +22,19 @@ use Rattle.hall_types.specs.declared.machine.Machine.{Machine}
 use Rattle.hall_types.specs.declared.port.Port.TheVariants as port
 use Rattle.hall_types.specs.declared.refusal.Refusal.TheVariants.{UnknownToken}
 use Rattle.hall_types.specs.declared.status.Status.TheVariants.{Commissioning, New}
-use Rattle.pxe_vendor.specs.Place.{is_host}
 use Rattle.pxe_vendor.specs.declared.arch.Arch.TheVariants.{Uefi64}
-use Rattle.hall_events.specs.Event.{BringsImage}
 use Rattle.hall_events.specs.Reply.{machine_is, nothing, refused, reply_of, script}
-use Rattle.hall_events.specs.declared.command.HallCommand.TheVariants.{AddImage}
-use Rattle.hall_events.specs.declared.event.Event.{Event}
 use Rattle.hall_events.specs.declared.event.Event.TheVariants as event
 use Rattle.boot_desk.specs.Texts.{desk_arguments, local_script, work_script}
 use Rattle.laws_model.specs.Refusing.{IsRefusal}
-use Rattle.laws_model.specs.Step.{IsTyped}
 use Rattle.laws_past.specs.Laws.{AreTyped, CountsSome, CountsVerdict, FirstRequest, GivesText, HasStatus, IsDeployed, IsFrame, IsMachineAt, IsMade, IsWaiting, KeyedRequest, MakesBoot, MakesMachine, MakesOrder}
 use Rattle.laws_past.specs.Past.{CountsReport, IsAccepted, IsEntry, WasAnswered}
 use Rattle.laws_past.proofs.Computing.{computed}
-use Rattle.laws_past.proofs.Day.{ada, added_again, adds, boot, boot_started, booted_locally, client, client_enlisted, commission_booted, commission_done, commission_script, commissioned, commissioning, day, deploy_booted, deploy_script, deployed, erase_booted, erase_script, erasing_begun, frame_unanswered, host, live, mac, machine_added, new_machine, order, order_done, site, token, token_unknown, until_deployed}
+use Rattle.laws_past.specs.Worked.{ada, boot, host, live, mac, order, token}
+use Rattle.laws_past.specs.WorkedLaws.{the_image, typed}
+use Rattle.laws_past.proofs.Day.{added_again, adds, boot_started, booted_locally, client, client_enlisted, commission_booted, commission_done, commission_script, commissioned, commissioning, day, deploy_booted, deploy_script, deployed, erase_booted, erase_script, erasing_begun, frame_unanswered, machine_added, new_machine, order_done, token_unknown, until_deployed}
 
 -- ---- types
-
-all_octets : (its : List ℕ) → AllByRecursion (λ octet. octet < 256) its → (i : ℕ) → slice_index its i < 256
-all_octets [] are i = omega arith
-all_octets (octet ∷ its) are zero = are.0
-all_octets (octet ∷ its) are (suc i) = all_octets its are.1 i
-
-typed : (e : Event) → BringsImage e → IsTyped site e token
-unfolding is_host
-typed e image = record { host = refl; octets = (refl, all_octets token all_small); image = image }
-  where
-    small : 9 < 256
-    small = omega arith
-
-    all_small : AllByRecursion (λ octet. octet < 256) token
-    all_small = (small, (small, (small, (small, (small, (small, (small, (small, (small, (small, (small, (small, (small, (small, (small, (small, tt))))))))))))))))
-
-the_image : (bearer : Option (List ℕ)) (key : List ℕ) → BringsImage (event.Command bearer key (AddImage live))
-unfolding is_word is_first_octet is_word_octet is_uri
-the_image bearer key its its_key image is = subst IsImage (same live image is) (record { kernel = refl; initrd = refl; words = All-from_recursion IsWord [] tt; few = omega arith; free = refl })
-  where
-    same : (a b : BootImage) → event.Command bearer key (AddImage a) ≡ event.Command its its_key (AddImage b) → a ≡ b
-    same a b e = cc
 
 -- what the day's arrivals bring is of its type
 day_is_typed : AreTyped day

@@ -1,6 +1,6 @@
 -- A command that is answered by the status 200 was accepted, now or before.
-use Rattle.std.proofs.Common.{◌≡◌, ℕ, List, [], ◌∷◌, ◌++◌, refl, sym, ap, subst, ◌∙◌, inl, inr}
-use Rattle.std.specs.Prelude.{◌≢◌, ◌==◌, Option, Some, None, Bool, true, false, Result, Ok, Err, if◌then◌else◌}
+use Rattle.std.proofs.Common.{◌≡◌, ℕ, List, [], ◌∷◌, ◌++◌, refl, sym, ap, subst, ◌∙◌}
+use Rattle.std.specs.Prelude.{◌≢◌, ◌==◌, Option, Some, None, Bool, true, false, Ok, Err, if◌then◌else◌}
 use Rattle.std.specs.Str.{bytes_eq}
 use Rattle.std.proofs.lemmas.Option.{none-some}
 use Rattle.std.proofs.lemmas.Slice.Eq.{bytes_eq-Decides}
@@ -21,13 +21,13 @@ use Rattle.hall_events.specs.declared.event.Event.TheVariants as event
 use Rattle.boot_desk.specs.Sound.{IsSound}
 use Rattle.boot_desk.specs.SoundLaws.{some_is}
 use Rattle.desk_command.specs.Causes.{causes, first_of}
-use Rattle.desk_command.specs.Command.{command_decision, commanded as judged, keyed, may_send, needs_admin, of_sender, receipt_of, repeated, sender, unless, with_receipt as receipted}
+use Rattle.desk_command.specs.Command.{command_decision, commanded as judged, keyed, may_send, needs_admin, of_sender, receipt_of, sender, unless, with_receipt as receipted}
 use Rattle.desk_command.specs.Effect.{Effect, effect}
 use Rattle.desk_command.specs.View.{command_view}
 use Rattle.laws_model.specs.Decision.{Decided, commanded, decision_of}
 use Rattle.laws_model.specs.Step.{IsStep, Step}
-use Rattle.laws_steps.specs.Writes.{LeavesReceipt, Writes, WritesAll, is_command, is_done, with_receipt, without_receipt}
-use Rattle.laws_past.specs.Laws.{AnswersAccepted, HasStatus, KeyedRequest, WasAccepted}
+use Rattle.laws_steps.specs.Writes.{LeavesReceipt, WritesAll, is_command, is_done, with_receipt, without_receipt}
+use Rattle.laws_past.specs.Laws.{AnswersAccepted, HasStatus, WasAccepted}
 use Rattle.laws_past.specs.Past.{IsAccepted, SomeOf}
 use Rattle.laws_past.proofs.Answered.{CameSo, came_so}
 use Rattle.laws_past.proofs.Effects.{StepDoes, decided, did, missed, step_does}

@@ -28,7 +28,8 @@ use Rattle.laws_model.specs.Step.{Step}
 use Rattle.laws_past.specs.Laws.{AcceptsOnce, AcceptsWithOk, AlwaysWaitsForOne, AnswersAccepted, BootsLocally, CountsAnswerOnce, CountsOwnBoot, CountsStartedFirst, CountsVerdictOnce, DeploysRightly, EntersByTable, ErasesRightly, HasStatus, IsDeleted, IsMachineAt, IsSignalled, KeepsMachines, NumbersOnce, QueuesAtEntries, RefusesWithoutChange, RepeatsFirst, ScriptIsAsked, WaitsNoMore, by_answer, by_command, by_deadline, by_fourth_boot, by_report}
 use Rattle.laws_past.specs.Past.{AtEachStep, IsAccepted}
 use Rattle.laws_past.proofs.Computing.{computed}
-use Rattle.laws_past.proofs.Day.{ada, adds, boot, boot_started, booted, booted_locally, came, command, commission_booted, commission_done, commissioned, deploy_script, deployed, erase_script, image_added, image_live, mac, machine_added, made, new_machine, order, order_done, pow, power_added, ready, start, step, token, until_deployed}
+use Rattle.laws_past.specs.Worked.{ada, boot, came, command, mac, order, start, token}
+use Rattle.laws_past.proofs.Day.{adds, boot_started, booted, booted_locally, commission_booted, commission_done, commissioned, deploy_script, deployed, erase_script, image_added, image_live, machine_added, made, new_machine, order_done, pow, power_added, ready, step, until_deployed}
 use Rattle.laws_past.proofs.DayLaws.{accepts, gives_deploying, gives_erasing, makes_machine}
 
 some : {A : Type 0} (a b : A) → Some a ≡ Some b → a ≡ b

@@ -1,2 +1,4 @@
 pub mod Laws
 pub mod Past
+pub mod Worked
+pub mod WorkedLaws

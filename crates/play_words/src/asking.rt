@@ -1,5 +1,5 @@
-//! What a command line asks for, in words.
-use crate::texts::{
+//! What a command line of hallboot asks for, in words.
+use crate::values::{
     addresses_text, digest_text, format_word, place_text, port_word, token_text, what_text,
 };
 use hallboot_asked::{Asked, Serving, Task};

@@ -4,10 +4,12 @@ use Rattle.pxe_vendor.specs.Place.{Site}
 use Rattle.hall_types.specs.Hall.{Hall}
 use Rattle.hall_desk.specs.declared.arrival.Input.TheVariants.{Request}
 use Rattle.serve_sockets.specs.Serving.{IfRequest, IsOnlyMoved, IsRequest}
-use Rattle.serve_sockets.specs.Turn.{HandsNothing, IfHanded, IsHanded}
+use Rattle.serve_sockets.specs.Turn.{HandsDatagram, HandsNothing, IfHanded, IsHanded, IsOfDatagram}
 use Rattle.serve_sockets.specs.declared.serving.Step.{Step}
 use Rattle.serve_sockets.specs.declared.serving.Step.TheVariants as step
 use Rattle.serve_sockets.specs.declared.turn.Handover.{Handover}
+use Rattle.serve_sockets.specs.declared.turn.Kind.{Kind}
+use Rattle.serve_sockets.specs.declared.turn.Kind.TheVariants as kind
 use Rattle.serve_sockets.specs.declared.turn.Turn.{Turn}
 use Rattle.serve_sockets.specs.declared.turn.Turn.TheVariants as turn
 
@@ -20,6 +22,24 @@ no_handover (turn.Moved from) P nothing = tt
 no_handover (turn.Closed from cause) P nothing = tt
 no_handover turn.Nothing P nothing = tt
 no_handover turn.Failed P nothing = tt
+
+-- a request is no datagram
+pub of_request : (k : Kind) → k ≡ kind.Request → IsOfDatagram k → ⊥
+of_request k same it = subst IsOfDatagram same it
+
+-- nor is a quiet moment
+pub of_quiet : (k : Kind) → k ≡ kind.Quiet → IsOfDatagram k → ⊥
+of_quiet k same it = subst IsOfDatagram same it
+
+-- a turn whose handover is of no datagram
+pub no_datagram : (t : Turn) → IfHanded t (λ handover. IsOfDatagram handover.kind → ⊥) → HandsDatagram t → ⊥
+no_datagram (turn.Handed handover) none it = none it
+no_datagram (turn.Unsent handover) none it = none it
+no_datagram (turn.Accepted from instead_of) none it = it
+no_datagram (turn.Moved from) none it = it
+no_datagram (turn.Closed from cause) none it = it
+no_datagram turn.Nothing none it = it
+no_datagram turn.Failed none it = it
 
 -- a turn that isn't the eighth one doesn't come after the seventh
 pub not_eighth : (turns : ℕ) → turns ≡ 7 → (turns + 1) % 8 ≢ 0 → ⊥

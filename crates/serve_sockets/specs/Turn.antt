@@ -89,6 +89,22 @@ IsQuiet (turn.Closed from cause) = ⊥
 IsQuiet turn.Nothing = ⊥
 IsQuiet turn.Failed = ⊥
 
+-- what came is a datagram
+abbrev pub IsOfDatagram : Kind → Type 0
+IsOfDatagram (kind.Datagram port) = Unit {0}
+IsOfDatagram kind.Request = ⊥
+IsOfDatagram kind.Quiet = ⊥
+
+-- the turn handed a datagram to the desk
+abbrev pub HandsDatagram : Turn → Type 0
+HandsDatagram (turn.Handed handover) = IsOfDatagram handover.kind
+HandsDatagram (turn.Unsent handover) = IsOfDatagram handover.kind
+HandsDatagram (turn.Accepted from instead_of) = ⊥
+HandsDatagram (turn.Moved from) = ⊥
+HandsDatagram (turn.Closed from cause) = ⊥
+HandsDatagram turn.Nothing = ⊥
+HandsDatagram turn.Failed = ⊥
+
 -- `holds` says which hall a store has, and `leaves` that a stop leaves one of these halls
 module _ {S : Type 0} (holds : S → Hall → Type 0) (leaves : S → List Hall → Type 0) (old new : S) (site : Site) where
   -- an arrival was handed to the desk at a moment, with fresh octets, and answered

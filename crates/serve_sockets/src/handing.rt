@@ -1,7 +1,9 @@
 //! Handing what came to the desk.
-ghost use Rattle.std.specs.Prelude.{◌≡◌};
+ghost use Rattle.std.specs.Prelude.{◌≡◌, false};
+ghost use Rattle.hall_types.specs.Hall.{Hall};
+ghost use Rattle.hall_desk.specs.Account.{IsDatagram};
 ghost use Rattle.hall_desk.specs.Attempt.{GivesAnswer};
-ghost use Rattle.hall_desk.specs.Desk.{site_of, store_of};
+ghost use Rattle.hall_desk.specs.Desk.{enlists_of, site_of, store_of};
 ghost use Rattle.hall_desk.specs.declared.arrival.Input.TheVariants as input;
 
 use crate::turn::{Stamp, TurnLog};
@@ -20,8 +22,10 @@ pub(crate) fn hand<S: HallStore, L: TurnLog>(
     input: Input,
 ) -> Answer
     ensures site { site_of desk.new ≡ site_of desk.old }
+    ensures enlists { enlists_of desk.new ≡ enlists_of desk.old }
     ensures answered { GivesAnswer S.HallStore.is_clean S.HallStore.holds S.HallStore.leaves (store_of desk.old) (store_of desk.new)
         (site_of desk.old) input stamp.moment stamp.fresh result }
+    ensures unlisted { enlists_of desk.old ≡ false → IsDatagram input → S.HallStore.is_clean (store_of desk.new) → (h : Hall) → S.HallStore.holds (store_of desk.old) h → S.HallStore.holds (store_of desk.new) h }
 {
     let arrival = Arrival {
         moment: stamp.moment,
@@ -45,8 +49,10 @@ pub(crate) fn hand_datagram<S: HallStore, L: TurnLog>(
     octets: &[u8],
 ) -> Answer
     ensures site { site_of desk.new ≡ site_of desk.old }
+    ensures enlists { enlists_of desk.new ≡ enlists_of desk.old }
     ensures answered { GivesAnswer S.HallStore.is_clean S.HallStore.holds S.HallStore.leaves (store_of desk.old) (store_of desk.new)
         (site_of desk.old) (input.Datagram port octets.now) stamp.moment stamp.fresh result }
+    ensures unlisted { enlists_of desk.old ≡ false → S.HallStore.is_clean (store_of desk.new) → (h : Hall) → S.HallStore.holds (store_of desk.old) h → S.HallStore.holds (store_of desk.new) h }
 {
     match Vec::from_slice(alloc, octets) {
         Ok(octets) => {

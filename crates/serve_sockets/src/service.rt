@@ -27,11 +27,12 @@ pub struct Service<S> {
 }
 
 impl<S: HallStore> Service<S> {
-    ghost use Rattle.std.specs.Prelude.{◌≡◌, ◌<◌, ◌+◌, ◌-◌, ◌%◌, IfSome, unwrap_or};
-    ghost use Rattle.hall_desk.specs.Desk.{site_of, store_of};
+    ghost use Rattle.std.specs.Prelude.{◌≡◌, ◌<◌, ◌+◌, ◌-◌, ◌%◌, false, IfSome, unwrap_or};
+    ghost use Rattle.hall_types.specs.Hall.{Hall};
+    ghost use Rattle.hall_desk.specs.Desk.{enlists_of, site_of, store_of};
     ghost use Rattle.serve_sockets.specs.Service.{desk_of, sockets_of, turns_of};
     ghost use Rattle.serve_sockets.specs.Sockets.{places_of};
-    ghost use Rattle.serve_sockets.specs.Turn.{HandsNothing, IfHanded, IsHanded, IsQuiet, WentOn};
+    ghost use Rattle.serve_sockets.specs.Turn.{HandsDatagram, HandsNothing, IfHanded, IsHanded, IsQuiet, WentOn};
 
     /// The service of a desk.
     pub fn new(alloc: Global, desk: Desk<S>, sockets: Sockets) -> Service<S>
@@ -73,14 +74,17 @@ impl<S: HallStore> Service<S> {
     /// waited for.
     ///
     /// At most one arrival is handed to the desk, with the moment and the fresh octets of the stamp. A datagram's answer is
-    /// sent to where the datagram came from; that of a request waits until the client takes it. The log is told of the
-    /// arrival; the turn isn't noted.
+    /// sent to where the datagram came from; that of a request waits until the client takes it. A datagram leaves the hall of a
+    /// desk that enlists none as it is. The log is told of the arrival; the turn isn't noted.
     pub fn turn<L: TurnLog>(&mut self, stamp: Stamp, log: &mut L) -> Turn
         ensures clean { S.HallStore.is_clean (store_of (desk_of self.new)) → S.HallStore.is_clean (store_of (desk_of self.old)) }
         ensures site { site_of (desk_of self.new) ≡ site_of (desk_of self.old) }
+        ensures enlists { enlists_of (desk_of self.new) ≡ enlists_of (desk_of self.old) }
         ensures handed { S.HallStore.is_clean (store_of (desk_of self.new)) → IfHanded result (IsHanded S.HallStore.holds S.HallStore.leaves
             (store_of (desk_of self.old)) (store_of (desk_of self.new)) (site_of (desk_of self.old)) stamp.moment stamp.fresh) }
         ensures same { HandsNothing result → desk_of self.new ≡ desk_of self.old }
+        ensures unlisted { enlists_of (desk_of self.old) ≡ false → HandsDatagram result → S.HallStore.is_clean (store_of (desk_of self.new)) → (h : Hall)
+            → S.HallStore.holds (store_of (desk_of self.old)) h → S.HallStore.holds (store_of (desk_of self.new)) h }
         ensures turns { turns_of self.new ≡ (turns_of self.old + 1) % 8 }
         ensures eighth { turns_of self.old ≡ 7 → IsQuiet result }
     {
@@ -104,6 +108,7 @@ impl<S: HallStore> Service<S> {
     fn quiet<L: TurnLog>(&mut self, stamp: Stamp, log: &mut L) -> Handover
         ensures clean { S.HallStore.is_clean (store_of (desk_of self.new)) → S.HallStore.is_clean (store_of (desk_of self.old)) }
         ensures site { site_of (desk_of self.new) ≡ site_of (desk_of self.old) }
+        ensures enlists { enlists_of (desk_of self.new) ≡ enlists_of (desk_of self.old) }
         ensures handed { S.HallStore.is_clean (store_of (desk_of self.new)) → IsHanded S.HallStore.holds S.HallStore.leaves
             (store_of (desk_of self.old)) (store_of (desk_of self.new)) (site_of (desk_of self.old)) stamp.moment stamp.fresh result }
         ensures kind { result.kind ≡ Kind.Quiet }
@@ -118,9 +123,12 @@ impl<S: HallStore> Service<S> {
     fn datagram<L: TurnLog>(&mut self, port: Port, stamp: Stamp, log: &mut L) -> Turn
         ensures clean { S.HallStore.is_clean (store_of (desk_of self.new)) → S.HallStore.is_clean (store_of (desk_of self.old)) }
         ensures site { site_of (desk_of self.new) ≡ site_of (desk_of self.old) }
+        ensures enlists { enlists_of (desk_of self.new) ≡ enlists_of (desk_of self.old) }
         ensures handed { S.HallStore.is_clean (store_of (desk_of self.new)) → IfHanded result (IsHanded S.HallStore.holds S.HallStore.leaves
             (store_of (desk_of self.old)) (store_of (desk_of self.new)) (site_of (desk_of self.old)) stamp.moment stamp.fresh) }
         ensures same { HandsNothing result → desk_of self.new ≡ desk_of self.old }
+        ensures unlisted { enlists_of (desk_of self.old) ≡ false → HandsDatagram result → S.HallStore.is_clean (store_of (desk_of self.new)) → (h : Hall)
+            → S.HallStore.holds (store_of (desk_of self.old)) h → S.HallStore.holds (store_of (desk_of self.new)) h }
         ensures turns { turns_of self.new ≡ turns_of self.old }
     {
         let (len, from) = match self.sockets.receive(port) {
@@ -150,9 +158,12 @@ impl<S: HallStore> Service<S> {
         requires { slot < places_of (sockets_of self.old) }
         ensures clean { S.HallStore.is_clean (store_of (desk_of self.new)) → S.HallStore.is_clean (store_of (desk_of self.old)) }
         ensures site { site_of (desk_of self.new) ≡ site_of (desk_of self.old) }
+        ensures enlists { enlists_of (desk_of self.new) ≡ enlists_of (desk_of self.old) }
         ensures handed { S.HallStore.is_clean (store_of (desk_of self.new)) → IfHanded result (IsHanded S.HallStore.holds S.HallStore.leaves
             (store_of (desk_of self.old)) (store_of (desk_of self.new)) (site_of (desk_of self.old)) stamp.moment stamp.fresh) }
         ensures same { HandsNothing result → desk_of self.new ≡ desk_of self.old }
+        ensures unlisted { enlists_of (desk_of self.old) ≡ false → HandsDatagram result → S.HallStore.is_clean (store_of (desk_of self.new)) → (h : Hall)
+            → S.HallStore.holds (store_of (desk_of self.old)) h → S.HallStore.holds (store_of (desk_of self.new)) h }
         ensures turns { turns_of self.new ≡ turns_of self.old }
     {
         let Some(mut connection) = self.sockets.take(slot) else {
@@ -189,6 +200,7 @@ impl<S: HallStore> Service<S> {
     fn serve_turn<C: Source, L: TurnLog>(&mut self, source: &mut C, log: &mut L) -> bool
         ensures clean { S.HallStore.is_clean (store_of (desk_of self.new)) → S.HallStore.is_clean (store_of (desk_of self.old)) }
         ensures site { site_of (desk_of self.new) ≡ site_of (desk_of self.old) }
+        ensures enlists { enlists_of (desk_of self.new) ≡ enlists_of (desk_of self.old) }
         ensures went_on { S.HallStore.is_clean (store_of (desk_of self.new)) → WentOn S.HallStore.holds
             (store_of (desk_of self.old)) (store_of (desk_of self.new)) (site_of (desk_of self.old)) 1 }
     {
@@ -216,6 +228,7 @@ impl<S: HallStore> Service<S> {
         ensures left { IfSome result (λ left. left < turns) }
         ensures clean { S.HallStore.is_clean (store_of (desk_of self.new)) → S.HallStore.is_clean (store_of (desk_of self.old)) }
         ensures site { site_of (desk_of self.new) ≡ site_of (desk_of self.old) }
+        ensures enlists { enlists_of (desk_of self.new) ≡ enlists_of (desk_of self.old) }
         ensures went_on { S.HallStore.is_clean (store_of (desk_of self.new)) → WentOn S.HallStore.holds
             (store_of (desk_of self.old)) (store_of (desk_of self.new)) (site_of (desk_of self.old)) (turns - unwrap_or result 0) }
     {

@@ -1,6 +1,6 @@
 //! Serving a connection by steps.
 ghost use Rattle.std.specs.Prelude.{◌≡◌};
-ghost use Rattle.hall_desk.specs.Desk.{site_of, store_of};
+ghost use Rattle.hall_desk.specs.Desk.{enlists_of, site_of, store_of};
 ghost use Rattle.hall_desk.specs.Octets.{octets_of};
 ghost use Rattle.hall_desk.specs.declared.arrival.Answer.TheVariants.{Unavailable};
 ghost use Rattle.hall_desk.specs.declared.arrival.Input.TheVariants.{Request};
@@ -43,6 +43,7 @@ fn hand_request<T, S: HallStore, L: TurnLog>(
 ) -> Handover
     ensures clean { S.HallStore.is_clean (store_of desk.new) → S.HallStore.is_clean (store_of desk.old) }
     ensures site { site_of desk.new ≡ site_of desk.old }
+    ensures enlists { enlists_of desk.new ≡ enlists_of desk.old }
     ensures waits { S.HallStore.is_clean (store_of desk.new) → IsWaiting S.HallStore.holds S.HallStore.leaves (store_of desk.old) (store_of desk.new) (site_of desk.old)
         stamp.moment stamp.fresh (input_of connection.old) (left_of connection.new) result }
 {
@@ -80,6 +81,7 @@ fn decide<T, S: HallStore, L: TurnLog>(
 ) -> Step
     ensures clean { S.HallStore.is_clean (store_of desk.new) → S.HallStore.is_clean (store_of desk.old) }
     ensures site { site_of desk.new ≡ site_of desk.old }
+    ensures enlists { enlists_of desk.new ≡ enlists_of desk.old }
     ensures waits { S.HallStore.is_clean (store_of desk.new) → IfRequest result (IsWaiting S.HallStore.holds S.HallStore.leaves (store_of desk.old) (store_of desk.new) (site_of desk.old)
         stamp.moment stamp.fresh (input_of connection.old) (left_of connection.new)) }
     ensures same { IsOnlyMoved result → desk.new ≡ desk.old }
@@ -103,6 +105,7 @@ fn take<T: Read, S: HallStore, L: TurnLog>(
 ) -> Step
     ensures clean { S.HallStore.is_clean (store_of desk.new) → S.HallStore.is_clean (store_of desk.old) }
     ensures site { site_of desk.new ≡ site_of desk.old }
+    ensures enlists { enlists_of desk.new ≡ enlists_of desk.old }
     ensures request { S.HallStore.is_clean (store_of desk.new) → IfRequest result (IsRequest S.HallStore.holds S.HallStore.leaves (store_of desk.old) (store_of desk.new) (site_of desk.old)
         stamp.moment stamp.fresh (input_of connection.old) (T.remaining (stream_of connection.old)) (left_of connection.new)) }
     ensures same { IsOnlyMoved result → desk.new ≡ desk.old }
@@ -141,6 +144,7 @@ pub(crate) fn advance<T: Read + Write, S: HallStore, L: TurnLog>(
 ) -> Step
     ensures clean { S.HallStore.is_clean (store_of desk.new) → S.HallStore.is_clean (store_of desk.old) }
     ensures site { site_of desk.new ≡ site_of desk.old }
+    ensures enlists { enlists_of desk.new ≡ enlists_of desk.old }
     ensures request { S.HallStore.is_clean (store_of desk.new) → IfRequest result (IsRequest S.HallStore.holds S.HallStore.leaves (store_of desk.old) (store_of desk.new) (site_of desk.old)
         stamp.moment stamp.fresh (input_of connection.old) (T.remaining (stream_of connection.old)) (left_of connection.new)) }
     ensures same { IsOnlyMoved result → desk.new ≡ desk.old }

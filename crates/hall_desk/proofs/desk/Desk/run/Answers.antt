@@ -14,6 +14,7 @@ pub loop-arrival-init : goal.loop-arrival-init
 loop-arrival-init g c = record {
   clean = λ clean. clean;
   site = refl;
+  enlists = refl;
   ran = λ clean h held sound.
       subst (λ (answers : List Answer). HasRun g.S.HallStore.holds g.S.HallStore.leaves (store_of c.args.self.now) (store_of c.args.self.now) (site_of c.args.self.now) h [] answers) (sym c.in_ok-answers.ensures.items)
       (ran_none g.S.HallStore.holds g.S.HallStore.leaves (site_of c.args.self.now) (store_of c.args.self.now) h held sound);
@@ -29,6 +30,7 @@ loop-arrival-preserved g c =
     record {
       clean = λ clean. before.clean (c.answer-answer.ensures.answer clean).0;
       site = c.answer-answer.ensures.site ∙ before.site;
+      enlists = c.answer-answer.ensures.enlists ∙ before.enlists;
       ran = λ clean h held sound.
           rw (take_more c.args.arrivals.now c.loop-arrival.arrival-index c.arrival-item.result here, sym c.arrival-item.is, c.push.ensures.items, c.if-is_err.ensures.negation)
           (ran_more g.S.HallStore.holds g.S.HallStore.leaves (site_of c.args.self.now) (site_of c.loop-arrival.self) before.site

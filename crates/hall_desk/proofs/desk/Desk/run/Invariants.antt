@@ -3,7 +3,7 @@ use Rattle.std.specs.Prelude.{vec_capacity}
 use Rattle.hall_types.specs.Hall.{Hall}
 use Rattle.boot_desk.specs.Sound.{IsSound}
 use Rattle.hall_desk.specs.Attempt.{ChangeNothing}
-use Rattle.hall_desk.specs.Desk.{site_of, store_of}
+use Rattle.hall_desk.specs.Desk.{enlists_of, site_of, store_of}
 use Rattle.hall_desk.specs.Stops.{HasRun}
 use Rattle.hall_desk.proofs.desk.Desk.run.Given as goal
 
@@ -12,6 +12,7 @@ abbrev pub invariant-loop-arrival : goal.invariant-loop-arrival
 invariant-loop-arrival g l = record {
   clean : g.S.HallStore.is_clean (store_of l.self) → g.S.HallStore.is_clean (store_of l.fn.self);
   site : site_of l.self ≡ site_of l.fn.self;
+  enlists : enlists_of l.self ≡ enlists_of l.fn.self;
   ran : g.S.HallStore.is_clean (store_of l.self) → (h : Hall) → g.S.HallStore.holds (store_of l.fn.self) h → IsSound h
       → HasRun g.S.HallStore.holds g.S.HallStore.leaves (store_of l.fn.self) (store_of l.self) (site_of l.fn.self) h (take l.arrival-index l.arrivals) l.answers.items;
   idle : g.S.HallStore.is_clean (store_of l.self) → (h : Hall) → g.S.HallStore.holds (store_of l.fn.self) h → ChangeNothing (site_of l.fn.self) h l.arrivals

@@ -1,6 +1,7 @@
 use Rattle.hall_desk.specs.Desk.{site_of, store_of}
 use Rattle.serve_sockets.specs.Service.{desk_of}
-use Rattle.serve_sockets.proofs.TurnLemmas.{request_handed, step_moved, turn_handed}
+use Rattle.serve_sockets.specs.Turn.{IsOfDatagram}
+use Rattle.serve_sockets.proofs.TurnLemmas.{no_datagram, of_request, request_handed, step_moved, turn_handed}
 use Rattle.serve_sockets.proofs.service.Service.connection.Goals as goal
 
 pub returns-clause-clean : goal.returns-clause-clean
@@ -8,6 +9,9 @@ returns-clause-clean g c = c.advance-step.ensures.clean
 
 pub returns-clause-site : goal.returns-clause-site
 returns-clause-site g c = c.advance-step.ensures.site
+
+pub returns-clause-enlists : goal.returns-clause-enlists
+returns-clause-enlists g c = c.advance-step.ensures.enlists
 
 pub returns-clause-handed : goal.returns-clause-handed
 returns-clause-handed g c = λ clean.
@@ -17,3 +21,9 @@ returns-clause-handed g c = λ clean.
 
 pub returns-clause-same : goal.returns-clause-same
 returns-clause-same g c = λ nothing. c.advance-step.ensures.same (step_moved c.advance-step.result c.settle.result c.settle.ensures.handed nothing)
+
+pub returns-clause-unlisted : goal.returns-clause-unlisted
+returns-clause-unlisted g c = λ off frame clean h held.
+    absurd (no_datagram c.settle.result
+    (turn_handed c.advance-step.result c.settle.result _ (λ handover. IsOfDatagram handover.kind → ⊥) (λ handover asked. of_request handover.kind asked.tells.kind)
+    c.settle.ensures.handed c.settle.ensures.moved (c.advance-step.ensures.request clean)) frame)

@@ -10,11 +10,17 @@ returns-in-Err-clause-clean g c = λ clean. clean
 pub returns-in-Err-clause-site : goal.returns-in-Err-clause-site
 returns-in-Err-clause-site g c = refl
 
+pub returns-in-Err-clause-enlists : goal.returns-in-Err-clause-enlists
+returns-in-Err-clause-enlists g c = refl
+
 pub returns-in-Err-clause-handed : goal.returns-in-Err-clause-handed
 returns-in-Err-clause-handed g c = λ clean. no_handover c.in-Err.turn _ c.in-Err.ensures.none
 
 pub returns-in-Err-clause-same : goal.returns-in-Err-clause-same
 returns-in-Err-clause-same g c = λ nothing. refl
+
+pub returns-in-Err-clause-unlisted : goal.returns-in-Err-clause-unlisted
+returns-in-Err-clause-unlisted g c = λ off frame clean h held. held
 
 pub returns-in-Err-clause-turns : goal.returns-in-Err-clause-turns
 returns-in-Err-clause-turns g c = refl
@@ -27,6 +33,9 @@ returns-then-send-clause-clean g c = λ clean. (c.hand_datagram-answer.ensures.a
 
 pub returns-then-send-clause-site : goal.returns-then-send-clause-site
 returns-then-send-clause-site g c = c.hand_datagram-answer.ensures.site
+
+pub returns-then-send-clause-enlists : goal.returns-then-send-clause-enlists
+returns-then-send-clause-enlists g c = c.hand_datagram-answer.ensures.enlists
 
 pub returns-then-send-clause-handed : goal.returns-then-send-clause-handed
 returns-then-send-clause-handed g c = λ clean. record {
@@ -43,6 +52,9 @@ returns-then-send-clause-handed g c = λ clean. record {
 pub returns-then-send-clause-same : goal.returns-then-send-clause-same
 returns-then-send-clause-same g c = λ nothing. absurd nothing
 
+pub returns-then-send-clause-unlisted : goal.returns-then-send-clause-unlisted
+returns-then-send-clause-unlisted g c = λ off frame. c.hand_datagram-answer.ensures.unlisted off
+
 pub returns-then-send-clause-turns : goal.returns-then-send-clause-turns
 returns-then-send-clause-turns g c = refl
 
@@ -51,6 +63,9 @@ returns-clause-clean g c = λ clean. (c.hand_datagram-answer.ensures.answered cl
 
 pub returns-clause-site : goal.returns-clause-site
 returns-clause-site g c = c.hand_datagram-answer.ensures.site
+
+pub returns-clause-enlists : goal.returns-clause-enlists
+returns-clause-enlists g c = c.hand_datagram-answer.ensures.enlists
 
 pub returns-clause-handed : goal.returns-clause-handed
 returns-clause-handed g c = λ clean. record {
@@ -66,6 +81,9 @@ returns-clause-handed g c = λ clean. record {
 
 pub returns-clause-same : goal.returns-clause-same
 returns-clause-same g c = λ nothing. absurd nothing
+
+pub returns-clause-unlisted : goal.returns-clause-unlisted
+returns-clause-unlisted g c = λ off frame. c.hand_datagram-answer.ensures.unlisted off
 
 pub returns-clause-turns : goal.returns-clause-turns
 returns-clause-turns g c = refl

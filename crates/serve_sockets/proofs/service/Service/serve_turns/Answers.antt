@@ -6,6 +6,7 @@ pub loop-served-init : goal.loop-served-init
 loop-served-init g c = record {
   clean = λ clean. clean;
   site = refl;
+  enlists = refl;
   went = λ clean. went_nowhere g.S.HallStore.holds _ _ _;
 }
 
@@ -15,6 +16,7 @@ loop-served-preserved g c =
     record {
       clean = λ clean. before.clean (c.serve_turn.ensures.clean clean);
       site = c.serve_turn.ensures.site ∙ before.site;
+      enlists = c.serve_turn.ensures.enlists ∙ before.enlists;
       went = λ clean.
           went_then g.S.HallStore.holds _ _ _ _ _ _ _ before.site (before.went (c.serve_turn.ensures.clean clean)) (c.serve_turn.ensures.went_on clean);
     }
@@ -24,6 +26,9 @@ returns-then-serve_turn-clause-clean g c = λ clean. c.loop-served.invariant.cle
 
 pub returns-then-serve_turn-clause-site : goal.returns-then-serve_turn-clause-site
 returns-then-serve_turn-clause-site g c = c.serve_turn.ensures.site ∙ c.loop-served.invariant.site
+
+pub returns-then-serve_turn-clause-enlists : goal.returns-then-serve_turn-clause-enlists
+returns-then-serve_turn-clause-enlists g c = c.serve_turn.ensures.enlists ∙ c.loop-served.invariant.enlists
 
 pub returns-then-serve_turn-clause-went_on : goal.returns-then-serve_turn-clause-went_on
 returns-then-serve_turn-clause-went_on g c = λ clean.
@@ -36,6 +41,9 @@ returns-clause-clean g c = λ clean. c.loop-served.invariant.clean clean
 
 pub returns-clause-site : goal.returns-clause-site
 returns-clause-site g c = c.loop-served.invariant.site
+
+pub returns-clause-enlists : goal.returns-clause-enlists
+returns-clause-enlists g c = c.loop-served.invariant.enlists
 
 pub returns-clause-went_on : goal.returns-clause-went_on
 returns-clause-went_on g c = λ clean. went_within g.S.HallStore.holds _ _ _ _ _ (omega arith) (c.loop-served.invariant.went clean)

@@ -1,5 +1,5 @@
 use Rattle.std.proofs.Common.{◌≡◌}
-use Rattle.hall_desk.specs.Desk.{site_of, store_of}
+use Rattle.hall_desk.specs.Desk.{enlists_of, site_of, store_of}
 use Rattle.serve_sockets.specs.Service.{desk_of}
 use Rattle.serve_sockets.specs.Turn.{WentOn}
 use Rattle.serve_sockets.proofs.service.Service.serve_turns.Given as goal
@@ -9,6 +9,7 @@ abbrev pub invariant-loop-served : goal.invariant-loop-served
 invariant-loop-served g l = record {
   clean : g.S.HallStore.is_clean (store_of (desk_of l.self)) → g.S.HallStore.is_clean (store_of (desk_of l.fn.self));
   site : site_of (desk_of l.self) ≡ site_of (desk_of l.fn.self);
+  enlists : enlists_of (desk_of l.self) ≡ enlists_of (desk_of l.fn.self);
   went : g.S.HallStore.is_clean (store_of (desk_of l.self)) → WentOn g.S.HallStore.holds
       (store_of (desk_of l.fn.self)) (store_of (desk_of l.self)) (site_of (desk_of l.fn.self)) l.served;
 }

@@ -1,5 +1,5 @@
 use Rattle.std.proofs.Common.{arith, refl}
-use Rattle.serve_sockets.proofs.TurnLemmas.{no_handover, not_eighth, turns_within}
+use Rattle.serve_sockets.proofs.TurnLemmas.{no_handover, not_eighth, of_quiet, turns_within}
 use Rattle.serve_sockets.proofs.service.Service.turn.Goals as goal
 
 pub overflow_add-self : goal.overflow_add-self
@@ -14,11 +14,17 @@ returns-then-self-eq0-clause-clean g c = c.quiet.ensures.clean
 pub returns-then-self-eq0-clause-site : goal.returns-then-self-eq0-clause-site
 returns-then-self-eq0-clause-site g c = c.quiet.ensures.site
 
+pub returns-then-self-eq0-clause-enlists : goal.returns-then-self-eq0-clause-enlists
+returns-then-self-eq0-clause-enlists g c = c.quiet.ensures.enlists
+
 pub returns-then-self-eq0-clause-handed : goal.returns-then-self-eq0-clause-handed
 returns-then-self-eq0-clause-handed g c = c.quiet.ensures.handed
 
 pub returns-then-self-eq0-clause-same : goal.returns-then-self-eq0-clause-same
 returns-then-self-eq0-clause-same g c = λ nothing. absurd nothing
+
+pub returns-then-self-eq0-clause-unlisted : goal.returns-then-self-eq0-clause-unlisted
+returns-then-self-eq0-clause-unlisted g c = λ off frame. absurd (of_quiet _ c.quiet.ensures.kind frame)
 
 pub returns-then-self-eq0-clause-turns : goal.returns-then-self-eq0-clause-turns
 returns-then-self-eq0-clause-turns g c = c.quiet.ensures.turns
@@ -35,11 +41,17 @@ returns-in-Some-clause-clean g c = λ clean. clean
 pub returns-in-Some-clause-site : goal.returns-in-Some-clause-site
 returns-in-Some-clause-site g c = refl
 
+pub returns-in-Some-clause-enlists : goal.returns-in-Some-clause-enlists
+returns-in-Some-clause-enlists g c = refl
+
 pub returns-in-Some-clause-handed : goal.returns-in-Some-clause-handed
 returns-in-Some-clause-handed g c = λ clean. no_handover c.in-Some.turn _ c.in-Some.ensures
 
 pub returns-in-Some-clause-same : goal.returns-in-Some-clause-same
 returns-in-Some-clause-same g c = λ nothing. refl
+
+pub returns-in-Some-clause-unlisted : goal.returns-in-Some-clause-unlisted
+returns-in-Some-clause-unlisted g c = λ off frame clean h held. held
 
 pub returns-in-Some-clause-turns : goal.returns-in-Some-clause-turns
 returns-in-Some-clause-turns g c = refl
@@ -68,11 +80,17 @@ returns-in-None-clause-clean g c = c.quiet-in-None.ensures.clean
 pub returns-in-None-clause-site : goal.returns-in-None-clause-site
 returns-in-None-clause-site g c = c.quiet-in-None.ensures.site
 
+pub returns-in-None-clause-enlists : goal.returns-in-None-clause-enlists
+returns-in-None-clause-enlists g c = c.quiet-in-None.ensures.enlists
+
 pub returns-in-None-clause-handed : goal.returns-in-None-clause-handed
 returns-in-None-clause-handed g c = c.quiet-in-None.ensures.handed
 
 pub returns-in-None-clause-same : goal.returns-in-None-clause-same
 returns-in-None-clause-same g c = λ nothing. absurd nothing
+
+pub returns-in-None-clause-unlisted : goal.returns-in-None-clause-unlisted
+returns-in-None-clause-unlisted g c = λ off frame. absurd (of_quiet _ c.quiet-in-None.ensures.kind frame)
 
 pub returns-in-None-clause-turns : goal.returns-in-None-clause-turns
 returns-in-None-clause-turns g c = c.quiet-in-None.ensures.turns
@@ -86,11 +104,17 @@ returns-in-Some-Port-clause-clean g c = c.datagram.ensures.clean
 pub returns-in-Some-Port-clause-site : goal.returns-in-Some-Port-clause-site
 returns-in-Some-Port-clause-site g c = c.datagram.ensures.site
 
+pub returns-in-Some-Port-clause-enlists : goal.returns-in-Some-Port-clause-enlists
+returns-in-Some-Port-clause-enlists g c = c.datagram.ensures.enlists
+
 pub returns-in-Some-Port-clause-handed : goal.returns-in-Some-Port-clause-handed
 returns-in-Some-Port-clause-handed g c = c.datagram.ensures.handed
 
 pub returns-in-Some-Port-clause-same : goal.returns-in-Some-Port-clause-same
 returns-in-Some-Port-clause-same g c = c.datagram.ensures.same
+
+pub returns-in-Some-Port-clause-unlisted : goal.returns-in-Some-Port-clause-unlisted
+returns-in-Some-Port-clause-unlisted g c = c.datagram.ensures.unlisted
 
 pub returns-in-Some-Port-clause-turns : goal.returns-in-Some-Port-clause-turns
 returns-in-Some-Port-clause-turns g c = c.datagram.ensures.turns
@@ -104,11 +128,17 @@ returns-in-Some-Listener-clause-clean g c = λ clean. clean
 pub returns-in-Some-Listener-clause-site : goal.returns-in-Some-Listener-clause-site
 returns-in-Some-Listener-clause-site g c = refl
 
+pub returns-in-Some-Listener-clause-enlists : goal.returns-in-Some-Listener-clause-enlists
+returns-in-Some-Listener-clause-enlists g c = refl
+
 pub returns-in-Some-Listener-clause-handed : goal.returns-in-Some-Listener-clause-handed
 returns-in-Some-Listener-clause-handed g c = λ clean. no_handover c.accept.result _ c.accept.ensures
 
 pub returns-in-Some-Listener-clause-same : goal.returns-in-Some-Listener-clause-same
 returns-in-Some-Listener-clause-same g c = λ nothing. refl
+
+pub returns-in-Some-Listener-clause-unlisted : goal.returns-in-Some-Listener-clause-unlisted
+returns-in-Some-Listener-clause-unlisted g c = λ off frame clean h held. held
 
 pub returns-in-Some-Listener-clause-turns : goal.returns-in-Some-Listener-clause-turns
 returns-in-Some-Listener-clause-turns g c = refl
@@ -122,11 +152,17 @@ returns-in-Some-Connection-clause-clean g c = c.connection.ensures.clean
 pub returns-in-Some-Connection-clause-site : goal.returns-in-Some-Connection-clause-site
 returns-in-Some-Connection-clause-site g c = c.connection.ensures.site
 
+pub returns-in-Some-Connection-clause-enlists : goal.returns-in-Some-Connection-clause-enlists
+returns-in-Some-Connection-clause-enlists g c = c.connection.ensures.enlists
+
 pub returns-in-Some-Connection-clause-handed : goal.returns-in-Some-Connection-clause-handed
 returns-in-Some-Connection-clause-handed g c = c.connection.ensures.handed
 
 pub returns-in-Some-Connection-clause-same : goal.returns-in-Some-Connection-clause-same
 returns-in-Some-Connection-clause-same g c = c.connection.ensures.same
+
+pub returns-in-Some-Connection-clause-unlisted : goal.returns-in-Some-Connection-clause-unlisted
+returns-in-Some-Connection-clause-unlisted g c = c.connection.ensures.unlisted
 
 pub returns-in-Some-Connection-clause-turns : goal.returns-in-Some-Connection-clause-turns
 returns-in-Some-Connection-clause-turns g c = c.connection.ensures.turns

@@ -1,30 +1,9 @@
-//! What a command line asks for, in words.
+//! What a command line of hallctl asks for, in words.
 use hall_events::HallCommand;
 use hall_types::{Name, RequestKey, Status};
 use hallctl_texts::Filter;
 use hallctl_words::{Form, Line, Which, Wish};
 use std::alloc::{AllocError, Global};
-
-fn word_of(alloc: Global, word: &str) -> Result<String, AllocError> {
-    if word == "''" {
-        return Ok(String::new(alloc));
-    }
-    let mut text = String::new(alloc);
-    for character in word.chars() {
-        text.push(if character == '~' { ' ' } else { character })?;
-    }
-    Ok(text)
-}
-
-/// The words of a command line, after the program's name.
-pub(crate) fn words_of(alloc: Global, line: &str) -> Result<Vec<String>, AllocError> {
-    let mut words = Vec::new(alloc);
-    words.push(String::from_str(alloc, "hallctl")?)?;
-    for word in line.split(' ') {
-        words.push(word_of(alloc, word)?)?;
-    }
-    Ok(words)
-}
 
 fn name_or_dash(name: &Option<Name>) -> &str {
     match name {

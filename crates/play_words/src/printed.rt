@@ -1,6 +1,6 @@
-//! What is printed of answers.
+//! What hallctl prints of answers.
 use crate::cases::PlayFault;
-use crate::wishes::words_of;
+use crate::words::words_of;
 use hall_events::HallCommand;
 use hall_types::{MacAddress, Numbered, Status};
 use hallctl_texts::{
@@ -48,7 +48,7 @@ fn printed(alloc: Global, wish: &Wish<'_>, answer: &Value) -> Result<String, Pla
 /// What `machines` or `orders` prints.
 pub(crate) fn list_text(alloc: Global, text: &str) -> Result<String, PlayFault> {
     let (words, json) = parts(text)?;
-    let words = words_of(alloc, words)?;
+    let words = words_of(alloc, "hallctl", words)?;
     let answer = json_of(alloc, json)?;
     match read(alloc, words.as_slice()) {
         Ok(line) => printed(alloc, &line.wish, &answer),
@@ -83,7 +83,7 @@ fn command_in(line: Line<'_>) -> Option<HallCommand> {
 
 // The one command that a command line sends.
 fn command_of(alloc: Global, words: &str) -> Result<HallCommand, PlayFault> {
-    let words = words_of(alloc, words)?;
+    let words = words_of(alloc, "hallctl", words)?;
     match read(alloc, words.as_slice()) {
         Ok(line) => command_in(line).ok_or(PlayFault::Case),
         Err(_) => Err(PlayFault::Case),
