@@ -1,4 +1,7 @@
 //! The service over an open store.
+ghost use Rattle.std.specs.Prelude.{◌≡◌};
+ghost use Rattle.hall_desk.specs.Desk.{enlists_of, store_of};
+
 use crate::backups::{Backups, Joining};
 use crate::lines::{Lines, ServiceLog};
 use crate::outlet::tell;
@@ -88,8 +91,11 @@ fn serve_part<S: HallStore, C: Source, L: ServiceLog, J: Joining>(
     (Ended::Served, left)
 }
 
-// The desk of a store's hall.
-fn desk_over<S: HallStore>(store: S, place: Place, enlists: bool) -> Desk<S> {
+// The desk of a store's hall, which enlists unknown clients or none.
+fn desk_over<S: HallStore>(store: S, place: Place, enlists: bool) -> Desk<S>
+    ensures store { store_of result ≡ store }
+    ensures enlists { enlists_of result ≡ enlists }
+{
     let desk = Desk::new(store, place);
     if enlists {
         desk
