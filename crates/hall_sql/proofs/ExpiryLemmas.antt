@@ -1,6 +1,6 @@
 -- The moment before which no machine expires, as halls change.
-use Rattle.sql_schema.specs.Words.{of_machines, AllByRecursion, both_ways, cases_lt, nat_tests, common_steps, Hall, applied, written, StandUnder, is_due, next_expired, if_due, sooner, soonest, next_expired-is, next_expired-none, put_cases, gone_found, Rows, listed, numbers, RowWrite, PutMachine, MachineGone, Machine, IsHeld, State}
-use Rattle.std.proofs.Common.{◌≡◌, inl, inr, ◌≤◌, ◌<◌, ◌+◌, ℕ, List, [], ◌∷◌, length, drop, drop-cons, get_or, suc, add-one, Bool, true, false, Option, Some, None, filter, refl, sym, ap, subst, ◌∙◌, arith, if◌then◌else◌}
+use Rattle.sql_schema.specs.Words.{of_machines, AllByRecursion, both_ways, cases_lt, nat_tests, Hall, applied, written, StandUnder, is_due, next_expired, if_due, sooner, soonest, next_expired-is, next_expired-none, put_cases, gone_found, Rows, listed, numbers, RowWrite, PutMachine, MachineGone, Machine, IsHeld, State}
+use Rattle.std.proofs.Common.{◌≡◌, inl, inr, ◌≤◌, ◌<◌, ◌+◌, ℕ, List, [], ◌∷◌, Bool, true, false, Option, Some, None, filter, refl, sym, ap, subst, ◌∙◌, arith, if◌then◌else◌}
 use Rattle.hall_sql.specs.Expiring.{HasNoEarlier, IsEarliest, PutsNoEarlier, earliest_of}
 
 le_trans : {a b c : ℕ} → a ≤ b → b ≤ c → a ≤ c
@@ -34,14 +34,6 @@ applied_earliest earliest (w ∷ ws) h is puts = applied_earliest earliest ws (w
 pub lower_puts : (lower earliest : ℕ) (w : RowWrite) → lower ≤ earliest → PutsNoEarlier earliest w → PutsNoEarlier lower w
 lower_puts lower earliest (PutMachine m was) low puts = λ deadline has. le_trans low (puts deadline has)
 lower_puts lower earliest w low puts = tt
-
--- ---- the writes of a loop
-
-pub no_item : {X : Type 0} (xs : List X) (i : ℕ) → length xs ≤ i → drop i xs ≡ []
-no_item xs i high = grind (arith, common_steps)
-
-pub next_item : {X : Type 0} (xs : List X) (i : ℕ) (x : X) → i < length xs → x ≡ get_or xs i x → drop i xs ≡ x ∷ drop (i + 1) xs
-next_item xs i x low is = drop-cons xs i x low ∙ ap (λ y. y ∷ drop (suc i) xs) (sym is) ∙ ap (λ j. x ∷ drop j xs) (sym (add-one i))
 
 -- ---- the next machine to expire
 

@@ -1,4 +1,3 @@
 pub mod CountLemmas
 pub mod ExpiryLemmas
 pub mod StoreLemmas
-pub mod WritingLemmas

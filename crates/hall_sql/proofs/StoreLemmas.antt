@@ -1,16 +1,15 @@
 -- From a call of the connection to one of the store.
-use Rattle.sql_schema.specs.Words.{Error, Database, Held, state, HasCleanDisk, Hall, applied, next_expired, if_due, RowWrite, Machine, IsHeld, Leaves, IsTableRead, back_held, leaves_on, SpellHall, AllByRecursion}
+use Rattle.sql_schema.specs.Words.{Error, Database, Held, state, HasCleanDisk, Hall, applied, next_expired, if_due, RowWrite, Machine, IsHeld, Leaves, IsTableRead, back_held, leaves_more, leaves_on, SpellHall, AllByRecursion}
 use Rattle.std.proofs.Common.{◌≡◌, inl, ◌≤◌, ◌<◌, None, Option, List, [], ◌∷◌, false, Bool, true, not, ℕ, Ok, Err, Result, IsTrue, refl, sym, ap, subst, ◌∙◌, arith}
 use Rattle.sqlite_trees.specs.declared.store.Store as trees
 use Rattle.hall_store.specs.Store.{IsWrite, Reads}
 use Rattle.hall_store.specs.StoreLaws.{none_asked, read_failed, read_refused}
 use Rattle.hall_store.specs.declared.store.Unavailable.{Unavailable}
-use Rattle.hall_sql.specs.Applying.{IsTold}
+use Rattle.sql_writes.specs.Applying.{IsTold}
 use Rattle.hall_sql.specs.Expiring.{IsEarliest, PutsNoEarlier, earliest_of}
 use Rattle.hall_sql.specs.Store.{HasHall, LeavesCommitted, Passes, StopLeaves}
 use Rattle.hall_sql.specs.declared.store.SqlStore.{SqlStore}
 use Rattle.hall_sql.proofs.ExpiryLemmas.{applied_earliest, applied_schema, first_due, first_earliest, lower_earliest, none_due}
-use Rattle.hall_sql.proofs.WritingLemmas.{wider}
 
 pub is_true : (b : Bool) → not b ≡ false → IsTrue b
 is_true true e = refl
@@ -102,7 +101,7 @@ module _ {S : Type 0} (g : trees.Ghosts S) where
   -- a refusal that writes nothing
   pub none_written : {Y : Type 0} (s : SqlStore S) (e : Unavailable) (writes : List RowWrite) → IsWrite (HasHall g) (StopLeaves g) s s {Y = Y} (Err e) (λ _. writes)
   none_written {Y = Y} s e writes =
-      read_refused (HasHall g) (StopLeaves g) (λ store h hs. wider (state g store.conn) h hs) s s e e _ (λ _. writes) (none_asked (HasHall g) (StopLeaves g) s e (λ (h : Hall) (y : Y). Y))
+      read_refused (HasHall g) (StopLeaves g) (λ store h hs. leaves_more (state g store.conn) h hs) s s e e _ (λ _. writes) (none_asked (HasHall g) (StopLeaves g) s e (λ (h : Hall) (y : Y). Y))
 
   module _ (old : SqlStore S) (earliest : ℕ) (mid : Held S) (up : old.stopped ≡ false) {Y : Type 0} (writes : List RowWrite) (lower : earliest ≤ old.earliest) (put : AllByRecursion (PutsNoEarlier earliest) writes) where
     -- what is passed on of a write is the write's answer

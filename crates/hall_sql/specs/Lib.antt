@@ -1,4 +1,3 @@
-pub mod Applying
 pub mod Expiring
 pub mod Opening
 pub mod Store

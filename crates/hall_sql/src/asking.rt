@@ -6,8 +6,7 @@ ghost use Rattle.hall_sql.specs.Store.{LeavesCommitted, Passes};
 use crate::store::SqlStore;
 use hall_store::Unavailable;
 use hall_types::{MacAddress, Name, Number};
-use sql_machines::{find_interface, has_machine_with_image};
-use sql_names::is_live;
+use sql_items::{find_interface, has_machine_with_image, is_live};
 use sql_schema::is_running;
 use sqlite::{Alter, Connection, Error};
 

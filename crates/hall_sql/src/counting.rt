@@ -3,7 +3,7 @@ ghost use Rattle.sql_schema.specs.Words.{sum_by, state, HasCleanDisk, size, IsTa
 ghost use Rattle.std.specs.Prelude.{◌≡◌, IfOk};
 
 use hall_store::Count;
-use sql_machines::list_counts;
+use sql_items::list_counts;
 use sqlite::{Alter, Connection, Error};
 use std::alloc::Global;
 

@@ -8,7 +8,7 @@ ghost use Rattle.hall_sql.specs.Store.{HasHall, StopLeaves};
 use crate::store::SqlStore;
 use hall_store::Unavailable;
 use hall_types::{MAX_MOMENT, Machine, Moment, RowWrite};
-use sql_machines::next_expired;
+use sql_items::next_expired;
 use sqlite::Alter;
 
 // The earlier of a moment and the deadline that a machine is put with.

@@ -1,7 +1,6 @@
 //! A hall in SQLite: the store whose tables are those of a database.
 #![tactic(auto)]
 
-mod applying;
 mod asking;
 mod counting;
 mod expiring;

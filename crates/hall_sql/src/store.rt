@@ -3,7 +3,6 @@ ghost use Rattle.sql_schema.specs.Words.{state, Hall, Holds, IsHeld};
 ghost use Rattle.std.specs.Prelude.{◌≡◌, [], ◌∷◌};
 ghost use Rattle.hall_sql.specs.Store.{connection};
 
-use crate::applying::write_rows;
 use crate::asking::{is_image_used, machine_at};
 use crate::counting::count_machines;
 use crate::expiring::earliest_after;
@@ -13,14 +12,12 @@ use hall_types::{
     Name, Number, Numbers, Operator, Order, Pool, Receipt, RequestKey,
 };
 use pxe_vendor::Arch;
-use sql_machines::{
-    find_boot, find_machine, find_order, find_uuid, interfaces_of, list_counts, list_interfaces,
-    list_machines, waiting_orders,
+use sql_items::{
+    find_boot, find_image, find_live, find_machine, find_member, find_numbers, find_operator,
+    find_operator_with_digest, find_order, find_pool, find_receipt, find_uuid, interfaces_of,
+    list_counts, list_interfaces, list_machines, waiting_orders,
 };
-use sql_names::{
-    find_image, find_live, find_member, find_numbers, find_operator, find_operator_with_digest,
-    find_pool, find_receipt,
-};
+use sql_writes::write_rows;
 use sqlite::{Alter, Connection};
 use std::alloc::Global;
 

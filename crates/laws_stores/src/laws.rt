@@ -1,5 +1,5 @@
 //! New halls, and all that came to them in one run.
-ghost use Rattle.std.specs.Prelude.{◌≡◌, length, IfOk};
+ghost use Rattle.std.specs.Prelude.{◌≡◌, ℕ, List, length, IfOk};
 ghost use Rattle.sqlite.specs.Held.{state};
 ghost use Rattle.sqlite.specs.State.{HasCleanDisk};
 ghost use Rattle.hall_types.specs.Hall.{Hall, new_hall, second};
@@ -8,12 +8,32 @@ ghost use Rattle.hall_desk.specs.History.{exchanges};
 
 use hall_desk::{Answer, Arrival, Desk};
 use hall_sql::SqlStore;
-use hall_store::Unavailable;
+use hall_store::{HallStore, Unavailable};
 use hall_types::{Digest, Name};
 use pxe_vendor::Place;
 use sqlite::{Alter, Connection};
 use std::alloc::Global;
 use store_memory::MemoryStore;
+
+// Answers all that comes to the new hall of a store, which is handed back, one answer each: the headline holds if its disk gave back all
+// along what was written to it.
+fn answer_all<S: HallStore + Drop>(
+    alloc: Global,
+    store: S,
+    place: Place,
+    arrivals: &[Arrival],
+) -> Result<(Vec<Answer>, S), Unavailable>
+    ensures one_each { IfOk result (λ done. length done.0.items ≡ length arrivals.now) }
+    ensures clean { IfOk result (λ done. S.HallStore.is_clean done.1 → S.HallStore.is_clean store) }
+    ensures headline { IfOk result (λ done. S.HallStore.is_clean done.1 → (admin digest : List ℕ) → S.HallStore.holds store (new_hall second admin digest)
+        → (end : Hall) × Headline (new_hall second admin digest) (exchanges place arrivals.now done.0.items) end) }
+{
+    let mut desk = Desk::new(store, place);
+    match desk.run(alloc, arrivals) {
+        Ok(answers) => Ok((answers, desk.into_store())),
+        Err(_) => Err(Unavailable),
+    }
+}
 
 /// Answers all that comes to a new hall in memory, one answer each: the headline holds.
 pub fn memory_keeps_the_headline(
@@ -27,11 +47,9 @@ pub fn memory_keeps_the_headline(
     ensures headline { IfOk result (λ answers. (end : Hall) × Headline (new_hall second admin digest) (exchanges place arrivals.now answers.items) end) }
 {
     let store = MemoryStore::create(alloc, admin, digest)?;
-    let mut desk = Desk::new(store, place);
-    match desk.run(alloc, arrivals) {
-        Ok(answers) => Ok(answers),
-        Err(_) => Err(Unavailable),
-    }
+    let (answers, store) = answer_all(alloc, store, place, arrivals)?;
+    drop(store);
+    Ok(answers)
 }
 
 /// Answers all that comes to a new hall over a connection, which is handed back, one answer each: the headline holds if its disk gave
@@ -50,9 +68,6 @@ pub fn sqlite_keeps_the_headline<S: Alter + Drop>(
     let Ok(store) = SqlStore::create(alloc, conn, admin, digest) else {
         return Err(Unavailable);
     };
-    let mut desk = Desk::new(store, place);
-    match desk.run(alloc, arrivals) {
-        Ok(answers) => Ok((answers, desk.into_store().into_connection())),
-        Err(_) => Err(Unavailable),
-    }
+    let (answers, store) = answer_all(alloc, store, place, arrivals)?;
+    Ok((answers, store.into_connection()))
 }

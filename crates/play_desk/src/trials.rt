@@ -50,10 +50,10 @@ fn push_seen(alloc: Global, line: &mut String, what: &str, seen: Seen) -> Result
 }
 
 fn push_steps(run: &Run<'_>, line: &mut String) -> Result<(), Fault> {
-    for step in run.steps.as_slice() {
-        line.push_str(step.answer.as_str())?;
+    for (answer, repeat) in run.answers.iter().zip(run.repeats.as_slice()) {
+        line.push_str(answer.as_str())?;
         line.push_str("again: ")?;
-        line.push_str(step.again.as_str())?;
+        line.push_str(repeat.as_str())?;
     }
     Ok(())
 }

@@ -7,5 +7,5 @@ mod stops;
 mod tasks;
 
 pub use disks::{Disks, Image, Which, empty_files};
-pub use stops::{Run, Seen, Step, first_line, play_line};
-pub use tasks::{Outcome, Task, play_in};
+pub use stops::{Run, Seen, first_line};
+pub use tasks::{Outcome, Task, play_in, play_line};

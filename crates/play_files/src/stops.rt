@@ -1,37 +1,27 @@
 //! Lines over a hall's files, of which one stops. After it the files are opened again: they have the hall before the line that
 //! wasn't answered or the hall after it, all lines before it are kept, and that line, played again, is answered as it was without
 //! a stop, or as its repeat.
-use crate::disks::{Image, Which, close, connect, crash};
-use crate::files::play_file_line;
+use crate::disks::{Image, Which, crash};
 use crate::tasks::{Outcome, Task, play_in};
 use play_store::{Asked, Fault};
-use sqlite::{Alter, Connection, FileStore, Files};
-use sqlite_disk::Disk;
 use std::alloc::Global;
 use std::mem;
 
 const MAX_TURNS: u64 = 2_000;
 
-/// A line, and what it does over files that don't stop.
-#[derive(Drop)]
-pub struct Step {
-    text: String,
-    /// The answer.
-    pub answer: String,
-    /// The answer to its repeat.
-    pub again: String,
-    /// What a look at the hall after it prints.
-    hall: String,
-}
-
-/// Lines that are played over one connection.
+/// Lines that are played over one connection, and what each of them does over files that don't stop, in their order.
 #[derive(Drop)]
 pub struct Run<'a> {
     /// The line by which halls are compared.
     look: &'a str,
     /// What it prints of the hall before them.
     before: String,
-    pub steps: Vec<Step>,
+    texts: Vec<String>,
+    pub answers: Vec<String>,
+    /// The answers to their repeats.
+    pub repeats: Vec<String>,
+    /// What a look at the hall after them prints.
+    halls: Vec<String>,
 }
 
 /// What was seen of stops at ever later moments.
@@ -41,18 +31,6 @@ pub enum Seen {
     Right,
     /// The first left something else, or nothing stopped at all.
     Wrong(u64),
-}
-
-/// Plays a line over the tables of a connection, and whether it could be; what the desk asked isn't counted.
-pub fn play_line<S: Alter>(
-    alloc: Global,
-    conn: Connection<S>,
-    text: &str,
-    line: &mut String,
-) -> (bool, Connection<S>) {
-    let mut asked = Asked::NONE;
-    let (done, conn) = play_file_line(alloc, conn, text, line, &mut asked);
-    (done.is_ok(), conn)
 }
 
 // The answer to a line over files that don't stop, and what they hold then.
@@ -72,64 +50,14 @@ fn answer_of(alloc: Global, image: &Image, text: &str) -> Result<String, Fault> 
     Ok(answer)
 }
 
-// A line over files that don't stop, and what they hold after it.
-fn step_of(alloc: Global, image: &Image, look: &str, text: &str) -> Result<(Step, Image), Fault> {
-    let (answer, then) = played(alloc, image, text)?;
-    let again = answer_of(alloc, &then, text)?;
-    let hall = answer_of(alloc, &then, look)?;
-    let step = Step {
-        text: String::from_str(alloc, text)?,
-        answer,
-        again,
-        hall,
-    };
-    Ok((step, then))
-}
-
+// Adds a line, played over files that don't stop, and gives what they hold after it.
 fn push_step(alloc: Global, run: &mut Run<'_>, image: &Image, text: &str) -> Result<Image, Fault> {
-    let (step, then) = step_of(alloc, image, run.look, text)?;
-    run.steps.push(step).ok().ok_or(Fault::Memory)?;
+    let (answer, then) = played(alloc, image, text)?;
+    run.texts.push(String::from_str(alloc, text)?)?;
+    run.answers.push(answer)?;
+    run.repeats.push(answer_of(alloc, &then, text)?)?;
+    run.halls.push(answer_of(alloc, &then, run.look)?)?;
     Ok(then)
-}
-
-// The lines one after the other, up to the first that isn't answered as it is without a stop; how many are.
-fn play_steps<S: Alter>(
-    alloc: Global,
-    conn: Connection<S>,
-    steps: &[Step],
-) -> (usize, Connection<S>) {
-    let mut conn = conn;
-    for (at, step) in steps.iter().enumerate() {
-        let mut line = String::new(alloc);
-        let (is_done, after) = play_line(alloc, conn, step.text.as_str(), &mut line);
-        conn = after;
-        if !is_done || line.as_str() != step.answer.as_str() {
-            return (at, conn);
-        }
-    }
-    (steps.len(), conn)
-}
-
-fn play_steps_and_close<D: Disk + Drop>(
-    alloc: Global,
-    conn: Connection<FileStore<D>>,
-    steps: &[Step],
-) -> (usize, bool, Files<D>) {
-    let (answered, conn) = play_steps(alloc, conn, steps);
-    let (is_closed, files) = close(conn);
-    (answered, is_closed, files)
-}
-
-// Plays the lines over files, and closes them: how many were answered, and whether the closing went well.
-fn play_steps_in<D: Disk + Drop>(
-    alloc: Global,
-    files: Files<D>,
-    steps: &[Step],
-) -> (usize, bool, Files<D>) {
-    match connect(alloc, files) {
-        Ok(conn) => play_steps_and_close(alloc, conn, steps),
-        Err(files) => (0, false, files),
-    }
 }
 
 impl<'a> Run<'a> {
@@ -143,7 +71,10 @@ impl<'a> Run<'a> {
         let mut run = Run {
             look,
             before: answer_of(alloc, image, look)?,
-            steps: Vec::new(alloc),
+            texts: Vec::new(alloc),
+            answers: Vec::new(alloc),
+            repeats: Vec::new(alloc),
+            halls: Vec::new(alloc),
         };
         let (text, mut rest) = first_line(texts);
         let mut then = push_step(alloc, &mut run, image, text)?;
@@ -160,8 +91,8 @@ impl<'a> Run<'a> {
 
     fn hall_after(&self, answered: usize) -> &str {
         match answered.checked_sub(1) {
-            Some(at) => match self.steps.get(at) {
-                Some(step) => step.hall.as_str(),
+            Some(at) => match self.halls.get(at) {
+                Some(hall) => hall.as_str(),
                 None => self.before.as_str(),
             },
             None => self.before.as_str(),
@@ -171,29 +102,31 @@ impl<'a> Run<'a> {
     // Whether files that a crash left have the hall after so many lines, or after one more, and go on as they do without a stop.
     fn is_right(&self, alloc: Global, image: &Image, answered: usize) -> Result<bool, Fault> {
         let hall = answer_of(alloc, image, self.look)?;
-        let Some(next) = self.steps.get(answered) else {
-            return Ok(hall.as_str() == self.hall_after(answered));
-        };
-        if hall.as_str() == next.hall.as_str() {
-            return self.is_answered(alloc, image, next, next.again.as_str());
+        let is_before = hall.as_str() == self.hall_after(answered);
+        if answered == self.texts.len() {
+            return Ok(is_before);
         }
-        if hall.as_str() != self.hall_after(answered) {
-            return Ok(false);
+        if hall.as_str() == self.hall_after(answered.saturating_add(1)) {
+            return self.is_answered(alloc, image, answered, self.repeats.as_slice());
         }
-        self.is_answered(alloc, image, next, next.answer.as_str())
+        Ok(is_before && self.is_answered(alloc, image, answered, self.answers.as_slice())?)
     }
 
-    // Whether the line over files that hold this is answered so, and leaves the hall after it.
+    // Whether a line over files that hold this is answered as these answers say, and leaves the hall after it.
     fn is_answered(
         &self,
         alloc: Global,
         image: &Image,
-        step: &Step,
-        answer: &str,
+        at: usize,
+        answers: &[String],
     ) -> Result<bool, Fault> {
-        let (found, then) = played(alloc, image, step.text.as_str())?;
+        let (Some(text), Some(answer)) = (self.texts.get(at), answers.get(at)) else {
+            return Ok(false);
+        };
+        let (found, then) = played(alloc, image, text.as_str())?;
         let hall = answer_of(alloc, &then, self.look)?;
-        Ok(found.as_str() == answer && hall.as_str() == step.hall.as_str())
+        let is_after = hall.as_str() == self.hall_after(at.saturating_add(1));
+        Ok(found.as_str() == answer.as_str() && is_after)
     }
 
     // Whether what is left after a stop is right, and whether nothing stopped.
@@ -205,12 +138,18 @@ impl<'a> Run<'a> {
         calls: u64,
     ) -> Result<(bool, bool), Fault> {
         let files = image.disks(alloc, which, calls)?;
-        let steps = self.steps.as_slice();
-        let (answered, is_closed, files) = play_steps_in(alloc, files, steps);
+        let steps = Task::Steps {
+            texts: self.texts.as_slice(),
+            answers: self.answers.as_slice(),
+        };
+        let mut out = Outcome::none(alloc, Asked::NONE);
+        let (is_closed, files) = play_in(alloc, files, &steps, &mut out);
+        let answered = out.answered;
+        drop(out);
         let (synced, partly) = crash(alloc, files, calls)?;
         let is_right = self.is_right(alloc, &synced, answered)?
             && self.is_right(alloc, &partly, answered)?;
-        Ok((is_right, is_closed && answered == steps.len()))
+        Ok((is_right, is_closed && answered == self.texts.len()))
     }
 
     /// Stops ever later, until nothing stops. Where nothing stops at the first moment, that is wrong.

@@ -1,6 +1,6 @@
-//! What is played over files. There is one way from files to a store for all but the steps of `stops.rt`, since each function that goes
-//! from a layer of its type to the next takes ten seconds to prove.
-use crate::disks::{close, connect};
+//! What is played over files. There is one way from files to a store, since each function that goes from a layer of its type to the next
+//! takes ten seconds to prove.
+use crate::disks::{Disks, close, connect};
 use crate::files::{play_file_line, play_lines};
 use hall_sql::SqlStore;
 use hall_types::{Digest, Name};
@@ -26,6 +26,11 @@ pub enum Task<'a> {
     },
     /// A line.
     Line(&'a str),
+    /// Lines one after the other, up to the first that isn't answered so.
+    Steps {
+        texts: &'a [String],
+        answers: &'a [String],
+    },
 }
 
 /// What came of it.
@@ -39,6 +44,8 @@ pub struct Outcome {
     pub asked: Asked,
     /// The answer to a line.
     pub line: String,
+    /// How many of the steps were answered as they were to be.
+    pub answered: usize,
 }
 
 impl Outcome {
@@ -49,6 +56,7 @@ impl Outcome {
             done: Err(PlayFault::Log(LogFault::Memory)),
             asked,
             line: String::new(alloc),
+            answered: 0,
         }
     }
 }
@@ -72,6 +80,37 @@ fn play_over_tables<S: Alter + Drop>(
     }
 }
 
+/// Plays a line over the tables of a connection, and whether it could be; what the desk asked isn't counted.
+pub fn play_line<S: Alter>(
+    alloc: Global,
+    conn: Connection<S>,
+    text: &str,
+    line: &mut String,
+) -> (bool, Connection<S>) {
+    let mut asked = Asked::NONE;
+    let (done, conn) = play_file_line(alloc, conn, text, line, &mut asked);
+    (done.is_ok(), conn)
+}
+
+// The lines one after the other, up to the first that isn't answered so; how many are.
+fn play_steps<S: Alter>(
+    alloc: Global,
+    conn: Connection<S>,
+    texts: &[String],
+    answers: &[String],
+) -> (usize, Connection<S>) {
+    let mut conn = conn;
+    for (at, (text, answer)) in texts.iter().zip(answers).enumerate() {
+        let mut line = String::new(alloc);
+        let (is_done, after) = play_line(alloc, conn, text.as_str(), &mut line);
+        conn = after;
+        if !is_done || line.as_str() != answer.as_str() {
+            return (at, conn);
+        }
+    }
+    (texts.len(), conn)
+}
+
 fn over_tables<S: Alter + Drop>(
     alloc: Global,
     conn: Connection<S>,
@@ -91,6 +130,11 @@ fn over_tables<S: Alter + Drop>(
             let (_, conn) = play_file_line(alloc, conn, text, &mut out.line, &mut out.asked);
             conn
         }
+        Task::Steps { texts, answers } => {
+            let (answered, conn) = play_steps(alloc, conn, texts, answers);
+            out.answered = answered;
+            conn
+        }
     }
 }
 
@@ -103,8 +147,7 @@ fn over_connection<D: Disk + Drop>(
     close(over_tables(alloc, conn, task, out))
 }
 
-/// Plays over files, and closes them; whether the closing went well.
-pub fn play_in<D: Disk + Drop>(
+fn over_files<D: Disk + Drop>(
     alloc: Global,
     files: Files<D>,
     task: &Task<'_>,
@@ -114,4 +157,9 @@ pub fn play_in<D: Disk + Drop>(
         Ok(conn) => over_connection(alloc, conn, task, out),
         Err(files) => (false, files),
     }
+}
+
+/// Plays over files, and closes them; whether the closing went well.
+pub fn play_in(alloc: Global, files: Disks, task: &Task<'_>, out: &mut Outcome) -> (bool, Disks) {
+    over_files(alloc, files, task, out)
 }

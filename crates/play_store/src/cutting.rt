@@ -58,6 +58,14 @@ fn answer_to_front<S: HallStore>(
     Ok(text)
 }
 
+fn push_from(alloc: Global, line: &mut String, len: usize, answer: &str) -> Result<(), Fault> {
+    line.push_str("from ")?;
+    line.push_str((len as u64).to_string(alloc)?.as_str())?;
+    line.push(' ')?;
+    line.push_str(answer)?;
+    Ok(())
+}
+
 fn push_fronts<S: HallStore>(
     alloc: Global,
     desk: &mut Desk<S>,
@@ -69,10 +77,7 @@ fn push_fronts<S: HallStore>(
     for len in 0..len_of(&arrival.input) {
         let text = answer_to_front(alloc, desk, arrival, kind, len)?;
         if text.as_str() != last.as_str() {
-            line.push_str("from ")?;
-            line.push_str((len as u64).to_string(alloc)?.as_str())?;
-            line.push(' ')?;
-            line.push_str(text.as_str())?;
+            push_from(alloc, line, len, text.as_str())?;
             last = text;
         }
     }

@@ -1,6 +1,6 @@
 -- Laws of connections that hold a hall, for the proofs of callers: what goes through a call.
 use Rattle.sql_schema.specs.Prelude.{Error, Row, Query, IsAnswer, overlay, Database, State, HasCleanDisk, IsUnchanged, Survives, Shown, FailsToQuery, CommitsShowing, ExecutesInside, Hall, Command, Returning}
-use Rattle.std.proofs.Common.{◌≡◌, ◌⊎◌, inl, inr, ℕ, nat_eq, MatchBool, List, [], Ok, Err, Result, IfOk, IfErr, sym, ap, subst, ◌∙◌}
+use Rattle.std.proofs.Common.{◌≡◌, ◌⊎◌, inl, inr, ℕ, nat_eq, MatchBool, List, [], ◌∷◌, Ok, Err, Result, IfOk, IfErr, sym, ap, subst, ◌∙◌}
 use Rattle.sql_schema.specs.Statements.{IsBack, IsQueryText, IsReturningText}
 use Rattle.sql_schema.specs.WriteLaws.{shown_wrote}
 use Rattle.sql_schema.specs.StatementLaws.{query_refused, shown_same, query_survives}
@@ -38,6 +38,10 @@ back_held old new h (inr back) held live =
 -- a call that commits nothing adds no outcome of a crash
 pub leaves_on : (old new : State) (hs : List Hall) → Survives old new (λ _. ⊥) → HasCleanDisk new → Leaves old hs → Leaves new hs
 leaves_on old new hs s clean left db may = elim (s.crash clean db may) [ inl before ↦ left db before | inr none ↦ absurd none ]
+
+-- a crash that leaves one of some halls leaves one of these and one more
+pub leaves_more : (s : State) (h : Hall) (hs : List Hall) → Leaves s hs → Leaves s (h ∷ hs)
+leaves_more s h hs left db may = let it = left db may in (it.0, inr it.1, it.2)
 
 -- a query whose text is known, of which the tables say what it answers
 pub asked : {X : Type 0} (sql : List ℕ) (params : Row) {q : Query} → IsQueryText hall_schema sql q → (old new : State) (rows_of : X → List Row) (Right : Hall → X → Type 0) (r : Result X Error)

@@ -1,3 +1,5 @@
+pub mod Asking
+pub mod AskingLaws
 pub mod CascadeStepLaws
 pub mod Cascades
 pub mod ColumnLaws
@@ -22,9 +24,14 @@ pub mod Spelling
 pub mod SpellingLaws
 pub mod StatementLaws
 pub mod Statements
+pub mod StepLaws
+pub mod Steps
 pub mod TableLaws
 pub mod TableOf
+pub mod TableStatementLaws
+pub mod TableStatements
 pub mod Tables
 pub mod ValueLaws
 pub mod Words
 pub mod WriteLaws
+pub mod Writing

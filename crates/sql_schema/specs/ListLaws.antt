@@ -1,6 +1,6 @@
 -- Laws of lists, for the proofs of callers: rows taken out in any order, put back under their keys, or counted.
-use Rattle.sql_schema.specs.Prelude.{all_has, none_from_any, list_any, AllByRecursion, match_ordering, ints, IsPermutation-refl, IsPermutation-cons, IsPermutation-trans, IsPermutation-middle, Row, put_all, put_row, IsAscending, Has, IsKeyedBy, insert_by, has_key, without_key, delete_where, update_where, all_map, all-filter, all_weaker, all_of, filter_all, filter_same, along_permutation, IsPermutation-flat_map, Less-from_lt, removes_delete}
-use Rattle.std.proofs.Common.{◌≡◌, ◌&&◌, ◌||◌, ◌≤◌, ◌<ℤ◌, not, inl, inr, ℤ, List, [], ◌∷◌, length, map, filter, Bool, true, false, cond, refl, sym, ap, subst₂, ◌∙◌, arith, Ordering, Less, Equal, Greater, int_eq, int_cmp, is_eq, fold, IsPermutation, true≢false, flat_map}
+use Rattle.sql_schema.specs.Prelude.{all_has, none_from_any, list_any, AllByRecursion, match_ordering, ints, IsPermutation-refl, IsPermutation-cons, IsPermutation-trans, IsPermutation-middle, Row, put_all, put_row, IsAscending, Has, IsKeyedBy, insert_by, has_key, without_key, delete_where, update_where, all_map, all-filter, all_weaker, all_of, filter_all, filter_same, along_permutation, IsPermutation-flat_map, Less-from_lt, removes_delete, common_steps}
+use Rattle.std.proofs.Common.{◌≡◌, ◌&&◌, ◌||◌, ◌≤◌, ◌<◌, ◌+◌, ◌<ℤ◌, not, inl, inr, ℕ, ℤ, List, [], ◌∷◌, length, drop, drop-cons, get_or, suc, add-one, map, filter, Bool, true, false, cond, refl, sym, ap, subst₂, ◌∙◌, arith, Ordering, Less, Equal, Greater, int_eq, int_cmp, is_eq, fold, IsPermutation, true≢false, flat_map}
 
 pub and_true : (b : Bool) → (b && true) ≡ b
 and_true true = refl
@@ -137,3 +137,11 @@ module _ {X : Type 0} (key : X → ℤ) where
           → fold (insert_by key) (cond (not b) (x ∷ delete_where p xs) (delete_where p xs)) (map f (cond b (x ∷ filter p xs) (filter p xs))) ≡ cond b (f x) x ∷ update_where p f xs
       go true more = ap (λ l. fold (insert_by key) l (map f (filter p xs))) (first_in (f x) (delete_where p xs) over) ∙ puts_past _ (f x) _ (above (f x) (keeps x)) ∙ ap (λ l. f x ∷ l) more
       go false more = puts_past _ x _ (above x refl) ∙ ap (λ l. x ∷ l) more
+
+-- ---- the items that a loop has still to come to
+
+pub no_item : {X : Type 0} (xs : List X) (i : ℕ) → length xs ≤ i → drop i xs ≡ []
+no_item xs i high = grind (arith, common_steps)
+
+pub next_item : {X : Type 0} (xs : List X) (i : ℕ) (x : X) → i < length xs → x ≡ get_or xs i x → drop i xs ≡ x ∷ drop (i + 1) xs
+next_item xs i x low is = drop-cons xs i x low ∙ ap (λ y. y ∷ drop (suc i) xs) (sym is) ∙ ap (λ j. x ∷ drop j xs) (sym (add-one i))

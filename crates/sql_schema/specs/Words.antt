@@ -11,9 +11,9 @@ pub use Rattle.sql_schema.specs.SpellingLaws.{at_table, sets}
 pub use Rattle.sql_schema.specs.TableOf.{IsKept, IsNumbered, TableOf, kept_row, parameters_from}
 pub use Rattle.sql_schema.specs.Creating.{MakesAll, MakesIndex, MakesOne, MakesTable}
 pub use Rattle.sql_schema.specs.Holding.{Holds, IsHeld, IsTableRead, IsWithin, Leaves}
-pub use Rattle.sql_schema.specs.HoldingLaws.{asked, asked_failed, asked_then, back_held, by_count, leaves_on, shown_within, within}
+pub use Rattle.sql_schema.specs.HoldingLaws.{asked, asked_failed, asked_then, back_held, by_count, leaves_more, leaves_on, shown_within, within}
 pub use Rattle.sql_schema.specs.KeptLaws.{adds_kept, changes_kept, finds_kept, lists_kept, removes_alone, removes_kept, removes_kept_where, sets_kept_if}
-pub use Rattle.sql_schema.specs.ListLaws.{IsPermutation-map, all_passed, and_true, any_along, has_map, map_has}
+pub use Rattle.sql_schema.specs.ListLaws.{IsPermutation-map, all_passed, and_true, any_along, has_map, map_has, next_item, no_item}
 pub use Rattle.sql_schema.specs.ListedLaws.{AreRising, AreRising-listed, AreRising-put_in, at_listed, listed_at, listed_with_key, put_in, put_in-permutes, same_lists}
 pub use Rattle.sql_schema.specs.NumberedLaws.{equal_keys, equal_numbers, number_is_free, number_key, number_order, numbered_entries, rises}
 pub use Rattle.sql_schema.specs.OpeningStatements.{add_operator_is, add_pool_is, add_wipe_is, find_numbers_is, find_numbers_query, first_numbers_is, list_machines_is}

@@ -3,8 +3,8 @@ use Rattle.sql_schema.specs.Words.{AllByRecursion, Null, Int, Error, SqlInputErr
 use Rattle.std.proofs.Common.{◌≡◌, ◌≢◌, inl, inr, ℕ, ℤ, pos, List, [], ◌∷◌, Ok, Err, Result, true, refl, sym, subst, ◌∙◌, ◌↔◌}
 use Rattle.sqlite_trees.specs.declared.error.StoreError.TheVariants as fault
 use Rattle.sqlite.specs.State.{FailsToQuery, IsNotRun}
-use Rattle.sql_rows.specs.Steps.{IsStep}
-use Rattle.sql_rows.specs.StepLaws.{fails}
+use Rattle.sql_schema.specs.Steps.{IsStep}
+use Rattle.sql_schema.specs.StepLaws.{fails}
 use Rattle.sql_tables.specs.declared.fault.OpenFault.{OpenFault}
 use Rattle.sql_tables.specs.declared.fault.OpenFault.TheVariants.{NotAHall, OtherVersion, Unavailable}
 use Rattle.sql_tables.specs.declared.looking.Wanted.{Wanted}

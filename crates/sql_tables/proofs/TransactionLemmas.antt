@@ -2,8 +2,8 @@
 use Rattle.sql_schema.specs.Words.{cases_Bool, at_drop_more, drop_all, Error, Row, Database, State, FailsToQuery, HasCleanDisk, IsTooLate, IsRolledBack, Shown, Survives, Held, state, survives_then, Trees, Hall, SpellHall, hall_schema, IsHeld, Leaves, query_keeps, query_mode}
 use Rattle.std.proofs.Common.{◌≡◌, ◌<◌, ◌≤◌, ◌+◌, ◌⊎◌, inl, inr, ℕ, List, [], ◌∷◌, length, drop, get_or, true, false, Ok, Err, Result, IfOk, IfErr, OnOk, OnErr, IsTrue, refl, sym, ap, subst, ◌∙◌, arith}
 use Rattle.sqlite_trees.specs.declared.store.Store as store
-use Rattle.sql_rows.specs.Steps.{IsStep}
-use Rattle.sql_rows.specs.StepLaws.{next}
+use Rattle.sql_schema.specs.Steps.{IsStep}
+use Rattle.sql_schema.specs.StepLaws.{next}
 use Rattle.sql_tables.specs.Creating.{IsFlat, IsMade, KeepsTables}
 use Rattle.sql_tables.specs.Running.{IsEnded}
 

@@ -1,7 +1,7 @@
 //! What is asked of a file's tables, inside a transaction that writes nothing.
 ghost use Rattle.sql_schema.specs.Words.{state, HasCleanDisk, Survives};
 ghost use Rattle.std.specs.Prelude.{◌≡◌, ◌≢◌, ⊤, ℤ, IfOk, IfErr, map};
-ghost use Rattle.sql_rows.specs.Steps.{IsStep};
+ghost use Rattle.sql_schema.specs.Steps.{IsStep};
 ghost use Rattle.sql_tables.specs.Opening.{AreFound, IsAnswerFor, IsSchemaRow, IsVersionOf, SaysSchema, wanted_number, wanted_rows};
 
 use crate::fault::OpenFault;

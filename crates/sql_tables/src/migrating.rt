@@ -1,7 +1,7 @@
 //! The tables of a hall of the first schema are carried over to the second, in one transaction.
 ghost use Rattle.sql_schema.specs.Words.{is_used, state, HasCleanDisk, IsLive, Survives, Hall, Machine, machine_values, IsHeld, Leaves, HallRows, Spells};
 ghost use Rattle.std.specs.Prelude.{◌≡◌, ◌≢◌, Err, IfErr, IsTrue, List, Ok, OnErr, OnOk, [], ◌∷◌, codes, map, true};
-ghost use Rattle.sql_rows.specs.Steps.{IsStep};
+ghost use Rattle.sql_schema.specs.Steps.{IsStep};
 ghost use Rattle.sql_tables.specs.Creating.{IsMade, KeepsTables, MayLeaveBesides};
 ghost use Rattle.sql_tables.specs.Migrating.{BecomeHall, IsCarriedOver, IsFirst, IsRightMigration, carried_rows, is_erasing, with_kind_of, with_kinds_of};
 

@@ -1,7 +1,7 @@
 //! Statements inside a transaction, and how it ends.
 ghost use Rattle.sql_schema.specs.Words.{state, HasCleanDisk, Shown, Survives, bound};
 ghost use Rattle.std.specs.Prelude.{◌≡◌, [], IfErr, Ok};
-ghost use Rattle.sql_rows.specs.Steps.{IsStep};
+ghost use Rattle.sql_schema.specs.Steps.{IsStep};
 ghost use Rattle.sql_tables.specs.Running.{IsEnded, IsRun};
 
 use sqlite::types::ValueRef;

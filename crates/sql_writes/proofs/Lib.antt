@@ -1,3 +1,4 @@
+pub mod ApplyingLemmas
 pub mod CountLemmas
 pub mod MachineLemmas
 pub mod RemovalLemmas

@@ -3,10 +3,10 @@ use Rattle.sql_schema.specs.Words.{equal_keys, finds_kept, machines, Counts, Hal
 use Rattle.std.proofs.Common.{◌≡◌, ℕ, List, [], ◌∷◌, Option, Some, None, Ok, option_map, map, refl, sym, ap, ap₂, subst, ◌∙◌}
 use Rattle.hall_store.specs.Versions.{version_of}
 use Rattle.sql_schema.specs.declared.creating.TheConstants.{FIND_MACHINE}
-use Rattle.sql_rows.specs.Steps.{IsStep}
-use Rattle.sql_machines.specs.Machines.{HasVersion, with_machine}
-use Rattle.sql_machines.specs.Wipes.{with_wipe}
-use Rattle.sql_machines.specs.WipeLaws.{wipes_put}
+use Rattle.sql_schema.specs.Steps.{IsStep}
+use Rattle.sql_items.specs.Machines.{HasVersion, with_machine}
+use Rattle.sql_items.specs.Wipes.{with_wipe}
+use Rattle.sql_items.specs.WipeLaws.{wipes_put}
 use Rattle.sql_writes.specs.Machines.{group_of, with_row}
 use Rattle.sql_writes.specs.Within.{IsWithinHall}
 use Rattle.sql_writes.specs.declared.groups.Group.{Group}

@@ -4,8 +4,8 @@ use Rattle.std.proofs.Common.{◌≡◌, Result, sym, ap, subst, ◌∙◌}
 use Rattle.std.specs.Prelude.{option_and_then}
 use Rattle.hall_store.specs.Rules.{Keeps}
 use Rattle.hall_store.specs.Versions.{HasVersion}
-use Rattle.sql_rows.specs.Steps.{IsWritten}
-use Rattle.sql_rows.specs.StepLaws.{gives}
+use Rattle.sql_schema.specs.Steps.{IsWritten}
+use Rattle.sql_schema.specs.StepLaws.{gives}
 use Rattle.sql_writes.specs.Within.{IsRowWritten}
 
 -- a table's write is the write of a row: the rows are the hall with the row, its counts and its kinds of erasing stay

@@ -1,2 +1,3 @@
+pub mod Applying
 pub mod Machines
 pub mod Within

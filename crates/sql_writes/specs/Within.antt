@@ -3,7 +3,7 @@ use Rattle.sql_schema.specs.Words.{State, Hall, written, RowWrite, IsWithin, Hal
 use Rattle.std.specs.Prelude.{Result}
 use Rattle.hall_store.specs.Rules.{Keeps}
 use Rattle.hall_store.specs.Versions.{HasVersion}
-use Rattle.sql_rows.specs.Steps.{IsStep}
+use Rattle.sql_schema.specs.Steps.{IsStep}
 
 -- inside a transaction: the hall as the transaction sees it, with its counts and its kinds of erasing, over the hall that was there before it
 pub record IsWithinHall (s : State) (before h : Hall) : Type 0 where

@@ -1,9 +1,10 @@
-//! One row write of a hall's change, over its tables, inside a transaction.
+//! The rows of a hall's change, written over its tables in one transaction.
 #![tactic(auto)]
 
+mod applying;
 mod groups;
 mod machines;
 mod removal;
 mod writes;
 
-pub use writes::write_row;
+pub use applying::write_rows;

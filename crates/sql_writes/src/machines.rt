@@ -2,13 +2,13 @@
 ghost use Rattle.sql_schema.specs.Words.{state, HasCleanDisk, Survives, Hall, at};
 ghost use Rattle.std.specs.Prelude.{◌≡◌, ◌<◌, ◌^◌, IfSome, OnOk, None, Some};
 ghost use Rattle.hall_store.specs.Versions.{version_of};
-ghost use Rattle.sql_rows.specs.Steps.{IsStep};
+ghost use Rattle.sql_schema.specs.Steps.{IsStep};
 ghost use Rattle.sql_writes.specs.Machines.{with_row};
 ghost use Rattle.sql_writes.specs.Within.{IsWithinHall};
 
 use crate::groups::{find_group, move_count};
 use hall_types::{Machine, Version};
-use sql_machines::{add_machine, count_up, put_wipe, set_machine};
+use sql_items::{add_machine, count_up, put_wipe, set_machine};
 use sqlite::{Alter, Error, Transaction};
 
 // The greatest number that a column has.

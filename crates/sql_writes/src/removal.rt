@@ -1,15 +1,13 @@
 //! A machine that goes: its interfaces, boots, orders and kind of erasing first, then its row and its count.
 ghost use Rattle.sql_schema.specs.Words.{state, HasCleanDisk, Survives, Hall, without_machine};
 ghost use Rattle.std.specs.Prelude.{◌≡◌};
-ghost use Rattle.sql_rows.specs.Steps.{IsStep, IsWritten, always};
+ghost use Rattle.sql_schema.specs.Steps.{IsStep, IsWritten, always};
 ghost use Rattle.sql_writes.specs.Machines.{without_rows};
 ghost use Rattle.sql_writes.specs.Within.{IsWithinHall};
 
 use crate::groups::find_group;
 use hall_types::Number;
-use sql_machines::{
-    count_down, put_wipe, remove_boots, remove_interfaces, remove_orders, remove_row,
-};
+use sql_items::{count_down, put_wipe, remove_boots, remove_interfaces, remove_orders, remove_row};
 use sqlite::{Alter, Error, Transaction};
 
 // All rows of a machine go: those that point to it and then its own, while it is still counted.

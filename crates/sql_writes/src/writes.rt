@@ -6,9 +6,9 @@ ghost use Rattle.sql_writes.specs.Within.{IsRowWritten};
 use crate::machines::{add_whole, set_whole};
 use crate::removal::remove_machine;
 use hall_types::RowWrite;
-use sql_machines::{add_interface, put_boot, put_order, remove_interface};
-use sql_names::{
-    add_image, add_member, add_pool, add_receipt, put_live, put_operator, remove_image, set_numbers,
+use sql_items::{
+    add_image, add_interface, add_member, add_pool, add_receipt, put_boot, put_live, put_operator,
+    put_order, remove_image, remove_interface, set_numbers,
 };
 use sqlite::{Alter, Error, Transaction};
 use std::alloc::Global;
@@ -16,7 +16,7 @@ use std::alloc::Global;
 /// Writes one row inside a transaction. It is to keep the tables' rules. `alloc` is for the text of an image's arguments.
 /// A machine's row that was to have another version is an error, and so is a machine that was to be new and is there, or one
 /// whose deadline is past the greatest number of a column, 2^63 - 1.
-pub fn write_row<S: Alter>(
+pub(crate) fn write_row<S: Alter>(
     alloc: Global,
     tx: &mut Transaction<'_, S>,
     write: &RowWrite,

@@ -1,6 +1,6 @@
 use Rattle.sql_schema.specs.Words.{Database, state}
 use Rattle.std.proofs.Common.{◌≡◌, ℤ, Ok, sym, subst, ◌∙◌}
-use Rattle.sql_rows.specs.StepLaws.{next, reads_on}
+use Rattle.sql_schema.specs.StepLaws.{next, reads_on}
 use Rattle.sql_tables.specs.Opening.{SaysSchema}
 use Rattle.sql_tables.proofs.LookLemmas.{schema_row, schema_still}
 use Rattle.sql_tables.proofs.TransactionLemmas.{earlier, whatever}

@@ -1,6 +1,6 @@
 use Rattle.sql_schema.specs.Words.{state, HasCleanDisk, Survives}
 use Rattle.std.proofs.Common.{◌≡◌, drop, map, Ok, ◌↔◌}
-use Rattle.sql_rows.specs.Steps.{IsStep}
+use Rattle.sql_schema.specs.Steps.{IsStep}
 use Rattle.sql_tables.specs.declared.fault.OpenFault.{OpenFault}
 use Rattle.sql_tables.specs.Opening.{AreUnderstood}
 use Rattle.sql_tables.proofs.looking.understands.Given as goal

@@ -1,6 +1,6 @@
 use Rattle.sql_schema.specs.Words.{Error, state, Schema, HasCleanDisk, Survives}
 use Rattle.std.proofs.Common.{◌≡◌, drop, map, Ok}
-use Rattle.sql_rows.specs.Steps.{IsStep}
+use Rattle.sql_schema.specs.Steps.{IsStep}
 use Rattle.sql_tables.specs.Creating.{CanMake}
 use Rattle.sql_tables.proofs.making.make_all.Given as goal
 

@@ -1,6 +1,6 @@
 use Rattle.sql_schema.specs.Words.{state}
 use Rattle.std.proofs.Common.{Ok, false, sym, true, ◌∙◌}
-use Rattle.sql_rows.specs.StepLaws.{gives, stays}
+use Rattle.sql_schema.specs.StepLaws.{gives, stays}
 use Rattle.sql_tables.proofs.CarryingLemmas.{full_put, kind_made}
 use Rattle.sql_tables.proofs.migrating.put_kind.Goals as goal
 

@@ -1,6 +1,6 @@
 use Rattle.sql_schema.specs.Words.{state}
 use Rattle.std.proofs.Common.{Ok, refl, subst, ◌∙◌}
-use Rattle.sql_rows.specs.StepLaws.{gives, next, stays}
+use Rattle.sql_schema.specs.StepLaws.{gives, next, stays}
 use Rattle.sql_tables.specs.Migrating.{with_kinds_of}
 use Rattle.sql_tables.proofs.CarryingLemmas.{AreLeft, left_next, left_none}
 use Rattle.sql_tables.proofs.TransactionLemmas.{earlier, left_at, left_none_at, survives_both, survives_none}

@@ -1,6 +1,6 @@
 use Rattle.sql_schema.specs.Words.{Hall, at}
 use Rattle.std.proofs.Common.{◌≡◌, None, subst}
-use Rattle.sql_rows.specs.StepLaws.{gives}
+use Rattle.sql_schema.specs.StepLaws.{gives}
 use Rattle.sql_writes.proofs.CountLemmas.{counted_new}
 use Rattle.sql_writes.proofs.MachineLemmas.{puts_whole}
 use Rattle.sql_writes.proofs.StepLemmas.{then}

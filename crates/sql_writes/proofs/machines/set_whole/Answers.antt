@@ -1,6 +1,6 @@
 use Rattle.sql_schema.specs.Words.{at}
 use Rattle.std.proofs.Common.{inl, inr, refl, sym, ◌∙◌}
-use Rattle.sql_rows.specs.StepLaws.{gives}
+use Rattle.sql_schema.specs.StepLaws.{gives}
 use Rattle.sql_writes.proofs.CountLemmas.{counted_moved, counted_same}
 use Rattle.sql_writes.proofs.MachineLemmas.{puts_whole, there_is, version_is}
 use Rattle.sql_writes.proofs.StepLemmas.{then}

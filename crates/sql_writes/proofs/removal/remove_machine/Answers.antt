@@ -1,6 +1,6 @@
 use Rattle.sql_schema.specs.Words.{at}
 use Rattle.std.proofs.Common.{Ok, sym, ◌∙◌}
-use Rattle.sql_rows.specs.StepLaws.{gives}
+use Rattle.sql_schema.specs.StepLaws.{gives}
 use Rattle.sql_writes.proofs.CountLemmas.{counted_gone, counted_none}
 use Rattle.sql_writes.proofs.MachineLemmas.{none_there, there_is}
 use Rattle.sql_writes.proofs.RemovalLemmas.{removes_whole}

@@ -1,4 +1,4 @@
-use Rattle.sql_rows.specs.StepLaws.{gives}
+use Rattle.sql_schema.specs.StepLaws.{gives}
 use Rattle.sql_writes.proofs.RemovalLemmas.{has_no_child}
 use Rattle.sql_writes.proofs.StepLemmas.{then}
 use Rattle.sql_writes.proofs.removal.remove_rows.Goals as goal

@@ -1,0 +1,10 @@
+pub mod CountLemmas
+pub mod ExpiryLemmas
+pub mod FindingLemmas
+pub mod ImageLemmas
+pub mod JoinLemmas
+pub mod ListLemmas
+pub mod MachineLemmas
+pub mod StepLemmas
+pub mod WipeLemmas
+pub mod WordLemmas

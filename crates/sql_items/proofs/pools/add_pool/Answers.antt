@@ -1,0 +1,6 @@
+use Rattle.sql_schema.specs.StepLaws.{writes}
+use Rattle.sql_items.specs.TableLaws.{adds_pool}
+use Rattle.sql_items.proofs.pools.add_pool.Goals as goal
+
+pub returns-clause-written : goal.returns-clause-written
+returns-clause-written g c clean = writes _ _ _ _ _ c.write.result (c.write.ensures.written clean) (rw c.name_value.ensures (adds_pool _ c.args.pool.now))

@@ -1,0 +1,53 @@
+-- Statements on machines and kinds of erasing: each text, and what it is over the tables of a hall. RETURNING reads the parameters, NULL, and then the stored row with its rowid.
+use Rattle.sqlite.specs.Listing.{understood}
+use Rattle.sqlite_tied.specs.Compute.{everything}
+use Rattle.sql_schema.specs.TableStatements.{shows_query, add_command, remove_command}
+use Rattle.sql_schema.specs.Queries.{first_from}
+use Rattle.sql_schema.specs.Words.{machines, wipes, Null, lit, Query, Update, Values, parameter, cell, equals, at_most, rising, from_one, only, IsQueryText, IsCommandText, IsReturningText, hall_schema}
+use Rattle.std.proofs.Common.{refl, [], ◌∷◌, codes}
+use Rattle.sql_items.specs.declared.finding.TheConstants.{FIND_UUID, FIND_MACHINE_WITH_IMAGE, FIND_EXPIRED}
+use Rattle.sql_items.specs.declared.machines.TheConstants.{ADD_MACHINE, SET_MACHINE, REMOVE_MACHINE}
+use Rattle.sql_items.specs.declared.wipes.TheConstants.{LIST_WIPES, REMOVE_WIPE}
+
+-- a new machine
+pub add_machine_is : IsCommandText hall_schema ADD_MACHINE.now (add_command machines)
+unfolding understood everything
+add_machine_is = record { is = refl; plain = (refl, refl) }
+
+-- the machines with a UUID
+pub find_uuid_is : IsQueryText hall_schema FIND_UUID.now (from_one 11 (equals 3 0 ∷ []) (cell 0 ∷ []) (rising 0 ∷ []))
+unfolding understood everything
+find_uuid_is = record { names = _; is = refl; plain = (refl, refl); unlisted = refl }
+
+-- the first machine that has an image
+pub find_machine_with_image_is : IsQueryText hall_schema FIND_MACHINE_WITH_IMAGE.now (first_from 11 (equals 7 0 ∷ []) (cell 0 ∷ []) (rising 0 ∷ []))
+unfolding understood everything
+find_machine_with_image_is = record { names = _; is = refl; plain = (refl, refl); unlisted = refl }
+
+-- the machine whose deadline comes first, at most at a moment
+abbrev pub find_expired_query : Query
+find_expired_query = first_from 11 (at_most 12 0 ∷ []) (cell 0 ∷ cell 2 ∷ cell 3 ∷ cell 4 ∷ cell 5 ∷ cell 6 ∷ cell 7 ∷ cell 8 ∷ cell 9 ∷ cell 10 ∷ cell 11 ∷ cell 12 ∷ cell 13 ∷ cell 14 ∷ cell 15 ∷ []) (rising 12 ∷ rising 0 ∷ [])
+
+pub find_expired_is : IsQueryText hall_schema FIND_EXPIRED.now find_expired_query
+unfolding understood everything
+find_expired_is = record { names = _; is = refl; plain = (refl, refl); unlisted = refl }
+
+-- a machine, changed where it still has a version
+pub set_machine_is : IsReturningText hall_schema SET_MACHINE.now (Update 6 (only (from_one 11 (equals 0 0 ∷ equals 11 15 ∷ []) (cell 0 ∷ cell 0 ∷ lit Null ∷ parameter 1 ∷ parameter 2 ∷ parameter 3 ∷ parameter 4 ∷ parameter 5 ∷ parameter 6 ∷ parameter 7 ∷ parameter 8 ∷ parameter 9 ∷ parameter 10 ∷ parameter 11 ∷ parameter 12 ∷ parameter 13 ∷ parameter 14 ∷ []) []))) (record { names = codes "version" ∷ []; row = Values (parameter 28 ∷ []) 1 })
+unfolding understood everything
+set_machine_is = record { is = refl; returning = refl; untimed = refl }
+
+-- the machine with a number goes
+pub remove_machine_is : IsCommandText hall_schema REMOVE_MACHINE.now (remove_command machines machines.matches)
+unfolding understood everything
+remove_machine_is = record { is = refl; plain = (refl, refl) }
+
+-- how the disks of all machines are erased
+pub list_wipes_is : IsQueryText hall_schema LIST_WIPES.now (shows_query wipes [] wipes.by_key)
+unfolding understood everything
+list_wipes_is = record { names = _; is = refl; plain = (refl, refl); unlisted = refl }
+
+-- the disks of the machine with a number are erased no more
+pub remove_wipe_is : IsCommandText hall_schema REMOVE_WIPE.now (remove_command wipes wipes.matches)
+unfolding understood everything
+remove_wipe_is = record { is = refl; plain = (refl, refl) }

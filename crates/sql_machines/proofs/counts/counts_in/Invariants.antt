@@ -1,7 +1,0 @@
-use Rattle.std.proofs.Common.{◌≡◌, take, map}
-use Rattle.sql_machines.specs.Counts.{count_values}
-use Rattle.sql_machines.proofs.counts.counts_in.Given as goal
-
--- the counts are those of the rows so far
-abbrev pub invariant-loop-row : goal.invariant-loop-row
-invariant-loop-row l = take l.row-index l.rows ≡ map count_values l.counts.items

@@ -1,9 +1,0 @@
-use Rattle.sql_schema.specs.Words.{state}
-use Rattle.sql_rows.specs.StepLaws.{writes}
-use Rattle.sql_machines.specs.ChildLaws.{adds_interface}
-use Rattle.sql_machines.proofs.interfaces.add_interface.Goals as goal
-
-pub returns-clause-written : goal.returns-clause-written
-returns-clause-written g c clean =
-    writes (state g.S.Store) _ _ _ _ c.write.result
-    (rw (c.octets_value.ensures, c.number_value.ensures, c.get.ensures.number, c.octets-octets.ensures.octets) at (c.write.ensures.written clean)) (adds_interface (state g.S.Store) c.args.interface.now)

@@ -1,5 +1,0 @@
-use Rattle.sql_machines.proofs.WipeLemmas.{lists_wipes}
-use Rattle.sql_machines.proofs.wipes.list_wipes.Goals as goal
-
-pub returns-clause-asked : goal.returns-clause-asked
-returns-clause-asked g c clean = c.ask_all.ensures.asked clean _ lists_wipes

@@ -1,2 +1,0 @@
-pub mod ImageLemmas
-pub mod WordLemmas

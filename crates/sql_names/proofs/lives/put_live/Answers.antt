@@ -1,8 +1,0 @@
-use Rattle.sql_schema.specs.Words.{state}
-use Rattle.sql_names.specs.Changes.{with_live}
-use Rattle.sql_names.specs.LiveLaws.{puts_live}
-use Rattle.sql_names.proofs.lives.put_live.Goals as goal
-
-pub returns-clause-written : goal.returns-clause-written
-returns-clause-written g c clean =
-    c.put.ensures.written clean (λ rows. with_live rows c.args.live.now) (rw (c.small_value.ensures, c.name_value.ensures, c.arch_number.ensures) (puts_live (state g.S.Store) c.args.live.now))

@@ -1,6 +1,0 @@
-use Rattle.sql_rows.specs.StepLaws.{writes}
-use Rattle.sql_names.specs.TableLaws.{adds_pool}
-use Rattle.sql_names.proofs.pools.add_pool.Goals as goal
-
-pub returns-clause-written : goal.returns-clause-written
-returns-clause-written g c clean = writes _ _ _ _ _ c.write.result (c.write.ensures.written clean) (rw c.name_value.ensures (adds_pool _ c.args.pool.now))

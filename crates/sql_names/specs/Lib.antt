@@ -1,4 +1,0 @@
-pub mod Changes
-pub mod LiveLaws
-pub mod NumberLaws
-pub mod TableLaws
