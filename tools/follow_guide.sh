@@ -161,7 +161,8 @@ plug() {    # plug NAME ADDRESS UUID [DRIVE]: a machine without power
     echo "-uuid $3 -netdev tap,id=card,ifname=$1,script=no,downscript=no -device virtio-net-pci,netdev=card,mac=$2,romfile=,bootindex=1" > "$work/machine/$1/words"
     if [ -n "${4:-}" ]; then echo "-drive if=none,id=disk,format=raw,file=$4 -device virtio-blk-pci,drive=disk,bootindex=2" >> "$work/machine/$1/words"; fi
 }
-# The stand-in of ipmitool: as it, it wants the file of the password, and says what it has done.
+# The stand-in of ipmitool: as it, it wants the file of the password, and says what it has done; as many controllers, it refuses `off` of
+# what is off.
 cat > /usr/local/bin/ipmitool <<'IPMITOOL'
 #!/usr/bin/env bash
 # ipmitool -I lanplus -H CONTROLLER -U NAME -f FILE chassis ..: a stand-in of follow_guide.sh.
@@ -175,10 +176,15 @@ while [ "$1" != chassis ]; do
 done
 [ -d "$machine" ] || { echo 'Error: Unable to establish IPMI v2 / RMCP+ session' >&2; exit 1; }
 echo "$(date +%s) $*" >> "$machine/acts"
+is_on() { [ -s "$machine/process" ] && kill -0 "$(cat "$machine/process")" 2> /dev/null; }
 stop() { if [ -s "$machine/process" ]; then kill -KILL "$(cat "$machine/process")" 2> /dev/null || true; rm -f "$machine/process"; fi; }
 case "$*" in
 'chassis bootdev pxe options=efiboot') echo 'Set Boot Device to pxe' ;;
-'chassis power off') stop; echo 'Chassis Power Control: Down/Off' ;;
+'chassis power status') if is_on; then echo 'Chassis Power is on'; else echo 'Chassis Power is off'; fi ;;
+'chassis power off')
+    is_on || { echo 'Set Chassis Power Control to Down/Off failed: Command not supported in present state' >&2; exit 1; }
+    stop
+    echo 'Chassis Power Control: Down/Off' ;;
 'chassis power on')
     stop
     number=$(($(cat "$machine/number" 2> /dev/null || echo 0) + 1))
@@ -278,8 +284,7 @@ done_by ada 120 <<< "$(block 'TOKEN=$(head')"
 digest=$(cat "$work/said")
 [[ $digest =~ ^[0-9a-f]{64}$ ]] || bad 'the digest has 64 digits'
 good 'a token, and its digest of 64 digits'
-done_by desk 120 <<< "$(block 'umask 077
-hallboot init' | fitted)"
+done_by desk 120 <<< "$(block 'hallboot init --db hall.db' | fitted)"
 says '^hall created$'
 good 'init: hall created'
 for text in 'hallboot help' 'hallboot --version' 'hallboot serve --help'; do done_by desk 120 <<< "$(span "$text")"; says .; done
@@ -289,7 +294,8 @@ good 'help, --version, and the options of serve with an example'
 # ---- 2. Serve it
 step '2. Serve it'
 is_ready() { grep -q "^$(span 'hall desk ready')\$" "$work/ready"; }
-(cd "$work/at/desk" && exec ip netns exec desk bash -c "exec $(block '--log desk.log')") > "$work/ready" 2> "$work/log/first" & server=$!
+done_by desk 120 <<< "$(block 'install -d -m 0700 /var/log/hallboot')"
+(cd "$work/at/desk" && exec ip netns exec desk bash -c "exec $(block '--log /var/log/hallboot/desk.log')") > "$work/ready" 2> "$work/log/first" & server=$!
 within 120 'it prints `hall desk ready`' is_ready
 types desk 120 <<< 'hallboot report --db hall.db'
 complains '^hallboot: Unavailable$'
@@ -305,7 +311,8 @@ unit_file=$(span /etc/systemd/system/hallboot.service)
 block '[Unit]' > $unit_file
 systemd-analyze verify $unit_file > "$work/said" 2> "$work/errors" || bad 'systemd-analyze verify'
 [ ! -s "$work/errors" ] || bad 'systemd-analyze verify says nothing'
-good 'a user, a hall of its own, and a unit that systemd-analyze has nothing to say of'
+done_by desk 120 <<< "$(span 'systemd-analyze security --offline=true')"
+good "a user, a hall of its own, and a unit that systemd-analyze has nothing to say of: $(tail -n 1 "$work/said")"
 unit() { sed -e ':whole' -e '/\\$/{N;s/\\\n *//;bwhole' -e '}' $unit_file | sed -n "s/^$1=//p"; }
 capability=$(unit AmbientCapabilities | sed 's/^CAP_//' | tr A-Z a-z)
 [ "$(unit WorkingDirectory)" = %S/hallboot ] || bad "the unit's folder is its state"
@@ -494,13 +501,16 @@ step 'Back up and restore'
 kill $polling
 done_by ada 120 <<< 'hallctl commission 2'
 stop
-done_by service 120 <<< "$(block 'PRAGMA integrity_check')"
-[ "$(cat "$work/said")" = ok ] || bad 'it prints ok'
-[ ! -e /var/lib/hallboot/backup/hall.db-wal ] || bad 'the backup is the one file'
-good 'backed up: ok, and one file'
-done_by service 120 <<< "$(block 'mv hall.db replaced/')"
+done_by service 120 <<< "install -d -m 0700 copies && $(span 'hallboot backup --db hall.db --to')"
+says '^copied hall.db to copies/hall.db, [0-9]* octets: '
+good "backed up: $(cat "$work/said")"
+done_by service 120 <<< "$(block 'hallboot restore --db hall.db --from')"
+says '^restored hall.db from copies/hall.db of 20'
+says '^what was there is kept as /var/lib/hallboot/hall.db.replaced-20'
+good 'restored, and what was there is kept'
+done_by service 120 <<< "$(block "bash -e <<'END'")"
 cp "$work/said" "$work/kept/report"
-good 'restored, and reported on'
+good 'restored by hand, and reported on'
 types service 120 <<< "$(block 'hallboot export --db hall.db | grep' | of_machine 2)"
 [ ! -s "$work/failed" ] || bad 'all lines succeed'
 says '^2,.*Commissioning'
@@ -617,9 +627,8 @@ answers() {    # the power program answers what waits
     done
 }
 for form in hallctl hall; do
-    done_by desk 120 <<< "cd $work/at/desk; rm -f hall.db*; $(block 'umask 077
-hallboot init' | fitted)"
-    (cd "$work/at/desk" && exec ip netns exec desk bash -c "exec $(block '--log desk.log')") > "$work/ready" 2> "$work/log/commands" & server=$!
+    done_by desk 120 <<< "cd $work/at/desk; rm -f hall.db*; $(block 'hallboot init --db hall.db' | fitted)"
+    (cd "$work/at/desk" && exec ip netns exec desk bash -c "exec $(block '--log /var/log/hallboot/desk.log')") > "$work/ready" 2> "$work/log/commands" & server=$!
     within 120 'it prints `hall desk ready`' is_ready
     done_by ada 120 <<< "$(block 'hallctl add-operator pow' | grep 'add-image live64'); hallctl add-operator pow --role power --digest $pow"
     sent=0
@@ -646,6 +655,11 @@ left=$(python3 "$here/guide_blocks.py" section "$guide" Commands | sed 's/ *# .*
 done)
 [ -z "$left" ] || { echo "$left" > "$work/errors"; bad 'all lines of the section are typed'; }
 good 'no line of the section is left over'
+
+# ---- The quickstart, as any user
+step 'Quickstart'
+"$here/follow_quickstart.sh" > "$work/said" 2> "$work/errors" || bad 'docs/QUICKSTART.md as it stands'
+good 'docs/QUICKSTART.md as it stands'
 
 # ---- What is over
 step 'The end'

@@ -1,6 +1,7 @@
 #!/usr/bin/env bash
 # hallctl against hallboot serve: a machine's whole life, once over a straight way to the desk and once over a way on which half of the
-# connections are refused, lost or cut. Both halls must be alike afterwards: each command was done once.
+# connections are refused, lost or cut. Both halls must be alike afterwards: each command was done once. Before that, hallctl against servers that
+# are no desk, that say nothing, that are slow, and against a port where nobody listens.
 # Usage: tools/hallctl_peer.sh [SEED]     HALLBOOT=PROGRAM and HALLCTL=PROGRAM name programs that are built already.
 set -euo pipefail
 here=$(cd "$(dirname "$0")" && pwd)
@@ -20,7 +21,7 @@ ended() {
 }
 trap ended EXIT
 cd "$work"
-bad() { echo "BAD: $*" >&2; tail -n 3 said errors >&2 2> /dev/null || true; exit 1; }
+bad() { echo "BAD: $*" >&2; tail -q -c 300 said errors >&2 2> /dev/null || true; exit 1; }
 echo operators-secret-1 > ada
 echo powers-secret-1 > pow
 digest_of() { printf %s "$(cat "$1")" | sha256sum | cut -c1-64; }
@@ -74,22 +75,56 @@ life() {
     ada add-interface 1 --mac 52:54:00:12:34:57
     ada commission 1
     machine commission
-    ada wait 1 --for Ready --timeout 30s
-    ada test 1; machine test; ada wait 1 --for Ready --timeout 30s
+    ada wait 1 --for Ready
+    ada test 1; machine test; ada wait 1 --for Ready
     ada set-pool 1 --pool default; ada set-pool 1 --pool lab
     ada allocate 1
     ada deploy 1 --image jammy
     machine deploy
-    ada wait 1 --for Deployed --timeout 30s
+    ada wait 1 --for Deployed
     ada lock 1; ada unlock 1
-    ada rescue 1; machine rescue; ada exit-rescue 1; power; ada wait 1 --for Deployed --timeout 30s
+    ada rescue 1; machine rescue; ada exit-rescue 1; power; ada wait 1 --for Deployed
     ada release 1 --erase quick --yes
     machine erase; power
-    ada wait 1 --for Ready --timeout 30s
+    ada wait 1 --for Ready
     ada break 1; ada fix 1
     ada remove-interface 1 --mac 52:54:00:12:34:57
     ada machines --json
 }
+
+# A line that must end with this status, within these milliseconds, and say this, against the server of this way.
+ends() {
+    way=$1 status=$2 limit=$3 says=$4; shift 4
+    begin=$(date +%s%3N) got=0
+    "$HALLCTL" --desk "http://127.0.0.1:$(port_of "$way")" --token-file ada "$@" > said 2> errors || got=$?
+    took=$(($(date +%s%3N) - begin))
+    [ $got = $status ] || bad "$way: hallctl $*: status $got and not $status"
+    [ $took -le $limit ] || bad "$way: hallctl $*: $took ms and not $limit at most"
+    grep -qF -- "$says" said errors || bad "$way: hallctl $*: doesn't say: $says"
+    echo "good: hallctl against $way: ${*:1:4}: status $got after $took ms"
+}
+port_of() { sed -n "s/^$1 //p" ways; }
+python3 "$here/strange_desk.py" > ways & started+=($!)
+until grep -q '^list' ways; do sleep 0.1; done
+ends error 3 3000 "this isn't the desk: http://127.0.0.1:$(port_of error)/commands answered 200, but not as the desk does" add-pool q
+ends error 3 3000 "this isn't the desk: http://127.0.0.1:$(port_of error)/machines answered 200" machines --json
+[ -s said ] && bad 'what is no answer of the desk is printed'
+ends refusal 3 3000 "it isn't known whether this was done" disable-operator eve
+ends refusal 3 3000 'the token waits in eve.token.new' add-operator eve --role user --new-token eve.token
+[ ! -e eve.token ] && [ -s eve.token.new ] || bad 'the token of an operator that was not added'
+ends gateway 0 5000 'operator eve added' add-operator eve --role user --new-token eve.token
+[ -s eve.token ] && [ ! -e eve.token.new ] || bad 'the token of an operator that was added'
+ends gateway 2 3000 'eve.token: there is a file already' add-operator eve --role user --new-token eve.token
+ends mute 3 1500 'no answer' --timeout 1 commission 1
+ends mute 3 1500 'no answer' --timeout 1 machines
+ends mute 3 1500 'no answer, after 1 seconds' wait 1 --for Ready --timeout 1
+ends mute 3 1500 'no answer, after 1 seconds' --timeout 1 wait 1 --for Ready
+ends refused 3 4500 'pool lab: not done (connection refused): say it again with --key' --timeout 4 add-pool lab
+ends slow 0 100000 '{"machines":[' --timeout 5 machines --json
+[ "$(($(wc -c < said) - 1))" = "$(port_of list)" ] || bad 'a slow list is whole'
+ends many 0 120000 'machine 2000: deleted' delete --yes --keys night.keys $(seq 2000)
+[ "$(wc -l < night.keys)" = 4000 ] && [ "$(stat -c %a night.keys)" = 600 ] || bad 'the file of keys'
+grep -q '^machine 2000: delete, key [0-9a-f-]*, version 1: done$' night.keys || bad 'the last key'
 
 serve straight
 desk=http://127.0.0.1:$http

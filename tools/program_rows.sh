@@ -294,7 +294,7 @@ serve BadInput $here4 $here4 $here4 -
 serve BadInput $here4 $here4 $here4 007
 serve BadInput $here4 $here4 $here4 0 --host _
 chmod 644 hall.db
-want 0 'hall desk ready' 'hallboot: others can use hall.db, which has the tokens of boots: chmod 600 it and its log' \
+want 0 'hall desk ready' 'hallboot: others can use hall.db, which has the tokens of boots: chmod 600 hall.db' \
     serve --db hall.db --discover $here4 --boot $here4 --http $here4 --turns 0
 chmod 600 hall.db
 want 0 'hall desk ready' '' serve --db hall.db --discover $here4 --boot $here4 --http $here4 --turns 0

@@ -7,5 +7,6 @@ pub mod History
 pub mod Moved
 pub mod Octets
 pub mod Plan
+pub mod Sender
 pub mod Served
 pub mod Stops

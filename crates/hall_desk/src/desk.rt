@@ -1,6 +1,7 @@
 //! The desk: a store, and the place that it serves.
 ghost use Rattle.std.specs.Prelude.{◌≡◌, true, false, ℕ, List, [], ◌∷◌, ◌++◌, length, IfOk, OnErr};
 ghost use Rattle.hall_events.specs.Reply.{reply_of};
+ghost use Rattle.desk_command.specs.Command.{sender};
 ghost use Rattle.laws_model.specs.Decision.{decision_of};
 ghost use Rattle.hall_types.specs.Hall.{Hall, new_hall, second};
 ghost use Rattle.desk_views.specs.Look.{Looks};
@@ -12,6 +13,7 @@ ghost use Rattle.hall_desk.specs.Headline.{HasHistory};
 ghost use Rattle.hall_desk.specs.History.{Item, carried_out, exchanged, exchanges};
 ghost use Rattle.hall_desk.specs.Octets.{IsGiven};
 ghost use Rattle.hall_desk.specs.Plan.{CarriesOut, Plans};
+ghost use Rattle.hall_desk.specs.Sender.{if_enabled};
 ghost use Rattle.hall_desk.specs.Stops.{AndCutRun, AreAnswered, HasRun, IsLeft, IsSettled, OrUnanswered, OrUnreplied};
 
 use crate::account::{Account, Came, Notes};
@@ -19,11 +21,12 @@ use crate::arrival::{Answer, Arrival};
 use crate::attempts::{attempt, missed};
 use crate::laws::histories_keep_the_laws;
 use crate::planning::planned;
+use crate::requests::enabled_sender;
 use crate::typed::event_is_typed;
 use crate::writing::write;
 use hall_events::{Event, Reply};
 use hall_store::{HallStore, Unavailable};
-use hall_types::{Change, Moment, Token};
+use hall_types::{Change, Digest, Moment, Operator, Token};
 use laws_steps::decisions_keep_the_rules;
 use pxe_vendor::Place;
 use std::alloc::{AllocError, Global};
@@ -96,6 +99,16 @@ impl<S: HallStore> Desk<S> {
             fresh,
             &mut notes,
         )
+    }
+
+    /// The enabled operator whose token has this digest. Nothing is written.
+    pub fn sender(&mut self, bearer: Option<Digest>) -> Result<Option<Operator>, Unavailable>
+        ensures site { site_of self.new ≡ site_of self.old }
+        ensures enlists { enlists_of self.new ≡ enlists_of self.old }
+        ensures sender { Looks S.HallStore.is_clean S.HallStore.holds S.HallStore.leaves (store_of self.old) (store_of self.new) result
+            (λ h answer. answer ≡ if_enabled (sender h bearer)) }
+    {
+        enabled_sender(&mut self.store, bearer)
     }
 
     /// Carries an event out: its rows are written, and its answer is given. After `Unavailable` the hall is as it was

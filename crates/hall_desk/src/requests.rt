@@ -13,6 +13,7 @@ ghost use Rattle.laws_model.specs.Decision.{commanded, if_role, judged, listed_i
 ghost use Rattle.hall_events.specs.Reply.{machine_list, waiting_orders};
 ghost use Rattle.desk_views.specs.Look.{Looks};
 ghost use Rattle.hall_desk.specs.Plan.{Plans};
+ghost use Rattle.hall_desk.specs.Sender.{if_enabled};
 
 use crate::account::Notes;
 use crate::listing::list_machines;
@@ -36,6 +37,27 @@ fn noted_sender<S: HallStore>(
     let operator = sender(store, bearer)?;
     notes.note_operator(&operator);
     Ok(operator)
+}
+
+// The operator, if there is one who is enabled.
+fn if_enabled(operator: Option<Operator>) -> Option<Operator>
+    ensures { result ≡ if_enabled operator }
+{
+    match operator {
+        Some(operator) if operator.enabled => Some(operator),
+        _ => None,
+    }
+}
+
+/// The enabled operator of a bearer token's digest.
+pub(crate) fn enabled_sender<S: HallStore>(
+    store: &mut S,
+    bearer: Option<Digest>,
+) -> Result<Option<Operator>, Unavailable>
+    ensures { Looks S.HallStore.is_clean S.HallStore.holds S.HallStore.leaves store.old store.new result (λ h answer. answer ≡ if_enabled (commands.sender h bearer)) }
+{
+    let operator = sender(store, bearer)?;
+    Ok(if_enabled(operator))
 }
 
 // ---- commands

@@ -2,11 +2,18 @@
 //! Without a word it answers the frame on standard input.
 #![tactic(auto)]
 
+mod failure;
+mod file_faults;
+mod init;
+mod joined;
+mod over_file;
+mod restoring;
 mod tasks;
 
 use desk_operations::Exit;
 use desk_values::Fault;
-use hallboot_asked::{fault_of, reason};
+use hallboot_asked::{fault_of, has_json_errors, reason};
+use hallboot_tasks::tell_of_fault;
 use hallboot_words::{Refusal, Words, read};
 use std::io::{ErrorKind, IsTerminal};
 use std::process::ExitCode;
@@ -51,21 +58,41 @@ fn status_of_refusal(rt: &HostRuntime, refusal: &Refusal) -> u8 {
     refusal.status()
 }
 
-// What a fault is about, in a second line, where that is asked for, or people read it.
-fn explain(rt: &HostRuntime, words: &Words<'_>, exit: Exit) {
-    if let Exit::Fault(fault) = exit
-        && (words.why || rt.stderr().is_terminal())
-        && let Some(reason) = reason(rt, words, fault)
-    {
+// What a fault is about, where that is asked for, or people read it: as the task knows it, or by another look.
+fn explained(
+    rt: &HostRuntime,
+    words: &Words<'_>,
+    fault: Fault,
+    known: Option<String>,
+) -> Option<String> {
+    if !words.why && !rt.stderr().is_terminal() {
+        return None;
+    }
+    match known {
+        Some(known) => Some(known),
+        None => reason(rt, words, fault),
+    }
+}
+
+// Tells a fault on standard error: its name, and in a second line what it is about, or both in an object where all lines are objects.
+fn tell_fault(rt: &HostRuntime, words: &Words<'_>, fault: Fault, known: Option<String>) {
+    if has_json_errors(words) {
+        let reason = explained(rt, words, fault, known);
+        tell_of_fault(rt, fault, reason.as_ref().map(|reason| reason.as_str()));
+        return;
+    }
+    let _ = eprintln!(rt; "hallboot: {}", fault.name());
+    if let Some(reason) = explained(rt, words, fault, known) {
         let _ = eprintln!(rt; "hallboot: {reason}");
     }
 }
 
 fn status_of_task(rt: &HostRuntime, words: &Words<'_>) -> u8 {
-    let exit = tasks::done(rt, words);
-    let status = status(rt, exit);
-    explain(rt, words, exit);
-    status
+    let (exit, known) = tasks::done(rt, words);
+    if let Exit::Fault(fault) = exit {
+        tell_fault(rt, words, fault, known);
+    }
+    exit.status()
 }
 
 fn run(rt: &HostRuntime, words: &[String]) -> u8 {

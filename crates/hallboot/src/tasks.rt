@@ -1,104 +1,22 @@
-//! What the words ask for is done. A hall's file is closed at the end, whatever became of the task.
+//! What the words ask for is done.
+use crate::failure::Failure;
+use crate::file_faults::{looked_at, of_file};
+use crate::init::{Admin, init};
+use crate::over_file::{Doing, ended_over, outcome_of, over_file, tell_of_closing};
+use crate::restoring::{backup, restore};
 use desk_operations::{Exit, frame_run};
 use desk_values::Fault;
-use hall_store::HallStore;
-use hall_types::{Digest, Name};
-use hallboot_asked::{Asked, Serving, Task, asked_by, is_foreign};
-use hallboot_tasks::{Joining, Suspended, carried_out, served, tell};
+use hallboot_asked::{Asked, Serving, asked_by};
+use hallboot_files::first_open_to_others;
+use hallboot_tasks::{Suspended, tell};
 use hallboot_words::Words;
-use sql_backup::one_file;
-use sql_file::{Ended, FileFault, StoreTask, create, migrate, over};
+use sql_file::migrate;
 use sql_tables::Migrated;
-use std::alloc::Global;
-use std::fs::{self, File};
-use std::io::{self, ErrorKind, Write};
-use std::os::unix::fs::PermissionsExt;
-
-// The rights of others than a file's owner, in its mode.
-const OTHERS: u32 = 0o077;
-
-fn of_file(fault: FileFault) -> Fault {
-    match fault {
-        FileFault::NotEmpty => Fault::NotEmpty,
-        FileFault::NotAHall => Fault::NotAHall,
-        FileFault::OtherVersion => Fault::OtherVersion,
-        FileFault::Unavailable => Fault::Unavailable,
-    }
-}
-
-// A file of something else isn't opened, so that no log is made beside it.
-fn looked_at(rt: &HostRuntime, path: &str) -> Result<(), Fault> {
-    if is_foreign(rt, path) {
-        Err(Fault::Unavailable)
-    } else {
-        Ok(())
-    }
-}
-
-fn init(rt: &HostRuntime, path: &str, admin: Name, digest: Digest) -> Result<Exit, Fault> {
-    looked_at(rt, path)?;
-    create(rt, path, admin, digest).map_err(of_file)?;
-    desk_operations::write_text(&mut rt.stdout(), "hall created\n")?;
-    Ok(Exit::Done)
-}
-
-// How a hall's file and its log become one file.
-struct Joined;
-
-impl Joining for Joined {
-    fn write(&self, alloc: Global, file: &[u8], log: &[u8], writer: &mut File) -> io::Result<u64> {
-        let Ok(one) = one_file(alloc, file, log) else {
-            return Err(io::Error::from(ErrorKind::InvalidData));
-        };
-        writer.write_all(one.bytes())?;
-        Ok(one.bytes().len() as u64)
-    }
-}
-
-// What is done over a hall's store: a task once, or the turns that are left of a service are served.
-#[derive(Drop)]
-enum Doing<'a> {
-    Once(Task),
-    Serve {
-        serving: &'a Serving,
-        suspended: &'a mut Suspended,
-    },
-}
-
-// A task over the store of a hall's file.
-#[derive(Drop)]
-struct FileTask<'a> {
-    rt: &'a HostRuntime,
-    doing: Doing<'a>,
-}
-
-impl<'a> StoreTask for FileTask<'a> {
-    type Outcome = Result<Exit, Fault>;
-
-    fn over<S: HallStore>(self, store: S) -> (Result<Exit, Fault>, S) {
-        let doing = self.doing;
-        match doing {
-            Doing::Once(task) => carried_out(self.rt, store, task),
-            Doing::Serve { serving, suspended } => {
-                served(self.rt, store, serving, suspended, &Joined)
-            }
-        }
-    }
-}
-
-// Where a file couldn't be closed, what was answered stands, and the user is told.
-fn tell_of_closing(rt: &HostRuntime, path: &str, closing: Result<(), FileFault>) {
-    if closing.is_err() {
-        let _ = eprintln!(rt;
-            "hallboot: {path} wasn't closed: what was answered is in it and in its log together"
-        );
-    }
-}
 
 fn carry_over(rt: &HostRuntime, path: &str) -> Result<Exit, Fault> {
     looked_at(rt, path)?;
     let ended = migrate(rt, path).map_err(of_file)?;
-    tell_of_closing(rt, path, ended.closing);
+    tell_of_closing(rt, path, false, ended.closing);
     let text = match ended.outcome {
         Migrated::Now => "migrated\n",
         Migrated::Already => "already\n",
@@ -107,37 +25,13 @@ fn carry_over(rt: &HostRuntime, path: &str) -> Result<Exit, Fault> {
     Ok(Exit::Done)
 }
 
-// Does something over a hall's file.
-fn ended_over(
-    rt: &HostRuntime,
-    path: &str,
-    doing: Doing<'_>,
-) -> Result<Ended<Result<Exit, Fault>>, Fault> {
-    looked_at(rt, path)?;
-    over(rt, path, FileTask { rt, doing }).map_err(of_file)
-}
-
-fn outcome_of(
-    rt: &HostRuntime,
-    path: &str,
-    ended: Ended<Result<Exit, Fault>>,
-) -> Result<Exit, Fault> {
-    tell_of_closing(rt, path, ended.closing);
-    ended.outcome
-}
-
-fn over_file(rt: &HostRuntime, path: &str, doing: Doing<'_>) -> Result<Exit, Fault> {
-    outcome_of(rt, path, ended_over(rt, path, doing)?)
-}
-
-// Tells where others than the owner can read or write a file that is to be served.
-fn tell_of_others(rt: &HostRuntime, path: &str) {
-    if let Ok(found) = fs::metadata(rt, path) {
-        if found.permissions().mode() & OTHERS != 0 {
-            let _ = eprintln!(rt;
-                "hallboot: others can use {path}, which has the tokens of boots: chmod 600 it and its log"
-            );
-        }
+// Tells where others than the owner can read or write a file that is to be served, or its log.
+fn tell_of_others(rt: &HostRuntime, serving: &Serving) {
+    if let Ok(Some(path)) = first_open_to_others(rt, serving.path.as_str()) {
+        let words = format!(in rt.alloc();
+            "others can use {path}, which has the tokens of boots: chmod 600 {path}"
+        );
+        tell(rt, serving.has_json_errors(), words);
     }
 }
 
@@ -149,6 +43,9 @@ fn served_once(
     suspended: &mut Suspended,
 ) -> Option<Result<Exit, Fault>> {
     let path = serving.path.as_str();
+    if suspended.has_lost_file(rt, serving) {
+        return Some(Err(Fault::Unavailable));
+    }
     let doing = Doing::Serve {
         serving,
         suspended: &mut *suspended,
@@ -158,7 +55,7 @@ fn served_once(
         return None;
     }
     match ended {
-        Ok(ended) => Some(outcome_of(rt, path, ended)),
+        Ok(ended) => Some(outcome_of(rt, path, serving.has_json_errors(), ended)),
         Err(fault) => Some(Err(fault)),
     }
 }
@@ -167,7 +64,7 @@ fn served_once(
 // minute.
 fn serve(rt: &HostRuntime, serving: &Serving) -> Result<Exit, Fault> {
     let path = serving.path.as_str();
-    tell_of_others(rt, path);
+    tell_of_others(rt, serving);
     let mut suspended = Suspended::new(serving.turns);
     for _ in 0..u64::MAX {
         if let Some(outcome) = served_once(rt, serving, &mut suspended) {
@@ -177,14 +74,12 @@ fn serve(rt: &HostRuntime, serving: &Serving) -> Result<Exit, Fault> {
             break;
         }
     }
-    tell(
-        rt,
-        format!(in rt.alloc(); "hallboot: {path} couldn't be opened again for a minute\n"),
-    );
+    let words = format!(in rt.alloc(); "{path} couldn't be opened again for a minute");
+    tell(rt, serving.has_json_errors(), words);
     Err(Fault::Unavailable)
 }
 
-fn carry_out(rt: &HostRuntime, asked: Asked<'_>) -> Result<Exit, Fault> {
+fn carry_out(rt: &HostRuntime, asked: Asked<'_>) -> Result<Exit, Failure> {
     match asked {
         Asked::Frame { port, place } => Ok(frame_run(
             rt.alloc(),
@@ -197,21 +92,29 @@ fn carry_out(rt: &HostRuntime, asked: Asked<'_>) -> Result<Exit, Fault> {
             path,
             admin,
             digest,
-        } => init(rt, path, admin, digest),
-        Asked::Migrate { path } => carry_over(rt, path),
-        Asked::Serve(serving) => serve(rt, &serving),
-        Asked::Over { path, task } => over_file(rt, path, Doing::Once(task)),
+        } => {
+            let admin = Admin {
+                name: admin,
+                digest,
+            };
+            init(rt, path, admin)
+        }
+        Asked::Migrate { path } => Ok(carry_over(rt, path)?),
+        Asked::Backup { path, to } => backup(rt, path, to),
+        Asked::Restore { path, from } => restore(rt, path, from),
+        Asked::Serve(serving) => Ok(serve(rt, &serving)?),
+        Asked::Over { path, task } => Ok(over_file(rt, path, Doing::Once(task))?),
     }
 }
 
-fn run(rt: &HostRuntime, words: &Words<'_>) -> Result<Exit, Fault> {
+fn run(rt: &HostRuntime, words: &Words<'_>) -> Result<Exit, Failure> {
     carry_out(rt, asked_by(rt, words)?)
 }
 
-/// Does what the words ask for, and says how it ended.
-pub fn done(rt: &HostRuntime, words: &Words<'_>) -> Exit {
+/// Does what the words ask for, and says how it ended, and why, if the task knows more of a fault than its name.
+pub fn done(rt: &HostRuntime, words: &Words<'_>) -> (Exit, Option<String>) {
     match run(rt, words) {
-        Ok(exit) => exit,
-        Err(fault) => Exit::Fault(fault),
+        Ok(exit) => (exit, None),
+        Err(failure) => (Exit::Fault(failure.fault), failure.reason),
     }
 }

@@ -1,6 +1,7 @@
 //! What the words of a command line ask for. Options are checked in the order in which they stand here, the place last, before
 //! anything is opened.
-use crate::reading::octets_of;
+use crate::named_files::first_clash;
+use crate::reading::{fault_of, octets_of};
 use crate::values;
 use desk_values::{Fault, LogFormat, What};
 use hall_types::{Digest, Moment, Name, Port, Token};
@@ -55,6 +56,18 @@ pub struct Serving {
     pub backup: Option<BackupPlan>,
 }
 
+/// Whether a command line has its log at standard error in JSON, so that each line there has to be an object.
+pub fn has_json_errors(words: &Words<'_>) -> bool {
+    words.log == Some("-") && words.log_format == Some("json")
+}
+
+impl Serving {
+    /// Whether the log stands at standard error in JSON, so that each line there has to be an object.
+    pub fn has_json_errors(&self) -> bool {
+        self.format == LogFormat::Json && self.log.as_ref().is_some_and(|log| log.as_str() == "-")
+    }
+}
+
 /// What a command line asks for.
 #[derive(Drop)]
 pub enum Asked<'a> {
@@ -72,6 +85,16 @@ pub enum Asked<'a> {
     /// The file of a hall is carried over from the first schema to the second.
     Migrate {
         path: &'a str,
+    },
+    /// The hall in a file is copied to another file.
+    Backup {
+        path: &'a str,
+        to: &'a str,
+    },
+    /// The hall in a file is replaced by a copy.
+    Restore {
+        path: &'a str,
+        from: &'a str,
     },
     /// The hall in a file is served.
     Serve(Serving),
@@ -101,6 +124,18 @@ fn init<'a>(words: &Words<'a>) -> Result<Asked<'a>, Fault> {
 fn migrate<'a>(words: &Words<'a>) -> Result<Asked<'a>, Fault> {
     let path = values::db(words)?;
     Ok(Asked::Migrate { path })
+}
+
+fn backup_once<'a>(words: &Words<'a>) -> Result<Asked<'a>, Fault> {
+    let path = values::db(words)?;
+    let to = values::path(words.to)?;
+    Ok(Asked::Backup { path, to })
+}
+
+fn restore<'a>(words: &Words<'a>) -> Result<Asked<'a>, Fault> {
+    let path = values::db(words)?;
+    let from = values::path(words.from)?;
+    Ok(Asked::Restore { path, from })
 }
 
 fn request<'a>(rt: &HostRuntime, words: &Words<'a>) -> Result<Asked<'a>, Fault> {
@@ -211,12 +246,22 @@ fn export<'a>(words: &Words<'a>) -> Result<Asked<'a>, Fault> {
     Ok(Asked::Over { path, task })
 }
 
+// Each file that the words name is another one.
+fn no_clash(rt: &HostRuntime, words: &Words<'_>) -> Result<(), Fault> {
+    match first_clash(rt, words) {
+        Ok(None) => Ok(()),
+        Ok(Some(_)) => Err(Fault::BadInput),
+        Err(error) => Err(fault_of(&error)),
+    }
+}
+
 /// What the words ask for. The files of an import and of a token are read.
 ///
 /// # Errors
 ///
-/// `BadInput` where an option isn't of its form, `Io` where the file of an import or a token can't be read, and `Memory`.
+/// `BadInput` where an option isn't of its form, or two options name one file, or one that comes to stand beside another one's; `Io` where the file of an import or a token can't be read, and `Memory`.
 pub fn asked_by<'a>(rt: &HostRuntime, words: &Words<'a>) -> Result<Asked<'a>, Fault> {
+    no_clash(rt, words)?;
     match words.subcommand {
         Subcommand::Frame => frame(rt, words),
         Subcommand::Init => init(words),
@@ -226,5 +271,7 @@ pub fn asked_by<'a>(rt: &HostRuntime, words: &Words<'a>) -> Result<Asked<'a>, Fa
         Subcommand::Report => report(words),
         Subcommand::Import => import(rt, words),
         Subcommand::Export => export(words),
+        Subcommand::Backup => backup_once(words),
+        Subcommand::Restore => restore(words),
     }
 }

@@ -1,16 +1,36 @@
 //! Why a fault came, in words for people. It is found out afterwards, by another look at what was given, so that it may be another reason by
 //! then.
-use crate::foreign_file::{is_foreign, is_no_file};
+use crate::named_files::first_clash;
 use crate::reading::octets_of;
 use crate::wrong_options::wrong_option;
 use desk_values::{Fault, bad_row};
+use hallboot_files::{is_foreign, is_no_file};
 use hallboot_words::Words;
 use std::alloc::{AllocError, Global};
 use std::fs::{self, File, OpenOptions};
 use std::net::{SocketAddr, TcpListener, UdpSocket};
 use std::os::unix::fs::MetadataExt;
 
-fn input_reason(alloc: Global, words: &Words<'_>) -> Result<String, AllocError> {
+// Which option names a file of another one.
+fn clash_reason(rt: &HostRuntime, words: &Words<'_>) -> Option<String> {
+    let clash = first_clash(rt, words).ok()??;
+    let (option, path) = (clash.option, clash.path.as_str());
+    let (other_option, other) = (clash.other_option, clash.other.as_str());
+    format!(in rt.alloc();
+        "{option}: {path} is {other} of {other_option}, and must be another file"
+    ).ok()
+}
+
+fn input_reason(rt: &HostRuntime, words: &Words<'_>) -> Option<String> {
+    if wrong_option(rt.alloc(), words).is_none()
+        && let Some(reason) = clash_reason(rt, words)
+    {
+        return Some(reason);
+    }
+    form_reason(rt.alloc(), words).ok()
+}
+
+fn form_reason(alloc: Global, words: &Words<'_>) -> Result<String, AllocError> {
     match wrong_option(alloc, words) {
         Some(wrong) => {
             let (option, form) = (wrong.option, wrong.form);
@@ -126,8 +146,22 @@ fn row_reason(rt: &HostRuntime, path: &str, fault: Fault) -> Option<String> {
     format!(in alloc; "{path}: row {row} after the header").ok()
 }
 
-// Which of the files that a command line names can't be read.
+// Why the log of a service can't be added to.
+fn log_reason(rt: &HostRuntime, words: &Words<'_>) -> Option<String> {
+    let path = words.log?;
+    match OpenOptions::new().append(true).open(rt, path) {
+        Ok(_) => None,
+        Err(error) => format!(in rt.alloc(); "--log {path}: {error}").ok(),
+    }
+}
+
+// Which of the files that a command line names can't be read, or whether the log can't be written.
 fn reading_reason(rt: &HostRuntime, words: &Words<'_>) -> Option<String> {
+    if words.log != Some("-")
+        && let Some(reason) = log_reason(rt, words)
+    {
+        return Some(reason);
+    }
     for path in [words.file, words.token_file] {
         if let Some(path) = path
             && let Err(error) = File::open(rt, path)
@@ -135,13 +169,17 @@ fn reading_reason(rt: &HostRuntime, words: &Words<'_>) -> Option<String> {
             return format!(in rt.alloc(); "{path}: {error}").ok();
         }
     }
-    String::from_str(rt.alloc(), "standard input or output, or the log").ok()
+    String::from_str(
+        rt.alloc(),
+        "standard input or output, or the log; or there are too few descriptors (ulimit -n)",
+    )
+    .ok()
 }
 
 /// What a fault of a command line is about, in words, if there is more to be said than its name.
 pub fn reason(rt: &HostRuntime, words: &Words<'_>, fault: Fault) -> Option<String> {
     match fault {
-        Fault::BadInput => input_reason(rt.alloc(), words).ok(),
+        Fault::BadInput => input_reason(rt, words),
         Fault::Bind => bind_reason(rt, words),
         Fault::BadHeader | Fault::BadRow => row_reason(rt, words.file?, fault),
         Fault::Unavailable | Fault::NotEmpty | Fault::NotAHall | Fault::OtherVersion => {

@@ -3,12 +3,11 @@
 
 mod asked;
 mod explaining;
-mod foreign_file;
+mod named_files;
 mod reading;
 mod values;
 mod wrong_options;
 
-pub use asked::{Asked, BackupPlan, Serving, Task, asked_by};
+pub use asked::{Asked, BackupPlan, Serving, Task, asked_by, has_json_errors};
 pub use explaining::reason;
-pub use foreign_file::is_foreign;
 pub use reading::fault_of;

@@ -84,17 +84,18 @@ fn backup_every(words: &Words<'_>) -> Result<u64, Fault> {
     }
 }
 
-/// Whether a path can be a backup's: it isn't empty, and isn't that of the hall's file.
-pub(crate) fn is_another_file(path: &str, db: Option<&str>) -> bool {
-    !path.is_empty() && Some(path) != db
+/// A path that isn't empty.
+pub(crate) fn path<'a>(option: Option<&'a str>) -> Result<&'a str, Fault> {
+    match option {
+        Some(path) if !path.is_empty() => Ok(path),
+        _ => Err(Fault::BadInput),
+    }
 }
 
 /// Where a copy of the hall's file is put, and how often, if it is.
 pub(crate) fn backup<'a>(words: &Words<'a>) -> Result<Option<(&'a str, u64)>, Fault> {
     match (words.backup, words.backup_every) {
-        (Some(path), _) if is_another_file(path, words.db) => {
-            Ok(Some((path, backup_every(words)?)))
-        }
+        (Some(_), _) => Ok(Some((path(words.backup)?, backup_every(words)?))),
         (None, None) => Ok(None),
         _ => Err(Fault::BadInput),
     }

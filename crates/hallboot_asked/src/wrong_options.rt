@@ -1,5 +1,5 @@
 //! Which option of a command line has a value that isn't of its form.
-use crate::values::{is_another_file, is_socket, seconds_of};
+use crate::values::{is_socket, seconds_of};
 use desk_values::{count_of, digest_of, fresh_of, is_bearer_token, moment_of, what_of};
 use hall_types::Name;
 use hallboot_words::Words;
@@ -29,7 +29,7 @@ const TOKEN: &str = "a token has 1 to 128 visible characters of ASCII";
 
 const SECONDS: &str = "it is a number of seconds without a leading zero, at least 1";
 
-const BACKUP: &str = "it is another file than the hall's";
+const PATH: &str = "it is the path of a file";
 
 /// An option whose value isn't of its form, with the value, if that isn't a secret, and what the form is.
 #[derive(Clone, Copy)]
@@ -139,12 +139,12 @@ fn wrong_token<'a>(words: &Words<'a>) -> Option<Wrong<'a>> {
     }
 }
 
-// A backup is another file than the hall's, and how often it is made is said beside it.
+// How often a backup is made is said beside its path.
 fn wrong_backup<'a>(words: &Words<'a>) -> Option<Wrong<'a>> {
     let every = words.backup_every.and_then(seconds_of).is_some();
-    let path = is_another_file(words.backup.unwrap_or(""), words.db);
+    let path = words.backup.is_some_and(|path| !path.is_empty());
     let alone = words.backup.is_some();
-    unless_good("--backup", words.backup, path, BACKUP)
+    unless_good("--backup", words.backup, path, PATH)
         .or(unless_good("--backup-every", words.backup_every, every, SECONDS))
         .or(unless_good(
             "--backup-every",
@@ -152,6 +152,13 @@ fn wrong_backup<'a>(words: &Words<'a>) -> Option<Wrong<'a>> {
             alone,
             "it is given beside --backup",
         ))
+}
+
+// A copy has a path.
+fn wrong_copy<'a>(words: &Words<'a>) -> Option<Wrong<'a>> {
+    let to = words.to.is_some_and(|path| !path.is_empty());
+    let from = words.from.is_some_and(|path| !path.is_empty());
+    unless_good("--to", words.to, to, PATH).or(unless_good("--from", words.from, from, PATH))
 }
 
 fn wrong_host<'a>(alloc: Global, words: &Words<'a>) -> Option<Wrong<'a>> {
@@ -167,6 +174,7 @@ pub(crate) fn wrong_option<'a>(alloc: Global, words: &Words<'a>) -> Option<Wrong
         .or(wrong_socket(words))
         .or(wrong_address(words))
         .or(wrong_backup(words))
+        .or(wrong_copy(words))
         .or(wrong_token(words))
         .or(wrong_host(alloc, words))
 }

@@ -1,5 +1,4 @@
 //! The tasks over an open store, which they give back. The store's type stays open here, so that no proof looks into a file.
-use crate::backups::Joining;
 use crate::serving::serve;
 use crate::suspended::Suspended;
 use desk_operations::{Exit, Imported};
@@ -9,6 +8,7 @@ use hall_http::Noted;
 use hall_store::HallStore;
 use hall_types::{Digest, Moment, Token};
 use hallboot_asked::{Serving, Task};
+use hallboot_files::Joining;
 use pxe_vendor::Place;
 use store_cached::Cached;
 

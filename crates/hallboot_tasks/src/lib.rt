@@ -4,14 +4,16 @@
 mod backups;
 mod carrying;
 mod lines;
+mod notices;
 mod outlet;
 mod random_block;
-mod served_file;
 mod serving;
+mod stack;
 mod stamps;
+mod sums;
 mod suspended;
 
-pub use backups::Joining;
 pub use carrying::{carried_out, served};
-pub use outlet::tell;
+pub use notices::{tell, tell_of_fault};
+pub use sums::{HallSum, sum_of, sum_text};
 pub use suspended::Suspended;

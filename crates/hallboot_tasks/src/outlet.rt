@@ -158,10 +158,3 @@ impl Outlet {
         }
     }
 }
-
-/// Says something at standard error, unless that takes no octets now.
-pub fn tell(rt: &HostRuntime, text: Result<String, AllocError>) {
-    if let Ok(mut outlet) = Outlet::at(rt, "-", LogFormat::Seconds) {
-        outlet.write(rt.alloc(), None, text);
-    }
-}

@@ -2,10 +2,9 @@
 ghost use Rattle.std.specs.Prelude.{◌≡◌};
 ghost use Rattle.hall_desk.specs.Desk.{enlists_of, store_of};
 
-use crate::backups::{Backups, Joining};
+use crate::backups::Backups;
 use crate::lines::{Lines, ServiceLog};
-use crate::outlet::tell;
-use crate::served_file::ServedFile;
+use crate::notices::tell;
 use crate::stamps::{Stamps, now};
 use crate::suspended::{Bound, Suspended};
 use desk_lines::Backup;
@@ -13,6 +12,7 @@ use desk_values::Fault;
 use hall_desk::Desk;
 use hall_store::HallStore;
 use hallboot_asked::{BackupPlan, Serving};
+use hallboot_files::{Joining, ServedFile};
 use pxe_vendor::{Place, PlaceFault};
 use serve_sockets::{Service, Source};
 use std::alloc::Global;
@@ -39,19 +39,24 @@ struct Part<'a> {
     turns: u64,
     enlists: bool,
     plan: Option<&'a BackupPlan>,
+    has_json_errors: bool,
 }
 
 // Says what became of a copy: in the log, or at standard error where there is none and it failed.
-fn tell_of_backup<L: ServiceLog>(rt: &HostRuntime, lines: &mut L, backup: &Backup, path: &str) {
+fn tell_of_backup<L: ServiceLog>(
+    rt: &HostRuntime,
+    lines: &mut L,
+    part: &Part<'_>,
+    backup: &Backup,
+) {
     if lines.is_kept() {
         if let Some(moment) = now(rt) {
             lines.backed_up(moment, backup);
         }
     } else if *backup == Backup::Failed {
-        tell(
-            rt,
-            format!(in rt.alloc(); "hallboot: the backup of {path} failed\n"),
-        );
+        let path = part.path;
+        let words = format!(in rt.alloc(); "the backup of {path} failed");
+        tell(rt, part.has_json_errors, words);
     }
 }
 
@@ -62,8 +67,8 @@ fn back_up<J: Joining, L: ServiceLog>(
     part: &Part<'_>,
     backups: &mut Backups<'_, J>,
 ) {
-    if let Some(backup) = backups.made(rt, part.file, part.path) {
-        tell_of_backup(rt, lines, &backup, part.path);
+    if let Some(backup) = backups.made(rt, part.path) {
+        tell_of_backup(rt, lines, part, &backup);
     }
 }
 
@@ -73,7 +78,7 @@ fn serve_part<S: HallStore, C: Source, L: ServiceLog, J: Joining>(
     service: &mut Service<S>,
     stamps: &mut C,
     lines: &mut L,
-    part: &Part<'_>,
+    part: &mut Part<'_>,
     backups: &mut Backups<'_, J>,
 ) -> (Ended, u64) {
     let mut left = part.turns;
@@ -110,7 +115,7 @@ fn serve_over<S: HallStore, J: Joining>(
     store: S,
     place: Place,
     bound: Bound,
-    part: &Part<'_>,
+    part: &mut Part<'_>,
     joining: &J,
 ) -> ((Ended, u64), S, Bound) {
     let Bound {
@@ -155,36 +160,36 @@ fn copied(alloc: Global, place: &Place) -> Result<Place, Fault> {
 }
 
 // Says how many lines of the log are missing at its end.
-fn tell_of_lost(rt: &HostRuntime, bound: &Bound) {
+fn tell_of_lost(rt: &HostRuntime, is_json: bool, bound: &Bound) {
     if let Some(log) = &bound.log {
         if log.lost() > 0 {
             let lost = log.lost();
-            tell(
-                rt,
-                format!(in rt.alloc(); "hallboot: {lost} lines of the log were lost\n"),
-            );
+            let words = format!(in rt.alloc(); "{lost} lines of the log were lost");
+            tell(rt, is_json, words);
         }
     }
 }
 
+/// Says that a hall's file or its log isn't at its path any more, or was cut.
+pub(crate) fn tell_of_gone(rt: &HostRuntime, serving: &Serving) {
+    let path = serving.path.as_str();
+    let words = format!(in rt.alloc(); "{path} isn't the hall's file any more");
+    tell(rt, serving.has_json_errors(), words);
+}
+
 // How a service ended, of which one is told that has to end before its time.
-fn told(rt: &HostRuntime, path: &str, ended: Ended, bound: &Bound) -> Result<(), Fault> {
+fn told(rt: &HostRuntime, serving: &Serving, ended: Ended, bound: &Bound) -> Result<(), Fault> {
+    let is_json = serving.has_json_errors();
     match ended {
-        Ended::Served => tell_of_lost(rt, bound),
+        Ended::Served => tell_of_lost(rt, is_json, bound),
         Ended::Shut => {
-            tell(
-                rt,
-                format!(in rt.alloc();
-                    "hallboot: a fault has shut {path}, which is opened again\n"
-                ),
-            );
+            let path = serving.path.as_str();
+            let words = format!(in rt.alloc(); "a fault has shut {path}, which is opened again");
+            tell(rt, is_json, words);
         }
         Ended::Gone => {
-            tell_of_lost(rt, bound);
-            tell(
-                rt,
-                format!(in rt.alloc(); "hallboot: {path} isn't the hall's file any more\n"),
-            );
+            tell_of_lost(rt, is_json, bound);
+            tell_of_gone(rt, serving);
             return Err(Fault::Unavailable);
         }
     }
@@ -200,6 +205,10 @@ fn prepared(
     let Ok(file) = ServedFile::at(rt, serving.path.as_str()) else {
         return Err(Fault::Unavailable);
     };
+    if suspended.served_another(&file) {
+        tell_of_gone(rt, serving);
+        return Err(Fault::Unavailable);
+    }
     let place = copied(rt.alloc(), &serving.place)?;
     let bound = suspended.take(rt, serving)?;
     Ok((file, place, bound))
@@ -217,15 +226,16 @@ pub(crate) fn serve<S: HallStore, J: Joining>(
         Ok(prepared) => prepared,
         Err(fault) => return (Err(fault), store),
     };
-    let part = Part {
+    let mut part = Part {
         path: serving.path.as_str(),
         file,
         turns: suspended.left(),
         enlists: serving.enlists,
         plan: serving.backup.as_ref(),
+        has_json_errors: serving.has_json_errors(),
     };
-    let ((ended, left), store, bound) = serve_over(rt, store, place, bound, &part, joining);
-    let outcome = told(rt, serving.path.as_str(), ended, &bound);
-    suspended.keep(bound, left, ended == Ended::Shut);
+    let ((ended, left), store, bound) = serve_over(rt, store, place, bound, &mut part, joining);
+    let outcome = told(rt, serving, ended, &bound);
+    suspended.keep(bound, part.file, left, ended == Ended::Shut);
     (outcome, store)
 }

@@ -1,9 +1,16 @@
 //! A service from one opening of its hall's file to the next.
+use crate::backups::LastBackup;
+use crate::notices::object;
 use crate::outlet::Outlet;
-use desk_values::Fault;
+use crate::serving::tell_of_gone;
+use crate::stack::reserve_stack;
+use crate::stamps::now;
+use desk_values::{Fault, LogFormat};
 use hallboot_asked::{Serving, fault_of};
+use hallboot_files::ServedFile;
 use mio::Poll;
 use serve_sockets::{Addresses, BindFault, MAX_CONNECTIONS, Sockets};
+use std::io;
 use std::time::Instant;
 
 /// How long, in milliseconds, is waited before each opening in a row after which nothing was served for long: 64 seconds in all.
@@ -16,13 +23,13 @@ const PAUSES: [u64; 16] = [
 const WELL_SERVED: u64 = 16;
 
 /// What a service holds besides its hall: its sockets, with the connections that are open, its log, when it began, and when the last copy
-/// of its file was begun, or when the service began.
+/// of its file was begun.
 #[derive(Drop)]
 pub(crate) struct Bound {
     pub sockets: Sockets,
     pub log: Option<Outlet>,
     pub start: Instant,
-    pub backed_up: Instant,
+    pub backed_up: LastBackup,
 }
 
 fn bind_fault(fault: BindFault) -> Fault {
@@ -52,12 +59,12 @@ fn opened_log(rt: &HostRuntime, serving: &Serving) -> Result<Option<Outlet>, Fau
     }
 }
 
-// A connection needs a descriptor: whether there is one.
-fn has_room(rt: &HostRuntime) -> Result<(), Fault> {
-    match Poll::new(rt) {
-        Ok(_) => Ok(()),
-        Err(error) => Err(fault_of(&error)),
-    }
+// Whether there are descriptors for a connection and, beside it, for what a copy reads and writes.
+fn has_room(rt: &HostRuntime) -> io::Result<()> {
+    let _connection = Poll::new(rt)?;
+    let _read = Poll::new(rt)?;
+    let _written = Poll::new(rt)?;
+    Ok(())
 }
 
 fn started(rt: &HostRuntime) -> Result<Instant, Fault> {
@@ -67,18 +74,32 @@ fn started(rt: &HostRuntime) -> Result<Instant, Fault> {
     }
 }
 
-// When a service begins, of which one is told that it is ready.
+// When a service begins that has all that it needs, of which one is told that it is ready.
 fn ready(rt: &HostRuntime) -> Result<Instant, Fault> {
-    has_room(rt)?;
+    if let Err(error) = has_room(rt) {
+        return Err(fault_of(&error));
+    }
+    reserve_stack(rt);
     let start = started(rt)?;
     desk_operations::write_text(&mut rt.stdout(), "hall desk ready\n")?;
     Ok(start)
 }
 
+// A log of objects has one of its beginning.
+fn note_ready(rt: &HostRuntime, log: &mut Outlet) {
+    if log.format() == LogFormat::Json {
+        let line = object(rt, "ready", None, "hall desk ready");
+        log.write(rt.alloc(), now(rt), line);
+    }
+}
+
 // The log of a service, and when it begins.
 fn begun(rt: &HostRuntime, serving: &Serving) -> Result<(Option<Outlet>, Instant), Fault> {
-    let log = opened_log(rt, serving)?;
+    let mut log = opened_log(rt, serving)?;
     let start = ready(rt)?;
+    if let Some(log) = &mut log {
+        note_ready(rt, log);
+    }
     Ok((log, start))
 }
 
@@ -92,7 +113,10 @@ impl Bound {
             sockets,
             log,
             start,
-            backed_up: start,
+            backed_up: LastBackup {
+                at: start,
+                is_first: true,
+            },
         })
     }
 }
@@ -101,6 +125,8 @@ impl Bound {
 #[derive(Drop)]
 pub struct Suspended {
     bound: Option<Bound>,
+    // The file that is served, for all of the service's life.
+    file: Option<ServedFile>,
     left: u64,
     is_shut: bool,
     // How many turns were left at the last wait, and how many there were in a row after which nothing was served for long.
@@ -113,6 +139,7 @@ impl Suspended {
     pub fn new(turns: u64) -> Suspended {
         Suspended {
             bound: None,
+            file: None,
             left: turns,
             is_shut: false,
             left_before: turns,
@@ -138,9 +165,30 @@ impl Suspended {
         }
     }
 
-    /// So many turns are left, and a fault has shut the store or hasn't.
-    pub(crate) fn keep(&mut self, bound: Bound, left: u64, is_shut: bool) {
+    /// Whether another file than this one was served before.
+    pub(crate) fn served_another(&self, file: &ServedFile) -> bool {
+        match &self.file {
+            Some(before) => !before.is_same(file),
+            None => false,
+        }
+    }
+
+    /// Whether the file that was served before isn't at its path any more, which is told.
+    pub fn has_lost_file(&mut self, rt: &HostRuntime, serving: &Serving) -> bool {
+        let is_gone = match &mut self.file {
+            Some(file) => file.is_gone(rt, serving.path.as_str()),
+            None => false,
+        };
+        if is_gone {
+            tell_of_gone(rt, serving);
+        }
+        is_gone
+    }
+
+    /// This file was served, so many turns are left, and a fault has shut the store or hasn't.
+    pub(crate) fn keep(&mut self, bound: Bound, file: ServedFile, left: u64, is_shut: bool) {
         self.bound = Some(bound);
+        self.file = Some(file);
         self.left = left;
         self.is_shut = is_shut;
     }

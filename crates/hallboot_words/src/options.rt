@@ -127,6 +127,20 @@ pub(crate) const LOG: Word = Word {
     given: Given::Maybe,
 };
 
+pub(crate) const TO: Word = Word {
+    name: "to",
+    value: "COPY",
+    help: "Where the copy is put",
+    given: Given::Always,
+};
+
+pub(crate) const FROM: Word = Word {
+    name: "from",
+    value: "COPY",
+    help: "The copy",
+    given: Given::Always,
+};
+
 pub(crate) const BACKUP: Word = Word {
     name: "backup",
     value: "FILE",

@@ -1,7 +1,7 @@
 //! The subcommands.
 use crate::options::{
-    ADMIN, AT, BACKUP, BACKUP_EVERY, BOOT, DB, DIGEST, DISCOVER, ENLIST, FILE, FRESH, HTTP, LOG,
-    LOG_FORMAT, LOG_TIME, ROLE, TOKEN, TOKEN_FILE, TURNS, WHAT, Word,
+    ADMIN, AT, BACKUP, BACKUP_EVERY, BOOT, DB, DIGEST, DISCOVER, ENLIST, FILE, FRESH, FROM, HTTP,
+    LOG, LOG_FORMAT, LOG_TIME, ROLE, TO, TOKEN, TOKEN_FILE, TURNS, WHAT, Word,
 };
 
 /// What a command line asks for.
@@ -15,6 +15,8 @@ pub enum Subcommand {
     Report,
     Import,
     Export,
+    Backup,
+    Restore,
 }
 
 /// What the command line has of a subcommand: its options in the order of its help, those of the place last.
@@ -29,7 +31,7 @@ pub(crate) struct Entry {
 }
 
 /// All subcommands, in the order of the help.
-pub(crate) const ENTRIES: [Entry; 8] = [
+pub(crate) const ENTRIES: [Entry; 10] = [
     Entry {
         subcommand: Subcommand::Frame,
         name: "frame",
@@ -104,6 +106,22 @@ pub(crate) const ENTRIES: [Entry; 8] = [
         about: "Prints all machines as comma-separated values",
         example: "Example: hallboot export --db hall.db > machines.csv",
         words: &[DB],
+        has_place: false,
+    },
+    Entry {
+        subcommand: Subcommand::Backup,
+        name: "backup",
+        about: "Copies a hall that isn't served, with its log, to one file",
+        example: "Example: hallboot backup --db hall.db --to copies/hall.db\n\nThe copy before is replaced once the new one is whole. A hall that is served is copied by serve --backup.",
+        words: &[DB, TO],
+        has_place: false,
+    },
+    Entry {
+        subcommand: Subcommand::Restore,
+        name: "restore",
+        about: "Puts a copy of a hall in the place of its file",
+        example: "Example: hallboot restore --db hall.db --from copies/hall.db\n\nWhat was at FILE, and its log, is kept under a name of its own, which is printed. COPY stays as it is. Stop serve first.",
+        words: &[DB, FROM],
         has_place: false,
     },
 ];

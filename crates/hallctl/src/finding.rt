@@ -2,7 +2,8 @@
 use hallctl_requests::{BearerToken, TokenFault};
 use hallctl_tasks::{AddressFault, Desk, DeskAddress, file_octets};
 use hallctl_words::Line;
-use std::env;
+use std::os::unix::fs::PermissionsExt;
+use std::{env, fs};
 
 /// Why it isn't known which desk is asked, or in whose name.
 #[derive(Clone, Copy, PartialEq, Eq)]
@@ -36,6 +37,9 @@ impl DeskFault {
 // The milliseconds of a second.
 const SECOND: u64 = 1_000;
 
+// The right of others than a file's owner to read it, in its mode.
+const OTHERS: u32 = 0o044;
+
 fn address_in(rt: &HostRuntime, text: &str) -> Result<DeskAddress, DeskFault> {
     DeskAddress::new(rt.alloc(), text).map_err(DeskFault::BadDesk)
 }
@@ -63,7 +67,17 @@ fn token_in(rt: &HostRuntime, text: &str) -> Result<BearerToken, DeskFault> {
     }
 }
 
+// Tells where others than its owner can read a token's file.
+fn tell_of_others(rt: &HostRuntime, path: &str) {
+    if let Ok(found) = fs::metadata(rt, path) {
+        if found.permissions().mode() & OTHERS != 0 {
+            let _ = eprintln!(rt; "hallctl: others can read the token in {path}: chmod 600 {path}");
+        }
+    }
+}
+
 fn token_at(rt: &HostRuntime, path: &str) -> Result<BearerToken, DeskFault> {
+    tell_of_others(rt, path);
     let Ok(octets) = file_octets(rt, path) else {
         return Err(DeskFault::UnreadToken);
     };

@@ -1,19 +1,21 @@
 -- Tries to have the desk's answer.
 use Rattle.std.specs.Prelude.{ℕ, List, [], ◌∷◌, ◌++◌, Option, None, Some}
 use Rattle.hallctl_tasks.specs.declared.dial.Attempt.{Attempt}
-use Rattle.hallctl_tasks.specs.declared.dial.Attempt.TheVariants.{Answer, TooLong, Nothing}
+use Rattle.hallctl_tasks.specs.declared.dial.Attempt.TheVariants.{Answer, TooLong, Nothing, Unsent}
 use Rattle.hallctl_tasks.specs.declared.dial.Why.{Why}
 
--- what came back
+-- what came back, where there was a connection
 pub data Came : Type 0 where
   Octets : List ℕ → Came
   Endless : Came
   Silence : Why → Came
+  NoConnection : Why → Came
 
 abbrev pub came_of : Attempt → Came
 came_of (Answer octets) = Octets octets.items
 came_of TooLong = Endless
 came_of (Nothing why) = Silence why
+came_of (Unsent why) = NoConnection why
 
 -- a try: the octets that were sent, and what came back
 pub record Try : Type 0 where

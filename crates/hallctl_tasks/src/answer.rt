@@ -1,7 +1,8 @@
 //! What an exchange with the desk gives.
-ghost use Rattle.std.specs.Prelude.{◌≡◌, ◌≤◌, ◌↔◌, drop, length, IsTrue};
+ghost use Rattle.std.specs.Prelude.{◌≡◌, ◌≤◌, drop, length};
 
 use crate::dial::Why;
+use std::alloc::{AllocError, Global};
 use std::marker::Model;
 
 /// A whole answer. Contracts see its status and its body.
@@ -50,13 +51,6 @@ impl Answer {
     {
         &self.octets.as_slice()[self.start..]
     }
-
-    /// Whether what was asked for is done.
-    pub fn is_done(&self) -> bool
-        ensures { IsTrue result ↔ (self.now.status ≡ 200) }
-    {
-        self.status == 200
-    }
 }
 
 /// Why what answers isn't the desk.
@@ -66,17 +60,25 @@ pub enum Strange {
     NotHttp,
     /// Its answer is longer than any of the desk's.
     TooLong,
-    /// What it answers is no answer to this.
-    OtherAnswer,
+    /// Its answer, which has this status, is none of the desk's to what was asked.
+    OtherAnswer(u16),
 }
 
 impl Strange {
-    /// The words for it.
-    pub fn words(self) -> &'static str {
+    /// What it did, after the URL that was asked.
+    pub fn text(self, alloc: Global) -> Result<String, AllocError> {
         match self {
-            Strange::NotHttp => "its answer isn't an answer of the desk by HTTP",
-            Strange::OtherAnswer => "its answer is none to this request",
-            Strange::TooLong => "its answer is longer than any of the desk's",
+            Strange::NotHttp => String::from_str(
+                alloc,
+                "answered, but not by HTTP as the desk does",
+            ),
+            Strange::TooLong => String::from_str(
+                alloc,
+                "answered with more than the desk ever does",
+            ),
+            Strange::OtherAnswer(status) => {
+                format!(in alloc; "answered {status}, but not as the desk does")
+            }
         }
     }
 }
@@ -84,9 +86,11 @@ impl Strange {
 /// What comes of an exchange.
 #[derive(Drop)]
 pub enum Exchanged {
-    /// The first whole answer but 503.
+    /// The first whole answer but 502, 503 and 504.
     Answered(Answer),
     NotTheDesk(Strange),
     /// No try had an answer, the last one for this reason: it isn't known whether a command was done.
     Unknown(Why),
+    /// No try had a connection, the last one for this reason: nothing was sent.
+    Unsent(Why),
 }

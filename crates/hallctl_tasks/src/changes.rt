@@ -8,21 +8,23 @@ use crate::sending::{Sending, sent};
 use crate::surroundings::Surroundings;
 use hall_events::HallCommand;
 use hall_types::{RequestKey, Version};
-use hallctl_texts::with_version;
+use hallctl_texts::{version_of, with_version};
 use std::alloc::{AllocError, Global};
 
 /// How the commands of a line are sent.
 #[derive(Clone, Copy)]
-pub struct Manner {
+pub(crate) struct Manner<'w> {
     /// The key of the one command, which is sent again.
-    pub key: Option<RequestKey>,
+    pub(crate) key: Option<RequestKey>,
     /// Whether a command that erases or deletes is sent without a question.
-    pub yes: bool,
+    pub(crate) yes: bool,
     /// Whether the desk's JSON is printed.
-    pub json: bool,
+    pub(crate) json: bool,
+    /// The file to which the key of each command is added.
+    pub(crate) keys: Option<&'w str>,
 }
 
-impl Manner {
+impl Manner<'_> {
     // The key of a command: that which is said, or a new one.
     pub(crate) fn key_of<S: Surroundings>(
         &self,
@@ -32,14 +34,6 @@ impl Manner {
             Some(key) => Ok(key),
             None => new_key(surroundings),
         }
-    }
-}
-
-// The version that a command says.
-fn version_of(command: &HallCommand) -> Option<Version> {
-    match command {
-        HallCommand::OnMachine { version, .. } => *version,
-        _ => None,
     }
 }
 
@@ -79,7 +73,7 @@ fn before<S: Surroundings>(
     alloc: Global,
     surroundings: &mut S,
     desk: &Desk,
-    manner: &Manner,
+    manner: &Manner<'_>,
     look: &Look,
     command: &HallCommand,
 ) -> Result<Option<Before>, TaskFault> {
@@ -96,20 +90,20 @@ fn sent_as<S: Surroundings>(
     alloc: Global,
     surroundings: &mut S,
     desk: &Desk,
-    manner: &Manner,
+    manner: &Manner<'_>,
     look: &Look,
     command: &HallCommand,
 ) -> Result<Ended, TaskFault> {
     let key = manner.key_of(surroundings)?;
     let beside = beside(alloc, command)?;
     let before = before(alloc, surroundings, desk, manner, look, command)?;
-    let json = manner.json;
     let sending = Sending {
         key,
         command,
         before,
         beside: beside.as_str(),
-        json,
+        json: manner.json,
+        keys: manner.keys,
     };
     sent(alloc, surroundings, desk, &sending)
 }
@@ -119,7 +113,7 @@ fn sent_after<S: Surroundings>(
     alloc: Global,
     surroundings: &mut S,
     desk: &Desk,
-    manner: &Manner,
+    manner: &Manner<'_>,
     look: &Look,
     command: &HallCommand,
 ) -> Result<Ended, TaskFault> {
@@ -137,7 +131,7 @@ fn sent_after<S: Surroundings>(
     }
 }
 
-// Tells how many commands weren't sent, after one that had no answer.
+// Tells how many commands weren't sent, after one that had no answer or couldn't be noted.
 fn tell_of_unsent<S: Surroundings>(
     alloc: Global,
     surroundings: &mut S,
@@ -163,7 +157,7 @@ fn sent_all<S: Surroundings>(
     alloc: Global,
     surroundings: &mut S,
     desk: &Desk,
-    manner: &Manner,
+    manner: &Manner<'_>,
     commands: &[HallCommand],
     looks: &[Look],
 ) -> Result<Ended, TaskFault> {
@@ -171,7 +165,7 @@ fn sent_all<S: Surroundings>(
     for (place, command) in commands.iter().enumerate() {
         let look = look_of(looks, place);
         end = end.and_then(sent_after(alloc, surroundings, desk, manner, &look, command)?);
-        if end == Ended::NoAnswer {
+        if end == Ended::NoAnswer || end == Ended::Usage {
             let unsent = commands.len().saturating_sub(place).saturating_sub(1);
             tell_of_unsent(alloc, surroundings, unsent)?;
             return Ok(end);
@@ -189,7 +183,7 @@ pub(crate) fn change<S: Surroundings>(
     alloc: Global,
     surroundings: &mut S,
     desk: &Desk,
-    manner: &Manner,
+    manner: &Manner<'_>,
     commands: &[HallCommand],
 ) -> Result<Ended, TaskFault> {
     match looked(alloc, surroundings, desk, manner, commands)? {

@@ -19,8 +19,12 @@ pub enum Why {
     Closed,
     /// The connection was closed amid the answer.
     Cut,
-    /// The answer was 503 Unavailable.
+    /// The answer was 502 Bad Gateway, of something between (RFC 9110 section 15.6.3).
+    BadGateway,
+    /// The answer was 503 Unavailable (RFC 9110 section 15.6.4).
     Unavailable,
+    /// The answer was 504 Gateway Timeout, of something between (RFC 9110 section 15.6.5).
+    GatewayTimeout,
     /// There was no memory for the answer.
     Memory,
 }
@@ -35,7 +39,9 @@ impl Why {
             Why::Late => "no answer in time",
             Why::Closed => "the connection was closed",
             Why::Cut => "the answer was cut",
+            Why::BadGateway => "502 Bad Gateway",
             Why::Unavailable => "503 Unavailable",
+            Why::GatewayTimeout => "504 Gateway Timeout",
             Why::Memory => "no memory for the answer",
         }
     }
@@ -48,7 +54,10 @@ pub enum Attempt {
     Answer(Vec<u8>),
     /// More octets than an answer may have.
     TooLong,
+    /// Nothing came back.
     Nothing(Why),
+    /// There was no connection, so nothing was sent.
+    Unsent(Why),
 }
 
 /// A way to the desk, over which a request is tried.
@@ -59,9 +68,14 @@ pub trait Dial {
     /// What was sent in each try so far and what came, where the type says it.
     ghost tries: { Self → Option (List Try) };
 
-    /// One try: connects, sends all octets, and reads until the connection is closed.
-    fn attempt(&mut self, alloc: Global, octets: &[u8]) -> Attempt
+    /// One try: connects, sends all octets, and reads until the connection is closed. It ends where nothing has come after so many
+    /// milliseconds; what has begun to come is read on.
+    fn attempt(&mut self, alloc: Global, octets: &[u8], milliseconds: u64) -> Attempt
         ensures tried { tries self.new ≡ adds (tries self.old) (record { sent = octets.now; came = came_of result }) };
+
+    /// Takes note that the first try was in vain, and that there are more of them for so many milliseconds in all.
+    fn goes_on(&mut self, alloc: Global, why: Why, milliseconds: u64)
+        ensures same { tries self.new ≡ tries self.old };
 
     /// Waits for so many milliseconds.
     fn pause(&mut self, milliseconds: u64)

@@ -1,12 +1,13 @@
 //! The system that the program runs on: a socket to the desk, the terminal, files and random octets.
 use crate::address::DeskAddress;
-use crate::dial::{Attempt, Dial};
-use crate::socket::{connected, exchanged};
+use crate::dial::{Attempt, Dial, Why};
+use crate::saying::goes_on_text;
+use crate::socket::{Time, connected, exchanged};
 use crate::surroundings::{FileFault, Surroundings};
 use rand::rngs::SysRng;
 use rand_core::TryRng;
 use std::alloc::Global;
-use std::fs::{File, OpenOptions};
+use std::fs::{File, OpenOptions, exists, hard_link, remove_file};
 use std::io::{BufRead, BufReader, ErrorKind, IsTerminal, Read, Write};
 use std::os::unix::fs::OpenOptionsExt;
 use std::time::{Duration, Instant};
@@ -27,13 +28,20 @@ pub struct Host<'a> {
     rt: &'a HostRuntime,
     address: &'a DeskAddress,
     start: Instant,
+    // When time was last counted anew, in milliseconds from the start.
+    anew: u64,
 }
 
 impl<'a> Host<'a> {
     /// A way to the desk at the address. `None` where the system's clock fails.
     pub fn new(rt: &'a HostRuntime, address: &'a DeskAddress) -> Option<Host<'a>> {
         let start = Instant::now(rt).ok()?;
-        Some(Host { rt, address, start })
+        Some(Host {
+            rt,
+            address,
+            start,
+            anew: 0,
+        })
     }
 }
 
@@ -43,10 +51,22 @@ impl Dial for Host<'_> {
     // What goes over a socket, no contract knows.
     ghost tries = { λ _. None };
 
-    fn attempt(&mut self, alloc: Global, octets: &[u8]) -> Attempt {
-        match connected(self.rt, self.address) {
-            Ok(stream) => exchanged(self.rt, alloc, stream, octets),
-            Err(why) => Attempt::Nothing(why),
+    fn attempt(&mut self, alloc: Global, octets: &[u8], milliseconds: u64) -> Attempt {
+        let Some(time) = Time::from_now(self.rt, milliseconds) else {
+            return Attempt::Unsent(Why::Late);
+        };
+        match connected(self.rt, self.address, &time) {
+            Ok(stream) => exchanged(self.rt, alloc, stream, &time, octets),
+            Err(why) => Attempt::Unsent(why),
+        }
+    }
+
+    fn goes_on(&mut self, alloc: Global, why: Why, milliseconds: u64) {
+        if self.rt.stderr().is_terminal() {
+            let authority = self.address.authority.text();
+            if let Ok(text) = goes_on_text(alloc, authority, why, milliseconds) {
+                let _ = self.rt.stderr().write_all(text.as_bytes());
+            }
         }
     }
 
@@ -100,6 +120,31 @@ fn write_file(rt: &HostRuntime, path: &str, octets: &[u8]) -> io::Result<()> {
     file.sync_all()
 }
 
+// The other name is made, and fails where there is a file of that name, before the first one goes.
+fn rename_file(rt: &HostRuntime, from: &str, to: &str) -> io::Result<()> {
+    hard_link(rt, from, to)?;
+    remove_file(rt, from)
+}
+
+fn add_to_file(rt: &HostRuntime, path: &str, text: &str) -> io::Result<()> {
+    let mut file = OpenOptions::new()
+        .append(true)
+        .create(true)
+        .mode(OWNER_ONLY)
+        .open(rt, path)?;
+    file.write_all(text.as_bytes())?;
+    // A pipe or a terminal can't be synced.
+    let _ = file.sync_data();
+    Ok(())
+}
+
+fn done(outcome: io::Result<()>) -> Result<(), FileFault> {
+    match outcome {
+        Ok(()) => Ok(()),
+        Err(error) => Err(file_fault(&error)),
+    }
+}
+
 // Whether the next line of standard input is `yes`.
 fn is_yes(rt: &HostRuntime, alloc: Global) -> io::Result<bool> {
     let mut octets = Vec::new(alloc);
@@ -129,6 +174,14 @@ impl Surroundings for Host<'_> {
         is_yes(self.rt, alloc).unwrap_or(false)
     }
 
+    fn idle(&mut self) -> u64 {
+        self.passed().saturating_sub(self.anew)
+    }
+
+    fn count_anew(&mut self) {
+        self.anew = self.passed();
+    }
+
     fn fresh(&mut self) -> Option<[u8; 32]> {
         let mut octets = [0; 32];
         let mut random = SysRng::new(self.rt);
@@ -140,10 +193,19 @@ impl Surroundings for Host<'_> {
         file_octets(self.rt, path)
     }
 
+    fn has_file(&mut self, path: &str) -> bool {
+        exists(self.rt, path).unwrap_or(true)
+    }
+
     fn make_file(&mut self, path: &str, octets: &[u8]) -> Result<(), FileFault> {
-        match write_file(self.rt, path, octets) {
-            Ok(()) => Ok(()),
-            Err(error) => Err(file_fault(&error)),
-        }
+        done(write_file(self.rt, path, octets))
+    }
+
+    fn rename_file(&mut self, from: &str, to: &str) -> Result<(), FileFault> {
+        done(rename_file(self.rt, from, to))
+    }
+
+    fn add_to_file(&mut self, path: &str, text: &str) -> Result<(), FileFault> {
+        done(add_to_file(self.rt, path, text))
     }
 }

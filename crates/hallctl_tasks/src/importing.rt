@@ -1,7 +1,8 @@
 //! The machines of a file are added.
+use crate::changes::Manner;
 use crate::desk::Desk;
 use crate::fault::{Ended, TaskFault};
-use crate::saying::{misused_file, progress};
+use crate::saying::{misused_file, progress, tell};
 use crate::sending::{Sending, sent};
 use crate::surroundings::Surroundings;
 use hall_events::HallCommand;
@@ -21,8 +22,8 @@ fn add_row<S: Surroundings>(
     alloc: Global,
     surroundings: &mut S,
     desk: &Desk,
+    manner: &Manner<'_>,
     row: &ImportRow,
-    json: bool,
 ) -> Result<Ended, TaskFault> {
     let command = command_of(row);
     let sending = Sending {
@@ -30,11 +31,27 @@ fn add_row<S: Surroundings>(
         command: &command,
         before: None,
         beside: ", or import the file again",
-        json,
+        json: manner.json,
+        keys: manner.keys,
     };
     let end = sent(alloc, surroundings, desk, &sending);
     drop(command);
     end
+}
+
+// Tells how far an import came that stops at a row.
+fn tell_of_left<S: Surroundings>(
+    alloc: Global,
+    surroundings: &mut S,
+    done: usize,
+    refused: usize,
+    all: usize,
+) -> Result<(), TaskFault> {
+    let left = all.saturating_sub(done).saturating_sub(refused);
+    let line = format!(in alloc;
+        "of {all} rows {done} are done, {refused} refused and {left} left"
+    )?;
+    tell(alloc, surroundings, line.as_str())
 }
 
 // Adds the machines of the rows. A row without an answer is the last.
@@ -42,14 +59,21 @@ fn add_rows<S: Surroundings>(
     alloc: Global,
     surroundings: &mut S,
     desk: &Desk,
+    manner: &Manner<'_>,
     rows: &[ImportRow],
-    json: bool,
 ) -> Result<Ended, TaskFault> {
     let mut end = Ended::Done;
+    let mut refused: usize = 0;
     for (place, row) in rows.iter().enumerate() {
-        end = end.and_then(add_row(alloc, surroundings, desk, row, json)?);
-        if end == Ended::NoAnswer {
+        let one = add_row(alloc, surroundings, desk, manner, row)?;
+        end = end.and_then(one);
+        if one == Ended::NoAnswer || one == Ended::Usage {
+            let done = place.saturating_sub(refused);
+            tell_of_left(alloc, surroundings, done, refused, rows.len())?;
             return Ok(end);
+        }
+        if one == Ended::Refused {
+            refused = refused.saturating_add(1);
         }
         progress(alloc, surroundings, place.saturating_add(1), rows.len())?;
     }
@@ -61,15 +85,15 @@ pub(crate) fn import<S: Surroundings>(
     alloc: Global,
     surroundings: &mut S,
     desk: &Desk,
+    manner: &Manner<'_>,
     path: &str,
-    json: bool,
 ) -> Result<Ended, TaskFault> {
     let octets = match surroundings.octets_of(alloc, path) {
         Ok(octets) => octets,
         Err(fault) => return misused_file(alloc, surroundings, path, fault.words()),
     };
     match import_rows(alloc, octets.as_slice()) {
-        Ok(rows) => add_rows(alloc, surroundings, desk, rows.as_slice(), json),
+        Ok(rows) => add_rows(alloc, surroundings, desk, manner, rows.as_slice()),
         Err(ImportFault::BadHeader) => misused_file(
             alloc,
             surroundings,

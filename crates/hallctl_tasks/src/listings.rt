@@ -1,12 +1,12 @@
 //! What the desk lists is printed.
-use crate::answer::{Answer, Exchanged, Strange};
-use crate::desk::{Desk, asked};
+use crate::answer::{Answer, Strange};
+use crate::desk::{Desk, Heard, asked};
 use crate::fault::{Ended, TaskFault};
-use crate::saying::{print, strange, tell, unanswered};
+use crate::saying::{print, refused, strange, tell, unanswered};
 use crate::surroundings::Surroundings;
-use crate::texts::{list_text, refused_text};
+use crate::texts::list_text;
 use hallctl_requests::Ask;
-use hallctl_texts::Filter;
+use hallctl_texts::{DeskAnswer, Filter};
 use hallctl_words::{Form, Which};
 use std::alloc::{AllocError, Global};
 
@@ -48,6 +48,7 @@ fn text_of(
 fn shown<S: Surroundings>(
     alloc: Global,
     surroundings: &mut S,
+    desk: &Desk,
     answer: &Answer,
     listing: &Listing,
     json: bool,
@@ -61,22 +62,10 @@ fn shown<S: Surroundings>(
             print(surroundings, text.as_str())?;
             Ok(Ended::Done)
         }
-        None => strange(alloc, surroundings, Strange::OtherAnswer),
-    }
-}
-
-/// Tells that the desk refused to say something.
-pub(crate) fn refused<S: Surroundings>(
-    alloc: Global,
-    surroundings: &mut S,
-    answer: &Answer,
-) -> Result<Ended, TaskFault> {
-    match refused_text(alloc, None, answer)? {
-        Some(line) => {
-            tell(alloc, surroundings, line.as_str())?;
-            Ok(Ended::Refused)
+        None => {
+            let other = Strange::OtherAnswer(answer.status());
+            strange(alloc, surroundings, desk, &listing.ask(), other)
         }
-        None => strange(alloc, surroundings, Strange::OtherAnswer),
     }
 }
 
@@ -89,11 +78,9 @@ pub(crate) fn list<S: Surroundings>(
     json: bool,
 ) -> Result<Ended, TaskFault> {
     match asked(alloc, surroundings, desk, &listing.ask())? {
-        Exchanged::Answered(answer) if answer.is_done() => {
-            shown(alloc, surroundings, &answer, listing, json)
-        }
-        Exchanged::Answered(answer) => refused(alloc, surroundings, &answer),
-        Exchanged::NotTheDesk(words) => strange(alloc, surroundings, words),
-        Exchanged::Unknown(why) => unanswered(alloc, surroundings, why),
+        Heard::Said(DeskAnswer::Refused(refusal), _) => refused(alloc, surroundings, refusal),
+        Heard::Said(_, answer) => shown(alloc, surroundings, desk, &answer, listing, json),
+        Heard::NotTheDesk(other) => strange(alloc, surroundings, desk, &listing.ask(), other),
+        Heard::Unknown(why) | Heard::Unsent(why) => unanswered(alloc, surroundings, why),
     }
 }

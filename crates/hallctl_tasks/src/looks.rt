@@ -1,16 +1,15 @@
 //! Machines are looked at before something is done that can't be undone, and the operator is asked.
-use crate::answer::{Answer, Exchanged, Strange};
+use crate::answer::{Answer, Strange};
 use crate::changes::Manner;
-use crate::desk::{Desk, asked, asked_once};
+use crate::desk::{Desk, Heard, asked, asked_in_passing};
 use crate::fault::{Ended, TaskFault};
 use crate::saying::{misused, print_line, strange, tell, unanswered};
 use crate::seen::listed_in;
 use crate::surroundings::Surroundings;
-use crate::texts::refused_text;
 use hall_events::HallCommand;
-use hall_types::{Number, Status, Version};
+use hall_types::{Number, Refusal, Status, Version};
 use hallctl_requests::Ask;
-use hallctl_texts::{ListedMachine, is_dangerous, warning};
+use hallctl_texts::{DeskAnswer, ListedMachine, is_dangerous, refusal_line, warning};
 use std::alloc::{AllocError, Global};
 
 /// A machine as it was listed before a command.
@@ -66,13 +65,23 @@ fn refused<S: Surroundings>(
     alloc: Global,
     surroundings: &mut S,
     command: &HallCommand,
-    answer: &Answer,
-) -> Result<Option<Look>, TaskFault> {
-    let Some(line) = refused_text(alloc, Some(command), answer)? else {
-        return Ok(None);
-    };
+    refusal: Refusal,
+) -> Result<Found<Look>, TaskFault> {
+    let line = refusal_line(alloc, Some(command), refusal)?;
     print_line(alloc, surroundings, line.as_str())?;
-    Ok(Some(Look::Refused))
+    Ok(Found::Found(Look::Refused))
+}
+
+// What answers isn't the desk: the task ends.
+fn not_the_desk<S: Surroundings>(
+    alloc: Global,
+    surroundings: &mut S,
+    desk: &Desk,
+    machine: Number,
+    other: Strange,
+) -> Result<Found<Look>, TaskFault> {
+    let end = strange(alloc, surroundings, desk, &Ask::Machine(machine), other)?;
+    Ok(Found::Ended(end))
 }
 
 // Asks the desk for a machine and tells what the command would do to it. Nothing is sent yet.
@@ -83,23 +92,21 @@ fn look_at<S: Surroundings>(
     machine: Number,
     command: &HallCommand,
 ) -> Result<Found<Look>, TaskFault> {
-    let answer = match asked(alloc, surroundings, desk, &Ask::Machine(machine))? {
-        Exchanged::Answered(answer) => answer,
-        Exchanged::NotTheDesk(words) => {
-            return Ok(Found::Ended(strange(alloc, surroundings, words)?));
+    match asked(alloc, surroundings, desk, &Ask::Machine(machine))? {
+        Heard::Said(DeskAnswer::Refused(refusal), _) => {
+            refused(alloc, surroundings, command, refusal)
         }
-        Exchanged::Unknown(why) => {
-            return Ok(Found::Ended(unanswered(alloc, surroundings, why)?));
+        Heard::Said(_, answer) => match warned(alloc, surroundings, command, &answer)? {
+            Some(look) => Ok(Found::Found(look)),
+            None => {
+                let other = Strange::OtherAnswer(answer.status());
+                not_the_desk(alloc, surroundings, desk, machine, other)
+            }
+        },
+        Heard::NotTheDesk(other) => not_the_desk(alloc, surroundings, desk, machine, other),
+        Heard::Unknown(why) | Heard::Unsent(why) => {
+            Ok(Found::Ended(unanswered(alloc, surroundings, why)?))
         }
-    };
-    let look = if answer.is_done() {
-        warned(alloc, surroundings, command, &answer)?
-    } else {
-        refused(alloc, surroundings, command, &answer)?
-    };
-    match look {
-        Some(look) => Ok(Found::Found(look)),
-        None => Ok(Found::Ended(strange(alloc, surroundings, Strange::OtherAnswer)?)),
     }
 }
 
@@ -136,8 +143,8 @@ pub(crate) fn glance<S: Surroundings>(
     let Some(machine) = machine_of(command) else {
         return Ok(None);
     };
-    match asked_once(alloc, surroundings, desk, &Ask::Machine(machine))? {
-        Exchanged::Answered(answer) if answer.is_done() => match listed_in(alloc, &answer)? {
+    match asked_in_passing(alloc, surroundings, desk, &Ask::Machine(machine))? {
+        Heard::Said(DeskAnswer::Listed, answer) => match listed_in(alloc, &answer)? {
             Some(machine) => Ok(Some(before_of(machine))),
             None => Ok(None),
         },
@@ -175,13 +182,15 @@ fn is_listed(look: &Look) -> bool {
 fn refusal_by_operator<S: Surroundings>(
     alloc: Global,
     surroundings: &mut S,
-    manner: &Manner,
+    manner: &Manner<'_>,
 ) -> Result<Option<Ended>, TaskFault> {
     if manner.yes {
         return Ok(None);
     }
     surroundings.tell("Type yes: ");
-    if surroundings.is_agreed(alloc) {
+    let is_agreed = surroundings.is_agreed(alloc);
+    surroundings.count_anew();
+    if is_agreed {
         return Ok(None);
     }
     tell(alloc, surroundings, "nothing was sent")?;
@@ -201,7 +210,7 @@ fn has_version(command: &HallCommand) -> bool {
 // Why commands of which one erases or deletes can't be sent in this manner.
 fn fault_of<S: Surroundings>(
     surroundings: &S,
-    manner: &Manner,
+    manner: &Manner<'_>,
     commands: &[HallCommand],
 ) -> Option<&'static str> {
     if !manner.yes && !surroundings.can_ask() {
@@ -234,7 +243,7 @@ fn agreed<S: Surroundings>(
     alloc: Global,
     surroundings: &mut S,
     desk: &Desk,
-    manner: &Manner,
+    manner: &Manner<'_>,
     commands: &[HallCommand],
 ) -> Result<Found<Vec<Look>>, TaskFault> {
     // What is said again may be done already, and its machine changed or gone: it was looked at when it was first said.
@@ -266,7 +275,7 @@ pub(crate) fn looked<S: Surroundings>(
     alloc: Global,
     surroundings: &mut S,
     desk: &Desk,
-    manner: &Manner,
+    manner: &Manner<'_>,
     commands: &[HallCommand],
 ) -> Result<Found<Vec<Look>>, TaskFault> {
     if !commands.iter().any(|command| is_dangerous(command)) {

@@ -1,9 +1,16 @@
 //! What is said to the operator, besides what was asked for.
 use crate::answer::Strange;
+use crate::desk::{Desk, url_of};
 use crate::dial::Why;
 use crate::fault::{Ended, TaskFault};
 use crate::surroundings::Surroundings;
-use std::alloc::Global;
+use hall_types::Refusal;
+use hallctl_requests::Ask;
+use hallctl_texts::refusal_line;
+use std::alloc::{AllocError, Global};
+
+// The milliseconds of a second.
+const SECOND: u64 = 1_000;
 
 /// Writes a text to standard output.
 pub(crate) fn print<S: Surroundings>(surroundings: &mut S, text: &str) -> Result<(), TaskFault> {
@@ -71,6 +78,19 @@ pub(crate) fn misused_file<S: Surroundings>(
     misused(alloc, surroundings, reason.as_str())
 }
 
+/// The line that tells of a first try in vain, after which there are more for so many milliseconds.
+pub fn goes_on_text(
+    alloc: Global,
+    authority: &str,
+    why: Why,
+    milliseconds: u64,
+) -> Result<String, AllocError> {
+    let (why, seconds) = (why.words(), milliseconds.div_ceil(SECOND));
+    format!(in alloc;
+        "hallctl: no answer from http://{authority} ({why}), trying for {seconds} s\n"
+    )
+}
+
 /// There was no answer to what was only to be read.
 pub(crate) fn unanswered<S: Surroundings>(
     alloc: Global,
@@ -83,14 +103,38 @@ pub(crate) fn unanswered<S: Surroundings>(
     Ok(Ended::NoAnswer)
 }
 
+/// What is known of a desk that isn't one, with the URL that was asked.
+pub(crate) fn strange_text(
+    alloc: Global,
+    desk: &Desk,
+    ask: &Ask<'_>,
+    strange: Strange,
+) -> Result<String, AllocError> {
+    let url = url_of(alloc, desk, ask)?;
+    let text = strange.text(alloc)?;
+    format!(in alloc; "this isn't the desk: {url} {text}")
+}
+
 /// What answers isn't the desk.
 pub(crate) fn strange<S: Surroundings>(
     alloc: Global,
     surroundings: &mut S,
+    desk: &Desk,
+    ask: &Ask<'_>,
     strange: Strange,
 ) -> Result<Ended, TaskFault> {
-    let words = strange.words();
-    let line = format!(in alloc; "this isn't the desk: {words}")?;
+    let line = strange_text(alloc, desk, ask, strange)?;
     tell(alloc, surroundings, line.as_str())?;
     Ok(Ended::NoAnswer)
+}
+
+/// The desk doesn't give what was only to be read, for this cause.
+pub(crate) fn refused<S: Surroundings>(
+    alloc: Global,
+    surroundings: &mut S,
+    refusal: Refusal,
+) -> Result<Ended, TaskFault> {
+    let line = refusal_line(alloc, None, refusal)?;
+    tell(alloc, surroundings, line.as_str())?;
+    Ok(Ended::Refused)
 }

@@ -9,10 +9,11 @@ use std::io::{ErrorKind, Read, Write};
 use std::net::{SocketAddr, TcpStream, ToSocketAddrs};
 use std::time::{Duration, Instant};
 
-// How many seconds a try may take to connect, and then to exchange.
-const CONNECTING: u64 = 5;
+// The milliseconds that a connection to one address may take.
+const CONNECTING: u64 = 5_000;
 
-const EXCHANGING: u64 = 10;
+// The milliseconds that may pass between two pieces of an answer.
+const BETWEEN_PIECES: u64 = 10_000;
 
 /// The maximum of octets of an answer: a body of 64 MiB and a head.
 const MAX_ANSWER_LEN: usize = 67_117_056;
@@ -30,21 +31,54 @@ fn why_of(error: &io::Error) -> Why {
     }
 }
 
-fn connected_to(rt: &HostRuntime, address: SocketAddr) -> Result<TcpStream, Why> {
-    match TcpStream::connect_timeout(rt, &address, Duration::from_secs(CONNECTING)) {
+/// The time of one try until something comes.
+#[derive(Clone, Copy)]
+pub(crate) struct Time {
+    start: Instant,
+    milliseconds: u64,
+}
+
+impl Time {
+    /// So many milliseconds from now on. `None` where the system's clock fails.
+    pub(crate) fn from_now(rt: &HostRuntime, milliseconds: u64) -> Option<Time> {
+        let start = Instant::now(rt).ok()?;
+        Some(Time {
+            start,
+            milliseconds,
+        })
+    }
+
+    // How much of it is left.
+    fn left(&self, rt: &HostRuntime) -> Option<Duration> {
+        let passed = self.start.elapsed(rt).ok()?;
+        let left = Duration::from_millis(self.milliseconds).checked_sub(passed)?;
+        if left.is_zero() { None } else { Some(left) }
+    }
+}
+
+fn connected_to(rt: &HostRuntime, address: SocketAddr, time: &Time) -> Result<TcpStream, Why> {
+    let Some(left) = time.left(rt) else {
+        return Err(Why::Late);
+    };
+    let limit = left.min(Duration::from_millis(CONNECTING));
+    match TcpStream::connect_timeout(rt, &address, limit) {
         Ok(stream) => Ok(stream),
         Err(error) => Err(why_of(&error)),
     }
 }
 
 /// A connection to the desk, at the first of its addresses that takes one.
-pub(crate) fn connected(rt: &HostRuntime, address: &DeskAddress) -> Result<TcpStream, Why> {
+pub(crate) fn connected(
+    rt: &HostRuntime,
+    address: &DeskAddress,
+    time: &Time,
+) -> Result<TcpStream, Why> {
     let Ok(addresses) = (address.host.as_str(), address.port).to_socket_addrs(rt) else {
         return Err(Why::NoAddress);
     };
     let mut last = Why::NoAddress;
     for address in addresses {
-        match connected_to(rt, address) {
+        match connected_to(rt, address, time) {
             Ok(stream) => return Ok(stream),
             Err(why) => last = why,
         }
@@ -61,26 +95,27 @@ enum End {
     Memory,
 }
 
-// How much of the time of a try is left.
-fn left(rt: &HostRuntime, start: Instant) -> Option<Duration> {
-    let passed = start.elapsed(rt).ok()?;
-    let left = Duration::from_secs(EXCHANGING).checked_sub(passed)?;
-    if left.is_zero() { None } else { Some(left) }
+// How long the next piece of an answer may take: the first one comes in the time of the try, each further one is waited for anew.
+fn limit(rt: &HostRuntime, time: &Time, has_begun: bool) -> Option<Duration> {
+    if has_begun {
+        Some(Duration::from_millis(BETWEEN_PIECES))
+    } else {
+        time.left(rt)
+    }
 }
 
 // Reads a piece of the answer: how many octets it has, or why there is none.
 fn read_piece(
-    rt: &HostRuntime,
     stream: &mut TcpStream,
-    start: Instant,
+    limit: Option<Duration>,
     piece: &mut [u8],
 ) -> Result<usize, Why>
     ensures { IfOk result (λ count. count ≤ length piece.new) }
 {
-    let Some(left) = left(rt, start) else {
+    if limit.is_none() {
         return Err(Why::Late);
-    };
-    if stream.set_read_timeout(Some(left)).is_err() {
+    }
+    if stream.set_read_timeout(limit).is_err() {
         return Err(Why::Closed);
     }
     match stream.read(piece) {
@@ -89,11 +124,12 @@ fn read_piece(
     }
 }
 
-// Reads until the connection is closed, the time is over, or there is too much.
-fn read_all(rt: &HostRuntime, stream: &mut TcpStream, start: Instant, octets: &mut Vec<u8>) -> End {
+// Reads until the connection is closed, nothing comes any more, or there is too much.
+fn read_all(rt: &HostRuntime, stream: &mut TcpStream, time: &Time, octets: &mut Vec<u8>) -> End {
     let mut piece = [0; PIECE];
     for _ in 0..u64::MAX {
-        match read_piece(rt, stream, start, &mut piece) {
+        let limit = limit(rt, time, !octets.is_empty());
+        match read_piece(stream, limit, &mut piece) {
             Ok(0) => return End::Over(Why::Closed),
             Ok(count) => {
                 if octets.extend_from_slice(&piece[..count]).is_err() {
@@ -120,9 +156,11 @@ fn attempt_of(octets: Vec<u8>, end: End) -> Attempt {
 }
 
 // Sends all octets. What the desk answers to a part of them is read all the same.
-fn send(stream: &mut TcpStream, octets: &[u8]) {
-    let _ = stream.set_write_timeout(Some(Duration::from_secs(EXCHANGING)));
-    let _ = stream.write_all(octets);
+fn send(rt: &HostRuntime, stream: &mut TcpStream, time: &Time, octets: &[u8]) {
+    if let Some(left) = time.left(rt) {
+        let _ = stream.set_write_timeout(Some(left));
+        let _ = stream.write_all(octets);
+    }
 }
 
 /// Sends the octets over a connection, and gives what came.
@@ -130,14 +168,12 @@ pub(crate) fn exchanged(
     rt: &HostRuntime,
     alloc: Global,
     stream: TcpStream,
+    time: &Time,
     octets: &[u8],
 ) -> Attempt {
     let mut stream = stream;
-    let Ok(start) = Instant::now(rt) else {
-        return Attempt::Nothing(Why::Late);
-    };
-    send(&mut stream, octets);
+    send(rt, &mut stream, time, octets);
     let mut answer = Vec::new(alloc);
-    let end = read_all(rt, &mut stream, start, &mut answer);
+    let end = read_all(rt, &mut stream, time, &mut answer);
     attempt_of(answer, end)
 }

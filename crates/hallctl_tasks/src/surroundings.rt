@@ -43,12 +43,27 @@ pub trait Surroundings: Dial {
     /// Whether the next line of standard input is `yes`.
     fn is_agreed(&mut self, alloc: Global) -> bool;
 
+    /// How many milliseconds have passed since the line began, or since time was last counted anew.
+    fn idle(&mut self) -> u64;
+
+    /// Counts time anew, from an answer of the desk or of the operator on.
+    fn count_anew(&mut self);
+
     /// Random octets. `None` where the system gives none.
     fn fresh(&mut self) -> Option<[u8; 32]>;
 
     /// The octets of a file.
     fn octets_of(&mut self, alloc: Global, path: &str) -> Result<Vec<u8>, FileFault>;
 
+    /// Whether there is a file.
+    fn has_file(&mut self, path: &str) -> bool;
+
     /// Makes a file of the octets that only its owner may read.
     fn make_file(&mut self, path: &str, octets: &[u8]) -> Result<(), FileFault>;
+
+    /// Gives a file another name, if none has it.
+    fn rename_file(&mut self, from: &str, to: &str) -> Result<(), FileFault>;
+
+    /// Adds a text to the end of a file that only its owner may read, which is made if there is none.
+    fn add_to_file(&mut self, path: &str, text: &str) -> Result<(), FileFault>;
 }

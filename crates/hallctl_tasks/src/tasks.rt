@@ -11,11 +11,12 @@ use hallctl_words::{Line, Wish};
 use std::alloc::Global;
 
 // How the commands of a line are sent.
-fn manner_of(line: &Line<'_>) -> Manner {
+fn manner_of<'w>(line: &Line<'w>) -> Manner<'w> {
     Manner {
         key: line.key,
         yes: line.yes,
         json: line.json,
+        keys: line.keys,
     }
 }
 
@@ -46,15 +47,11 @@ pub fn carried_out<S: Surroundings>(
             let new = NewOperator::new(*operator, *role, new_token);
             add_operator(alloc, surroundings, desk, &manner, &new)
         }
-        Wish::Wait {
-            machine,
-            statuses,
-            patience,
-        } => {
-            let awaited = Awaited::new(*machine, statuses.as_slice(), *patience);
+        Wish::Wait { machine, statuses } => {
+            let awaited = Awaited::new(*machine, statuses.as_slice(), line.timeout);
             wait(alloc, surroundings, desk, &awaited)
         }
-        Wish::Import(path) => import(alloc, surroundings, desk, path, line.json),
+        Wish::Import(path) => import(alloc, surroundings, desk, &manner, path),
         Wish::Completion => Ok(Ended::Done),
     }
 }

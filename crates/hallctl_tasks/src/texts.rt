@@ -2,12 +2,12 @@
 use crate::answer::Answer;
 use crate::listings::Listing;
 use crate::looks::Before;
-use crate::seen::value_of;
 use hall_events::HallCommand;
 use hall_types::{MacAddress, Status};
 use hallctl_texts::{
-    AnswerFault, Filter, answer_line, machine_ids, machine_json, machine_lines, machine_table,
-    machine_with, order_table, refusal_line, refusal_of,
+    AnswerFault, DeskAnswer, Filter, MachineState, deleted_line, done_line, machine_ids,
+    machine_json, machine_lines, machine_table, machine_with, order_table, refusal_line,
+    state_line, value_of,
 };
 use hallctl_words::{Form, Which};
 use serde_json::Value;
@@ -23,48 +23,23 @@ fn known(text: Result<String, AnswerFault>) -> Result<Option<String>, AllocError
 }
 
 // The machine's status just before it was changed: it is that of the listing only if nothing else has changed it since.
-fn status_before(before: Option<Before>, value: &Value) -> Option<Status> {
+fn status_before(before: Option<Before>, state: &MachineState) -> Option<Status> {
     let before = before?;
-    let version = value.get("version")?.as_u64()?;
-    (version == before.version.get().saturating_add(1)).then_some(before.status)
+    (state.version.get() == before.version.get().saturating_add(1)).then_some(before.status)
 }
 
-/// The line of a command that was done.
-pub(crate) fn done_text(
+/// The line of an answered command.
+pub(crate) fn said_text(
     alloc: Global,
     command: &HallCommand,
     before: Option<Before>,
-    answer: &Answer,
-) -> Result<Option<String>, AllocError> {
-    match value_of(alloc, answer)? {
-        Some(value) => {
-            let status = status_before(before, &value);
-            known(answer_line(alloc, command, status, &value))
-        }
-        None => Ok(None),
-    }
-}
-
-fn refusal_text(
-    alloc: Global,
-    command: Option<&HallCommand>,
-    value: &Value,
-) -> Result<Option<String>, AllocError> {
-    match refusal_of(value) {
-        Ok(refusal) => Ok(Some(refusal_line(alloc, command, refusal)?)),
-        Err(_) => Ok(None),
-    }
-}
-
-/// The line of what was refused, a command or else something that was only to be read.
-pub(crate) fn refused_text(
-    alloc: Global,
-    command: Option<&HallCommand>,
-    answer: &Answer,
-) -> Result<Option<String>, AllocError> {
-    match value_of(alloc, answer)? {
-        Some(value) => refusal_text(alloc, command, &value),
-        None => Ok(None),
+    said: &DeskAnswer,
+) -> Result<String, AllocError> {
+    match said {
+        DeskAnswer::Done | DeskAnswer::Listed => done_line(alloc, command),
+        DeskAnswer::Deleted(machine) => deleted_line(alloc, *machine),
+        DeskAnswer::Machine(state) => state_line(alloc, status_before(before, state), state),
+        DeskAnswer::Refused(refusal) => refusal_line(alloc, Some(command), *refusal),
     }
 }
 
@@ -122,7 +97,7 @@ pub(crate) fn list_text(
     listing: &Listing,
     json: bool,
 ) -> Result<Option<String>, AllocError> {
-    match value_of(alloc, answer)? {
+    match value_of(alloc, answer.body())? {
         Some(value) => known(text_in(alloc, &value, listing, json)),
         None => Ok(None),
     }

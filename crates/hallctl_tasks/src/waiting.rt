@@ -1,15 +1,14 @@
 //! A machine is waited for.
-use crate::answer::{Answer, Exchanged, Strange};
-use crate::desk::{Desk, asked_once};
+use crate::answer::{Answer, Strange};
+use crate::desk::{Desk, Heard, asked_once};
 use crate::dial::Why;
 use crate::fault::{Ended, TaskFault};
-use crate::listings::refused;
-use crate::saying::{print_line, strange, tell};
+use crate::saying::{print_line, refused, strange, tell};
 use crate::seen::listed_in;
 use crate::surroundings::Surroundings;
 use hall_types::{Number, Status};
 use hallctl_requests::Ask;
-use hallctl_texts::ListedMachine;
+use hallctl_texts::{DeskAnswer, ListedMachine};
 use std::alloc::Global;
 
 // How long, in milliseconds, is waited before the machine is looked at again.
@@ -44,17 +43,21 @@ enum Glance {
     Ended(Ended),
 }
 
+// What an answer with a machine says of it.
 fn glance_at<S: Surroundings>(
     alloc: Global,
     surroundings: &mut S,
+    desk: &Desk,
+    machine: Number,
     answer: &Answer,
 ) -> Result<Glance, TaskFault> {
-    if !answer.is_done() {
-        return Ok(Glance::Ended(refused(alloc, surroundings, answer)?));
-    }
     match listed_in(alloc, answer)? {
         Some(machine) => Ok(Glance::Listed(machine)),
-        None => Ok(Glance::Ended(strange(alloc, surroundings, Strange::OtherAnswer)?)),
+        None => {
+            let other = Strange::OtherAnswer(answer.status());
+            let ask = Ask::Machine(machine);
+            Ok(Glance::Ended(strange(alloc, surroundings, desk, &ask, other)?))
+        }
     }
 }
 
@@ -63,11 +66,18 @@ fn glance_again<S: Surroundings>(
     surroundings: &mut S,
     desk: &Desk,
     machine: Number,
+    milliseconds: u64,
 ) -> Result<Glance, TaskFault> {
-    match asked_once(alloc, surroundings, desk, &Ask::Machine(machine))? {
-        Exchanged::Answered(answer) => glance_at(alloc, surroundings, &answer),
-        Exchanged::NotTheDesk(words) => { Ok(Glance::Ended(strange(alloc, surroundings, words)?)) }
-        Exchanged::Unknown(why) => Ok(Glance::Nothing(why)),
+    let ask = Ask::Machine(machine);
+    match asked_once(alloc, surroundings, desk, &ask, milliseconds)? {
+        Heard::Said(DeskAnswer::Refused(refusal), _) => {
+            Ok(Glance::Ended(refused(alloc, surroundings, refusal)?))
+        }
+        Heard::Said(_, answer) => glance_at(alloc, surroundings, desk, machine, &answer),
+        Heard::NotTheDesk(other) => {
+            Ok(Glance::Ended(strange(alloc, surroundings, desk, &ask, other)?))
+        }
+        Heard::Unknown(why) | Heard::Unsent(why) => Ok(Glance::Nothing(why)),
     }
 }
 
@@ -116,12 +126,17 @@ fn in_vain<S: Surroundings>(
     Ok(Ended::NoAnswer)
 }
 
-// Waits before the next look, and says whether there is time for one.
-fn has_time<S: Surroundings>(surroundings: &mut S, start: u64, patience: u64) -> bool {
+// The milliseconds of the wait that are left.
+fn left<S: Surroundings>(surroundings: &mut S, start: u64, patience: u64) -> u64 {
     let limit = patience.saturating_mul(SECOND);
-    let left = limit.saturating_sub(surroundings.passed().saturating_sub(start));
-    surroundings.pause(BETWEEN.min(left));
-    left > 0
+    limit.saturating_sub(surroundings.passed().saturating_sub(start))
+}
+
+// Waits before the next look, and says for how many milliseconds there is time for one.
+fn left_after_pause<S: Surroundings>(surroundings: &mut S, start: u64, patience: u64) -> u64 {
+    let between = left(surroundings, start, patience).min(BETWEEN);
+    surroundings.pause(between);
+    left(surroundings, start, patience)
 }
 
 /// Looks at a machine until it has one of the statuses, every two seconds. Each time that the desk is lost, that is told once.
@@ -134,8 +149,14 @@ pub(crate) fn wait<S: Surroundings>(
     let start = surroundings.passed();
     let mut last = None;
     let mut is_lost = false;
+    // No time at all is one look.
+    let mut limit = if awaited.patience == 0 {
+        u64::MAX
+    } else {
+        awaited.patience.saturating_mul(SECOND)
+    };
     for _ in 0..u64::MAX {
-        match glance_again(alloc, surroundings, desk, awaited.machine)? {
+        match glance_again(alloc, surroundings, desk, awaited.machine, limit)? {
             Glance::Listed(machine) if awaited.statuses.contains(&machine.status) => {
                 return found(alloc, surroundings, &machine);
             }
@@ -152,7 +173,8 @@ pub(crate) fn wait<S: Surroundings>(
             }
             Glance::Ended(end) => return Ok(end),
         }
-        if !has_time(surroundings, start, awaited.patience) {
+        limit = left_after_pause(surroundings, start, awaited.patience);
+        if limit == 0 {
             break;
         }
     }

@@ -1,3 +1,5 @@
 pub mod Dangers
+pub mod DeskAnswer
 pub mod Listings
+pub mod Members
 pub mod Values

@@ -26,6 +26,14 @@ pub fn is_dangerous(command: &HallCommand) -> bool
     }
 }
 
+/// The version that a command says.
+pub fn version_of(command: &HallCommand) -> Option<Version> {
+    match command {
+        HallCommand::OnMachine { version, .. } => *version,
+        _ => None,
+    }
+}
+
 // The machine of a command that names no version, and what is done to it.
 fn unversioned(command: &HallCommand) -> Option<(Number, MachineCommand)>
     ensures { result ≡ unversioned command.now }

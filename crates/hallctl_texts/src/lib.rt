@@ -1,21 +1,32 @@
-//! The texts that the operator's client prints: of answers, listings, refusals, and of what erases or deletes.
+//! What the desk's answers say to the operator's client, and the texts that it prints: of answers, listings, refusals, and of what erases
+//! or deletes.
 #![tactic(auto)]
 
 mod answer_fault;
 mod answer_lines;
+mod answers;
 mod dangers;
+mod due;
+mod json;
+mod listed_replies;
 mod listings;
 mod machine_texts;
+mod machine_value;
 mod member_texts;
+mod members;
 mod refusal_texts;
+mod refusals;
+mod replies;
 mod table;
 mod values;
 
 pub use answer_fault::AnswerFault;
-pub use answer_lines::{answer_line, subject};
-pub use dangers::{is_dangerous, warning, with_version};
+pub use answer_lines::{deleted_line, done_line, state_line, subject};
+pub use answers::{DeskAnswer, MachineState, Question, desk_answer};
+pub use dangers::{is_dangerous, version_of, warning, with_version};
+pub use json::value_of;
 pub use listings::{Filter, ListedMachine, lets_through, listed};
 pub use machine_texts::{machine_ids, machine_json, machine_table, machine_with};
 pub use member_texts::{machine_lines, order_table};
-pub use refusal_texts::{refusal_line, refusal_of, sentence};
+pub use refusal_texts::{refusal_line, sentence};
 pub use values::{mac_of, name_of, status_of};

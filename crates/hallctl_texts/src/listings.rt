@@ -3,7 +3,8 @@ ghost use Rattle.std.specs.Prelude.{◌↔◌, IsTrue};
 ghost use Rattle.hallctl_texts.specs.Listings.{Agrees, LetsThrough, Owns};
 
 use crate::answer_fault::AnswerFault;
-use crate::values::{mac_of, name_of, status_of};
+use crate::members::{name_at, name_or_null, number_at, status_at, version_at};
+use crate::values::mac_of;
 use hall_types::{MacAddress, Name, Number, Status, Version};
 use serde_json::Value;
 
@@ -26,38 +27,10 @@ pub struct Filter {
     pub owner: Option<Name>,
 }
 
-pub(crate) fn number_at(object: &Value, name: &str) -> Option<Number> {
-    let number = object.get(name)?.as_u64()?;
-    Number::new(number).ok()
-}
-
-pub(crate) fn version_at(object: &Value) -> Option<Version> {
-    let number = object.get("version")?.as_u64()?;
-    Version::new(number).ok()
-}
-
-pub(crate) fn status_at(object: &Value) -> Option<Status> {
-    status_of(object.get("status")?.as_str()?)
-}
-
-fn name_at(object: &Value, name: &str) -> Option<Name> {
-    name_of(object.get(name)?.as_str()?)
-}
-
-// A name, or null.
-fn name_or_null(object: &Value, name: &str) -> Option<Option<Name>> {
-    let value = object.get(name)?;
-    if value.is_null() {
-        return Some(None);
-    }
-    let name = name_of(value.as_str()?)?;
-    Some(Some(name))
-}
-
 fn listed_at(object: &Value) -> Option<ListedMachine> {
     let id = number_at(object, "id")?;
     let status = status_at(object)?;
-    let version = version_at(object)?;
+    let version = version_at(object, "version")?;
     let pool = name_at(object, "pool")?;
     let owner = name_or_null(object, "owner")?;
     let image = name_or_null(object, "image")?;

@@ -1,6 +1,7 @@
 //! The texts of an answer's members, and of the list of orders.
 use crate::answer_fault::AnswerFault;
-use crate::listings::{addresses, is_listed, number_at, objects};
+use crate::listings::{addresses, is_listed, objects};
+use crate::members::number_at;
 use crate::table::Table;
 use serde_json::Value;
 use std::alloc::{AllocError, Global};

@@ -1,47 +1,8 @@
 //! The sentences of refusals.
-use crate::answer_fault::AnswerFault;
 use crate::answer_lines::subject;
 use hall_events::HallCommand;
 use hall_types::Refusal;
-use serde_json::Value;
 use std::alloc::{AllocError, Global};
-
-// All refusals, in the order of their numbers.
-const REFUSALS: [Refusal; 33] = [
-    Refusal::BadRequest,
-    Refusal::NoRoute,
-    Refusal::WrongMethod,
-    Refusal::NeedLength,
-    Refusal::TooLarge,
-    Refusal::UnknownToken,
-    Refusal::KeyReused,
-    Refusal::RoleNeeded,
-    Refusal::NoMachine,
-    Refusal::NoInterface,
-    Refusal::NoPool,
-    Refusal::NoImage,
-    Refusal::NoOperator,
-    Refusal::NotOwner,
-    Refusal::NotMember,
-    Refusal::StaleVersion,
-    Refusal::Locked,
-    Refusal::WrongStatus,
-    Refusal::Taken,
-    Refusal::NoLiveImage,
-    Refusal::WrongArch,
-    Refusal::InUse,
-    Refusal::LastInterface,
-    Refusal::SelfDisable,
-    Refusal::Full,
-    Refusal::Exhausted,
-    Refusal::NoBoot,
-    Refusal::NoOrder,
-    Refusal::Spent,
-    Refusal::Stale,
-    Refusal::Withdrawn,
-    Refusal::WrongStage,
-    Refusal::Unavailable,
-];
 
 /// What a refusal means, as the table of refusals in docs/OPERATING.md says it.
 pub fn sentence(refusal: Refusal) -> &'static str {
@@ -82,26 +43,6 @@ pub fn sentence(refusal: Refusal) -> &'static str {
         Refusal::Unavailable =>
             "Memory or the disk failed; nothing was changed, or the answer is lost to a fault",
     }
-}
-
-fn named(name: &str) -> Option<Refusal> {
-    REFUSALS
-        .iter()
-        .copied()
-        .find(|refusal| refusal.name() == name)
-}
-
-fn refusal_at(answer: &Value) -> Option<Refusal> {
-    named(answer.get("refusal")?.as_str()?)
-}
-
-/// The refusal that an answer names.
-///
-/// # Errors
-///
-/// `NotTheDesk` alone, where it names none.
-pub fn refusal_of(answer: &Value) -> Result<Refusal, AnswerFault> {
-    refusal_at(answer).ok_or(AnswerFault::NotTheDesk)
 }
 
 /// A line without a line feed: `machine 1: WrongStatus: The machine's status has no such action`, or without what the command is about

@@ -5,9 +5,9 @@ use Rattle.hallctl_words.specs.declared.spans.Span.{Span}
 use Rattle.hallctl_words.specs.declared.fault.ValueFault.{ValueFault}
 use Rattle.hallctl_words.specs.declared.fault.ValueFault.TheVariants as value
 
--- the maximum of the machines that one command line names
+-- the maximum of the machines that one command line names: as many as a hall has
 abbrev pub max_machines : ℕ
-max_machines = 1000
+max_machines = 10000
 
 -- so many numbers from a first one on
 abbrev pub numbers_from : ℕ → ℕ → List ℕ

@@ -10,10 +10,12 @@ pub struct Line<'a> {
     pub desk: Option<&'a str>,
     /// The file whose first line is the operator's bearer token.
     pub token_file: Option<&'a str>,
-    /// How long an answer is tried for, in seconds.
+    /// How long the desk is tried without an answer, in seconds; of a wait, how long it waits.
     pub timeout: u64,
     /// The request key of the one command, which is sent again.
     pub key: Option<RequestKey>,
+    /// The file to which the key of each command is added.
+    pub keys: Option<&'a str>,
     /// Whether a command that erases or deletes is sent without a question.
     pub yes: bool,
     /// Whether the desk's JSON is printed.
@@ -38,11 +40,10 @@ pub enum Wish<'a> {
         role: Role,
         new_token: &'a str,
     },
-    /// That the machine gets one of these statuses, for at most so many seconds.
+    /// That the machine gets one of these statuses, for at most the seconds of the line's time.
     Wait {
         machine: Number,
         statuses: Vec<Status>,
-        patience: u64,
     },
     /// The machines of this file of comma-separated values.
     Import(&'a str),

@@ -247,7 +247,7 @@ const ENTRIES: [Entry; 31] = [
         name: "import",
         about: "Adds the machines of a file of comma-separated values",
         example: "Example: hallctl import machines.csv",
-        words: &[Word::File],
+        words: &[Word::File, Word::Keys],
         common: Common::Reading,
     },
     Entry {

@@ -10,6 +10,8 @@ const STATUS_WORD: &str = "a status is as in Ready or 'Failed commissioning'";
 const BOOT_URI: &str =
     "a URI of 8 to 128 characters that begins http://, of letters, digits and -_./:=,+@%?;";
 
+const TIME: &str = "a time is seconds, or as in 30s, 10m, 2h, at most 8760h, and is said once";
+
 // ---- options of every command
 
 pub(crate) const DESK: WordEntry = WordEntry {
@@ -31,8 +33,8 @@ pub(crate) const TOKEN_FILE: WordEntry = WordEntry {
 pub(crate) const TIMEOUT: WordEntry = WordEntry {
     name: "timeout",
     value: "TIME",
-    help: "How long an answer is tried for: seconds, or as 2m; 60 without it",
-    must: "a time is seconds, or as in 30s, 10m, 2h, at most 8760h",
+    help: "How long the desk is tried without an answer: seconds, or as 2m; 60 without it",
+    must: TIME,
     given: Given::Maybe,
 };
 
@@ -52,13 +54,21 @@ pub(crate) const KEY: WordEntry = WordEntry {
     given: Given::Maybe,
 };
 
+pub(crate) const KEYS: WordEntry = WordEntry {
+    name: "keys",
+    value: "FILE",
+    help: "Adds each command's key to this file before it is sent, and how it ended",
+    must: "a file's path",
+    given: Given::Maybe,
+};
+
 // ---- machines
 
 pub(crate) const MACHINES: WordEntry = WordEntry {
     name: "machines",
     value: "MACHINE",
     help: "Numbers of machines, and ranges of numbers as 5-9",
-    must: "a machine's number, or a range of numbers as in 5-9; at most 1000 machines",
+    must: "a machine's number, or a range of numbers as in 5-9; at most 10000 machines",
     given: Given::Places,
 };
 
@@ -213,7 +223,7 @@ pub(crate) const DIGEST: WordEntry = WordEntry {
 pub(crate) const NEW_TOKEN: WordEntry = WordEntry {
     name: "new-token",
     value: "FILE",
-    help: "Makes a token, and writes it to this new file",
+    help: "Makes a token, and writes it to this new file once the operator is added",
     must: "one of --digest and --new-token is given",
     given: Given::Maybe,
 };
@@ -280,7 +290,7 @@ pub(crate) const PATIENCE: WordEntry = WordEntry {
     name: "timeout",
     value: "TIME",
     help: "How long it waits: seconds, or as 30m, which it is without it",
-    must: "a time is seconds, or as in 30s, 10m, 2h, at most 8760h",
+    must: TIME,
     given: Given::Maybe,
 };
 

@@ -35,6 +35,8 @@ pub(crate) enum Word {
     Timeout,
     Json,
     Key,
+    /// The file of keys.
+    Keys,
     /// Machines by their numbers, and ranges of numbers.
     Machines,
     Machine,
@@ -81,6 +83,7 @@ impl Word {
             Word::Timeout => &option_entries::TIMEOUT,
             Word::Json => &option_entries::JSON,
             Word::Key => &option_entries::KEY,
+            Word::Keys => &option_entries::KEYS,
             Word::Machines => &option_entries::MACHINES,
             Word::Machine => &option_entries::MACHINE,
             Word::Which => &option_entries::WHICH,

@@ -80,14 +80,8 @@ fn statuses_at(alloc: Global, matches: &ArgMatches<'_>) -> Result<Vec<Status>, V
 
 fn wait_wish<'a>(alloc: Global, matches: &ArgMatches<'a>) -> Result<Wish<'a>, ValueFault> {
     let machine = number_at(matches, Word::Machine)?;
-    let seconds = seconds_or(matches.get_str(Word::Patience.name()), WAITS);
-    let patience = known(Word::Patience, seconds)?;
     let statuses = statuses_at(alloc, matches)?;
-    Ok(Wish::Wait {
-        machine,
-        statuses,
-        patience,
-    })
+    Ok(Wish::Wait { machine, statuses })
 }
 
 fn new_operator<'a>(matches: &ArgMatches<'a>, new_token: &'a str) -> Result<Wish<'a>, ValueFault> {
@@ -167,15 +161,36 @@ fn either<'a>(before: &ArgMatches<'a>, after: &ArgMatches<'a>, name: &str) -> Op
     }
 }
 
-// How long an answer is tried for, if that is said. After `wait`, `--timeout` says how long is waited.
+// The time that a line says, before the subcommand or after it.
 fn timeout_text<'a>(
     before: &ArgMatches<'a>,
     after: &ArgMatches<'a>,
-    subcommand: Subcommand,
-) -> Option<&'a str> {
+) -> Result<Option<&'a str>, WordsFault<'a>> {
+    let name = Word::Timeout.name();
+    match (before.get_str(name), after.get_str(name)) {
+        (Some(_), Some(text)) => Err(WordsFault::of(Word::Timeout, Some(text))),
+        (Some(text), None) | (None, Some(text)) => Ok(Some(text)),
+        (None, None) => Ok(None),
+    }
+}
+
+// The time of a line that says none.
+fn usual_seconds(subcommand: Subcommand) -> u64 {
     match subcommand {
-        Subcommand::Wait => before.get_str(Word::Timeout.name()),
-        _ => either(before, after, Word::Timeout.name()),
+        Subcommand::Wait => WAITS,
+        _ => TRIES,
+    }
+}
+
+fn timeout_at<'a>(
+    before: &ArgMatches<'a>,
+    after: &ArgMatches<'a>,
+    subcommand: Subcommand,
+) -> Result<u64, WordsFault<'a>> {
+    let text = timeout_text(before, after)?;
+    match seconds_or(text, usual_seconds(subcommand)) {
+        Some(seconds) => Ok(seconds),
+        None => Err(WordsFault::of(Word::Timeout, text)),
     }
 }
 
@@ -194,6 +209,7 @@ fn line_of<'a>(
         token_file: either(before, after, Word::TokenFile.name()),
         timeout,
         key,
+        keys: after.get_str(Word::Keys.name()),
         yes: after.get_flag(Word::Yes.name()),
         json,
         wish,
@@ -206,9 +222,9 @@ fn asked<'a>(
     after: &ArgMatches<'a>,
     subcommand: Subcommand,
 ) -> Result<Line<'a>, LineFault<'a>> {
-    let text = timeout_text(before, after, subcommand);
-    let Some(timeout) = seconds_or(text, TRIES) else {
-        return Err(LineFault::Words(WordsFault::of(Word::Timeout, text)));
+    let timeout = match timeout_at(before, after, subcommand) {
+        Ok(timeout) => timeout,
+        Err(fault) => return Err(LineFault::Words(fault)),
     };
     match line_of(alloc, before, after, subcommand, timeout) {
         Ok(line) => Ok(line),

@@ -9,8 +9,8 @@ use crate::options::Word;
 use hall_types::Number;
 use std::alloc::{AllocError, Global};
 
-// The maximum of the machines that one command line names.
-const MAX_MACHINES: usize = 1000;
+// The maximum of the machines that one command line names: as many as a hall has.
+const MAX_MACHINES: usize = 10_000;
 
 // So many numbers from a first one on.
 #[derive(Clone, Copy)]
@@ -89,7 +89,7 @@ fn push_word(machines: &mut Vec<Number>, word: &str, place: usize) -> Result<(),
     Ok(())
 }
 
-/// The machines that words name, each by its number or in a range of numbers as `5-9`: 1,000 at most.
+/// The machines that words name, each by its number or in a range of numbers as `5-9`: 10,000 at most.
 pub(crate) fn machines_of(alloc: Global, words: &[&str]) -> Result<Vec<Number>, ValueFault>
     ensures ok { IfOk result (λ machines. machines_in (map (λ word. word.now) words.entry.now) ≡ Some machines.items) }
     ensures fault { IfErr result (λ fault. IsWordsFault fault → machines_in (map (λ word. word.now) words.entry.now) ≡ None) }

@@ -47,6 +47,7 @@ impl Common {
                 Word::TokenFile,
                 Word::Timeout,
                 Word::Key,
+                Word::Keys,
                 Word::Json,
             ],
             Common::Waiting => &[Word::Desk, Word::TokenFile, Word::Json],

@@ -6,6 +6,7 @@ use std::alloc::{AllocError, Global};
 #[derive(Drop)]
 pub(crate) enum Told {
     Nothing(Why),
+    Unsent(Why),
     Endless,
     /// These octets, of which there is one at least.
     Octets(Vec<u8>),
@@ -16,6 +17,7 @@ impl Told {
     pub(crate) fn attempt(self) -> Attempt {
         match self {
             Told::Nothing(why) => Attempt::Nothing(why),
+            Told::Unsent(why) => Attempt::Unsent(why),
             Told::Endless => Attempt::TooLong,
             Told::Octets(octets) => Attempt::Answer(octets),
         }
@@ -63,7 +65,7 @@ fn cut(alloc: Global, text: &str) -> Result<Told, AllocError> {
 /// What the words after `desk` say.
 pub(crate) fn answer_told(alloc: Global, text: &str) -> Result<Told, AllocError> {
     match split(text) {
-        ("refused", _) => Ok(Told::Nothing(Why::Refused)),
+        ("refused", _) => Ok(Told::Unsent(Why::Refused)),
         ("closed", _) => Ok(Told::Nothing(Why::Closed)),
         ("late", _) => Ok(Told::Nothing(Why::Late)),
         ("endless", _) => Ok(Told::Endless),

@@ -116,6 +116,7 @@ fn set(alloc: Global, stage: &mut Stage, word: &str, rest: &str) -> Result<bool,
         "desk" => stage.answers.push_back(answer_told(alloc, rest)?)?,
         "typed" => stage.typed = Some(String::from_str(alloc, rest)?),
         "watched" => stage.is_watched = true,
+        "timed" => stage.is_timed = true,
         "file" => {
             let (path, line) = rest.split_once(' ').unwrap_or((rest, ""));
             stage.add_line(path, line)?;

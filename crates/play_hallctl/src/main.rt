@@ -2,9 +2,10 @@
 //!
 //! - `desk ANSWER`: what one more try has: `refused`, `closed`, `late`, `endless`, `garbage`, `STATUS BODY`, or `cut N STATUS BODY`, of which the
 //!   first N octets come;
-//! - `file PATH LINE`: the file has one more line;
+//! - `file PATH LINE`: the file has one more line; nothing can be added to the file `full`;
 //! - `typed LINE`: standard input is a terminal for the next command line, at which this is typed;
 //! - `watched`: standard error is a terminal for the next command line;
+//! - `timed`: it is written how many milliseconds the next command line took;
 //! - `hallctl WORDS..`: a command line, its words apart by one blank; `~` stands for a blank in a word.
 //!
 //! Of a command line is written: how many tries had the same octets in a row, in how many milliseconds, and which request it was with its body; the

@@ -71,6 +71,10 @@ pub(crate) fn report(alloc: Global, stage: &Stage, status: u8) -> Result<String,
     add_files(alloc, &mut report, stage.files.as_slice())?;
     add_lines(&mut report, "out ", stage.out.as_str())?;
     add_lines(&mut report, "err ", stage.err.as_str())?;
+    if stage.is_timed {
+        let passed = stage.clock;
+        report.push_str(format!(in alloc; "after {passed} ms\n")?.as_str())?;
+    }
     let end = format!(in alloc; "status {status}\n")?;
     report.push_str(end.as_str())?;
     Ok(report)

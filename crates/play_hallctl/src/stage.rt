@@ -1,6 +1,6 @@
 //! What a command line is played in: a desk, a terminal and files, all in memory.
 use crate::answers::Told;
-use hallctl_tasks::{Attempt, Dial, FileFault, Surroundings, Why};
+use hallctl_tasks::{Attempt, Dial, FileFault, Surroundings, Why, goes_on_text};
 use std::alloc::{AllocError, Global};
 use std::collections::VecDeque;
 
@@ -32,10 +32,14 @@ pub(crate) struct Stage {
     pub(crate) sent: Vec<Sent>,
     pub(crate) typed: Option<String>,
     pub(crate) is_watched: bool,
+    /// Whether it is written how long the command line took.
+    pub(crate) is_timed: bool,
     pub(crate) out: String,
     pub(crate) err: String,
     /// The milliseconds that have passed, and how many times there were random octets.
     pub(crate) clock: u64,
+    /// When time was last counted anew.
+    pub(crate) anew: u64,
     pub(crate) drawn: u8,
     /// Whether there was no memory to keep something.
     pub(crate) is_short: bool,
@@ -94,9 +98,11 @@ impl Stage {
             sent: Vec::new(alloc),
             typed: None,
             is_watched: false,
+            is_timed: false,
             out: String::new(alloc),
             err: String::new(alloc),
             clock: 0,
+            anew: 0,
             drawn: 0,
             is_short: false,
         }
@@ -116,8 +122,40 @@ impl Stage {
         add_file(&mut self.files, file)
     }
 
-    fn has_file(&self, path: &str) -> bool {
+    fn is_there(&self, path: &str) -> bool {
         self.files.iter().any(|file| file.path.as_str() == path)
+    }
+
+    fn add_made(&mut self, path: &str, octets: &[u8]) -> Result<(), AllocError> {
+        let file = made(self.alloc, path, octets)?;
+        add_file(&mut self.files, file)
+    }
+
+    fn rename(&mut self, from: &str, to: &str) -> Result<(), AllocError> {
+        for file in self.files.iter_mut() {
+            if file.path.as_str() == from {
+                file.path = String::from_str(self.alloc, to)?;
+                file.is_made = true;
+            }
+        }
+        Ok(())
+    }
+
+    fn add_text(&mut self, path: &str, text: &str) -> Result<(), AllocError> {
+        for file in self.files.iter_mut() {
+            if file.path.as_str() == path {
+                file.is_made = true;
+                return file.octets.extend_from_slice(text.as_bytes());
+            }
+        }
+        self.add_made(path, text.as_bytes())
+    }
+}
+
+fn done(outcome: Result<(), AllocError>) -> Result<(), FileFault> {
+    match outcome {
+        Ok(()) => Ok(()),
+        Err(AllocError) => Err(FileFault::Memory),
     }
 }
 
@@ -126,16 +164,27 @@ impl Dial for Stage {
 
     ghost tries = { λ _. None };
 
-    fn attempt(&mut self, alloc: Global, octets: &[u8]) -> Attempt {
+    fn attempt(&mut self, alloc: Global, octets: &[u8], milliseconds: u64) -> Attempt {
         if add_try(alloc, &mut self.sent, octets, self.clock).is_err() {
             self.is_short = true;
         }
         match self.answers.pop_front() {
             Some(told) => {
-                self.clock = self.clock.saturating_add(told.milliseconds());
+                self.clock = self
+                    .clock
+                    .saturating_add(told.milliseconds().min(milliseconds));
                 told.attempt()
             }
             None => Attempt::Nothing(Why::Closed),
+        }
+    }
+
+    fn goes_on(&mut self, alloc: Global, why: Why, milliseconds: u64) {
+        if self.is_watched {
+            match goes_on_text(alloc, "desk.hall.example:8080", why, milliseconds) {
+                Ok(text) => self.tell(text.as_str()),
+                Err(AllocError) => self.is_short = true,
+            }
         }
     }
 
@@ -174,6 +223,14 @@ impl Surroundings for Stage {
         }
     }
 
+    fn idle(&mut self) -> u64 {
+        self.clock.saturating_sub(self.anew)
+    }
+
+    fn count_anew(&mut self) {
+        self.anew = self.clock;
+    }
+
     fn fresh(&mut self) -> Option<[u8; 32]> {
         self.drawn = self.drawn.saturating_add(1);
         Some([self.drawn; 32])
@@ -189,16 +246,28 @@ impl Surroundings for Stage {
         }
     }
 
+    fn has_file(&mut self, path: &str) -> bool {
+        self.is_there(path)
+    }
+
     fn make_file(&mut self, path: &str, octets: &[u8]) -> Result<(), FileFault> {
-        if self.has_file(path) {
+        if self.is_there(path) {
             return Err(FileFault::Exists);
         }
-        match made(self.alloc, path, octets) {
-            Ok(file) => match add_file(&mut self.files, file) {
-                Ok(()) => Ok(()),
-                Err(AllocError) => Err(FileFault::Memory),
-            },
-            Err(AllocError) => Err(FileFault::Memory),
+        done(self.add_made(path, octets))
+    }
+
+    fn rename_file(&mut self, from: &str, to: &str) -> Result<(), FileFault> {
+        if self.is_there(to) {
+            return Err(FileFault::Exists);
         }
+        done(self.rename(from, to))
+    }
+
+    fn add_to_file(&mut self, path: &str, text: &str) -> Result<(), FileFault> {
+        if path == "full" {
+            return Err(FileFault::Io);
+        }
+        done(self.add_text(path, text))
     }
 }

@@ -57,6 +57,24 @@ impl Client {
     }
 }
 
+impl Client {
+    /// Reads so many octets at most, and sends one, if it hasn't left.
+    pub fn sip(&mut self, most: usize) -> Result<(), Fault> {
+        let Some(stream) = &mut self.stream else {
+            return Ok(());
+        };
+        let mut buffer = [0; 4_096];
+        for _ in 0..most.div_ceil(4_096) {
+            match stream.read(&mut buffer) {
+                Ok(_) => {}
+                Err(error) if error.kind() == ErrorKind::WouldBlock => break,
+                Err(_) => return Err(Fault::Io),
+            }
+        }
+        Ok(stream.write_all(b"x")?)
+    }
+}
+
 /// The last client of a name sends octets.
 pub fn send_from(clients: &mut [Client], name: &str, octets: &[u8]) -> Result<(), Fault> {
     named(clients, name)?.send(octets)

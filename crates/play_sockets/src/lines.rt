@@ -6,7 +6,11 @@ use crate::stage::Stage;
 use crate::texts::{number, push_got, unescaped};
 use hall_desk::Input;
 use hall_store::HallStore;
+use hall_types::Moment;
 use pxe_vendor::Octets;
+
+// Where a log says that a quiet moment comes from.
+const NOBODY: &str = "-";
 
 // So many clients of a name connect.
 fn connect<S: HallStore + Drop>(
@@ -123,6 +127,10 @@ fn push_log<S: HallStore + Drop>(
     line: &mut String,
 ) -> Result<(), Fault> {
     let clients = stage.clients.as_slice();
+    if name == NOBODY {
+        stage.log.push_about(line, NOBODY, clients)?;
+        return Ok(());
+    }
     for client in clients.iter().rev() {
         if client.name.as_str() == name {
             stage
@@ -161,6 +169,19 @@ fn push_turns<S: HallStore + Drop>(
     Ok(())
 }
 
+// Turns of which some could wait.
+fn push_rests<S: HallStore + Drop>(
+    stage: &mut Stage<S>,
+    count: &str,
+    line: &mut String,
+) -> Result<(), Fault> {
+    let before = stage.clock.pauses;
+    push_turns(stage, count, line)?;
+    let pauses = stage.clock.pauses.saturating_sub(before);
+    write!(line, ", {pauses} could wait")?;
+    Ok(())
+}
+
 fn push_settled<S: HallStore + Drop>(stage: &mut Stage<S>, line: &mut String) -> Result<(), Fault> {
     let word = if stage.settle() {
         "settled"
@@ -168,6 +189,12 @@ fn push_settled<S: HallStore + Drop>(stage: &mut Stage<S>, line: &mut String) ->
         "unsettled"
     };
     line.push_str(word)?;
+    Ok(())
+}
+
+// The clock is at this moment.
+fn set_moment<S: HallStore + Drop>(stage: &mut Stage<S>, seconds: &str) -> Result<(), Fault> {
+    stage.clock.stamp.moment = Moment::new(number(seconds)?).map_err(|_| Fault::Line)?;
     Ok(())
 }
 
@@ -184,6 +211,21 @@ fn set_clock<S: HallStore + Drop>(stage: &mut Stage<S>, word: &str) -> Result<()
 // Time goes by.
 fn pass<S: HallStore + Drop>(stage: &mut Stage<S>, millis: &str) -> Result<(), Fault> {
     stage.pass(number(millis)?);
+    Ok(())
+}
+
+// So many times: milliseconds go by, each client reads so many octets at most and sends one, and turns are served.
+fn sip<S: HallStore + Drop>(stage: &mut Stage<S>, words: &str) -> Result<(), Fault> {
+    let (times, rest) = words.split_once(' ').ok_or(Fault::Line)?;
+    let (millis, most) = rest.split_once(' ').ok_or(Fault::Line)?;
+    let most = usize::try_from(number(most)?).map_err(|_| Fault::Line)?;
+    for _ in 0..number(times)? {
+        pass(stage, millis)?;
+        for client in stage.clients.iter_mut() {
+            client.sip(most)?;
+        }
+        let _ = stage.settle();
+    }
     Ok(())
 }
 
@@ -242,6 +284,7 @@ pub fn play_line<S: HallStore + Drop>(
     let (kind, rest) = text.split_once(' ').unwrap_or((text, ""));
     match kind {
         "turns" => push_turns(stage, rest, line),
+        "rests" => push_rests(stage, rest, line),
         "settle" => push_settled(stage, line),
         "another" => serve_another(rt, stage, rest, line),
         "reply" => push_reply(stage, line),
@@ -249,7 +292,9 @@ pub fn play_line<S: HallStore + Drop>(
             stage.clock.stamp.millis = number(rest)?;
             Ok(())
         }
+        "moment" => set_moment(stage, rest),
         "pass" => pass(stage, rest),
+        "sip" => sip(stage, rest),
         "clock" => set_clock(stage, rest),
         "open" => push_open(stage, line),
         "failures" => push_failures(stage, line),

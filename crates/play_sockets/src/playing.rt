@@ -26,6 +26,7 @@ fn answer<S: HallStore + Drop>(
 #[derive(Clone, Copy)]
 enum Next {
     Line,
+    Begin,
     Hall(Begun),
     End,
 }
@@ -59,24 +60,27 @@ fn step<S: HallStore + Drop, R: BufRead>(
         println!(rt; "")?;
         return Ok(Next::Hall(hall_of(words)?));
     }
+    if text.as_str() == "begin" {
+        println!(rt; "")?;
+        return Ok(Next::Begin);
+    }
     answer(rt, stage, text.as_str())?;
     Ok(Next::Line)
 }
 
-// Plays the lines over a stage, up to one that begins another hall.
+// Plays the lines over a stage, up to one that begins another service or another hall.
 fn play_over<S: HallStore + Drop, R: BufRead>(
     rt: &HostRuntime,
     stage: &mut Stage<S>,
     reader: &mut R,
-) -> Result<Option<Begun>, Fault> {
+) -> Result<Next, Fault> {
     for _ in 0..u64::MAX {
         match step(rt, stage, reader)? {
             Next::Line => {}
-            Next::Hall(hall) => return Ok(Some(hall)),
-            Next::End => return Ok(None),
+            next => return Ok(next),
         }
     }
-    Ok(None)
+    Ok(Next::End)
 }
 
 /// Plays the lines up to one that begins another hall, which it gives.
@@ -86,7 +90,12 @@ pub fn play<S: HallStore + Drop, R: BufRead>(
     reader: &mut R,
 ) -> Result<Option<Begun>, Fault> {
     let mut stage = Stage::new(rt, store)?;
-    let next = play_over(rt, &mut stage, reader);
-    drop(stage);
-    next
+    for _ in 0..u64::MAX {
+        match play_over(rt, &mut stage, reader)? {
+            Next::Begin => stage = stage.again(),
+            Next::Hall(hall) => return Ok(Some(hall)),
+            Next::Line | Next::End => return Ok(None),
+        }
+    }
+    Ok(None)
 }

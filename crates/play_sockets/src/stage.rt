@@ -26,6 +26,8 @@ pub struct Clock {
     pub stamp: Stamp,
     /// Whether it gives no stamps.
     pub fails: bool,
+    /// How many times it was asked how long a turn may wait.
+    pub pauses: u64,
 }
 
 impl Source for Clock {
@@ -34,6 +36,7 @@ impl Source for Clock {
     }
 
     fn pause(&mut self) -> u64 {
+        self.pauses = self.pauses.saturating_add(1);
         PAUSE
     }
 }
@@ -81,6 +84,7 @@ fn standing_clock() -> Result<Clock, Fault> {
     Ok(Clock {
         stamp,
         fails: false,
+        pauses: 0,
     })
 }
 
@@ -110,6 +114,15 @@ impl<S: HallStore + Drop> Stage<S> {
             clients,
             asker: socket,
         })
+    }
+
+    /// The service begins again over its desk and sockets.
+    pub fn again(self) -> Stage<S> {
+        let (desk, sockets) = self.service.into_parts();
+        Stage {
+            service: Service::new(self.alloc, desk, sockets),
+            ..self
+        }
     }
 
     /// What comes by an arrival's line. The clock is set to it.

@@ -83,6 +83,8 @@ pub(crate) fn asked_text(alloc: Global, asked: Asked<'_>) -> Result<String, Allo
             format!(in alloc; "init {path} {admin} {digest}")
         }
         Asked::Migrate { path } => format!(in alloc; "migrate {path}"),
+        Asked::Backup { path, to } => format!(in alloc; "backup {path} to {to}"),
+        Asked::Restore { path, from } => format!(in alloc; "restore {path} from {from}"),
         Asked::Serve(serving) => serving_text(alloc, &serving),
         Asked::Over { path, task } => {
             let task = task_text(alloc, task)?;

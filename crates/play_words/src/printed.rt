@@ -4,9 +4,9 @@ use crate::words::words_of;
 use hall_events::HallCommand;
 use hall_types::{MacAddress, Numbered, Status};
 use hallctl_texts::{
-    Filter, ListedMachine, answer_line, is_dangerous, listed, machine_ids, machine_json,
-    machine_lines, machine_table, machine_with, order_table, refusal_line, refusal_of, warning,
-    with_version,
+    DeskAnswer, Filter, ListedMachine, Question, deleted_line, desk_answer, done_line,
+    is_dangerous, listed, machine_ids, machine_json, machine_lines, machine_table, machine_with,
+    order_table, refusal_line, state_line, warning, with_version,
 };
 use hallctl_words::{Form, Line, Wish, read};
 use serde_json::Value;
@@ -96,37 +96,57 @@ fn status_named(text: &str) -> Option<Status> {
         .find(|status| status.text() == text)
 }
 
+// The line of what the desk says.
+fn said_line(
+    alloc: Global,
+    command: Option<&HallCommand>,
+    before: &str,
+    said: &DeskAnswer,
+) -> Result<String, PlayFault> {
+    match (said, command) {
+        (DeskAnswer::Done, Some(command)) => Ok(done_line(alloc, command)?),
+        (DeskAnswer::Deleted(machine), _) => Ok(deleted_line(alloc, *machine)?),
+        (DeskAnswer::Machine(state), _) => Ok(state_line(alloc, status_named(before), state)?),
+        (DeskAnswer::Refused(refusal), _) => Ok(refusal_line(alloc, command, *refusal)?),
+        _ => Err(PlayFault::Case),
+    }
+}
+
+// The line of an answer of a status and a body; without a command the machines were asked for.
 fn answered(
     alloc: Global,
-    command: &HallCommand,
+    command: Option<&HallCommand>,
     before: &str,
-    json: &str,
+    answer: &str,
 ) -> Result<String, PlayFault> {
-    let answer = json_of(alloc, json)?;
-    Ok(answer_line(alloc, command, status_named(before), &answer)?)
+    let question = match command {
+        Some(command) => Question::Command(command),
+        None => Question::Machines,
+    };
+    let (status, body) = answer.split_once(' ').ok_or(PlayFault::Case)?;
+    let status = status.parse::<u16>().ok().ok_or(PlayFault::Case)?;
+    match desk_answer(alloc, &question, status, body)? {
+        Some(said) => said_line(alloc, command, before, &said),
+        None => Err(PlayFault::NotTheDesk),
+    }
 }
 
 /// What a command changed.
 pub(crate) fn answer_text(alloc: Global, text: &str) -> Result<String, PlayFault> {
     let (words, rest) = parts(text)?;
-    let (before, json) = parts(rest)?;
+    let (before, answer) = parts(rest)?;
     let command = command_of(alloc, words)?;
-    answered(alloc, &command, before, json)
-}
-
-fn refused(alloc: Global, command: Option<&HallCommand>, json: &str) -> Result<String, PlayFault> {
-    let refusal = refusal_of(&json_of(alloc, json)?)?;
-    Ok(refusal_line(alloc, command, refusal)?)
+    answered(alloc, Some(&command), before, answer)
 }
 
 /// Why a command was refused.
 pub(crate) fn refusal_text(alloc: Global, text: &str) -> Result<String, PlayFault> {
-    let (words, json) = parts(text)?;
+    let (words, answer) = parts(text)?;
     if words == "-" {
-        return refused(alloc, None, json);
+        return answered(alloc, None, "-", answer);
     }
     let command = command_of(alloc, words)?;
-    refused(alloc, Some(&command), json)
+    answered(alloc, Some(&command), "-", answer)
 }
 
 fn warned(

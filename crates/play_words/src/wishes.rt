@@ -84,14 +84,10 @@ fn wish_text(alloc: Global, wish: &Wish<'_>) -> Result<String, AllocError> {
             let role = role.text();
             format!(in alloc; "new operator {operator}, {role}, token to {new_token}")
         }
-        Wish::Wait {
-            machine,
-            statuses,
-            patience,
-        } => {
+        Wish::Wait { machine, statuses } => {
             let machine = machine.get();
             let statuses = wait_text(alloc, statuses.as_slice())?;
-            format!(in alloc; "wait {patience} s for machine {machine}{statuses}")
+            format!(in alloc; "wait for machine {machine}{statuses}")
         }
         Wish::Import(file) => format!(in alloc; "import {file}"),
         Wish::Completion => String::from_str(alloc, "completion"),
@@ -123,7 +119,7 @@ fn push_key(alloc: Global, text: &mut String, key: Option<RequestKey>) -> Result
     }
 }
 
-/// What a command line asks for, and after a semicolon for how many seconds an answer is tried for and what else was given.
+/// What a command line asks for, and after a semicolon for how many seconds the desk is tried, or a status waited for, and what else was given.
 pub(crate) fn line_text(alloc: Global, line: &Line<'_>) -> Result<String, AllocError> {
     let wish = wish_text(alloc, &line.wish)?;
     let timeout = line.timeout;
@@ -131,6 +127,7 @@ pub(crate) fn line_text(alloc: Global, line: &Line<'_>) -> Result<String, AllocE
     push_text(&mut text, ", desk ", line.desk)?;
     push_text(&mut text, ", token of ", line.token_file)?;
     push_key(alloc, &mut text, line.key)?;
+    push_text(&mut text, ", keys to ", line.keys)?;
     push_flag(&mut text, ", yes", line.yes)?;
     push_flag(&mut text, ", json", line.json)?;
     Ok(text)

@@ -35,14 +35,17 @@ fn is_of_note(turn: &Turn, arrival: Option<&str>) -> bool {
     match turn {
         Turn::Handed(handover) | Turn::Unsent(handover) => is_handover_of_note(handover, arrival),
         Turn::Accepted { .. } | Turn::Closed { .. } => true,
-        Turn::Failed | Turn::Moved(_) | Turn::Nothing => false,
+        Turn::Failed | Turn::Moved(_) | Turn::PutOff(_) | Turn::Nothing => false,
     }
 }
 
 fn source(turn: &Turn) -> Option<SocketAddr> {
     match turn {
         Turn::Handed(handover) | Turn::Unsent(handover) => handover.from,
-        Turn::Accepted { from, .. } | Turn::Closed { from, .. } | Turn::Moved(from) => Some(*from),
+        Turn::Accepted { from, .. }
+        | Turn::Closed { from, .. }
+        | Turn::Moved(from)
+        | Turn::PutOff(from) => Some(*from),
         Turn::Failed | Turn::Nothing => None,
     }
 }

@@ -1,5 +1,6 @@
 pub mod ConnectionLemmas
-pub mod PutOffLemmas
+pub mod ListingLemmas
+pub mod ListsLemmas
 pub mod ServingLemmas
 pub mod TableLemmas
 pub mod TurnLemmas

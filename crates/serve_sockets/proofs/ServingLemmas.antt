@@ -1,19 +1,21 @@
 -- What follows once a request is decided.
-use Rattle.std.proofs.Common.{◌≡◌, ◌⊎◌, ℕ, List, ◌∷◌, ◌++◌, Option, Some, None, inl, inr, sym, ◌∙◌, ap, subst, append_assoc, append-nil}
+use Rattle.std.proofs.Common.{◌≡◌, ◌⊎◌, ℕ, List, ◌∷◌, ◌++◌, Option, Result, Some, None, [], inl, inr, sym, ◌∙◌, ap, subst, append_assoc, append-nil}
 use Rattle.std.specs.Prelude.{IfSome}
 use Rattle.std.specs.Io.KnownBytes.{Consumes, IsAtEnd}
 use Rattle.pxe_vendor.specs.Place.{Site}
 use Rattle.hall_types.specs.Hall.{Hall}
+use Rattle.desk_views.specs.Look.{IsLook}
 use Rattle.http_requests.specs.Decided.{IsDecided}
-use Rattle.hall_desk.specs.Attempt.{IsAnswered}
+use Rattle.hall_desk.specs.Attempt.{IsAnswered, IsKept, IsTorn}
 use Rattle.hall_desk.specs.AttemptLaws.{answered_on, missed_same}
 use Rattle.hall_desk.specs.Octets.{octets_of}
 use Rattle.hall_desk.specs.declared.arrival.Answer.{Answer}
 use Rattle.hall_desk.specs.declared.arrival.Answer.TheVariants.{Unavailable}
+use Rattle.hall_desk.specs.declared.arrival.Input.{Input}
 use Rattle.hall_desk.specs.declared.arrival.Input.TheVariants.{Request}
 use Rattle.serve_sockets.specs.Connection.{Moves}
 use Rattle.serve_sockets.specs.Serving.{IfRequest, IsRequest, IsWaiting}
-use Rattle.serve_sockets.specs.Turn.{Tells}
+use Rattle.serve_sockets.specs.Turn.{IsOnlyRead, Tells}
 use Rattle.serve_sockets.specs.declared.serving.Step.{Step}
 use Rattle.serve_sockets.specs.declared.serving.Step.TheVariants as step
 use Rattle.serve_sockets.specs.declared.turn.Handover.{Handover}
@@ -53,6 +55,53 @@ module _ {S : Type 0} (holds : S → Hall → Type 0) (leaves : S → List Hall 
   whole_step step.PutOff read all left rest after moves ends it = tt
   whole_step step.Done read all left rest after moves ends it = tt
   whole_step step.Failed read all left rest after moves ends it = tt
+
+-- a store stays as it is where nothing is asked
+pub read_same : {S : Type 0} (holds : S → Hall → Type 0) (leaves : S → List Hall → Type 0) (s : S) → IsOnlyRead holds leaves s s
+read_same holds leaves s = record { same = λ h held. held; stop = λ h held hs left. left }
+
+-- what a look leaves of a store
+pub read_by_look : {S Y E : Type 0} (holds : S → Hall → Type 0) (leaves : S → List Hall → Type 0) (old new : S) (r : Result Y E) (Right : Hall → Y → Type 0)
+    → IsLook holds leaves old new r Right → IsOnlyRead holds leaves old new
+read_by_look holds leaves old new r Right it = record { same = it.same; stop = it.crash }
+
+module _ {S : Type 0} (holds : S → Hall → Type 0) (leaves : S → List Hall → Type 0) (old mid new : S) (site : Site) (what : Input) (moment : ℕ) (fresh : List ℕ)
+    (only : IsOnlyRead holds leaves old mid) where
+  kept_after : (h : Hall) (a : Answer) → holds old h → IsKept holds leaves mid new site what moment fresh h a → IsKept holds leaves old new site what moment fresh h a
+  kept_after h a held it = record {
+    next = it.next;
+    come = it.come;
+    held = it.held;
+    sound = it.sound;
+    settled = λ left. it.settled (only.stop h held (h ∷ []) left);
+  }
+
+  torn_after : (h : Hall) (hs : List Hall) → IsTorn holds leaves mid new site what moment fresh h hs → IsTorn holds leaves old new site what moment fresh h hs
+  torn_after h hs it = record { next = it.next; answer = it.answer; step = it.step; left = it.left }
+
+  -- what was answered after the store was read is an answer over the store before
+  pub answered_after : (a : Answer) → IsAnswered holds leaves mid new site what moment fresh a → IsAnswered holds leaves old new site what moment fresh a
+  answered_after a it = record {
+    step = λ h held sound. elim (it.step h (only.same h held) sound) [ inl kept ↦ inl (kept_after h a held kept) | inr missed ↦ inr missed ];
+    idle = λ h held none. it.idle h (only.same h held) none;
+    still = λ h held none hs left. it.still h (only.same h held) none hs (only.stop h held hs left);
+    unavailable = λ is h held. it.unavailable is h (only.same h held);
+    crash = λ h held sound hs left. torn_after h hs (it.crash h (only.same h held) sound hs (only.stop h held hs left));
+  }
+
+-- a request that waits for its answer after the store was read
+pub waiting_after : {S : Type 0} (holds : S → Hall → Type 0) (leaves : S → List Hall → Type 0) (old mid new : S) (from site : Site) (moment : ℕ) (fresh : List ℕ)
+    (octets left : List ℕ) (handover : Handover) → from ≡ site → IsOnlyRead holds leaves old mid → IsWaiting holds leaves mid new from moment fresh octets left handover
+    → IsWaiting holds leaves old new site moment fresh octets left handover
+waiting_after holds leaves old mid new from site moment fresh octets left handover same only it =
+    let here : IsWaiting holds leaves mid new site moment fresh octets left handover =
+    subst (λ (at : Site). IsWaiting holds leaves mid new at moment fresh octets left handover) same it in
+    record {
+      said = here.said;
+      tells = here.tells;
+      answered = answered_after holds leaves old mid new site (Request octets) moment fresh only here.said here.answered;
+      waits = here.waits;
+    }
 
 -- a request that is refused for want of memory counts as not having come
 pub refused_request : {S : Type 0} (holds : S → Hall → Type 0) (leaves : S → List Hall → Type 0) → ((s : S) (h : Hall) (hs : List Hall) → leaves s hs → leaves s (h ∷ hs))

@@ -8,7 +8,7 @@ use Rattle.hall_desk.specs.Attempt.{IsKept, IsRan}
 use Rattle.hall_desk.specs.Octets.{HasMissed, IsArrivalRun}
 use Rattle.hall_desk.specs.declared.arrival.Answer.{Answer}
 use Rattle.hall_desk.specs.declared.arrival.Arrival.{Arrival}
-use Rattle.serve_sockets.specs.Turn.{HandsNothing, IfHanded, IsHanded, WentOn}
+use Rattle.serve_sockets.specs.Turn.{HandsNothing, IfHanded, IsHanded, IsOnlyRead, IsPutOff, WentOn}
 use Rattle.serve_sockets.specs.declared.turn.Handover.{Handover}
 use Rattle.serve_sockets.specs.declared.turn.Turn.{Turn}
 use Rattle.serve_sockets.specs.declared.turn.Turn.TheVariants as turn
@@ -95,12 +95,23 @@ module _ {S : Type 0} (holds : S → Hall → Type 0) where
     same_seat : new ≡ old → WentOn holds old new site 1
     same_seat same = subst (λ (s : S). WentOn holds old s site 1) (sym same) (went_nowhere old site 1)
 
+    -- nothing came, and the store was only read
+    read_on : IsOnlyRead holds leaves old new → WentOn holds old new site 1
+    read_on only = record {
+      arrivals = [];
+      answers = [];
+      few = omega arith;
+      ran = λ h held sound. record { end = h; run = refl; held = only.same h held; sound = sound };
+    }
+
     -- one turn
-    pub went_one : (t : Turn) → IfHanded t (IsHanded holds leaves old new site moment fresh) → (HandsNothing t → new ≡ old) → WentOn holds old new site 1
-    went_one (turn.Handed handover) handed same = went_by handover handed
-    went_one (turn.Unsent handover) handed same = went_by handover handed
-    went_one (turn.Accepted from instead_of) handed same = same_seat (same tt)
-    went_one (turn.Moved from) handed same = same_seat (same tt)
-    went_one (turn.Closed from cause) handed same = same_seat (same tt)
-    went_one turn.Nothing handed same = same_seat (same tt)
-    went_one turn.Failed handed same = same_seat (same tt)
+    pub went_one : (t : Turn) → IfHanded t (IsHanded holds leaves old new site moment fresh) → (HandsNothing t → new ≡ old)
+        → (IsPutOff t → IsOnlyRead holds leaves old new) → WentOn holds old new site 1
+    went_one (turn.Handed handover) handed same read = went_by handover handed
+    went_one (turn.Unsent handover) handed same read = went_by handover handed
+    went_one (turn.Accepted from instead_of) handed same read = same_seat (same tt)
+    went_one (turn.Moved from) handed same read = same_seat (same tt)
+    went_one (turn.PutOff from) handed same read = read_on (read tt)
+    went_one (turn.Closed from cause) handed same read = same_seat (same tt)
+    went_one turn.Nothing handed same read = same_seat (same tt)
+    went_one turn.Failed handed same read = same_seat (same tt)

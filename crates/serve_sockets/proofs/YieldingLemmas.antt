@@ -1,4 +1,4 @@
--- Which connection goes, and how many silent ones each group has.
+-- Which connection goes, and how many undecided ones each group has.
 use Rattle.std.proofs.Common.{◌≡◌, ◌≢◌, ◌<◌, ◌≤◌, ◌+◌, ◌==◌, ◌∙◌, ℕ, Fits, w16, Bool, true, false, List, Option, Some, None, IfSome, MatchOption, cond, length, nat_lt, slice_index, slice_index_or, slice_set, take, ap, arith, refl, subst, sym}
 use Rattle.std.proofs.lemmas.Bool.{eqb-false, eqb-true, ltb-true, ltb-false}
 use Rattle.std.proofs.lemmas.List.{take_all, length-take, get_or-set_other, get_or-set_same}
@@ -50,20 +50,20 @@ module _ {T : Type 0} (slots : List (Option (Connection T))) where
         | false ↦ λ e. let here : k ≡ place = omega (arith, below, ltb-false k place e) in rw here last
       ] refl
 
-  -- how many silent connections the group that was found has, by the count of each group
+  -- how many undecided connections the group that was found has, by the count of each group
   pub crowd_found : (counts : List ℕ) (found : Option ℕ) (made : ℕ) (P : ℕ → Type 0) → IsTally counts slots → IfSome found (λ group. group < 1024)
       → MatchOption found (made ≡ 0) P → ((group : ℕ) → group < 1024 → P group → made ≡ slice_index counts group) → made ≡ crowd_by slots found
   crowd_found counts None made P tally within is reads = is
   crowd_found counts (Some group) made P tally within is reads = reads group within is ∙ tally group within
 
-  -- what one more slot adds to how many silent connections a group has
+  -- what one more slot adds to how many undecided connections a group has
   crowd_more : (i g : ℕ) (held : Option (Connection T)) → i < length slots → held ≡ slice_index_or slots i held
       → crowd_of (take (i + 1) slots) g ≡ crowd_of (take i slots) g + cond (is_group g (group_in held)) 1 0
   crowd_more i g held inside at =
       let counts : Option (Connection T) → ℕ = λ x. cond (is_group g (group_in x)) 1 0 in
       sum_by_more counts slots i held inside ∙ ap (λ x. crowd_of (take i slots) g + counts x) (sym at)
 
-  -- one more silent connection of a group still fits
+  -- one more undecided connection of a group still fits
   pub crowd_fits : (counts : List ℕ) (i g : ℕ) → length slots ≤ 1024 → slice_index counts g ≡ crowd_of (take i slots) g → Fits w16 (slice_index counts g + 1)
   crowd_fits counts i g few counted =
       let within : crowd_of (take i slots) g ≤ length (take i slots) = count_by-le-length (λ held. is_group g (group_in held)) (take i slots) in
@@ -73,7 +73,7 @@ module _ {T : Type 0} (slots : List (Option (Connection T))) where
   pub tally_whole : (counts : List ℕ) (i : ℕ) → length slots ≤ i → (g : ℕ) → slice_index counts g ≡ crowd_of (take i slots) g → slice_index counts g ≡ crowd_of slots g
   tally_whole counts i past g counted = counted ∙ ap (λ (all : List (Option (Connection T))). crowd_of all g) (take_all i slots past)
 
-  -- a slot whose connection isn't silent counts nowhere
+  -- a slot whose connection isn't undecided counts nowhere
   pub tally_same : (counts : List ℕ) (i : ℕ) (held : Option (Connection T)) → i < length slots → held ≡ slice_index_or slots i held → group_in held ≡ None
       → ((g : ℕ) → g < 1024 → slice_index counts g ≡ crowd_of (take i slots) g)
       → (g : ℕ) → g < 1024 → slice_index counts g ≡ crowd_of (take (i + 1) slots) g
@@ -81,7 +81,7 @@ module _ {T : Type 0} (slots : List (Option (Connection T))) where
       let more = subst (λ (o : Option ℕ). crowd_of (take (i + 1) slots) g ≡ crowd_of (take i slots) g + cond (is_group g o) 1 0) none (crowd_more i g held inside at) in
       omega (arith, so_far g below, more)
 
-  -- a slot whose connection is silent counts in its group
+  -- a slot whose connection is undecided counts in its group
   pub tally_more : (counts : List ℕ) (i h : ℕ) (held : Option (Connection T)) → i < length slots → held ≡ slice_index_or slots i held → group_in held ≡ Some h
       → h < 1024 → length counts ≡ 1024 → ((g : ℕ) → g < 1024 → slice_index counts g ≡ crowd_of (take i slots) g)
       → (g : ℕ) → g < 1024 → slice_index (slice_set counts h (slice_index counts h + 1)) g ≡ crowd_of (take (i + 1) slots) g

@@ -1,5 +1,5 @@
 -- What a connection sent, and what of its answer it has taken.
-use Rattle.std.specs.Prelude.{◌≡◌, ◌⊎◌, ℕ, List, [], ◌++◌, Bool, Option, None, Some, drop, is_some, length, not, ◌&&◌, ◌==◌, if◌then◌else◌}
+use Rattle.std.specs.Prelude.{◌≡◌, ◌⊎◌, ℕ, ◌-◌, List, [], ◌++◌, Bool, false, Option, None, Some, drop, is_some, nat_lt, not, ◌&&◌, if◌then◌else◌}
 use Rattle.std.specs.Io.KnownBytes.{Consumes, IsAtEnd, Keeps}
 use Rattle.http_requests.specs.Decided.{IsDecided}
 use Rattle.hall_desk.specs.Octets.{octets_of}
@@ -13,6 +13,11 @@ use Rattle.serve_sockets.specs.declared.connection.Taken.TheVariants as taken
 abbrev pub rest_of : Option Sending → List ℕ
 rest_of None = []
 rest_of (Some sending) = drop sending.written (octets_of sending.answer)
+
+-- whether something was longer than a minute ago, if it was
+abbrev pub is_long_ago : ℕ → Option ℕ → Bool
+is_long_ago now None = false
+is_long_ago now (Some moment) = nat_lt 60000 (now - moment)
 
 module _ {T : Type 0} where
   -- what it is a connection over
@@ -39,17 +44,21 @@ module _ {T : Type 0} where
   abbrev pub is_put_off : Connection T → Bool
   is_put_off connection = connection.is_put_off
 
-  -- whether its request has waited, and waits no more
-  abbrev pub is_due : Connection T → Bool
-  is_due connection = connection.is_due
+  -- whether its request for a list, which had waited, was called: the list is open until the client has taken it
+  abbrev pub is_called : Connection T → Bool
+  is_called connection = is_some connection.called
 
-  -- whether it has sent nothing yet, and has no answer
-  abbrev pub is_silent : Connection T → Bool
-  is_silent connection = (length (input_of connection) == 0) && not (is_answered connection)
+  -- whether its list was called longer than a minute of served time ago
+  abbrev pub is_slow : ℕ → Connection T → Bool
+  is_slow now connection = is_long_ago now connection.called
 
-  -- the group of the client's address, if the connection is silent
-  abbrev pub silent_group : Connection T → Option ℕ
-  silent_group connection = if is_silent connection then Some (group_of connection.from) else None
+  -- whether it has no answer, and its request isn't put off
+  abbrev pub is_undecided : Connection T → Bool
+  is_undecided connection = not (is_answered connection) && not (is_put_off connection)
+
+  -- the group of the client's address, if the connection is undecided
+  abbrev pub undecided_group : Connection T → Option ℕ
+  undecided_group connection = if is_undecided connection then Some (group_of connection.from) else None
 
   -- the octets of its answer that are to be written yet
   abbrev pub left_of : Connection T → List ℕ

@@ -1,17 +1,26 @@
 -- Groups of addresses, by which connections are counted.
-use Rattle.std.specs.Prelude.{ℕ, ◌+◌, ◌*◌, ◌%◌, slice_index}
+use Rattle.std.specs.Prelude.{ℕ, ◌+◌, ◌*◌, ◌%◌, Bool, List, [], ◌∷◌, nat_eq, slice_index, if◌then◌else◌}
+use Rattle.std.specs.List.{starts_with}
 use Rattle.std.specs.Net.Addr.{ipv4_octets, ipv6_segments}
 use Rattle.std.specs.Net.Socket.{socket_ip}
 use Rattle.std.specs.declared.net.ip_addr.IpAddr.{IpAddr}
 use Rattle.std.specs.declared.net.ip_addr.IpAddr.TheVariants.{V4, V6}
 use Rattle.std.specs.declared.net.socket_addr.SocketAddr.{SocketAddr}
 
--- the group of a host, one of 1,024: by the last two octets of an IPv4 address, by the first four segments of an IPv6 one, its
--- network of 64 bits, in which a host may take any address
+-- an IPv4-mapped address, `::ffff:a.b.c.d` (RFC 4291 section 2.5.5.2)
+abbrev pub is_ipv4_mapped : List ℕ → Bool
+is_ipv4_mapped segments = starts_with nat_eq segments (0 ∷ 0 ∷ 0 ∷ 0 ∷ 0 ∷ 0xffff ∷ [])
+
+-- the group of an IPv6 address with these segments: by the first four, its network of 64 bits, in which a host may take any address,
+-- or by the last two octets of the IPv4 address that it maps, which are its last segment
+abbrev pub ipv6_group : List ℕ → ℕ
+ipv6_group segments = if is_ipv4_mapped segments then slice_index segments 7 % 1024
+    else ((slice_index segments 0 + slice_index segments 1) + (slice_index segments 2 + slice_index segments 3)) % 1024
+
+-- the group of a host, one of 1,024: by the last two octets of an IPv4 address, or by an IPv6 one
 abbrev pub host_group : IpAddr → ℕ
 host_group (V4 address) = (slice_index (ipv4_octets address) 2 * 256 + slice_index (ipv4_octets address) 3) % 1024
-host_group (V6 address) = ((slice_index (ipv6_segments address) 0 + slice_index (ipv6_segments address) 1)
-    + (slice_index (ipv6_segments address) 2 + slice_index (ipv6_segments address) 3)) % 1024
+host_group (V6 address) = ipv6_group (ipv6_segments address)
 
 -- the group of an address
 abbrev pub group_of : SocketAddr → ℕ

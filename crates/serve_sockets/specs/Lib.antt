@@ -1,7 +1,7 @@
 pub mod Connection
 pub mod Group
 pub mod Listing
-pub mod PutOff
+pub mod Lists
 pub mod Ring
 pub mod ServedTime
 pub mod Service

@@ -1,11 +1,17 @@
 -- Requests that ask for a list, which takes long and may wait.
-use Rattle.std.specs.Prelude.{ℕ, List, Bool, not, ◌&&◌, ◌||◌, codes, nat_eq}
-use Rattle.std.specs.List.{starts_with}
+use Rattle.std.specs.Prelude.{◌≡◌, ℕ, List, Option, None, Some, Ok}
+use Rattle.hall_events.specs.declared.event.Event.{Event}
+use Rattle.hall_events.specs.declared.event.Event.TheVariants as event
+use Rattle.http_requests.specs.Request.{IsEvent}
 
--- the target isn't a path, but names a host before it (RFC 9112 section 3.2.2)
-abbrev pub has_absolute_target : List ℕ → Bool
-has_absolute_target octets = starts_with nat_eq octets (codes "GET ") && not (starts_with nat_eq octets (codes "GET /"))
+-- the digest of the token with which an event asks for all machines or all orders
+abbrev pub list_bearer : Event → Option (List ℕ)
+list_bearer (event.Machines bearer) = bearer
+list_bearer (event.Orders bearer) = bearer
+list_bearer other = None
 
--- the first octets ask for all machines or all orders, or for what isn't known before it is parsed
-abbrev pub asks_for_list : List ℕ → Bool
-asks_for_list octets = starts_with nat_eq octets (codes "GET /machines ") || starts_with nat_eq octets (codes "GET /orders ") || has_absolute_target octets
+-- the octets ask for all machines or all orders, with a token of this digest
+pub record AsksForList (octets digest : List ℕ) : Type 0 where
+  pub what : Event
+  pub event : IsEvent octets (Ok what)
+  pub bearer : list_bearer what ≡ Some digest

@@ -1,5 +1,5 @@
 -- What a service is made of.
-use Rattle.std.specs.Prelude.{ℕ}
+use Rattle.std.specs.Prelude.{ℕ, Bool}
 use Rattle.hall_desk.specs.declared.desk.Desk.{Desk}
 use Rattle.serve_sockets.specs.declared.service.Service.{Service}
 use Rattle.serve_sockets.specs.declared.sockets.Sockets.{Sockets}
@@ -16,3 +16,7 @@ module _ {S : Type 0} where
   -- how many turns there were since the last eighth one
   abbrev pub turns_of : Service S → ℕ
   turns_of service = service.turns
+
+  -- whether its turns are quiet moments, since none has left each machine as it was
+  abbrev pub is_opening_of : Service S → Bool
+  is_opening_of service = service.is_opening

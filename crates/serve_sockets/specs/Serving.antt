@@ -39,11 +39,20 @@ IfRequest step.PutOff P = Unit {0}
 IfRequest step.Done P = Unit {0}
 IfRequest step.Failed P = Unit {0}
 
--- a step handed nothing to the desk
+-- a step handed nothing to the desk, and asked it nothing
 abbrev pub IsOnlyMoved : Step → Type 0
 IsOnlyMoved (step.Handed handover) = ⊥
 IsOnlyMoved step.Waits = Unit {0}
 IsOnlyMoved step.Moved = Unit {0}
-IsOnlyMoved step.PutOff = Unit {0}
+IsOnlyMoved step.PutOff = ⊥
 IsOnlyMoved step.Done = Unit {0}
 IsOnlyMoved step.Failed = Unit {0}
+
+-- a step put a request for a list off
+abbrev pub PutsOff : Step → Type 0
+PutsOff (step.Handed handover) = ⊥
+PutsOff step.Waits = ⊥
+PutsOff step.Moved = ⊥
+PutsOff step.PutOff = Unit {0}
+PutsOff step.Done = ⊥
+PutsOff step.Failed = ⊥

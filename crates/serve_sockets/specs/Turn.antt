@@ -1,5 +1,5 @@
 -- What a turn did, and what a log says of it.
-use Rattle.std.specs.Prelude.{◌≡◌, ◌≤◌, ◌+◌, ◌-◌, ◌*◌, ℕ, List, [], length, slice_index}
+use Rattle.std.specs.Prelude.{◌≡◌, ◌≤◌, ◌+◌, ◌-◌, ◌*◌, ℕ, Bool, true, false, List, [], length, slice_index}
 use Rattle.pxe_vendor.specs.Place.{Site}
 use Rattle.hall_types.specs.Hall.{Hall}
 use Rattle.boot_desk.specs.Sound.{IsSound}
@@ -51,6 +51,12 @@ said_of what (answer.Octets octets) = said_in what octets
 said_of what answer.Unavailable = said.Unavailable
 said_of what answer.Silence = said.Silence
 
+-- whether an arrival counts as not having come
+abbrev pub is_unavailable : Answer → Bool
+is_unavailable (answer.Octets octets) = false
+is_unavailable answer.Unavailable = true
+is_unavailable answer.Silence = false
+
 -- a log is told of an arrival and of its answer
 pub record Tells (handover : Handover) (what : Input) (a : Answer) : Type 0 where
   pub kind : handover.kind ≡ kind_of what
@@ -59,15 +65,27 @@ pub record Tells (handover : Handover) (what : Input) (a : Answer) : Type 0 wher
 
 -- ---- turns
 
--- the turn handed nothing to the desk
+-- the turn handed nothing to the desk, and asked it nothing
 abbrev pub HandsNothing : Turn → Type 0
 HandsNothing (turn.Handed handover) = ⊥
 HandsNothing (turn.Unsent handover) = ⊥
 HandsNothing (turn.Accepted from instead_of) = Unit {0}
 HandsNothing (turn.Moved from) = Unit {0}
+HandsNothing (turn.PutOff from) = ⊥
 HandsNothing (turn.Closed from cause) = Unit {0}
 HandsNothing turn.Nothing = Unit {0}
 HandsNothing turn.Failed = Unit {0}
+
+-- the turn put a request for a list off
+abbrev pub IsPutOff : Turn → Type 0
+IsPutOff (turn.Handed handover) = ⊥
+IsPutOff (turn.Unsent handover) = ⊥
+IsPutOff (turn.Accepted from instead_of) = ⊥
+IsPutOff (turn.Moved from) = ⊥
+IsPutOff (turn.PutOff from) = Unit {0}
+IsPutOff (turn.Closed from cause) = ⊥
+IsPutOff turn.Nothing = ⊥
+IsPutOff turn.Failed = ⊥
 
 -- a fact of what the turn handed to the desk, if it did
 abbrev pub IfHanded : Turn → (Handover → Type 0) → Type 0
@@ -75,6 +93,7 @@ IfHanded (turn.Handed handover) P = P handover
 IfHanded (turn.Unsent handover) P = P handover
 IfHanded (turn.Accepted from instead_of) P = Unit {0}
 IfHanded (turn.Moved from) P = Unit {0}
+IfHanded (turn.PutOff from) P = Unit {0}
 IfHanded (turn.Closed from cause) P = Unit {0}
 IfHanded turn.Nothing P = Unit {0}
 IfHanded turn.Failed P = Unit {0}
@@ -85,9 +104,21 @@ IsQuiet (turn.Handed handover) = handover.kind ≡ kind.Quiet
 IsQuiet (turn.Unsent handover) = ⊥
 IsQuiet (turn.Accepted from instead_of) = ⊥
 IsQuiet (turn.Moved from) = ⊥
+IsQuiet (turn.PutOff from) = ⊥
 IsQuiet (turn.Closed from cause) = ⊥
 IsQuiet turn.Nothing = ⊥
 IsQuiet turn.Failed = ⊥
+
+-- what the turn handed to the desk counts as not having come
+abbrev pub IsUnavailable : Turn → Type 0
+IsUnavailable (turn.Handed handover) = handover.said ≡ said.Unavailable
+IsUnavailable (turn.Unsent handover) = handover.said ≡ said.Unavailable
+IsUnavailable (turn.Accepted from instead_of) = ⊥
+IsUnavailable (turn.Moved from) = ⊥
+IsUnavailable (turn.PutOff from) = ⊥
+IsUnavailable (turn.Closed from cause) = ⊥
+IsUnavailable turn.Nothing = ⊥
+IsUnavailable turn.Failed = ⊥
 
 -- what came is a datagram
 abbrev pub IsOfDatagram : Kind → Type 0
@@ -101,6 +132,7 @@ HandsDatagram (turn.Handed handover) = IsOfDatagram handover.kind
 HandsDatagram (turn.Unsent handover) = IsOfDatagram handover.kind
 HandsDatagram (turn.Accepted from instead_of) = ⊥
 HandsDatagram (turn.Moved from) = ⊥
+HandsDatagram (turn.PutOff from) = ⊥
 HandsDatagram (turn.Closed from cause) = ⊥
 HandsDatagram turn.Nothing = ⊥
 HandsDatagram turn.Failed = ⊥
@@ -113,6 +145,11 @@ module _ {S : Type 0} (holds : S → Hall → Type 0) (leaves : S → List Hall 
     pub said : Answer
     pub tells : Tells handover what said
     pub answered : IsAnswered holds leaves old new site what moment fresh said
+
+-- a store was only read: it has each hall that it had, and a stop leaves what it left before
+pub record IsOnlyRead {S : Type 0} (holds : S → Hall → Type 0) (leaves : S → List Hall → Type 0) (old new : S) : Type 0 where
+  pub same : (h : Hall) → holds old h → holds new h
+  pub stop : (h : Hall) → holds old h → (hs : List Hall) → leaves old hs → leaves new hs
 
 -- the hall went on by so many arrivals at most, one at a time; `holds` says which hall a store has
 pub record WentOn {S : Type 0} (holds : S → Hall → Type 0) (old new : S) (site : Site) (most : ℕ) : Type 0 where

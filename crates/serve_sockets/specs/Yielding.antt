@@ -1,6 +1,6 @@
 -- Which connection goes for another one where there is no room.
 use Rattle.std.specs.Prelude.{◌≡◌, ◌<◌, ◌≤◌, ℕ, List, Bool, false, ◌==◌, Option, None, Some, count_by, length, slice_get, slice_index}
-use Rattle.serve_sockets.specs.Connection.{silent_group}
+use Rattle.serve_sockets.specs.Connection.{undecided_group}
 use Rattle.serve_sockets.specs.Table.{number_at}
 use Rattle.serve_sockets.specs.declared.connection.Connection.{Connection}
 
@@ -10,12 +10,12 @@ is_group group None = false
 is_group group (Some other) = other == group
 
 module _ {T : Type 0} where
-  -- the group of a slot's connection, if that is silent
+  -- the group of a slot's connection, if that is undecided
   abbrev pub group_in : Option (Connection T) → Option ℕ
   group_in None = None
-  group_in (Some connection) = silent_group connection
+  group_in (Some connection) = undecided_group connection
 
-  -- how many silent connections a group has
+  -- how many undecided connections a group has
   abbrev pub crowd_of : List (Option (Connection T)) → ℕ → ℕ
   crowd_of slots group = count_by (λ held. is_group group (group_in held)) slots
 
@@ -24,7 +24,7 @@ module _ {T : Type 0} where
   crowd_by slots None = 0
   crowd_by slots (Some group) = crowd_of slots group
 
-  -- how many silent connections the group of what a slot holds has, if that is silent itself, and else 0
+  -- how many undecided connections the group of what a slot holds has, if that is undecided itself, and else 0
   abbrev pub crowd_in : List (Option (Connection T)) → Option (Option (Connection T)) → ℕ
   crowd_in slots None = 0
   crowd_in slots (Some held) = crowd_by slots (group_in held)
@@ -38,11 +38,11 @@ module _ {T : Type 0} where
   IsAhead slots slot other = (crowd_at slots other ≤ crowd_at slots slot)
       × (crowd_at slots slot ≡ crowd_at slots other → number_at slots slot ≤ number_at slots other)
 
-  -- The connection of the slot goes: a silent one, if there is one, of the group with the most of them, and of these the one that was
-  -- accepted before the others. Where none is silent, it is the one that was accepted before all others.
+  -- The connection of the slot goes: an undecided one, if there is one, of the group with the most of them, and of these the one that was
+  -- accepted before the others. Where none is undecided, it is the one that was accepted before all others.
   abbrev pub Goes : List (Option (Connection T)) → ℕ → Type 0
   Goes slots slot = (k : ℕ) → k < length slots → IsAhead slots slot k
 
-  -- how many silent connections each group has
+  -- how many undecided connections each group has
   abbrev pub IsTally : List ℕ → List (Option (Connection T)) → Type 0
   IsTally crowds slots = (group : ℕ) → group < 1024 → slice_index crowds group ≡ crowd_of slots group

@@ -1,10 +1,9 @@
 //! One connection: what it sent, and what of its answer it has taken.
-ghost use Rattle.std.specs.Prelude.{◌≡◌, ◌≤◌, ◌-◌, ◌<◌, [], IfSome, IsTrue, length, nat_le, not, ◌&&◌, vec_len, true, false};
+ghost use Rattle.std.specs.Prelude.{◌≡◌, ◌≤◌, ◌-◌, ◌<◌, [], IfSome, IsTrue, Some, length, nat_le, not, ◌&&◌, vec_len, true, false};
 ghost use Rattle.std.specs.Io.KnownBytes.{Keeps, append_known};
 ghost use Rattle.hall_desk.specs.Octets.{octets_of};
 
 use crate::group::group;
-use crate::listing::asks_for_list;
 use hall_desk::Answer;
 use hall_http::is_decided;
 use pxe_vendor::Octets;
@@ -18,6 +17,9 @@ const MAX_INPUT: usize = 8_192 + 16_384;
 
 /// How long, in milliseconds of served time, a connection may be undecided, and its answer stand still.
 const PATIENCE: u64 = 2_000;
+
+/// For how long, in milliseconds of served time, a list may be open while others wait.
+const LIST_PATIENCE: u64 = 60_000;
 
 // An answer, and how many of its octets are written.
 #[derive(Drop)]
@@ -39,8 +41,8 @@ pub(crate) struct Connection<T> {
     sending: Option<Sending>,
     // Its request for a list waits.
     is_put_off: bool,
-    // Its request has waited, and waits no more.
-    is_due: bool,
+    // When its request for a list, which had waited, was called, in served time.
+    called: Option<u64>,
     ghost bounded: { vec_len input ≤ 24576 },
 }
 
@@ -70,8 +72,7 @@ pub(crate) enum Put {
 }
 
 impl<T> Connection<T> {
-    ghost use Rattle.serve_sockets.specs.Connection.{input_of, is_answered, is_due, is_put_off, left_of, number_of, silent_group, since_of, stream_of};
-    ghost use Rattle.serve_sockets.specs.Listing.{asks_for_list};
+    ghost use Rattle.serve_sockets.specs.Connection.{input_of, is_answered, is_called, is_put_off, is_slow, left_of, number_of, undecided_group, since_of, stream_of};
 
     /// The connection that was accepted as the so-manieth, at a served time.
     pub(crate) fn new(
@@ -95,7 +96,7 @@ impl<T> Connection<T> {
             input: Vec::new(alloc),
             sending: None,
             is_put_off: false,
-            is_due: false,
+            called: None,
         }
     }
 
@@ -130,11 +131,28 @@ impl<T> Connection<T> {
         self.is_put_off
     }
 
-    /// Whether its request asks for a list, and hasn't waited yet.
-    pub(crate) fn may_wait(&self) -> bool
-        ensures { result ≡ not (is_due self.now) && asks_for_list (input_of self.now) }
+    /// Whether its request for a list was called: the list is open until the client has taken it.
+    pub(crate) fn is_called(&self) -> bool
+        ensures { result ≡ is_called self.now }
     {
-        !self.is_due && asks_for_list(self.input.as_slice())
+        self.called.is_some()
+    }
+
+    /// Whether its list was called longer than a minute of served time ago.
+    pub(crate) fn is_slow(&self, now: u64) -> bool
+        ensures { result ≡ is_slow now self.now }
+    {
+        match self.called {
+            Some(called) => now.saturating_sub(called) > LIST_PATIENCE,
+            None => false,
+        }
+    }
+
+    /// What of its request was read.
+    pub(crate) fn input(&self) -> &[u8]
+        ensures { result.now ≡ input_of self.now }
+    {
+        self.input.as_slice()
     }
 
     /// Has its request wait.
@@ -144,12 +162,12 @@ impl<T> Connection<T> {
         self.is_put_off = true;
     }
 
-    /// Its request waits no more.
-    pub(crate) fn call(&mut self)
-        ensures { self.new ≡ record self.old { is_put_off = false; is_due = true } }
+    /// Its request waits no more, from this served time on.
+    pub(crate) fn call(&mut self, now: u64)
+        ensures { self.new ≡ record self.old { is_put_off = false; called = Some now } }
     {
         self.is_put_off = false;
-        self.is_due = true;
+        self.called = Some(now);
     }
 
     pub(crate) fn is_answered(&self) -> bool
@@ -158,12 +176,12 @@ impl<T> Connection<T> {
         self.sending.is_some()
     }
 
-    /// The group of the client's address, if the client has sent nothing yet and has no answer.
-    pub(crate) fn silent_group(&self) -> Option<usize>
-        ensures group { result ≡ silent_group self.now }
+    /// The group of the client's address, if the connection has no answer and its request isn't put off.
+    pub(crate) fn undecided_group(&self) -> Option<usize>
+        ensures group { result ≡ undecided_group self.now }
         ensures within { IfSome result (λ group. group < 1024) }
     {
-        if self.input.is_empty() && self.sending.is_none() {
+        if self.sending.is_none() && !self.is_put_off {
             Some(group(&self.from))
         } else {
             None
@@ -202,7 +220,7 @@ impl<T: Read> Connection<T> {
         ensures since { since_of self.new ≡ since_of self.old }
         ensures number { number_of self.new ≡ number_of self.old }
     {
-        if !self.is_due {
+        if self.called.is_none() {
             return self.read(alloc, buffer);
         }
         match is_decided(alloc, self.input.as_slice()) {

@@ -1,6 +1,6 @@
 //! What a log is told of an arrival and of its answer.
 ghost use Rattle.std.specs.Prelude.{◌≡◌, ◌≤◌};
-ghost use Rattle.serve_sockets.specs.Turn.{digit_at, said_in, said_of, status_in};
+ghost use Rattle.serve_sockets.specs.Turn.{digit_at, is_unavailable, said_in, said_of, status_in};
 
 use crate::turn::{Handover, Kind, Said};
 use hall_desk::Answer;
@@ -43,6 +43,13 @@ fn said(kind: Kind, answer: &Answer) -> Said
         Answer::Unavailable => Said::Unavailable,
         Answer::Silence => Said::Silence,
     }
+}
+
+/// Whether an arrival counts as not having come.
+pub(crate) fn is_unavailable(answer: &Answer) -> bool
+    ensures { result ≡ is_unavailable answer.now }
+{
+    matches!(answer, Answer::Unavailable)
 }
 
 /// What came, and how it was answered.

@@ -1,19 +1,32 @@
 //! Requests that ask for a list.
-ghost use Rattle.std.specs.Prelude.{◌≡◌};
-ghost use Rattle.serve_sockets.specs.Listing.{asks_for_list, has_absolute_target};
+ghost use Rattle.std.specs.Prelude.{◌≡◌, IfSome};
+ghost use Rattle.serve_sockets.specs.Listing.{AsksForList, list_bearer};
 
-// Whether a request's target names a host before its path.
-fn has_absolute_target(octets: &[u8]) -> bool
-    ensures { result ≡ has_absolute_target octets.now }
+use hall_events::Event;
+use hall_http::event_of;
+use hall_types::Digest;
+use std::alloc::Global;
+
+// The digest of the token with which an event asks for all machines or all orders.
+fn list_bearer(event: &Event) -> Option<Digest>
+    ensures { result ≡ list_bearer event.now }
 {
-    octets.starts_with(b"GET ") && !octets.starts_with(b"GET /")
+    match event {
+        Event::Machines { bearer } | Event::Orders { bearer } => *bearer,
+        _ => None,
+    }
 }
 
-/// Whether a request asks for a list by its first octets, or may do so.
-pub(crate) fn asks_for_list(octets: &[u8]) -> bool
-    ensures { result ≡ asks_for_list octets.now }
+/// The digest of the token with which a request asks for all machines or all orders. There is none without memory to read the request.
+pub(crate) fn bearer_of_list(alloc: Global, octets: &[u8]) -> Option<Digest>
+    ensures { IfSome result (AsksForList octets.now) }
 {
-    octets.starts_with(b"GET /machines ")
-        || octets.starts_with(b"GET /orders ")
-        || has_absolute_target(octets)
+    match event_of(alloc, octets) {
+        Ok(event) => {
+            let bearer = list_bearer(&event);
+            drop(event);
+            bearer
+        }
+        Err(_) => None,
+    }
 }

@@ -1,13 +1,14 @@
 //! Turns.
-ghost use Rattle.std.specs.Prelude.{◌<◌};
+ghost use Rattle.std.specs.Prelude.{◌≡◌, ◌<◌, ◌&&◌, ◌||◌};
+ghost use Rattle.serve_sockets.specs.Turn.{is_unavailable};
 
-use crate::handing::{hand, hand_datagram};
-use crate::handover::handover;
+use crate::handing::{hand_datagram, hand_quiet};
+use crate::handover::{handover, is_unavailable};
 use crate::ring::Origin;
 use crate::serving::advance;
 use crate::sockets::{SHORT_PAUSE, Sockets};
-use crate::turn::{Handover, Kind, Source, Stamp, Turn, TurnLog};
-use hall_desk::{Answer, Desk, Input};
+use crate::turn::{Handover, Kind, Said, Source, Stamp, Turn, TurnLog};
+use hall_desk::{Answer, Desk};
 use hall_store::HallStore;
 use hall_types::Port;
 use std::alloc::Global;
@@ -21,29 +22,43 @@ pub struct Service<S> {
     desk: Desk<S>,
     sockets: Sockets,
     turns: u8,
+    // No quiet moment since the desk's file was opened has left each machine as it was.
+    is_opening: bool,
+    // The last quiet moment, if there was one, changed a machine's status, so that more may be overdue.
+    may_be_due: bool,
     // The log was told that there are no stamps, and none came since.
     is_unstamped: bool,
     ghost few: { turns < 8 },
 }
 
+// Whether a service begins by another quiet moment after one.
+fn is_still_opening(is_opening: bool, moved: bool, answer: &Answer) -> bool
+    ensures { result ≡ is_opening && (moved || is_unavailable answer.now) }
+{
+    is_opening && (moved || is_unavailable(answer))
+}
+
 impl<S: HallStore> Service<S> {
-    ghost use Rattle.std.specs.Prelude.{◌≡◌, ◌<◌, ◌+◌, ◌-◌, ◌%◌, false, IfSome, unwrap_or};
+    ghost use Rattle.std.specs.Prelude.{◌≡◌, ◌≢◌, ◌<◌, ◌+◌, ◌-◌, ◌%◌, true, false, IfSome, unwrap_or};
     ghost use Rattle.hall_types.specs.Hall.{Hall};
     ghost use Rattle.hall_desk.specs.Desk.{enlists_of, site_of, store_of};
-    ghost use Rattle.serve_sockets.specs.Service.{desk_of, sockets_of, turns_of};
+    ghost use Rattle.serve_sockets.specs.Service.{desk_of, is_opening_of, sockets_of, turns_of};
     ghost use Rattle.serve_sockets.specs.Sockets.{places_of};
-    ghost use Rattle.serve_sockets.specs.Turn.{HandsDatagram, HandsNothing, IfHanded, IsHanded, IsQuiet, WentOn};
+    ghost use Rattle.serve_sockets.specs.Turn.{HandsDatagram, HandsNothing, IfHanded, IsHanded, IsOnlyRead, IsPutOff, IsQuiet, IsUnavailable, WentOn};
 
-    /// The service of a desk.
+    /// The service of a desk. It begins by quiet moments.
     pub fn new(alloc: Global, desk: Desk<S>, sockets: Sockets) -> Service<S>
         ensures desk { desk_of result ≡ desk }
         ensures turns { turns_of result ≡ 0 }
+        ensures opening { is_opening_of result ≡ true }
     {
         Service {
             alloc,
             desk,
             sockets,
             turns: 0,
+            is_opening: true,
+            may_be_due: true,
             is_unstamped: false,
         }
     }
@@ -61,17 +76,26 @@ impl<S: HallStore> Service<S> {
         (self.desk, self.sockets)
     }
 
-    /// Waits for something to come, if nothing is known to be there: for the source's pause at most.
+    /// Waits for something to come, if nothing is known to be there: for the source's pause at most, and not at all where machines may be
+    /// overdue.
     pub fn wait<C: Source>(&mut self, source: &mut C)
         ensures desk { desk_of self.new ≡ desk_of self.old }
         ensures turns { turns_of self.new ≡ turns_of self.old }
+        ensures opening { is_opening_of self.new ≡ is_opening_of self.old }
     {
-        self.sockets.wait(source);
+        if self.may_be_due {
+            self.sockets.look(0);
+        } else {
+            self.sockets.wait(source);
+        }
     }
 
     /// Serves the next seat that may have something: a socket for datagrams, the listener or a connection, from the last
     /// one on, up and round. Every eighth turn, and one for which there is no such seat, is a quiet moment. Nothing is
     /// waited for.
+    ///
+    /// Each turn is a quiet moment until the first one that the store carries out and that changes no machine's status: so no machine that
+    /// is overdue when the service begins is given work. One that is Unavailable ends that for none.
     ///
     /// At most one arrival is handed to the desk, with the moment and the fresh octets of the stamp. A datagram's answer is
     /// sent to where the datagram came from; that of a request waits until the client takes it. A datagram leaves the hall of a
@@ -83,14 +107,19 @@ impl<S: HallStore> Service<S> {
         ensures handed { S.HallStore.is_clean (store_of (desk_of self.new)) → IfHanded result (IsHanded S.HallStore.holds S.HallStore.leaves
             (store_of (desk_of self.old)) (store_of (desk_of self.new)) (site_of (desk_of self.old)) stamp.moment stamp.fresh) }
         ensures same { HandsNothing result → desk_of self.new ≡ desk_of self.old }
+        ensures read { S.HallStore.is_clean (store_of (desk_of self.new)) → IsPutOff result → IsOnlyRead S.HallStore.holds S.HallStore.leaves
+            (store_of (desk_of self.old)) (store_of (desk_of self.new)) }
         ensures unlisted { enlists_of (desk_of self.old) ≡ false → HandsDatagram result → S.HallStore.is_clean (store_of (desk_of self.new)) → (h : Hall)
             → S.HallStore.holds (store_of (desk_of self.old)) h → S.HallStore.holds (store_of (desk_of self.new)) h }
         ensures turns { turns_of self.new ≡ (turns_of self.old + 1) % 8 }
         ensures eighth { turns_of self.old ≡ 7 → IsQuiet result }
+        ensures opening { is_opening_of self.old ≡ true → IsQuiet result }
+        ensures opened { is_opening_of self.old ≡ false → is_opening_of self.new ≡ false }
+        ensures shut { IsUnavailable result → is_opening_of self.new ≡ is_opening_of self.old }
     {
         self.sockets.pass(stamp.millis);
         self.turns = (self.turns + 1) % 8;
-        if self.turns == 0 {
+        if self.is_quiet_turn() {
             return Turn::Handed(self.quiet(stamp, log));
         }
         if let Some(turn) = self.sockets.close_late() {
@@ -104,6 +133,14 @@ impl<S: HallStore> Service<S> {
         }
     }
 
+    // Whether the turn is a quiet moment, whatever else may be there.
+    fn is_quiet_turn(&self) -> bool
+        ensures opening { result ≡ false → is_opening_of self.now ≡ false }
+        ensures eighth { result ≡ false → turns_of self.now ≢ 0 }
+    {
+        self.is_opening || self.turns == 0
+    }
+
     // Nothing came.
     fn quiet<L: TurnLog>(&mut self, stamp: Stamp, log: &mut L) -> Handover
         ensures clean { S.HallStore.is_clean (store_of (desk_of self.new)) → S.HallStore.is_clean (store_of (desk_of self.old)) }
@@ -113,9 +150,13 @@ impl<S: HallStore> Service<S> {
             (store_of (desk_of self.old)) (store_of (desk_of self.new)) (site_of (desk_of self.old)) stamp.moment stamp.fresh result }
         ensures kind { result.kind ≡ Kind.Quiet }
         ensures turns { turns_of self.new ≡ turns_of self.old }
+        ensures opened { is_opening_of self.old ≡ false → is_opening_of self.new ≡ false }
+        ensures shut { result.said ≡ Said.Unavailable → is_opening_of self.new ≡ is_opening_of self.old }
     {
         self.sockets.retry();
-        let answer = hand(self.alloc, &mut self.desk, log, stamp, Input::Quiet);
+        let (answer, moved) = hand_quiet(self.alloc, &mut self.desk, log, stamp);
+        self.may_be_due = moved;
+        self.is_opening = is_still_opening(self.is_opening, moved, &answer);
         handover(Kind::Quiet, None, 0, &answer)
     }
 
@@ -127,9 +168,12 @@ impl<S: HallStore> Service<S> {
         ensures handed { S.HallStore.is_clean (store_of (desk_of self.new)) → IfHanded result (IsHanded S.HallStore.holds S.HallStore.leaves
             (store_of (desk_of self.old)) (store_of (desk_of self.new)) (site_of (desk_of self.old)) stamp.moment stamp.fresh) }
         ensures same { HandsNothing result → desk_of self.new ≡ desk_of self.old }
+        ensures read { S.HallStore.is_clean (store_of (desk_of self.new)) → IsPutOff result → IsOnlyRead S.HallStore.holds S.HallStore.leaves
+            (store_of (desk_of self.old)) (store_of (desk_of self.new)) }
         ensures unlisted { enlists_of (desk_of self.old) ≡ false → HandsDatagram result → S.HallStore.is_clean (store_of (desk_of self.new)) → (h : Hall)
             → S.HallStore.holds (store_of (desk_of self.old)) h → S.HallStore.holds (store_of (desk_of self.new)) h }
         ensures turns { turns_of self.new ≡ turns_of self.old }
+        ensures opening { is_opening_of self.new ≡ is_opening_of self.old }
     {
         let (len, from) = match self.sockets.receive(port) {
             Ok(received) => received,
@@ -162,9 +206,12 @@ impl<S: HallStore> Service<S> {
         ensures handed { S.HallStore.is_clean (store_of (desk_of self.new)) → IfHanded result (IsHanded S.HallStore.holds S.HallStore.leaves
             (store_of (desk_of self.old)) (store_of (desk_of self.new)) (site_of (desk_of self.old)) stamp.moment stamp.fresh) }
         ensures same { HandsNothing result → desk_of self.new ≡ desk_of self.old }
+        ensures read { S.HallStore.is_clean (store_of (desk_of self.new)) → IsPutOff result → IsOnlyRead S.HallStore.holds S.HallStore.leaves
+            (store_of (desk_of self.old)) (store_of (desk_of self.new)) }
         ensures unlisted { enlists_of (desk_of self.old) ≡ false → HandsDatagram result → S.HallStore.is_clean (store_of (desk_of self.new)) → (h : Hall)
             → S.HallStore.holds (store_of (desk_of self.old)) h → S.HallStore.holds (store_of (desk_of self.new)) h }
         ensures turns { turns_of self.new ≡ turns_of self.old }
+        ensures opening { is_opening_of self.new ≡ is_opening_of self.old }
     {
         let Some(mut connection) = self.sockets.take(slot) else {
             self.sockets.rest(Origin::Connection(slot));
@@ -188,6 +235,7 @@ impl<S: HallStore> Service<S> {
     fn miss<L: TurnLog>(&mut self, log: &mut L)
         ensures desk { desk_of self.new ≡ desk_of self.old }
         ensures turns { turns_of self.new ≡ turns_of self.old }
+        ensures opening { is_opening_of self.new ≡ is_opening_of self.old }
     {
         if !self.is_unstamped {
             self.is_unstamped = true;

@@ -5,15 +5,17 @@ ghost use Rattle.hall_desk.specs.Octets.{octets_of};
 ghost use Rattle.hall_desk.specs.declared.arrival.Answer.TheVariants.{Unavailable};
 ghost use Rattle.hall_desk.specs.declared.arrival.Input.TheVariants.{Request};
 ghost use Rattle.serve_sockets.specs.Connection.{input_of, left_of, stream_of};
-ghost use Rattle.serve_sockets.specs.Serving.{IfRequest, IsOnlyMoved, IsRequest, IsWaiting};
-ghost use Rattle.serve_sockets.specs.Turn.{Tells};
+ghost use Rattle.serve_sockets.specs.Serving.{IfRequest, IsOnlyMoved, IsRequest, IsWaiting, PutsOff};
+ghost use Rattle.serve_sockets.specs.Turn.{IsOnlyRead, Tells};
 
 use crate::connection::{Connection, Put, Taken};
 use crate::handing::hand;
 use crate::handover::handover;
+use crate::listing::bearer_of_list;
 use crate::turn::{Handover, Kind, Stamp, TurnLog};
 use hall_desk::{Answer, Desk, Input};
 use hall_store::HallStore;
+use hall_types::Digest;
 use std::alloc::Global;
 use std::io::{Read, Write};
 
@@ -70,6 +72,33 @@ fn refuse<T>(connection: &mut Connection<T>, alloc: Global, now: u64) -> Handove
     handover
 }
 
+// Whether an operator who is enabled has a token of this digest. The hall is only read.
+fn is_known<S: HallStore>(desk: &mut Desk<S>, digest: Digest) -> bool
+    ensures site { site_of desk.new ≡ site_of desk.old }
+    ensures enlists { enlists_of desk.new ≡ enlists_of desk.old }
+    ensures read { S.HallStore.is_clean (store_of desk.new) → S.HallStore.is_clean (store_of desk.old) × IsOnlyRead S.HallStore.holds S.HallStore.leaves (store_of desk.old) (store_of desk.new) }
+{
+    match desk.sender(Some(digest)) {
+        Ok(sender) => sender.is_some(),
+        Err(_) => false,
+    }
+}
+
+// Whether a request asks for a list, with the token of an operator who is enabled, and hasn't waited yet. The hall is only read.
+fn may_wait<T, S: HallStore>(connection: &Connection<T>, alloc: Global, desk: &mut Desk<S>) -> bool
+    ensures site { site_of desk.new ≡ site_of desk.old }
+    ensures enlists { enlists_of desk.new ≡ enlists_of desk.old }
+    ensures read { S.HallStore.is_clean (store_of desk.new) → S.HallStore.is_clean (store_of desk.old) × IsOnlyRead S.HallStore.holds S.HallStore.leaves (store_of desk.old) (store_of desk.new) }
+{
+    if connection.is_called() {
+        return false;
+    }
+    match bearer_of_list(alloc, connection.input()) {
+        Some(digest) => is_known(desk, digest),
+        None => false,
+    }
+}
+
 // Hands a whole request over, or puts it off if it asks for a list and hasn't waited yet.
 fn decide<T, S: HallStore, L: TurnLog>(
     connection: &mut Connection<T>,
@@ -85,8 +114,9 @@ fn decide<T, S: HallStore, L: TurnLog>(
     ensures waits { S.HallStore.is_clean (store_of desk.new) → IfRequest result (IsWaiting S.HallStore.holds S.HallStore.leaves (store_of desk.old) (store_of desk.new) (site_of desk.old)
         stamp.moment stamp.fresh (input_of connection.old) (left_of connection.new)) }
     ensures same { IsOnlyMoved result → desk.new ≡ desk.old }
+    ensures read { S.HallStore.is_clean (store_of desk.new) → PutsOff result → IsOnlyRead S.HallStore.holds S.HallStore.leaves (store_of desk.old) (store_of desk.new) }
 {
-    if connection.may_wait() {
+    if may_wait(connection, alloc, desk) {
         connection.put_off();
         return Step::PutOff;
     }
@@ -109,6 +139,7 @@ fn take<T: Read, S: HallStore, L: TurnLog>(
     ensures request { S.HallStore.is_clean (store_of desk.new) → IfRequest result (IsRequest S.HallStore.holds S.HallStore.leaves (store_of desk.old) (store_of desk.new) (site_of desk.old)
         stamp.moment stamp.fresh (input_of connection.old) (T.remaining (stream_of connection.old)) (left_of connection.new)) }
     ensures same { IsOnlyMoved result → desk.new ≡ desk.old }
+    ensures read { S.HallStore.is_clean (store_of desk.new) → PutsOff result → IsOnlyRead S.HallStore.holds S.HallStore.leaves (store_of desk.old) (store_of desk.new) }
 {
     match connection.take(alloc, buffer) {
         Taken::Waits => Step::Waits,
@@ -148,6 +179,7 @@ pub(crate) fn advance<T: Read + Write, S: HallStore, L: TurnLog>(
     ensures request { S.HallStore.is_clean (store_of desk.new) → IfRequest result (IsRequest S.HallStore.holds S.HallStore.leaves (store_of desk.old) (store_of desk.new) (site_of desk.old)
         stamp.moment stamp.fresh (input_of connection.old) (T.remaining (stream_of connection.old)) (left_of connection.new)) }
     ensures same { IsOnlyMoved result → desk.new ≡ desk.old }
+    ensures read { S.HallStore.is_clean (store_of desk.new) → PutsOff result → IsOnlyRead S.HallStore.holds S.HallStore.leaves (store_of desk.old) (store_of desk.new) }
 {
     if connection.is_answered() {
         put(connection, now)

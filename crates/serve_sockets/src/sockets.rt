@@ -2,11 +2,12 @@
 ghost use Rattle.std.specs.Prelude.{◌≡◌, ◌<◌, ◌≤◌, ◌+◌, IfErr, IfOk, IfSome, length, vec_len};
 ghost use Rattle.serve_sockets.specs.Ring.{IsPlace, ready_of};
 ghost use Rattle.serve_sockets.specs.ServedTime.{served_of};
-ghost use Rattle.serve_sockets.specs.Serving.{IfRequest, IsOnlyMoved};
+ghost use Rattle.serve_sockets.specs.Serving.{IfRequest, IsOnlyMoved, PutsOff};
 ghost use Rattle.serve_sockets.specs.Table.{slots_of};
-ghost use Rattle.serve_sockets.specs.Turn.{HandsNothing};
+ghost use Rattle.serve_sockets.specs.Turn.{HandsNothing, IsPutOff};
 
 use crate::connection::Connection;
+use crate::lists::Wanted;
 use crate::ports::{Addresses, BindFault, Ports, is_without_descriptors};
 use crate::ring::{Origin, Ring};
 use crate::room::{Room, mark};
@@ -135,19 +136,29 @@ impl Sockets {
         }
     }
 
-    // Whether nothing is known to be there, no request for a list waits, and no late connection was closed by the last look.
+    // Whether a request for a list may be put off, and one may be called: not as many lists are open as may be.
+    fn may_call(&self) -> bool {
+        self.has_put_off && !self.table.has_all_lists()
+    }
+
+    // Whether nothing is known to be there, no request for a list may be called, and no late connection was closed by the last look.
     fn is_idle(&self) -> bool {
-        self.ring.is_idle() && !self.has_put_off && self.look_from == 0
+        self.ring.is_idle() && !self.may_call() && self.look_from == 0
     }
 
     /// Marks where something is. Waits for something to come if nothing is known to be there: for the source's pause at most, less
     /// while a connection is open, so that a late one is closed in time. Between two late ones nothing is waited for.
     pub(crate) fn wait<C: Source>(&mut self, source: &mut C) {
-        let millis = if self.is_idle() {
-            self.pause(source)
+        if self.is_idle() {
+            let millis = self.pause(source);
+            self.look(millis);
         } else {
-            0
-        };
+            self.look(0);
+        }
+    }
+
+    /// Marks where something is, or comes within so many milliseconds.
+    pub(crate) fn look(&mut self, millis: u64) {
         let time = Duration::from_millis(millis);
         if self.poll.poll(&mut self.events, Some(time)).is_ok() {
             mark(&mut self.ring, &self.events);
@@ -186,28 +197,29 @@ impl Sockets {
         Some(Origin::at(seat))
     }
 
-    // The connection whose request for a list has waited longest, where nothing else may be there or there was none for long. Its
-    // request waits no more.
+    // The connection that was accepted first of those whose requests for lists wait, where nothing else may be there or none was
+    // called for long, and where not as many lists are open as may be. Its request waits no more.
     fn pick_list(&mut self) -> Option<Origin>
         ensures place { IfSome result (IsPlace (places_of self.new)) }
         ensures places { places_of self.new ≡ places_of self.old }
     {
-        if !self.has_put_off || self.turns < LIST_TURNS && !self.ring.is_idle() {
+        let is_time = self.turns >= LIST_TURNS || self.ring.is_idle();
+        if !is_time || !self.may_call() {
             return None;
         }
-        let Some(slot) = self.table.longest_put_off() else {
+        let Some(slot) = self.table.first_of(Wanted::PutOff) else {
             self.has_put_off = false;
             return None;
         };
         let mut connection = self.table.take(slot)?;
-        connection.call();
+        connection.call(self.time.now());
         self.keep(slot, connection);
         self.turns = 0;
         Some(Origin::Connection(slot))
     }
 
     /// The next seat that may have something: a socket for datagrams after a request that was handed over, a connection whose request
-    /// for a list has waited, or the next one of all seats.
+    /// for a list is called, or the next one of all seats.
     pub(crate) fn pick(&mut self) -> Option<Origin>
         ensures { IfSome result (IsPlace (places_of self.new)) }
     {
@@ -323,7 +335,7 @@ impl Sockets {
         let Some(slot) = late else {
             self.look_at = now.saturating_add(LOOK_PAUSE);
             self.look_from = 0;
-            return None;
+            return self.close_slow(now);
         };
         self.look_from = slot + 1;
         let connection = self.take(slot)?;
@@ -331,6 +343,19 @@ impl Sockets {
             from: connection.from(),
             cause: Close::Late,
         })
+    }
+
+    // Closes the first accepted connection whose list was called longer than a minute ago, where as many lists are open as may be and
+    // others wait.
+    fn close_slow(&mut self, now: u64) -> Option<Turn>
+        ensures { IfSome result HandsNothing }
+    {
+        if self.may_call() || self.table.first_of(Wanted::PutOff).is_none() {
+            return None;
+        }
+        let slot = self.table.first_of(Wanted::Slow { now })?;
+        let connection = self.take(slot)?;
+        Some(self.close(slot, connection, Close::Late))
     }
 
     /// The connection of a slot, which is free then.
@@ -364,6 +389,7 @@ impl Sockets {
         requires { slot < places_of self.old }
         ensures handed { IfRequest step (λ handover. result ≡ Turn.Handed handover) }
         ensures moved { IsOnlyMoved step → HandsNothing result }
+        ensures put_off { PutsOff step → IsPutOff result }
     {
         match step {
             Step::Handed(handover) => {
@@ -377,7 +403,7 @@ impl Sockets {
                 self.keep(slot, connection);
                 self.rest(Origin::Connection(slot));
                 self.has_put_off = true;
-                Turn::Moved(from)
+                Turn::PutOff(from)
             }
             Step::Moved => {
                 let from = connection.from();

@@ -2,7 +2,7 @@
 ghost use Rattle.std.specs.Prelude.{◌≡◌, ◌<◌, ◌≤◌, count_by, is_some, vec_len};
 
 use crate::connection::Connection;
-use crate::put_off::longest_put_off;
+use crate::lists::{Wanted, first_of, open_lists};
 use crate::yielding::yielding;
 use std::alloc::{AllocError, Global};
 use std::mem;
@@ -10,6 +10,9 @@ use std::net::SocketAddr;
 
 /// The maximum of places for connections.
 pub const MAX_CONNECTIONS: usize = 1_024;
+
+/// The maximum of lists that are open: that were called, and that their clients haven't taken.
+const MAX_LISTS: usize = 8;
 
 /// A slot for each open connection that there may be.
 #[derive(Drop)]
@@ -22,9 +25,9 @@ pub(crate) struct Table<T> {
 }
 
 impl<T: Drop> Table<T> {
-    ghost use Rattle.std.specs.Prelude.{IfNone, IfOk, IfSome, MatchOption, None, Some, ◌==◌, is_none, length, position, replicate, slice_get, slice_set};
+    ghost use Rattle.std.specs.Prelude.{IfNone, IfOk, IfSome, MatchOption, None, Some, ◌==◌, is_none, length, nat_le, position, replicate, slice_get, slice_set};
     ghost use Rattle.serve_sockets.specs.Table.{IsNextLate, NoneLate, late_at, slots_of};
-    ghost use Rattle.serve_sockets.specs.PutOff.{HasWaitedLongest, waits_in};
+    ghost use Rattle.serve_sockets.specs.Lists.{IsFirst, is_open, wants_in};
     ghost use Rattle.serve_sockets.specs.Yielding.{Goes};
 
     /// So many slots, all of which are free.
@@ -94,12 +97,19 @@ impl<T: Drop> Table<T> {
         }
     }
 
-    /// The slot whose connection was accepted before the others of those whose requests are put off.
-    pub(crate) fn longest_put_off(&self) -> Option<usize>
-        ensures longest { IfSome result (HasWaitedLongest (slots_of self.now)) }
-        ensures none { IfNone result (position waits_in (slots_of self.now) ≡ None) }
+    /// The slot whose connection was accepted before the others of those that are wanted.
+    pub(crate) fn first_of(&self, wanted: Wanted) -> Option<usize>
+        ensures first { IfSome result (IsFirst wanted (slots_of self.now)) }
+        ensures none { IfNone result (position (wants_in wanted) (slots_of self.now) ≡ None) }
     {
-        longest_put_off(self.slots.as_slice())
+        first_of(wanted, self.slots.as_slice())
+    }
+
+    /// Whether as many lists are open as may be.
+    pub(crate) fn has_all_lists(&self) -> bool
+        ensures { result ≡ nat_le 8 (count_by is_open (slots_of self.now)) }
+    {
+        open_lists(self.slots.as_slice()) >= MAX_LISTS
     }
 
     /// Puts a connection into a slot, and closes the one that is there. Says where that one's client is.

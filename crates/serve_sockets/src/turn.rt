@@ -58,7 +58,8 @@ pub struct Handover {
 pub enum Close {
     /// The client has taken all of its answer.
     Answered,
-    /// It was asked and gave nothing: the request was undecided, or the answer stood still, for two seconds of the service's time.
+    /// It was asked and gave nothing: the request was undecided, or the answer stood still, for two seconds of the service's time. Or
+    /// its list was called longer than a minute ago, and others wait.
     Late,
     /// A read or a write failed.
     Failed,
@@ -80,6 +81,8 @@ pub enum Turn {
     },
     /// A connection gave octets of its request, or took some of its answer.
     Moved(SocketAddr),
+    /// A connection's request asks for a list, and waits. The hall was only read.
+    PutOff(SocketAddr),
     /// A connection was closed.
     Closed {
         from: SocketAddr,

@@ -6,18 +6,18 @@ use crate::connection::Connection;
 use crate::group::GROUPS;
 use crate::number::number_at;
 
-// The group of the connection that is held, if that is silent.
+// The group of the connection that is held, if that is undecided.
 fn group_in<T>(held: &Option<Connection<T>>) -> Option<usize>
     ensures group { result ≡ group_in held.now }
     ensures within { IfSome result (λ group. group < 1024) }
 {
     match held {
-        Some(connection) => connection.silent_group(),
+        Some(connection) => connection.undecided_group(),
         None => None,
     }
 }
 
-// How many silent connections each group has.
+// How many undecided connections each group has.
 fn tally<T>(slots: &[Option<Connection<T>>]) -> [u16; GROUPS]
     requires { length slots.now ≤ 1024 }
     ensures { IsTally result slots.now }
@@ -31,7 +31,7 @@ fn tally<T>(slots: &[Option<Connection<T>>]) -> [u16; GROUPS]
     crowds
 }
 
-// How many silent connections a slot's group has, if its own connection is silent.
+// How many undecided connections a slot's group has, if its own connection is undecided.
 fn crowd_at<T>(slots: &[Option<Connection<T>>], crowds: &[u16; GROUPS], slot: usize) -> u16
     requires { IsTally crowds.now slots.now }
     ensures { result ≡ crowd_at slots.now slot }

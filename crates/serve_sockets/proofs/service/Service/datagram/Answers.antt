@@ -1,7 +1,7 @@
 use Rattle.std.proofs.Common.{◌∙◌, refl, sym, take}
 use Rattle.std.proofs.lemmas.List.{length-take-le}
 use Rattle.hall_desk.specs.declared.arrival.Input.TheVariants.{Datagram}
-use Rattle.serve_sockets.proofs.TurnLemmas.{no_handover}
+use Rattle.serve_sockets.proofs.TurnLemmas.{no_handover, not_off}
 use Rattle.serve_sockets.proofs.service.Service.datagram.Goals as goal
 
 pub returns-in-Err-clause-clean : goal.returns-in-Err-clause-clean
@@ -87,3 +87,21 @@ returns-clause-unlisted g c = λ off frame. c.hand_datagram-answer.ensures.unlis
 
 pub returns-clause-turns : goal.returns-clause-turns
 returns-clause-turns g c = refl
+
+pub returns-in-Err-clause-read : goal.returns-in-Err-clause-read
+returns-in-Err-clause-read g c = λ clean off. absurd (not_off c.in-Err.turn c.in-Err.ensures.none off)
+
+pub returns-in-Err-clause-opening : goal.returns-in-Err-clause-opening
+returns-in-Err-clause-opening g c = refl
+
+pub returns-then-send-clause-read : goal.returns-then-send-clause-read
+returns-then-send-clause-read g c = λ clean off. absurd off
+
+pub returns-then-send-clause-opening : goal.returns-then-send-clause-opening
+returns-then-send-clause-opening g c = refl
+
+pub returns-clause-read : goal.returns-clause-read
+returns-clause-read g c = λ clean off. absurd off
+
+pub returns-clause-opening : goal.returns-clause-opening
+returns-clause-opening g c = refl

@@ -10,4 +10,4 @@ pub returns-clause-went_on : goal.returns-clause-went_on
 returns-clause-went_on g c = λ clean.
     rw (← c.wait.ensures.desk)
     (went_one g.S.HallStore.holds g.S.HallStore.leaves _ _ _ _ _ c.turn-turn.result (c.turn-turn.ensures.handed clean)
-    (λ nothing. ap store_of (c.turn-turn.ensures.same nothing)))
+    (λ nothing. ap store_of (c.turn-turn.ensures.same nothing)) (c.turn-turn.ensures.read clean))

@@ -1,0 +1,120 @@
+//! What is done over a hall's file. It is closed at the end, whatever became of the task.
+use crate::file_faults::{looked_at, of_file};
+use crate::joined::Joined;
+use desk_operations::Exit;
+use desk_values::Fault;
+use hall_store::HallStore;
+use hallboot_asked::{Serving, Task};
+use hallboot_files::{remove_with_beside, write_copy};
+use hallboot_tasks::{HallSum, Suspended, carried_out, served, sum_of, tell};
+use sql_file::{Ended, FileFault, StoreTask, over};
+use std::io;
+
+/// The hall's file, and a new one that is to have what it has.
+#[derive(Clone, Copy)]
+pub(crate) struct Copying<'a> {
+    pub(crate) path: &'a str,
+    pub(crate) new: &'a str,
+}
+
+/// What a look at a hall found: what it amounts to, and how many octets were written, if it was to be copied.
+#[derive(Drop)]
+pub(crate) struct Found {
+    pub(crate) sum: Option<HallSum>,
+    pub(crate) written: Option<io::Result<u64>>,
+}
+
+/// What is done over a hall's store: a task once, a look, or the turns that are left of a service are served.
+#[derive(Drop)]
+pub(crate) enum Doing<'a> {
+    Once(Task),
+    Look {
+        copying: Option<Copying<'a>>,
+        found: &'a mut Found,
+    },
+    Serve {
+        serving: &'a Serving,
+        suspended: &'a mut Suspended,
+    },
+}
+
+// A task over the store of a hall's file.
+#[derive(Drop)]
+struct FileTask<'a> {
+    rt: &'a HostRuntime,
+    doing: Doing<'a>,
+}
+
+// Looks at a hall, whose file nothing is written to meanwhile. What an earlier try to copy it has left goes.
+fn look<S: HallStore>(
+    rt: &HostRuntime,
+    store: &mut S,
+    copying: Option<Copying<'_>>,
+    found: &mut Found,
+) -> Result<Exit, Fault> {
+    found.sum = Some(sum_of(store)?);
+    if let Some(Copying { path, new }) = copying {
+        remove_with_beside(rt, new);
+        found.written = Some(write_copy(rt, &Joined, path, new));
+    }
+    Ok(Exit::Done)
+}
+
+impl<'a> StoreTask for FileTask<'a> {
+    type Outcome = Result<Exit, Fault>;
+
+    fn over<S: HallStore>(self, mut store: S) -> (Result<Exit, Fault>, S) {
+        let doing = self.doing;
+        match doing {
+            Doing::Once(task) => carried_out(self.rt, store, task),
+            Doing::Look { copying, found } => {
+                let outcome = look(self.rt, &mut store, copying, found);
+                (outcome, store)
+            }
+            Doing::Serve { serving, suspended } => {
+                served(self.rt, store, serving, suspended, &Joined)
+            }
+        }
+    }
+}
+
+/// Where a file couldn't be closed, what was answered stands, and the user is told.
+pub(crate) fn tell_of_closing(
+    rt: &HostRuntime,
+    path: &str,
+    is_json: bool,
+    closing: Result<(), FileFault>,
+) {
+    if closing.is_err() {
+        let words = format!(in rt.alloc();
+            "{path} wasn't closed: what was answered is in it and in its log together"
+        );
+        tell(rt, is_json, words);
+    }
+}
+
+/// Does something over a hall's file.
+pub(crate) fn ended_over(
+    rt: &HostRuntime,
+    path: &str,
+    doing: Doing<'_>,
+) -> Result<Ended<Result<Exit, Fault>>, Fault> {
+    looked_at(rt, path)?;
+    over(rt, path, FileTask { rt, doing }).map_err(of_file)
+}
+
+/// What became of it, after the user was told where the file wasn't closed.
+pub(crate) fn outcome_of(
+    rt: &HostRuntime,
+    path: &str,
+    is_json: bool,
+    ended: Ended<Result<Exit, Fault>>,
+) -> Result<Exit, Fault> {
+    tell_of_closing(rt, path, is_json, ended.closing);
+    ended.outcome
+}
+
+/// Does something over a hall's file, and says what became of it.
+pub(crate) fn over_file(rt: &HostRuntime, path: &str, doing: Doing<'_>) -> Result<Exit, Fault> {
+    outcome_of(rt, path, false, ended_over(rt, path, doing)?)
+}

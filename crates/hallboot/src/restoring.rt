@@ -1,0 +1,217 @@
+//! Copies of a hall that isn't served, and halls that are put back from them.
+use crate::failure::{Failure, because, refused};
+use crate::joined::Joined;
+use crate::over_file::{Copying, Doing, Found, over_file};
+use desk_operations::{Exit, write_text};
+use desk_values::Fault;
+use hallboot_files::{
+    FileIdentity, changed_at, hold, now_text, put_aside, put_in_place, remove_with_beside,
+    with_end, write_copy,
+};
+use hallboot_tasks::{HallSum, sum_text};
+use std::io::ErrorKind;
+use std::{fs, io};
+
+// What a hall amounts to, and how many octets its copy has, if one was wanted.
+fn looked(
+    rt: &HostRuntime,
+    path: &str,
+    copying: Option<Copying<'_>>,
+) -> Result<(HallSum, u64), Failure> {
+    let mut found = Found {
+        sum: None,
+        written: None,
+    };
+    let doing = Doing::Look {
+        copying,
+        found: &mut found,
+    };
+    over_file(rt, path, doing)?;
+    let Found { sum, written } = found;
+    let Some(sum) = sum else {
+        return Err(Failure::from(Fault::Unavailable));
+    };
+    match (written, copying) {
+        (Some(Err(error)), Some(Copying { new, .. })) => Err(refused(rt, new, &error)),
+        (Some(Ok(octets)), _) => Ok((sum, octets)),
+        _ => Ok((sum, 0)),
+    }
+}
+
+// What a new copy amounts to. One that is no whole hall is removed.
+fn copy_sum(rt: &HostRuntime, new: &str) -> Result<HallSum, Failure> {
+    match looked(rt, new, None) {
+        Ok((sum, _)) => Ok(sum),
+        Err(failure) => {
+            remove_with_beside(rt, new);
+            Err(failure)
+        }
+    }
+}
+
+fn put(rt: &HostRuntime, new: &str, path: &str) -> Result<(), Failure> {
+    match put_in_place(rt, new, path) {
+        Ok(()) => Ok(()),
+        Err(error) => Err(refused(rt, path, &error)),
+    }
+}
+
+// A path of its own beside another one.
+fn path_with(rt: &HostRuntime, path: &str, end: &str) -> Result<String, Failure> {
+    with_end(rt.alloc(), path, end).map_err(|error| refused(rt, path, &error))
+}
+
+fn now_of(rt: &HostRuntime) -> Result<String, Failure> {
+    now_text(rt).map_err(|error| refused(rt, "the clock", &error))
+}
+
+fn without_links(rt: &HostRuntime, path: &str) -> Result<FileIdentity, Failure> {
+    FileIdentity::at(rt, path).map_err(|error| refused(rt, path, &error))
+}
+
+fn print(rt: &HostRuntime, text: Result<String, std::alloc::AllocError>) -> Result<Exit, Failure> {
+    match text {
+        Ok(text) => {
+            write_text(&mut rt.stdout(), text.as_str())?;
+            Ok(Exit::Done)
+        }
+        Err(_) => Err(Failure::from(Fault::Memory)),
+    }
+}
+
+// ---- backup
+
+fn backed_up(rt: &HostRuntime, path: &str, new: &str, to: &str) -> Result<(HallSum, u64), Failure> {
+    let (sum, octets) = looked(rt, path, Some(Copying { path, new }))?;
+    if copy_sum(rt, new)? != sum {
+        remove_with_beside(rt, new);
+        return Err(because(
+            Fault::Unavailable,
+            format!(in rt.alloc(); "{new} didn't have what {path} has"),
+        ));
+    }
+    put(rt, new, to)?;
+    Ok((sum, octets))
+}
+
+/// Copies a hall that isn't served to one file, and says what it has. The copy before is replaced once the new one was found whole.
+pub(crate) fn backup(rt: &HostRuntime, path: &str, to: &str) -> Result<Exit, Failure> {
+    let hall = without_links(rt, path)?;
+    let new = path_with(rt, to, ".new")?;
+    let (sum, octets) = backed_up(rt, hall.path(), new.as_str(), to)?;
+    let Ok(sum) = sum_text(rt.alloc(), &sum) else {
+        return Err(Failure::from(Fault::Memory));
+    };
+    print(
+        rt,
+        format!(in rt.alloc(); "copied {path} to {to}, {octets} octets: {sum}\n"),
+    )
+}
+
+// ---- restore
+
+// A journal beside a copy isn't played back: SQLite's own program does that.
+fn check_journal(rt: &HostRuntime, from: &str) -> Result<(), Failure> {
+    let journal = path_with(rt, from, "-journal")?;
+    match fs::metadata(rt, journal.as_str()) {
+        Ok(found) if found.len() > 0 => Err(because(
+            Fault::Unavailable,
+            format!(in rt.alloc(); "{from} has a journal: open it with sqlite3 once, and close it"),
+        )),
+        _ => Ok(()),
+    }
+}
+
+// The fault of a copy that can't be read as a database.
+fn of_copy(rt: &HostRuntime, from: &str, error: &io::Error) -> Failure {
+    match error.kind() {
+        ErrorKind::NotFound => because(Fault::NotAHall, format!(in rt.alloc(); "{from}: {error}")),
+        ErrorKind::InvalidData => because(
+            Fault::NotAHall,
+            format!(in rt.alloc(); "{from} is no whole file of SQLite"),
+        ),
+        _ => refused(rt, from, error),
+    }
+}
+
+// Writes what a copy has to a new file, and says what it amounts to.
+fn taken(rt: &HostRuntime, from: &str, new: &str) -> Result<HallSum, Failure> {
+    check_journal(rt, from)?;
+    match write_copy(rt, &Joined, from, new) {
+        Ok(_) => copy_sum(rt, new),
+        Err(error) => Err(of_copy(rt, from, &error)),
+    }
+}
+
+// Puts a whole new file in the place of a hall that no program has open, and what was there aside: whether there was anything.
+fn replaced(rt: &HostRuntime, path: &str, new: &str, aside: &str) -> Result<bool, Failure> {
+    let _held = match hold(rt, path) {
+        Ok(held) => held,
+        Err(error) if error.kind() == ErrorKind::WouldBlock => {
+            return Err(because(
+                Fault::Unavailable,
+                format!(in rt.alloc(); "another program has {path} open: stop serve first"),
+            ));
+        }
+        Err(error) => return Err(refused(rt, path, &error)),
+    };
+    match put_aside(rt, path, aside) {
+        Ok(was_there) => {
+            put(rt, new, path)?;
+            Ok(was_there)
+        }
+        Err(error) => Err(refused(rt, path, &error)),
+    }
+}
+
+// The texts of what was restored, and of what was there.
+fn restored_text(
+    rt: &HostRuntime,
+    path: &str,
+    from: &str,
+    sum: &HallSum,
+    aside: Option<&str>,
+) -> Result<String, std::alloc::AllocError> {
+    let alloc = rt.alloc();
+    let sum = sum_text(alloc, sum)?;
+    let moment = match changed_at(rt, from) {
+        Ok(moment) => moment,
+        Err(_) => String::from_str(alloc, "an unknown moment")?,
+    };
+    let first = format!(in alloc; "restored {path} from {from} of {moment}: {sum}\n")?;
+    match aside {
+        Some(aside) => format!(in alloc; "{first}what was there is kept as {aside}\n"),
+        None => Ok(first),
+    }
+}
+
+// Removes the new file where the hall's stays.
+fn replaced_or_removed(
+    rt: &HostRuntime,
+    path: &str,
+    new: &str,
+    aside: &str,
+) -> Result<bool, Failure> {
+    let done = replaced(rt, path, new, aside);
+    if done.is_err() {
+        remove_with_beside(rt, new);
+    }
+    done
+}
+
+/// Puts a copy of a hall in the place of its file, and says what it has. The copy stays as it is, and what was at the hall's path is kept
+/// under a name with the moment. Nothing is changed where the copy is no whole hall, or another program has the hall open.
+pub(crate) fn restore(rt: &HostRuntime, path: &str, from: &str) -> Result<Exit, Failure> {
+    let (hall, copy, now) = (
+        without_links(rt, path)?,
+        without_links(rt, from)?,
+        now_of(rt)?,
+    );
+    let (hall, now) = (hall.path(), now.as_str());
+    let new = path_with(rt, path_with(rt, hall, ".restored-")?.as_str(), now)?;
+    let aside = path_with(rt, path_with(rt, hall, ".replaced-")?.as_str(), now)?;
+    let sum = taken(rt, copy.path(), new.as_str())?;
+    let was_there = replaced_or_removed(rt, hall, new.as_str(), aside.as_str())?;
+    let aside = was_there.then_some(aside.as_str());
+    print(rt, restored_text(rt, path, from, &sum, aside))
+}

@@ -1,0 +1,115 @@
+//! Copies of a hall's file, and new files in their places. A file is whole, and lasts, before it has its name.
+use crate::identity::FileIdentity;
+use crate::names::{LOG, with_end};
+use crate::places::{new_file, remove_beside, remove_with_beside, sync_folder};
+use std::alloc::Global;
+use std::fs::{self, File};
+use std::io;
+use std::io::{ErrorKind, Read};
+
+/// How a hall's file and its log become one file.
+pub trait Joining {
+    /// Writes a file that has what the hall's file and its log have together: how many octets, or why not.
+    fn write(&self, alloc: Global, file: &[u8], log: &[u8], writer: &mut File) -> io::Result<u64>;
+}
+
+// The octets of a file to which nothing is written meanwhile.
+fn octets_at(rt: &HostRuntime, path: &str) -> io::Result<Vec<u8>> {
+    let mut octets = Vec::new(rt.alloc());
+    let mut file = File::open(rt, path)?;
+    file.read_to_end(&mut octets)?;
+    Ok(octets)
+}
+
+// Those of a log, which may not be there.
+fn log_at(rt: &HostRuntime, path: &str) -> io::Result<Vec<u8>> {
+    match octets_at(rt, path) {
+        Err(error) if error.kind() == ErrorKind::NotFound => Ok(Vec::new(rt.alloc())),
+        read => read,
+    }
+}
+
+fn log_beside(rt: &HostRuntime, db: &str) -> io::Result<Vec<u8>> {
+    let path = with_end(rt.alloc(), db, LOG)?;
+    log_at(rt, path.as_str())
+}
+
+// The octets of a hall's file, and those of its log.
+fn parts_at(rt: &HostRuntime, db: &str) -> io::Result<(Vec<u8>, Vec<u8>)> {
+    let file = octets_at(rt, db)?;
+    let log = log_beside(rt, db)?;
+    Ok((file, log))
+}
+
+// Writes what two files have to a new one, and syncs it.
+fn write_parts<J: Joining>(
+    rt: &HostRuntime,
+    joining: &J,
+    file: &[u8],
+    log: &[u8],
+    mut copy: File,
+) -> io::Result<u64> {
+    let octets = joining.write(rt.alloc(), file, log, &mut copy)?;
+    copy.sync_all()?;
+    Ok(octets)
+}
+
+fn write<J: Joining>(rt: &HostRuntime, joining: &J, db: &str, copy: File) -> io::Result<u64> {
+    let (file, log) = parts_at(rt, db)?;
+    write_parts(rt, joining, file.as_slice(), log.as_slice(), copy)
+}
+
+/// Writes a new file that has what a hall's file and its log have, and syncs it: how many octets. Nothing is left at its path if that
+/// fails; where something was there, it is as it was.
+pub fn write_copy<J: Joining>(
+    rt: &HostRuntime,
+    joining: &J,
+    db: &str,
+    path: &str,
+) -> io::Result<u64> {
+    let copy = new_file(rt, path)?;
+    let written = write(rt, joining, db, copy);
+    if written.is_err() {
+        remove_with_beside(rt, path);
+    }
+    written
+}
+
+fn replace(rt: &HostRuntime, new: &str, path: &str) -> io::Result<()> {
+    remove_beside(rt, new)?;
+    remove_beside(rt, path)?;
+    sync_folder(rt, path)?;
+    fs::rename(rt, new, path)?;
+    sync_folder(rt, path)
+}
+
+/// Puts a file that is whole without its log in the place of the one at a path. What stands beside both goes first, so that no log of the
+/// old one stands beside the new one. If that fails, the new file is removed.
+pub fn put_in_place(rt: &HostRuntime, new: &str, path: &str) -> io::Result<()> {
+    let replaced = replace(rt, new, path);
+    if replaced.is_err() {
+        remove_with_beside(rt, new);
+    }
+    replaced
+}
+
+// Whether a path is that of a hall's file or of its log.
+fn is_of_hall(rt: &HostRuntime, db: &FileIdentity, path: &str) -> io::Result<bool> {
+    let log = FileIdentity::at(rt, with_end(rt.alloc(), db.path(), LOG)?.as_str())?;
+    let one = FileIdentity::at(rt, path)?;
+    Ok(one.is_same(db) || one.is_same(&log))
+}
+
+/// Puts a whole copy of a hall's file and its log in the place of the copy before: how many octets. What fails before it has its place
+/// leaves that one as it is. What an earlier try has left goes. The error is `InvalidInput` where a file of the hall's would be written.
+pub fn copy<J: Joining>(rt: &HostRuntime, joining: &J, db: &str, path: &str) -> io::Result<u64> {
+    let new = with_end(rt.alloc(), path, ".new")?;
+    let hall = FileIdentity::at(rt, db)?;
+    if is_of_hall(rt, &hall, path)? || is_of_hall(rt, &hall, new.as_str())? {
+        return Err(io::Error::from(ErrorKind::InvalidInput));
+    }
+    remove_with_beside(rt, new.as_str());
+    let octets = write_copy(rt, joining, hall.path(), new.as_str())?;
+    put_in_place(rt, new.as_str(), path)?;
+    Ok(octets)
+}

@@ -1,0 +1,31 @@
+//! Moments as names and texts have them.
+use jiff::Timestamp;
+use std::alloc::Global;
+use std::io::ErrorKind;
+use std::time::{SystemTime, UNIX_EPOCH};
+use std::{fs, io};
+
+// A moment in UTC, as `2026-09-21T14:13:20Z` (RFC 3339 section 5.6).
+fn text_of(alloc: Global, moment: SystemTime) -> io::Result<String> {
+    let Ok(since) = moment.duration_since(UNIX_EPOCH) else {
+        return Err(io::Error::from(ErrorKind::InvalidData));
+    };
+    let Ok(seconds) = i64::try_from(since.as_secs()) else {
+        return Err(io::Error::from(ErrorKind::InvalidData));
+    };
+    match Timestamp::from_second(seconds) {
+        Ok(time) => Ok(time.to_string(alloc)?),
+        Err(_) => Err(io::Error::from(ErrorKind::InvalidData)),
+    }
+}
+
+/// When a file was last written, in UTC.
+pub fn changed_at(rt: &HostRuntime, path: &str) -> io::Result<String> {
+    text_of(rt.alloc(), fs::metadata(rt, path)?.modified()?)
+}
+
+/// The system's moment in UTC, with hyphens in place of colons, for the name of a file.
+pub fn now_text(rt: &HostRuntime) -> io::Result<String> {
+    let text = text_of(rt.alloc(), SystemTime::now(rt)?)?;
+    Ok(text.replace(rt.alloc(), ":", "-")?)
+}

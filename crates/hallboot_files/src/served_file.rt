@@ -1,0 +1,87 @@
+//! Whether the file of a hall is still the one that was opened.
+use crate::identity::FileIdentity;
+use crate::names::{LOG, with_end};
+use std::io::ErrorKind;
+use std::os::unix::fs::MetadataExt;
+use std::{fs, io};
+
+/// A file by its device and its number there, and how many octets it has.
+#[derive(Clone, Copy)]
+struct Seen {
+    device: u64,
+    inode: u64,
+    len: u64,
+}
+
+fn seen_at(rt: &HostRuntime, path: &str) -> io::Result<Seen> {
+    let found = fs::metadata(rt, path)?;
+    Ok(Seen {
+        device: found.dev(),
+        inode: found.ino(),
+        len: found.len(),
+    })
+}
+
+impl Seen {
+    fn is_same(&self, other: &Seen) -> bool {
+        self.device == other.device && self.inode == other.inode
+    }
+}
+
+// What is at a path now. None where the system can't say.
+fn look_at(rt: &HostRuntime, path: &str) -> Option<Option<Seen>> {
+    match seen_at(rt, path) {
+        Ok(found) => Some(Some(found)),
+        Err(error) if error.kind() == ErrorKind::NotFound => Some(None),
+        Err(_) => None,
+    }
+}
+
+/// A hall's file that is served, and its log. The file never gets shorter while it is served, and the log is never empty.
+#[derive(Drop)]
+pub struct ServedFile {
+    log_path: String,
+    file: Seen,
+    log: Seen,
+}
+
+impl ServedFile {
+    /// The file at a path and its log, which are open.
+    pub fn at(rt: &HostRuntime, path: &str) -> io::Result<ServedFile> {
+        let identity = FileIdentity::at(rt, path)?;
+        let log_path = with_end(rt.alloc(), identity.path(), LOG)?;
+        let (file, log) = (seen_at(rt, path)?, seen_at(rt, log_path.as_str())?);
+        Ok(ServedFile {
+            log_path,
+            file,
+            log,
+        })
+    }
+
+    /// Whether another one is the same file.
+    pub fn is_same(&self, other: &ServedFile) -> bool {
+        self.file.is_same(&other.file)
+    }
+
+    // Whether the log isn't there any more, or another one, or was cut to nothing.
+    fn has_lost_log(&self, rt: &HostRuntime) -> bool {
+        match look_at(rt, self.log_path.as_str()) {
+            Some(Some(found)) => !found.is_same(&self.log) || found.len == 0,
+            Some(None) => true,
+            None => false,
+        }
+    }
+
+    /// Whether there is no file at the path, or another one, or the file was cut, or its log is gone, is another one, or was cut to
+    /// nothing. Where the system can't say, it counts as there.
+    pub fn is_gone(&mut self, rt: &HostRuntime, path: &str) -> bool {
+        match look_at(rt, path) {
+            Some(Some(found)) if found.is_same(&self.file) && found.len >= self.file.len => {
+                self.file = found;
+                self.has_lost_log(rt)
+            }
+            Some(_) => true,
+            None => false,
+        }
+    }
+}

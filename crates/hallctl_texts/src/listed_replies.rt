@@ -1,0 +1,158 @@
+//! Lists and machines are compared with what the desk writes.
+ghost use Rattle.std.specs.Prelude.{◌≡◌, ◌↔◌, List, Some, IfOk, IfSome, IsTrue};
+ghost use Rattle.hall_types.specs.Hall.{second};
+ghost use Rattle.hall_types.specs.declared.order.Order.{Order};
+ghost use Rattle.hall_events.specs.Reply.{ListedMachine, machine_list, one_machine, reply_of, waiting_orders, with_machine};
+ghost use Rattle.hallctl_texts.specs.DeskAnswer.{Gives, IsTextOf};
+
+use crate::answers::{DeskAnswer, Question};
+use crate::machine_value::{machine_in, order_in, push_interfaces};
+use crate::replies::is_reply;
+use hall_events::{BodyKind, MachineList, Reply};
+use hall_types::{Interface, Machine, Number, Order};
+use serde_json::Value;
+use std::alloc::{AllocError, Global};
+
+// Writes a machine into the list, with the interfaces of its object, and says whether those could be read.
+fn push_machine(
+    alloc: Global,
+    list: &mut MachineList,
+    machine: &Machine,
+    object: &Value,
+) -> Result<bool, AllocError>
+    ensures { IfOk result (λ read. IsTrue read → (machine : ListedMachine) × (list.new ≡ with_machine list.old machine)) }
+{
+    let mut interfaces = Vec::new(alloc);
+    if !push_interfaces(&mut interfaces, object, machine.id)? {
+        return Ok(false);
+    }
+    list.push(alloc, machine, interfaces.as_slice())?;
+    Ok(true)
+}
+
+// Writes the machine that an object is into the list, and says whether it is one.
+fn push_object(alloc: Global, list: &mut MachineList, object: &Value) -> Result<bool, AllocError>
+    ensures { IfOk result (λ read. IsTrue read → (machine : ListedMachine) × (list.new ≡ with_machine list.old machine)) }
+{
+    match machine_in(object) {
+        Some(machine) => push_machine(alloc, list, &machine, object),
+        None => Ok(false),
+    }
+}
+
+// The answer that lists the machines that these objects are, if they are machines.
+fn machines_reply(alloc: Global, objects: &[Value]) -> Result<Option<Reply>, AllocError>
+    ensures { IfOk result (λ reply. IfSome reply (λ reply. (machines : List ListedMachine) × (reply ≡ reply_of second (machine_list machines)))) }
+{
+    let mut list = MachineList::new(alloc, objects.len())?;
+    for object in objects {
+        if !push_object(alloc, &mut list, object)? {
+            return Ok(None);
+        }
+    }
+    let reply = list.finish()?;
+    Ok(Some(reply))
+}
+
+// The answer that lists this machine, with the interfaces of its object, if those can be read.
+fn machine_reply(
+    alloc: Global,
+    machine: &Machine,
+    object: &Value,
+) -> Result<Option<Reply>, AllocError>
+    ensures { IfOk result (λ reply. IfSome reply (λ reply. (listed : ListedMachine) × (listed.machine.id ≡ machine.now.id) × (reply ≡ reply_of second (one_machine listed)))) }
+{
+    let mut interfaces = Vec::new(alloc);
+    if !push_interfaces(&mut interfaces, object, machine.id)? {
+        return Ok(None);
+    }
+    let reply = Reply::one_machine(alloc, machine, interfaces.as_slice())?;
+    Ok(Some(reply))
+}
+
+// Adds the orders that these objects are, and says whether all are orders.
+fn push_orders(orders: &mut Vec<Order>, objects: &[Value]) -> Result<bool, AllocError> {
+    for object in objects {
+        match order_in(object) {
+            Some(order) => orders.push(order)?,
+            None => return Ok(false),
+        }
+    }
+    Ok(true)
+}
+
+// The answer that lists the orders that these objects are, if they are orders.
+fn orders_reply(alloc: Global, objects: &[Value]) -> Result<Option<Reply>, AllocError>
+    ensures { IfOk result (λ reply. IfSome reply (λ reply. (orders : List Order) × (reply ≡ reply_of second (waiting_orders orders)))) }
+{
+    let mut orders = Vec::new(alloc);
+    if !push_orders(&mut orders, objects)? {
+        return Ok(None);
+    }
+    let reply = Reply::orders(alloc, orders.as_slice())?;
+    Ok(Some(reply))
+}
+
+fn is_some_reply(reply: &Option<Reply>, status: u16, body: &str) -> bool
+    ensures { IsTrue result ↔ (reply.now ≡ Some (Reply.Http status BodyKind.Json body.now)) }
+{
+    match reply {
+        Some(reply) => is_reply(reply, status, body),
+        None => false,
+    }
+}
+
+fn items_of<'j>(value: &'j Value, name: &str) -> Option<&'j Vec<Value>> {
+    value.get(name).and_then(Value::as_array)
+}
+
+/// Whether the answer is a list of machines. Its value is the body's.
+pub(crate) fn is_machine_list(
+    alloc: Global,
+    status: u16,
+    body: &str,
+    value: &Value,
+) -> Result<bool, AllocError>
+    ensures { IfOk result (λ same. IsTrue same → IsTextOf (Gives Question.Machines DeskAnswer.Listed) status body.now) }
+{
+    let Some(objects) = items_of(value, "machines") else {
+        return Ok(false);
+    };
+    let reply = machines_reply(alloc, objects.as_slice())?;
+    Ok(is_some_reply(&reply, status, body))
+}
+
+/// Whether the answer is the list of the orders that wait.
+pub(crate) fn is_order_list(
+    alloc: Global,
+    status: u16,
+    body: &str,
+    value: &Value,
+) -> Result<bool, AllocError>
+    ensures { IfOk result (λ same. IsTrue same → IsTextOf (Gives Question.Orders DeskAnswer.Listed) status body.now) }
+{
+    let Some(objects) = items_of(value, "orders") else {
+        return Ok(false);
+    };
+    let reply = orders_reply(alloc, objects.as_slice())?;
+    Ok(is_some_reply(&reply, status, body))
+}
+
+/// Whether the answer is the machine with this number.
+pub(crate) fn is_one_machine(
+    alloc: Global,
+    id: Number,
+    status: u16,
+    body: &str,
+    value: &Value,
+) -> Result<bool, AllocError>
+    ensures { IfOk result (λ same. IsTrue same → IsTextOf (Gives (Question.Machine id) DeskAnswer.Listed) status body.now) }
+{
+    match machine_in(value) {
+        Some(machine) if machine.id == id => {
+            let reply = machine_reply(alloc, &machine, value)?;
+            Ok(is_some_reply(&reply, status, body))
+        }
+        _ => Ok(false),
+    }
+}
