@@ -242,7 +242,9 @@ assert "user.name" not in unknown and unknown["event.outcome"] == "failure", unk
 for line in lines:
     moment = datetime.datetime.strptime(line["@timestamp"], "%Y-%m-%dT%H:%M:%SZ")
     assert abs(datetime.datetime.utcnow() - moment) < datetime.timedelta(minutes=1), line
-    assert line["client.ip"] == "127.0.0.1" and line["client.port"] and line["message"], line' || bad 'a log of objects'
+    assert line["message"], line
+    assert line["event.action"] == "ready" or line["client.ip"] == "127.0.0.1" and line["client.port"], line
+assert lines[0]["event.action"] == "ready" and count["ready"] == 1, lines[0]' || bad 'a log of objects'
 if has jq; then
     is 'what ada did, by jq' "$(jq -r 'select(.["user.name"] == "ada") | .["hall.command"]' objects.log)" 'add_pool default'
 fi
