@@ -303,6 +303,9 @@ for few in 9 10 11 12 13 14 15 16 17 18; do
 done
 serve rights.db
 holds 'the stack is there before it is ready' [ "$(awk '/^VmStk/ { print $2 }' "/proc/$server/status")" -ge 512 ]
+prlimit --pid "$server" --as="$(awk '/^VmSize/ { print $2 * 1024 }' "/proc/$server/status")"
+for ((i = 0; i < 5; i++)); do command "limit$i" > /dev/null; done
+holds 'commands end nothing where it may have no more address space' kill -0 "$server"
 stop
 
 echo "bad_night: $count good, $failed bad"
