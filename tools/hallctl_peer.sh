@@ -2,11 +2,12 @@
 # hallctl against hallboot serve: a machine's whole life, once over a straight way to the desk and once over a way on which half of the
 # connections are refused, lost or cut. Both halls must be alike afterwards: each command was done once. Before that, hallctl against servers that
 # are no desk, that say nothing, that are slow, and against a port where nobody listens.
-# Usage: tools/hallctl_peer.sh [SEED]     HALLBOOT=PROGRAM and HALLCTL=PROGRAM name programs that are built already.
+# Usage: tools/hallctl_peer.sh [SEED]     It wants python3 and curl. HALLBOOT=PROGRAM and HALLCTL=PROGRAM name programs that are built already.
 set -euo pipefail
 here=$(cd "$(dirname "$0")" && pwd)
 seed=${1:-1}
 . "$here/program.sh"
+. "$here/checks.sh"
 program hallboot
 program hallctl
 umask 077
@@ -21,7 +22,17 @@ ended() {
 }
 trap ended EXIT
 cd "$work"
-bad() { echo "BAD: $*" >&2; tail -q -c 300 said errors >&2 2> /dev/null || true; exit 1; }
+# what is printed last helps to see why a check failed
+wrong() { tail -q -c 300 said errors >&2 2> /dev/null || true; bad "$@"; }
+# comes WORDS COMMAND..: waits until the command, quietly, ends with status 0, for a minute at most.
+comes() {
+    local words=$1 end=$((SECONDS + 60))
+    shift
+    until "$@" > /dev/null 2>&1; do
+        [ $SECONDS -lt $end ] || wrong "$words"
+        sleep 0.1
+    done
+}
 echo operators-secret-1 > ada
 echo powers-secret-1 > pow
 digest_of() { printf %s "$(cat "$1")" | sha256sum | cut -c1-64; }
@@ -37,15 +48,15 @@ print(*(s.getsockname()[1] for s in kept))')
     : > ready
     "$HALLBOOT" serve --db "$1.db" --discover "127.0.0.1:$discover" --boot "127.0.0.1:$boot" --http "127.0.0.1:$http" \
         --turns 1000000000000 --server 127.0.0.1 --next 127.0.0.1 --host desk.hall.example > ready & started+=($!)
-    until grep -q 'hall desk ready' ready; do sleep 0.1; done
+    comes 'hallboot serves' grep -q 'hall desk ready' ready
 }
 
 # One command line of ada's, which must be done.
-ada() { "$HALLCTL" --desk "$desk" --token-file ada --timeout 120 "$@" >> said 2>> errors || bad "hallctl $*: status $?"; }
+ada() { "$HALLCTL" --desk "$desk" --token-file ada --timeout 120 "$@" >> said 2>> errors || wrong "hallctl $*: status $?"; good; }
 # The machine does what its script says: this purpose, reported to the desk itself.
 machine() {
     script=$(curl --silent --max-time 5 "http://127.0.0.1:$http/ipxe/52:54:00:12:34:56")
-    grep -q "hall.purpose=$1 " <<< "$script" || bad "the script is for $1: $script"
+    grep -q "hall.purpose=$1 " <<< "$script" || wrong "the script is for $1: $script"
     number=$(sed -n 's/.*hall\.boot=\([0-9]*\).*/\1/p' <<< "$script")
     token=$(sed -n 's/.*hall\.token=\([0-9a-f]*\).*/\1/p' <<< "$script")
     for stage in started done; do
@@ -98,33 +109,33 @@ ends() {
     begin=$(date +%s%3N) got=0
     "$HALLCTL" --desk "http://127.0.0.1:$(port_of "$way")" --token-file ada "$@" > said 2> errors || got=$?
     took=$(($(date +%s%3N) - begin))
-    [ $got = $status ] || bad "$way: hallctl $*: status $got and not $status"
-    [ $took -le $limit ] || bad "$way: hallctl $*: $took ms and not $limit at most"
-    grep -qF -- "$says" said errors || bad "$way: hallctl $*: doesn't say: $says"
-    echo "good: hallctl against $way: ${*:1:4}: status $got after $took ms"
+    [ $got = $status ] || wrong "$way: hallctl $*: status $got and not $status"
+    [ $took -le $limit ] || wrong "$way: hallctl $*: $took ms and not $limit at most"
+    grep -qF -- "$says" said errors || wrong "$way: hallctl $*: doesn't say: $says"
+    good
 }
 port_of() { sed -n "s/^$1 //p" ways; }
 python3 "$here/strange_desk.py" > ways & started+=($!)
-until grep -q '^list' ways; do sleep 0.1; done
-ends error 3 3000 "this isn't the desk: http://127.0.0.1:$(port_of error)/commands answered 200, but not as the desk does" add-pool q
-ends error 3 3000 "this isn't the desk: http://127.0.0.1:$(port_of error)/machines answered 200" machines --json
-[ -s said ] && bad 'what is no answer of the desk is printed'
-ends refusal 3 3000 "it isn't known whether this was done" disable-operator eve
-ends refusal 3 3000 'the token waits in eve.token.new' add-operator eve --role user --new-token eve.token
-[ ! -e eve.token ] && [ -s eve.token.new ] || bad 'the token of an operator that was not added'
-ends gateway 0 5000 'operator eve added' add-operator eve --role user --new-token eve.token
-[ -s eve.token ] && [ ! -e eve.token.new ] || bad 'the token of an operator that was added'
-ends gateway 2 3000 'eve.token: there is a file already' add-operator eve --role user --new-token eve.token
-ends mute 3 1500 'no answer' --timeout 1 commission 1
-ends mute 3 1500 'no answer' --timeout 1 machines
-ends mute 3 1500 'no answer, after 1 seconds' wait 1 --for Ready --timeout 1
-ends mute 3 1500 'no answer, after 1 seconds' --timeout 1 wait 1 --for Ready
-ends refused 3 4500 'pool lab: not done (connection refused): say it again with --key' --timeout 4 add-pool lab
+comes 'servers that are no desk' grep -q '^list' ways
+ends error 3 5000 "this isn't the desk: http://127.0.0.1:$(port_of error)/commands answered 200, but not as the desk does" add-pool q
+ends error 3 5000 "this isn't the desk: http://127.0.0.1:$(port_of error)/machines answered 200" machines --json
+[ -s said ] && wrong 'what is no answer of the desk is printed'
+ends refusal 3 5000 "it isn't known whether this was done" disable-operator eve
+ends refusal 3 5000 'the token waits in eve.token.new' add-operator eve --role user --new-token eve.token
+[ ! -e eve.token ] && [ -s eve.token.new ] || wrong 'the token of an operator that was not added'
+ends gateway 0 7000 'operator eve added' add-operator eve --role user --new-token eve.token
+[ -s eve.token ] && [ ! -e eve.token.new ] || wrong 'the token of an operator that was added'
+ends gateway 2 5000 'eve.token: there is a file already' add-operator eve --role user --new-token eve.token
+ends mute 3 4000 'no answer' --timeout 1 commission 1
+ends mute 3 4000 'no answer' --timeout 1 machines
+ends mute 3 4000 'no answer, after 1 seconds' wait 1 --for Ready --timeout 1
+ends mute 3 4000 'no answer, after 1 seconds' --timeout 1 wait 1 --for Ready
+ends refused 3 7000 'pool lab: not done (connection refused): say it again with --key' --timeout 4 add-pool lab
 ends slow 0 100000 '{"machines":[' --timeout 5 machines --json
-[ "$(($(wc -c < said) - 1))" = "$(port_of list)" ] || bad 'a slow list is whole'
+[ "$(($(wc -c < said) - 1))" = "$(port_of list)" ] || wrong 'a slow list is whole'
 ends many 0 120000 'machine 2000: deleted' delete --yes --keys night.keys $(seq 2000)
-[ "$(wc -l < night.keys)" = 4000 ] && [ "$(stat -c %a night.keys)" = 600 ] || bad 'the file of keys'
-grep -q '^machine 2000: delete, key [0-9a-f-]*, version 1: done$' night.keys || bad 'the last key'
+[ "$(wc -l < night.keys)" = 4000 ] && [ "$(stat -c %a night.keys)" = 600 ] || wrong 'the file of keys'
+grep -q '^machine 2000: delete, key [0-9a-f-]*, version 1: done$' night.keys || wrong 'the last key'
 
 serve straight
 desk=http://127.0.0.1:$http
@@ -134,15 +145,16 @@ tail -n 1 said > straight.json
 serve cut
 python3 "$here/cutting_proxy.py" "$http" "$seed" > proxy & proxy=$!
 started+=($proxy)
-until [ -s proxy ]; do sleep 0.1; done
+comes 'the proxy that cuts connections' test -s proxy
 desk=http://127.0.0.1:$(head -n 1 proxy)
 life
 tail -n 1 said > cut.json
 kill -TERM $proxy; wait $proxy || true
-python3 - straight.json cut.json <<'PYTHON' || bad 'the halls are alike'
+python3 - straight.json cut.json <<'PYTHON' || wrong 'the halls are alike'
 import json, sys
 one, other = (json.load(open(name)) for name in sys.argv[1:])
 assert one == other, (one, other)
 assert len(one["machines"]) == 1 and one["machines"][0]["status"] == "Ready", one
 PYTHON
-echo "good: hallctl: a machine's whole life over cut connections is the same as over whole ones: $(tail -n 1 proxy)"
+good
+all_good "a machine's whole life over whole connections, and over others: $(tail -n 1 proxy)"

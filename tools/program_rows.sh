@@ -4,13 +4,12 @@
 set -euo pipefail
 here=$(cd "$(dirname "$0")" && pwd)
 . "$here/program.sh"
+. "$here/checks.sh"
 program hallboot
 crate=$here/../crates/hallboot
 work=$(mktemp -d)
 trap 'rm -rf "$work"' EXIT
 cd "$work"
-count=0
-bad() { echo "BAD: $*" >&2; exit 1; }
 
 # run WORD..: hallboot with these words, on the file in, to the files out and err; its exit status is in the variable status.
 run() {
@@ -25,14 +24,14 @@ want() {
     [ "$status" = "$wanted" ] || bad "status $status, not $wanted: $* $(cat err)"
     [ "$(cat out)" = "$output" ] || { cat out >&2; bad "output: $*"; }
     [ "$(cat err)" = "$message" ] || { cat err >&2; bad "message: $*"; }
-    count=$((count + 1))
+    good
 }
 fault() { want 1 '' "hallboot: $1" "${@:2}"; }
 # usage WORD..: wrong usage ends with status 2, prints nothing on standard output, and says why on standard error.
 usage() {
     run "$@"
     [ "$status" = 2 ] && [ ! -s out ] && [ -s err ] || bad "usage: $* (status $status)"
-    count=$((count + 1))
+    good
 }
 absent() { [ ! -e "$1" ] || bad "$1 was made"; }
 zeros() { printf '00%.0s' $(seq "$1"); }
@@ -124,7 +123,7 @@ answered() {   # answered STATUS BODY: of the last response
     [ "$status" = 0 ] || bad "request: status $status $(cat err)"
     [ "$(head -n 1 out | cut -d' ' -f2)" = "$1" ] || { cat out >&2; bad "not $1: $(cat in)"; }
     [ "$(tail -n +6 out)" = "$2" ] || { cat out >&2; bad "not $2"; }
-    count=$((count + 1))
+    good
 }
 get() {   # get MOMENT TARGET [TOKEN]
     printf 'GET %s HTTP/1.1\r\nHost: hall.example\r\n' "$2" > in
@@ -209,7 +208,7 @@ fault BadInput import --db hall.db --token abc --at x good.csv
 fault Io import --db absent2.db --token abc --at 1000 absent.csv
 printf 'abc\nanother line\n' > token
 printf 'a b\n' > no-token
-fault BadInput import --db hall.db --at 1000 good.csv
+usage import --db hall.db --at 1000 good.csv
 fault BadInput import --db hall.db --token abc --token-file token --at 1000 good.csv
 fault BadInput import --db hall.db --token-file no-token --at 1000 good.csv
 fault Io import --db hall.db --token-file absent --at 1000 good.csv
@@ -309,7 +308,7 @@ why BadInput '--at 007: seconds since 1970 are decimal digits without a leading 
 why BadInput '--boot localhost:1: an address and a port are as in 10.0.0.5:67' serve --db hall.db --discover $here4 --boot localhost:1 --http $here4 --turns 0
 why BadInput '--enlist maybe: yes or no' serve --db hall.db --discover $here4 --boot $here4 --http $here4 --turns 0 --enlist maybe
 why BadInput '--log-format xml: text or json' serve --db hall.db --discover $here4 --boot $here4 --http $here4 --turns 0 --log-format xml
-why BadInput '--token: one of --token and --token-file is needed' import --db hall.db --at 1000 in
+why BadInput '--token: one of --token and --token-file is given, not both' import --db hall.db --token abc --token-file token --at 1000 in
 why Bind '--discover 192.0.2.77:0: Cannot assign requested address (os error 99)' \
     serve --db hall.db --discover 192.0.2.77:0 --boot $here4 --http $here4 --turns 0
 why NotAHall 'absent4.db: No such file or directory (os error 2)' report --db absent4.db
@@ -331,7 +330,7 @@ why Io 'nowhere.csv: No such file or directory (os error 2)' import --db hall.db
 for name in frame init migrate request serve report import export; do
     run $name --help
     [ "$status" = 0 ] && grep -q "Example: hallboot $name" out || bad "help of $name"
-    count=$((count + 1))
+    good
 done
 run --help
 [ "$status" = 0 ] && grep -q serve out || bad help
@@ -350,6 +349,6 @@ means = {row[1]: row[3].replace("`", "") for line in table.splitlines() if len(r
 says = dict(re.findall(r'Refusal::(\w+) =>\s*"([^"]*)"', source))
 assert len(means) == 33 and means == says, set(means.items()) ^ set(says.items())
 PYTHON
-count=$((count + 2))
+good 2
 for file in *-journal; do [ ! -e "$file" ] || bad "$file is left"; done
-echo "good: $count rows"
+all_good

@@ -1,15 +1,14 @@
 #!/usr/bin/env bash
-# The forty arrivals of play_desk's log over both stores, with each single request for memory refused in turn: either nothing is seen, or one
-# arrival is answered as one that counts as not having come, and all other answers and the tables are those without it; or the store in SQLite
-# is shut, and all arrivals that need it are refused from then on; or the tables can't be read at the end, or the program that plays them ends.
-# Usage: tools/refuse_memory.sh [APART]     every APART-th request alone (1 by default: three minutes on four processors). PLAY_DESK=PROGRAM
-# names a program that is built already. Wants gcc and python3.
+# Each single request for memory of programs is refused in turn.
+# First of play_desk, for the forty arrivals of its log over both stores: either nothing is seen, or one arrival is answered as one that counts as not having
+# come, and all other answers and the tables are those without it; or the store in SQLite is shut, and all arrivals that need it are refused from
+# then on; or the tables can't be read at the end, or the program that plays them ends.
+# Then of play_cases, play_requests and play_desk, for a line of each of their kinds, which are calls of frames, clients, events, scripts, images,
+# words, texts, records, reports, imports, and of the making of a hall: it is answered as ever or by want of memory, or the program ends for that.
+# Usage: tools/refuse_memory.sh [APART]     every APART-th request of the forty arrivals (1 by default: three minutes on four processors).
+# PLAY_DESK=PROGRAM and so on name programs that are built already. Wants python3, and a C compiler, without which it checks nothing.
 set -euo pipefail
 here=$(cd "$(dirname "$0")" && pwd)
-crate=$here/../crates/play_desk
 . "$here/program.sh"
-program play_desk
-work=$(mktemp -d)
-trap 'rm -rf "$work"' EXIT
-gcc -O1 -shared -fPIC -o "$work/refuse_memory.so" "$here/refuse_memory.c" -ldl
-python3 "$here/refuse_memory.py" "$PLAY_DESK" "$work/refuse_memory.so" "$crate/stdin" "${1:-1}"
+for name in play_desk play_cases play_requests; do program "$name"; done
+exec python3 "$here/refuse_memory.py" "${1:-1}"

@@ -20,7 +20,7 @@ use Rattle.hall_store.specs.declared.store.Unavailable.{Unavailable}
 use Rattle.laws_model.specs.Decision.{decision_of}
 use Rattle.hall_report.specs.declared.row.ImportRow.{ImportRow}
 use Rattle.hall_desk.specs.Headline.{HasHistory}
-use Rattle.hall_desk.specs.History.{Item, carried_out}
+use Rattle.hall_desk.specs.History.{Item, Origin, carried_out}
 use Rattle.hall_desk.specs.Plan.{IsCarriedOut}
 use Rattle.desk_operations.specs.Import.{IsImported, IsRowAnswered, IsRowDone, IsRowItem, IsRowStopped, IsStopped, GoOn, after_row, after_rows, end_of, event_of, is_ok, line_of, lines_of, replies_to, reply_to, row_line, unavailable}
 use Rattle.desk_values.specs.declared.fault.Fault.{Fault}
@@ -213,27 +213,27 @@ all_more P (x ∷ xs) ys a b = (a.0, all_more P xs ys a.1 b)
 module _ {S : Type 0} (holds : S → Hall → Type 0) (site : Site) (bearer : List ℕ) (moment : ℕ) where
   -- what keeps a hall goes on
   pub kept_on : (old new : S) → ((h : Hall) → holds old h → holds new h) → GoOn holds old new site bearer moment
-  kept_on old new same admin digest past was = (
+  kept_on old new same origin past was = (
     [],
     tt,
-    subst (HasHistory holds new admin digest) (sym (append-nil past)) (record { end = was.end; held = same was.end was.held; headline = was.headline }),
+    subst (HasHistory holds new origin) (sym (append-nil past)) (record { end = was.end; held = same was.end was.held; headline = was.headline }),
   )
 
   pub more_on : (from : Site) → from ≡ site → (a b c : S) → GoOn holds a b site bearer moment → GoOn holds b c from bearer moment → GoOn holds a c site bearer moment
-  more_on from same a b c one two admin digest past was =
-      let first = one admin digest past was in
-      let next = subst (λ at. GoOn holds b c at bearer moment) same two admin digest (past ++ first.0) first.2 in (
+  more_on from same a b c one two origin past was =
+      let first = one origin past was in
+      let next = subst (λ at. GoOn holds b c at bearer moment) same two origin (past ++ first.0) first.2 in (
         first.0 ++ next.0,
         all_more (IsRowItem site bearer moment) first.0 next.0 first.1 next.1,
-        subst (HasHistory holds c admin digest) (append_assoc past first.0 next.0) next.2,
+        subst (HasHistory holds c origin) (append_assoc past first.0 next.0) next.2,
       )
 
   -- a row's command is carried out
   pub carried_on : (old new : S) (row : ImportRow) (e : Event) (fresh : List ℕ) (reply : Reply) → e ≡ event_of bearer row → fresh ≡ replicate 16 0
-      → ((admin digest : List ℕ) (past : List Item) → HasHistory holds old admin digest past → HasHistory holds new admin digest (past ++ carried_out site e moment fresh reply ∷ []))
+      → ((origin : Origin) (past : List Item) → HasHistory holds old origin past → HasHistory holds new origin (past ++ carried_out site e moment fresh reply ∷ []))
       → GoOn holds old new site bearer moment
-  carried_on old new row e fresh reply e_is fresh_is history admin digest past was = (
+  carried_on old new row e fresh reply e_is fresh_is history origin past was = (
     carried_out site e moment fresh reply ∷ [],
     ((row, reply, ap (λ e. carried_out site e moment fresh reply) e_is ∙ ap (λ f. carried_out site (event_of bearer row) moment f reply) fresh_is), tt),
-    history admin digest past was,
+    history origin past was,
   )

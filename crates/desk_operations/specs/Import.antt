@@ -15,7 +15,7 @@ use Rattle.hall_events.specs.declared.reply.Reply.{Reply}
 use Rattle.hall_events.specs.declared.reply.Reply.TheVariants.{Http}
 use Rattle.laws_model.specs.Decision.{Decided, decision_of}
 use Rattle.hall_desk.specs.Headline.{HasHistory}
-use Rattle.hall_desk.specs.History.{Item, carried_out}
+use Rattle.hall_desk.specs.History.{Item, Origin, carried_out}
 use Rattle.hall_report.specs.declared.row.ImportRow.{ImportRow}
 use Rattle.desk_values.specs.declared.fault.Fault.{Fault}
 use Rattle.desk_values.specs.declared.fault.Fault.TheVariants.{Io}
@@ -135,5 +135,5 @@ IsRowItem site bearer moment item = (row : ImportRow) × (reply : Reply) × (ite
 -- the rows that came go on from the hall's history
 abbrev pub GoOn : {S : Type 0} → (S → Hall → Type 0) → S → S → Site → List ℕ → ℕ → Type 0
 GoOn holds old new site bearer moment =
-    (admin digest : List ℕ) (past : List Item) → HasHistory holds old admin digest past
-    → (items : List Item) × AllByRecursion (IsRowItem site bearer moment) items × HasHistory holds new admin digest (past ++ items)
+    (origin : Origin) (past : List Item) → HasHistory holds old origin past
+    → (items : List Item) × AllByRecursion (IsRowItem site bearer moment) items × HasHistory holds new origin (past ++ items)

@@ -1,7 +1,10 @@
 //! One request, from a reader to a writer.
-ghost use Rattle.std.specs.Prelude.{◌≡◌, ◌⊎◌, true, false, IfErr, IfSome};
+ghost use Rattle.std.specs.Prelude.{◌≡◌, ◌⊎◌, List, true, false, IfErr, IfSome};
 ghost use Rattle.hall_http.specs.Noted.{failed_of, inner_of, takes_of};
 ghost use Rattle.hall_desk.specs.Desk.{site_of, store_of};
+ghost use Rattle.hall_desk.specs.Headline.{HasHistory, HasSomeRequest};
+ghost use Rattle.hall_desk.specs.History.{Item, Origin};
+ghost use Rattle.hall_desk.specs.Stops.{IsLeft, IsSettled, OrSomeRequest};
 ghost use Rattle.desk_operations.specs.Request.{HasServed};
 
 use desk_values::Fault;
@@ -13,7 +16,8 @@ use std::alloc::Global;
 use std::io::{Read, Write};
 
 /// Reads one request and writes its response, whatever its code. What the request changes is kept before the first octet
-/// is written. The reader and the writer are to be new.
+/// is written. The reader and the writer are to be new. With all that came to the hall since it was new, some request came, or none, whatever
+/// the reader and the writer tell; so too where the desk stops.
 ///
 /// # Errors
 ///
@@ -33,6 +37,10 @@ pub fn request<S: HallStore, R: Read, W: Write>(
     ensures site { site_of desk.new ≡ site_of desk.old }
     ensures served { S.HallStore.is_clean (store_of desk.new) → IfSome (R.remaining (inner_of reader.old)) (λ octets. IfSome (W.contents (inner_of writer.old)) (λ before.
         HasServed S.HallStore.holds S.HallStore.leaves (store_of desk.old) (store_of desk.new) (site_of desk.old) moment fresh octets before result (W.contents (inner_of writer.new)))) }
+    ensures goes_on { S.HallStore.is_clean (store_of desk.new) → (origin : Origin) (past : List Item) → HasHistory S.HallStore.holds (store_of desk.old) origin past
+        → HasSomeRequest S.HallStore.holds (store_of desk.new) origin past (site_of desk.old) moment fresh }
+    ensures stop { S.HallStore.is_clean (store_of desk.new) → (origin : Origin) (past : List Item) → IsSettled S.HallStore.holds S.HallStore.leaves (store_of desk.old) origin past
+        → IsLeft S.HallStore.leaves (store_of desk.new) origin (OrSomeRequest past (site_of desk.old) moment fresh) }
     ensures fault { IfErr result (λ fault. fault ≡ Fault.Io) }
     // A read failed, or 4,096 reads gave octets, or a write failed.
     ensures failed { IfErr result (λ _. (failed_of reader.new ≡ true) ⊎ ((takes_of reader.new ≡ 4096) ⊎ (failed_of writer.new ≡ true))) }

@@ -1,3 +1,4 @@
+pub mod AccountLemmas
 pub mod AttemptLemmas
 pub mod FrameLemmas
 pub mod HistoryLemmas

@@ -1,15 +1,16 @@
 -- A run goes on by one arrival.
 use Rattle.std.proofs.Common.{◌≡◌, ◌<◌, ◌+◌, ◌∙◌, ℕ, List, [], ◌∷◌, ◌++◌, length, drop, drop-cons, get_or, suc, add-one, ap, refl, sym, subst, inl, inr}
 use Rattle.std.specs.List.{AllByRecursion}
-use Rattle.std.specs.Prelude.{◌≢◌, ◌⊎◌}
+use Rattle.std.specs.Prelude.{◌⊎◌, ⊤}
 use Rattle.pxe_vendor.specs.Place.{Site}
 use Rattle.hall_types.specs.Hall.{Hall}
 use Rattle.boot_desk.specs.Sound.{IsSound}
 use Rattle.hall_desk.proofs.HistoryLemmas.{item_on, of_run}
+use Rattle.hall_desk.proofs.StopLemmas.{silent_idle}
 use Rattle.hall_desk.specs.Attempt.{ChangeNothing, IsAnswered, IsKept, IsTorn}
 use Rattle.hall_desk.specs.History.{AllLead, IsCutRun, Item, came_unanswered, exchanges}
-use Rattle.hall_desk.specs.Octets.{HasMissed, IsArrivalRun, IsArrivalStep, missed_answer}
-use Rattle.hall_desk.specs.Stops.{AreAnswered, HasRun, IsCutEnd}
+use Rattle.hall_desk.specs.Octets.{HasMissed, IsArrivalRun, IsArrivalStep, IsGiven}
+use Rattle.hall_desk.specs.Stops.{AreAnswered, AreGiven, HasRun, IsCutEnd}
 use Rattle.hall_desk.specs.declared.arrival.Answer.{Answer}
 use Rattle.hall_desk.specs.declared.arrival.Arrival.{Arrival}
 
@@ -47,13 +48,40 @@ cut_last site h [] (b ∷ answers) end arrival a run = absurd run
 cut_last site h (x ∷ arrivals) [] end arrival a run = absurd run
 cut_last site h (x ∷ arrivals) (b ∷ answers) end arrival a run = inr (refl, cut_last site run.0 arrivals answers end arrival a run.2)
 
-split_answered : (site : Site) (h : Hall) (arrivals : List Arrival) (answers : List Answer) (end : Hall) (arrival : Arrival) (a : Answer) → IsArrivalRun site h arrivals answers end
-    → AreAnswered (arrivals ++ arrival ∷ []) (answers ++ a ∷ []) → AreAnswered arrivals answers × (a ≢ missed_answer arrival.input)
-split_answered site h [] [] end arrival a run all = (refl, all.0)
-split_answered site h [] (b ∷ answers) end arrival a run all = absurd run
-split_answered site h (x ∷ arrivals) [] end arrival a run all = absurd run
-split_answered site h (x ∷ arrivals) (b ∷ answers) end arrival a run all =
-    let rest = split_answered site run.0 arrivals answers end arrival a run.2 all.1 in ((all.0, rest.0), rest.1)
+-- as many answers as arrivals
+abbrev AreSame : List Arrival → List Answer → Type 0
+AreSame [] [] = ⊤
+AreSame (x ∷ arrivals) (b ∷ answers) = AreSame arrivals answers
+AreSame arrivals answers = ⊥
+
+given_front : (site : Site) (h : Hall) (arrivals : List Arrival) (answers : List Answer) (arrival : Arrival) (a : Answer)
+    → AreGiven site h (arrivals ++ arrival ∷ []) (answers ++ a ∷ []) → AreSame arrivals answers → AreGiven site h arrivals answers
+given_front site h [] [] arrival a all same = refl
+given_front site h [] (b ∷ answers) arrival a all same = absurd same
+given_front site h (x ∷ arrivals) [] arrival a all same = absurd same
+given_front site h (x ∷ arrivals) (b ∷ answers) arrival a all same =
+    (all.0, λ next step. given_front site next arrivals answers arrival a (all.1 next step) same)
+
+same_run : (site : Site) (h : Hall) (arrivals : List Arrival) (answers : List Answer) (end : Hall) → IsArrivalRun site h arrivals answers end → AreSame arrivals answers
+same_run site h [] [] end run = tt
+same_run site h [] (b ∷ answers) end run = absurd run
+same_run site h (x ∷ arrivals) [] end run = absurd run
+same_run site h (x ∷ arrivals) (b ∷ answers) end run = same_run site run.0 arrivals answers end run.2
+
+split_given : (site : Site) (h : Hall) (arrivals : List Arrival) (answers : List Answer) (end : Hall) (arrival : Arrival) (a : Answer) → IsArrivalRun site h arrivals answers end
+    → AreGiven site h (arrivals ++ arrival ∷ []) (answers ++ a ∷ []) → AreGiven site h arrivals answers × IsGiven site end arrival.input arrival.moment arrival.fresh a
+split_given site h [] [] end arrival a run all = (refl, subst (λ (from : Hall). IsGiven site from arrival.input arrival.moment arrival.fresh a) (sym run) all.0)
+split_given site h [] (b ∷ answers) end arrival a run all = absurd run
+split_given site h (x ∷ arrivals) [] end arrival a run all = absurd run
+split_given site h (x ∷ arrivals) (b ∷ answers) end arrival a run all = (
+  given_front site h (x ∷ arrivals) (b ∷ answers) arrival a all (same_run site run.0 arrivals answers end run.2),
+  (split_given site run.0 arrivals answers end arrival a run.2 (all.1 run.0 run.1)).1,
+)
+
+pub answered_given : (site : Site) (h : Hall) (arrivals : List Arrival) (answers : List Answer) → AreAnswered arrivals answers → AreGiven site h arrivals answers
+answered_given site h [] answers all = all
+answered_given site h (x ∷ arrivals) [] all = absurd all
+answered_given site h (x ∷ arrivals) (a ∷ answers) all = (inl all.0, λ next step. answered_given site next arrivals answers all.1)
 
 next_arrival : (arrivals : List Arrival) (i : ℕ) (arrival : Arrival) → i < length arrivals → arrival ≡ get_or arrivals i arrival → drop i arrivals ≡ arrival ∷ drop (i + 1) arrivals
 next_arrival arrivals i arrival low is = drop-cons arrivals i arrival low ∙ ap (λ y. y ∷ drop (suc i) arrivals) (sym is) ∙ ap (λ j. arrival ∷ drop j arrivals) (sym (add-one i))
@@ -96,6 +124,13 @@ module _ {S : Type 0} (holds : S → Hall → Type 0) (leaves : S → List Hall 
         later [] all = tt
         later (x ∷ halls) all = ((all.0.0, cut_more site arrivals answers arrival a all.0.0 all.0.1, all.0.2), later halls all.1)
 
+    -- what counts as not having come, and is silence that the hall gives, leaves a stop as it was
+    still : (HasMissed before.ran.end arrival.input a before.ran.end × holds new before.ran.end) → IsGiven site before.ran.end arrival.input arrival.moment arrival.fresh a
+        → leaves mid (before.ran.end ∷ []) → leaves new (before.ran.end ∷ [])
+    still missed (inl given) left = absurd (given missed.0.answer)
+    still missed (inr silent) left =
+        it.still before.ran.end before.ran.held (silent_idle site before.ran.end arrival.input arrival.moment arrival.fresh silent) (before.ran.end ∷ []) left
+
     run_more : HasRun holds leaves old new site h (arrivals ++ arrival ∷ []) (answers ++ a ∷ [])
     run_more = by (it.step before.ran.end before.ran.held before.ran.sound)
       where
@@ -108,7 +143,7 @@ module _ {S : Type 0} (holds : S → Hall → Type 0) (leaves : S → List Hall 
             held = kept.held;
             sound = kept.sound;
           };
-          settled = λ left all. kept.settled (before.settled left (split_answered site h arrivals answers before.ran.end arrival a before.ran.run all).0);
+          settled = λ left all. kept.settled (before.settled left (split_given site h arrivals answers before.ran.end arrival a before.ran.run all).0);
           stop = stop_more;
         }
         by (inr missed) = record {
@@ -118,7 +153,9 @@ module _ {S : Type 0} (holds : S → Hall → Type 0) (leaves : S → List Hall 
             held = missed.1;
             sound = before.ran.sound;
           };
-          settled = λ left all. absurd ((split_answered site h arrivals answers before.ran.end arrival a before.ran.run all).1 missed.0.answer);
+          settled = λ left all.
+              let given = split_given site h arrivals answers before.ran.end arrival a before.ran.run all in
+              still missed given.1 (before.settled left given.0);
           stop = stop_more;
         }
 

@@ -5,7 +5,7 @@ use Rattle.std.specs.List.{AllByRecursion}
 use Rattle.dhcp_frame.specs.Message.{Message}
 use Rattle.pxe_vendor.specs.Place.{Site}
 use Rattle.pxe_vendor.specs.declared.clients.Client.{Client}
-use Rattle.hall_types.specs.Hall.{Hall, applied, new_hall, second}
+use Rattle.hall_types.specs.Hall.{Hall, applied, second}
 use Rattle.hall_types.specs.declared.port.Port.{Port}
 use Rattle.hall_events.specs.Reply.{reply_of}
 use Rattle.hall_events.specs.declared.event.Event.{Event}
@@ -20,11 +20,11 @@ use Rattle.hall_store.specs.declared.store.Unavailable.{Unavailable as Refusing}
 use Rattle.laws_model.specs.Decision.{decision_of, framed}
 use Rattle.laws_model.specs.Step.{IsTyped}
 use Rattle.hall_desk.specs.Attempt.{IsAnswered, IsKept, IsTorn}
-use Rattle.hall_desk.specs.Headline.{Headline}
-use Rattle.hall_desk.specs.History.{AllLead, Item, ItemLeads, came_unanswered, came_unreplied, carried_out, exchanged, exchanges}
+use Rattle.hall_desk.specs.Headline.{Headline, requested}
+use Rattle.hall_desk.specs.History.{AllLead, BeginsWith, Item, ItemLeads, Origin, came_unanswered, came_unreplied, carried_out, exchanged, exchanges}
 use Rattle.hall_desk.specs.Octets.{HasMissed, IsArrivalStep, IsGiven, IsIdle, IsSilent, answered, asks, frame_answer}
 use Rattle.hall_desk.specs.Plan.{IsCarriedOut}
-use Rattle.hall_desk.specs.Stops.{AndCutRun, AreAnswered, HasRun, IsCutEnd, IsEnd, IsLeft, IsSettled, OrUnanswered, OrUnreplied}
+use Rattle.hall_desk.specs.Stops.{AndCutRun, AreGiven, HasRun, IsCutEnd, IsEnd, IsLeft, IsSettled, OrSomeRequest, OrUnanswered, OrUnreplied}
 use Rattle.hall_desk.specs.declared.arrival.Answer.{Answer}
 use Rattle.hall_desk.specs.declared.arrival.Answer.TheVariants.{Silence}
 use Rattle.hall_desk.specs.declared.arrival.Arrival.{Arrival}
@@ -40,7 +40,7 @@ silent_rows site h message client ScriptUrl is = cc
 silent_rows site h message client Enlist is = cc
 silent_rows site h message client (Silent silence) is = refl
 
-frame_rows : (site : Site) (h : Hall) (message : Message) (port : Port) (client : Client) (moment : ℕ) (fresh : List ℕ)
+pub frame_rows : (site : Site) (h : Hall) (message : Message) (port : Port) (client : Client) (moment : ℕ) (fresh : List ℕ)
     → Silence ≡ frame_answer site message client (decision_of site h (event.Frame port client) moment fresh).content → (decision_of site h (event.Frame port client) moment fresh).rows ≡ []
 unfolding decision_of
 frame_rows site h message port client moment fresh is = silent_rows site h message client (frame_decision (frame_view h client) port client) is
@@ -61,32 +61,38 @@ all_append : (P : Hall → Type 0) (xs ys : List Hall) → AllByRecursion P xs �
 all_append P [] ys a b = b
 all_append P (x ∷ xs) ys a b = (a.0, all_append P xs ys a.1 b)
 
-module _ (its : AreHistoryLaws) {S : Type 0} (holds : S → Hall → Type 0) (leaves : S → List Hall → Type 0) (old new : S) (site : Site) (admin digest : List ℕ) (past : List Item)
-    (was : IsSettled holds leaves old admin digest past) where
+module _ (its : AreHistoryLaws) {S : Type 0} (holds : S → Hall → Type 0) (leaves : S → List Hall → Type 0) (old new : S) (site : Site) (origin : Origin) (past : List Item)
+    (was : IsSettled holds leaves old origin past) where
   abbrev end : Hall
   end = was.history.end
 
-  led : AllLead (new_hall second admin digest) past end
+  abbrev begin : Hall
+  begin = was.history.headline.begin
+
+  begins : BeginsWith origin begin
+  begins = was.history.headline.begins
+
+  led : AllLead begin past end
   led = was.history.headline.led
 
   -- the history as it was
-  as_before : (IsOne : List Item → Type 0) → IsOne past → IsEnd admin digest IsOne end
+  as_before : (IsOne : List Item → Type 0) → IsOne past → IsEnd origin IsOne end
   as_before IsOne is = (past, is, was.history.headline)
 
   -- the history with one item more
-  with_item : (item : Item) (next : Hall) → ItemLeads end item next → Headline (new_hall second admin digest) (past ++ item ∷ []) next
-  with_item item next leads = its.laws admin digest (past ++ item ∷ []) next (item_on (new_hall second admin digest) past end led item next leads)
+  with_item : (item : Item) (next : Hall) → ItemLeads end item next → Headline origin (past ++ item ∷ []) next
+  with_item item next leads = its.laws origin begin (past ++ item ∷ []) next begins (item_on begin past end led item next leads)
 
-  settled_item : (item : Item) (next : Hall) → ItemLeads end item next → holds new next → leaves new (next ∷ []) → IsSettled holds leaves new admin digest (past ++ item ∷ [])
+  settled_item : (item : Item) (next : Hall) → ItemLeads end item next → holds new next → leaves new (next ∷ []) → IsSettled holds leaves new origin (past ++ item ∷ [])
   settled_item item next leads held left = record { history = record { end = next; held = held; headline = with_item item next leads }; settled = left }
 
   -- an arrival that is answered
   pub after_given : (arrival : Arrival) (a : Answer) → IsAnswered holds leaves old new site arrival.input arrival.moment arrival.fresh a
-      → IsGiven site end arrival.input arrival.moment arrival.fresh a → IsSettled holds leaves new admin digest (past ++ exchanged site arrival a ∷ [])
-  after_given arrival a it given = by (it.step end was.history.held was.history.headline.sound) given
+      → IsGiven site end arrival.input arrival.moment arrival.fresh a → IsSettled holds leaves new origin (past ++ exchanged site arrival a ∷ [])
+  after_given arrival a it given = by (it.step end was.history.held was.history.headline.laws.sound) given
     where
       by : IsKept holds leaves old new site arrival.input arrival.moment arrival.fresh end a ⊎ (HasMissed end arrival.input a end × holds new end)
-          → IsGiven site end arrival.input arrival.moment arrival.fresh a → IsSettled holds leaves new admin digest (past ++ exchanged site arrival a ∷ [])
+          → IsGiven site end arrival.input arrival.moment arrival.fresh a → IsSettled holds leaves new origin (past ++ exchanged site arrival a ∷ [])
       by (inl kept) given = settled_item (exchanged site arrival a) kept.next (inl kept.come) kept.held (kept.settled was.settled)
       by (inr missed) (inl given) = absurd (given missed.0.answer)
       by (inr missed) (inr silent) =
@@ -95,7 +101,7 @@ module _ (its : AreHistoryLaws) {S : Type 0} (holds : S → Hall → Type 0) (le
 
   -- a stop while an arrival is answered
   pub after_stop : (arrival : Arrival) (a : Answer) → IsAnswered holds leaves old new site arrival.input arrival.moment arrival.fresh a
-      → IsLeft leaves new admin digest (OrUnanswered past site arrival)
+      → IsLeft leaves new origin (OrUnanswered past site arrival)
   after_stop arrival a it = record {
     halls = torn.next ∷ end ∷ [];
     left = torn.left;
@@ -103,47 +109,67 @@ module _ (its : AreHistoryLaws) {S : Type 0} (holds : S → Hall → Type 0) (le
   }
     where
       torn : IsTorn holds leaves old new site arrival.input arrival.moment arrival.fresh end (end ∷ [])
-      torn = it.crash end was.history.held was.history.headline.sound (end ∷ []) was.settled
+      torn = it.crash end was.history.held was.history.headline.laws.sound (end ∷ []) was.settled
 
-      by : IsArrivalStep site end arrival.input arrival.moment arrival.fresh torn.answer torn.next → IsEnd admin digest (OrUnanswered past site arrival) torn.next
+      by : IsArrivalStep site end arrival.input arrival.moment arrival.fresh torn.answer torn.next → IsEnd origin (OrUnanswered past site arrival) torn.next
       by (inl come) = (past ++ came_unanswered site arrival ∷ [], inr refl, with_item (came_unanswered site arrival) torn.next (torn.answer, come))
-      by (inr missed) = (past, inl refl, subst (Headline (new_hall second admin digest) past) (sym missed.same) was.history.headline)
+      by (inr missed) = (past, inl refl, subst (Headline origin past) (sym missed.same) was.history.headline)
+
+  -- nothing came
+  pub nothing_came : (IsOne : List Item → Type 0) → IsOne past → IsLeft leaves old origin IsOne
+  nothing_came IsOne is = record { halls = end ∷ []; left = was.settled; each = (as_before IsOne is, tt) }
+
+  -- some request came, at a moment and with fresh octets, and was answered
+  pub request_stop : (octets : List ℕ) (moment : ℕ) (fresh : List ℕ) (a : Answer) → IsAnswered holds leaves old new site (input.Request octets) moment fresh a
+      → IsLeft leaves new origin (OrSomeRequest past site moment fresh)
+  request_stop octets moment fresh a it =
+      let some = after_stop (requested octets moment fresh) a it in
+      record { halls = some.halls; left = some.left; each = ends some.halls some.each }
+    where
+      one : (items : List Item) → OrUnanswered past site (requested octets moment fresh) items → OrSomeRequest past site moment fresh items
+      one items (inl is) = inl is
+      one items (inr is) = inr (octets, is)
+
+      ends : (halls : List Hall) → AllByRecursion (IsEnd origin (OrUnanswered past site (requested octets moment fresh))) halls
+          → AllByRecursion (IsEnd origin (OrSomeRequest past site moment fresh)) halls
+      ends [] all = tt
+      ends (x ∷ halls) all = ((all.0.0, one all.0.0 all.0.1, all.0.2), ends halls all.1)
 
   -- arrivals that are answered
   pub run_given : (arrivals : List Arrival) (answers : List Answer) → ((h : Hall) → holds old h → IsSound h → HasRun holds leaves old new site h arrivals answers)
-      → AreAnswered arrivals answers → IsSettled holds leaves new admin digest (past ++ exchanges site arrivals answers)
+      → AreGiven site end arrivals answers → IsSettled holds leaves new origin (past ++ exchanges site arrivals answers)
   run_given arrivals answers has all =
-      let run = has end was.history.held was.history.headline.sound in
+      let run = has end was.history.held was.history.headline.laws.sound in
       record {
         history = record {
           end = run.ran.end;
           held = run.ran.held;
-          headline = its.laws admin digest (past ++ exchanges site arrivals answers) run.ran.end (goes_on (new_hall second admin digest) past end led site arrivals answers run.ran.end run.ran.run);
+          headline = its.laws origin begin (past ++ exchanges site arrivals answers) run.ran.end begins (goes_on begin past end led site arrivals answers run.ran.end run.ran.run);
         };
         settled = run.settled was.settled all;
       }
 
   -- a stop while arrivals are answered
   pub run_stop : (arrivals : List Arrival) (answers : List Answer) → ((h : Hall) → holds old h → IsSound h → HasRun holds leaves old new site h arrivals answers)
-      → IsLeft leaves new admin digest (AndCutRun past site arrivals answers)
+      → IsLeft leaves new origin (AndCutRun past site arrivals answers)
   run_stop arrivals answers has = record {
     halls = found.0 ++ end ∷ [];
     left = found.1;
-    each = all_append (IsEnd admin digest (AndCutRun past site arrivals answers)) found.0 (end ∷ []) (ends found.0 found.2)
+    each = all_append (IsEnd origin (AndCutRun past site arrivals answers)) found.0 (end ∷ []) (ends found.0 found.2)
         (as_before (AndCutRun past site arrivals answers) ([], tt, sym (append-nil past)), tt);
   }
     where
       found : (more : List Hall) × leaves new (more ++ end ∷ []) × AllByRecursion (IsCutEnd site end arrivals answers) more
-      found = (has end was.history.held was.history.headline.sound).stop (end ∷ []) was.settled
+      found = (has end was.history.held was.history.headline.laws.sound).stop (end ∷ []) was.settled
 
-      ends : (halls : List Hall) → AllByRecursion (IsCutEnd site end arrivals answers) halls → AllByRecursion (IsEnd admin digest (AndCutRun past site arrivals answers)) halls
+      ends : (halls : List Hall) → AllByRecursion (IsCutEnd site end arrivals answers) halls → AllByRecursion (IsEnd origin (AndCutRun past site arrivals answers)) halls
       ends [] all = tt
       ends (x ∷ halls) all =
           let cut = all.0.0 in (
             (
               past ++ cut,
               (cut, all.0.1, refl),
-              its.laws admin digest (past ++ cut) x (all_on (new_hall second admin digest) past end led cut x all.0.2),
+              its.laws origin begin (past ++ cut) x begins (all_on begin past end led cut x all.0.2),
             ),
             ends halls all.1,
           )
@@ -154,17 +180,17 @@ module _ (its : AreHistoryLaws) {S : Type 0} (holds : S → Hall → Type 0) (le
     Carries r = IsCarriedOut holds leaves old new r (λ h. (decision_of site h e moment fresh).rows) (λ h reply. reply ≡ reply_of second (decision_of site h e moment fresh).content)
 
     kept : AllKeep (decision_of site end e moment fresh).rows end
-    kept = keep end was.history.headline.sound (schema old end was.history.held)
+    kept = keep end was.history.headline.laws.sound (schema old end was.history.held)
 
     -- an event that is carried out
-    pub event_given : (reply : Reply) → Carries (Ok reply) → IsSettled holds leaves new admin digest (past ++ carried_out site e moment fresh reply ∷ [])
+    pub event_given : (reply : Reply) → Carries (Ok reply) → IsSettled holds leaves new origin (past ++ carried_out site e moment fresh reply ∷ [])
     event_given reply it =
         settled_item (carried_out site e moment fresh reply) (applied (decision_of site end e moment fresh).rows end)
         (record { reply = it.answer end was.history.held; after = refl; typed = typed })
         (it.made end was.history.held kept) (it.settled end was.history.held kept was.settled)
 
     -- a stop while an event is carried out
-    pub event_stop : (r : Result Reply Refusing) → Carries r → IsLeft leaves new admin digest (OrUnreplied past site e moment fresh)
+    pub event_stop : (r : Result Reply Refusing) → Carries r → IsLeft leaves new origin (OrUnreplied past site e moment fresh)
     event_stop r it = record {
       halls = applied (decision_of site end e moment fresh).rows end ∷ end ∷ [];
       left = it.crash end was.history.held kept (end ∷ []) was.settled;
@@ -182,7 +208,7 @@ module _ (its : AreHistoryLaws) {S : Type 0} (holds : S → Hall → Type 0) (le
 pub events_given : AreHistoryLaws → {S : Type 0} (holds : S → Hall → Type 0) (leaves : S → List Hall → Type 0) (old new : S) (site : Site) (e : Event) (moment : ℕ) (fresh : List ℕ) (r : Result Reply Refusing) → IsTyped site e fresh
     → ((h : Hall) → IsSound h → h.schema ≡ second → AllKeep (decision_of site h e moment fresh).rows h) → ((store : S) (h : Hall) → holds store h → h.schema ≡ second)
     → IsCarriedOut holds leaves old new r (λ h. (decision_of site h e moment fresh).rows) (λ h reply. reply ≡ reply_of second (decision_of site h e moment fresh).content)
-    → IfOk r (λ reply. (admin digest : List ℕ) (past : List Item) → IsSettled holds leaves old admin digest past → IsSettled holds leaves new admin digest (past ++ carried_out site e moment fresh reply ∷ []))
+    → IfOk r (λ reply. (origin : Origin) (past : List Item) → IsSettled holds leaves old origin past → IsSettled holds leaves new origin (past ++ carried_out site e moment fresh reply ∷ []))
 events_given its holds leaves old new site e moment fresh (Ok reply) typed keep schema it =
-    λ admin digest past was. event_given its holds leaves old new site admin digest past was e moment fresh typed keep schema reply it
+    λ origin past was. event_given its holds leaves old new site origin past was e moment fresh typed keep schema reply it
 events_given its holds leaves old new site e moment fresh (Err error) typed keep schema it = tt

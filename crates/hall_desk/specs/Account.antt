@@ -1,23 +1,39 @@
 -- What an account of an arrival says.
-use Rattle.std.specs.Prelude.{◌≡◌, ⊤, ℕ, Bool, false, not, List, Option, None, Some, Ok, Err, IfSome}
+use Rattle.std.specs.Prelude.{◌≡◌, ⊤, ℕ, Bool, false, not, List, Option, None, Some, Result, Ok, Err, IfSome, option_map, if◌then◌else◌}
 use Rattle.dhcp_frame.specs.Message.{Message}
 use Rattle.dhcp_frame.specs.Understood.{understood}
+use Rattle.pxe_vendor.specs.Place.{Site}
 use Rattle.pxe_vendor.specs.Served.{Answers, client_of}
 use Rattle.pxe_vendor.specs.declared.clients.Client.{Client}
 use Rattle.pxe_vendor.specs.declared.serve.NotServed.{NotServed}
-use Rattle.hall_types.specs.Hall.{Hall}
+use Rattle.hall_types.specs.Hall.{Hall, pair}
+use Rattle.hall_types.specs.Lookup.{next_expired}
+use Rattle.hall_types.specs.Rows.{at}
+use Rattle.hall_types.specs.declared.change.RowWrite.{RowWrite}
+use Rattle.hall_types.specs.declared.kinds.Role.{Role}
 use Rattle.hall_types.specs.declared.machine.Machine.{Machine}
 use Rattle.hall_types.specs.declared.operator.Operator.{Operator}
 use Rattle.hall_types.specs.declared.port.Port.{Port}
+use Rattle.hall_types.specs.declared.receipt.Receipt.{Receipt}
+use Rattle.hall_events.specs.declared.command.HallCommand.{HallCommand}
+use Rattle.hall_events.specs.declared.event.Event.{Event}
+use Rattle.hall_events.specs.declared.event.Event.TheVariants as event
 use Rattle.boot_desk.specs.FrameEvent.{frame_decision, frame_view}
 use Rattle.boot_desk.specs.declared.frames.Decision.{Decision}
 use Rattle.boot_desk.specs.declared.frames.Decision.TheVariants.{Loader, ScriptUrl, Enlist, Silent}
+use Rattle.boot_desk.specs.Views.{machine_view, order_view, report_view, view_at}
+use Rattle.desk_command.specs.Command.{may_send, needs_admin, sender}
+use Rattle.desk_command.specs.View.{command_view}
 use Rattle.http_requests.specs.Request.{IsEvent}
-use Rattle.hall_desk.specs.Octets.{IsFrom}
+use Rattle.laws_model.specs.Decision.{decision_of, may_answer}
+use Rattle.hall_desk.specs.Moved.{moved_by}
+use Rattle.hall_desk.specs.Octets.{IsFrom, missed_answer}
 use Rattle.hall_desk.specs.declared.account.Account.{Account}
 use Rattle.hall_desk.specs.declared.account.Came.{Came}
 use Rattle.hall_desk.specs.declared.account.Came.TheVariants as came
 use Rattle.hall_desk.specs.declared.account.Notes.{Notes}
+use Rattle.hall_desk.specs.declared.arrival.Answer.{Answer}
+use Rattle.hall_desk.specs.declared.arrival.Answer.TheVariants as answer
 use Rattle.hall_desk.specs.declared.arrival.Input.{Input}
 use Rattle.hall_desk.specs.declared.arrival.Input.TheVariants as input
 
@@ -65,17 +81,61 @@ abbrev pub about : Option Machine → Notes → Notes
 about None notes = notes
 about (Some m) notes = record notes { machine = Some (record { machine = m.id; status = m.status }) }
 
--- what is noted of the decision on a client's frame is the hall's
-abbrev pub IsDecided : Hall → Port → Client → Option Decision → Type 0
-IsDecided h port client decision = IfSome decision (λ its. its ≡ frame_decision (frame_view h client) port client)
+-- ---- who sent an event, and the machine that it is about
 
--- what is noted of what was found in the hall
-abbrev pub IsFound : Hall → Input → Account → Type 0
-IsFound h (input.Datagram port octets) account = (client : Client) → account.came ≡ came.Client client → IsDecided h port client account.notes.decision
-IsFound h (input.Request octets) account = ⊤
-IsFound h input.Quiet account = ⊤
+-- the operator whose token came, enabled or not
+abbrev pub sender_of : Hall → Event → Option Operator
+sender_of h (event.Orders bearer) = sender h bearer
+sender_of h (event.OrderAnswer bearer order outcome) = sender h bearer
+sender_of h (event.Machines bearer) = sender h bearer
+sender_of h (event.OneMachine bearer machine) = sender h bearer
+sender_of h (event.Command bearer key command) = sender h bearer
+sender_of h other = None
 
--- ---- enlisting
+-- the machine, if the sender is known, enabled and of a role that may ask
+abbrev pub if_may : (Role → Bool) → Option Operator → Option Machine → Option Machine
+if_may may None m = None
+if_may may (Some o) m = if o.enabled then (if may o.role then m else None) else None
+
+-- the machine that a command names, if its sender may send it
+abbrev pub machine_named : Hall → Operator → HallCommand → Option Machine
+machine_named h o command = if may_send o.role (needs_admin command) then (command_view h o command).machine else None
+
+-- a command that came before is about none
+abbrev pub machine_keyed : Hall → Operator → Option Receipt → HallCommand → Option Machine
+machine_keyed h o (Some r) command = None
+machine_keyed h o None command = machine_named h o command
+
+abbrev pub machine_sent : Hall → Option Operator → List ℕ → HallCommand → Option Machine
+machine_sent h None key command = None
+machine_sent h (Some o) key command = if o.enabled then machine_keyed h o (at h.receipts (pair o.name key)) command else None
+
+-- the machine that an event is about at a moment: that of an address, a boot, an order or a command, or the one whose deadline comes first
+abbrev pub machine_of : Hall → ℕ → Event → Option Machine
+machine_of h moment (event.Script mac) = option_map (λ v. v.machine) (view_at h mac)
+machine_of h moment (event.Report boot token progress) = option_map (λ v. v.at.machine) (report_view h boot)
+machine_of h moment (event.OrderAnswer bearer order outcome) = if_may may_answer (sender h bearer) (option_map (λ v. v.at.machine) (order_view h order))
+machine_of h moment (event.Command bearer key command) = machine_sent h (sender h bearer) key command
+machine_of h moment event.Quiet = option_map (λ v. v.machine) (machine_view h (next_expired h moment))
+machine_of h moment other = None
+
+-- ---- what is noted of an arrival
+
+-- the sender and the machine of an event
+abbrev pub found_for : Hall → ℕ → Event → Notes → Notes
+found_for h moment e notes = about (machine_of h moment e) (sent_by (sender_of h e) notes)
+
+-- the move that these rows make of the machine that was found
+abbrev pub with_move : List RowWrite → Notes → Notes
+with_move rows notes = record notes { moved = moved_by notes.machine rows }
+
+-- nothing was found or changed
+abbrev pub nothing_noted : Notes
+nothing_noted = record { decision = None; unlisted = false; operator = None; machine = None; moved = None }
+
+-- all of an event that was carried out
+abbrev pub noted_of : Site → Hall → Event → ℕ → List ℕ → Notes
+noted_of site h e moment fresh = with_move (decision_of site h e moment fresh).rows (found_for h moment e nothing_noted)
 
 -- a client that is to be enlisted isn't, by a desk that doesn't enlist
 abbrev pub is_unlisted : Bool → Decision → Bool
@@ -83,6 +143,32 @@ is_unlisted enlists Loader = false
 is_unlisted enlists ScriptUrl = false
 is_unlisted enlists Enlist = not enlists
 is_unlisted enlists (Silent cause) = false
+
+-- the decision on a client's frame is the hall's, and it says whether nobody was enlisted for it
+abbrev pub IsDecided : Bool → Hall → Port → Client → Notes → Type 0
+IsDecided enlists h port client notes = IfSome notes.decision (λ its. (its ≡ frame_decision (frame_view h client) port client) × (notes.unlisted ≡ is_unlisted enlists its))
+
+-- the machine that a client's frame makes, if it was carried out
+abbrev pub IsMoved : Site → Hall → Port → Client → ℕ → List ℕ → Answer → Notes → Type 0
+IsMoved site h port client moment fresh (answer.Octets octets) notes = notes.moved ≡ moved_by None (decision_of site h (event.Frame port client) moment fresh).rows
+IsMoved site h port client moment fresh other notes = notes.moved ≡ None
+
+-- an event was carried out, and all of it is noted; or it counts as not having come, and moved no machine
+abbrev pub IsNoted : Site → Hall → Event → ℕ → List ℕ → Answer → Notes → Type 0
+IsNoted site h e moment fresh answer.Unavailable notes = notes.moved ≡ None
+IsNoted site h e moment fresh other notes = notes ≡ noted_of site h e moment fresh
+
+-- what is noted of what was found in the hall, and changed
+abbrev pub IsFound : Bool → Site → Hall → Input → ℕ → List ℕ → Answer → Account → Type 0
+IsFound enlists site h (input.Datagram port octets) moment fresh a account =
+    (client : Client) → account.came ≡ came.Client client → IsDecided enlists h port client account.notes × IsMoved site h port client moment fresh a account.notes
+IsFound enlists site h (input.Request octets) moment fresh a account = (e : Event) → account.came ≡ came.Asked e → IsNoted site h e moment fresh a account.notes
+IsFound enlists site h input.Quiet moment fresh a account = IsNoted site h event.Quiet moment fresh a account.notes
+
+-- the answer that was given, or that of an arrival that counts as not having come
+abbrev pub given_or_missed : {E : Type 0} → Input → Result Answer E → Answer
+given_or_missed what (Ok a) = a
+given_or_missed what (Err e) = missed_answer what
 
 -- what came is a datagram
 abbrev pub IsDatagram : Input → Type 0

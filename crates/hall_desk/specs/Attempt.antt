@@ -54,6 +54,11 @@ module _ {S : Type 0} (clean : S → Type 0) (holds : S → Hall → Type 0) (le
   abbrev pub GivesAnswer : Answer → Type 0
   GivesAnswer a = clean new → clean old × IsAnswered holds leaves old new site input moment fresh a
 
+-- a store was only read: it has each hall that it had, and a stop leaves what it left before
+pub record IsOnlyRead {S : Type 0} (holds : S → Hall → Type 0) (leaves : S → List Hall → Type 0) (old new : S) : Type 0 where
+  pub same : (h : Hall) → holds old h → holds new h
+  pub stop : (h : Hall) → holds old h → (hs : List Hall) → leaves old hs → leaves new hs
+
 -- none of the arrivals changes this hall
 abbrev pub ChangeNothing : Site → Hall → List Arrival → Type 0
 ChangeNothing site h arrivals = AllByRecursion (λ arrival. IsIdle site h arrival.input arrival.moment arrival.fresh) arrivals

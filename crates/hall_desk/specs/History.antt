@@ -7,6 +7,7 @@ use Rattle.hall_events.specs.declared.event.Event.{Event}
 use Rattle.hall_events.specs.declared.reply.Reply.{Reply}
 use Rattle.laws_model.specs.Decision.{decision_of}
 use Rattle.laws_model.specs.Step.{IsTyped, Step}
+pub use Rattle.laws_migration.specs.Origin.{BeginsWith, Origin}
 use Rattle.hall_desk.specs.Octets.{HasCome, IsArrivalStep, Means, answered, asks, missed_answer}
 use Rattle.hall_desk.specs.declared.arrival.Answer.{Answer}
 use Rattle.hall_desk.specs.declared.arrival.Arrival.{Arrival}

@@ -2,12 +2,12 @@
 use Rattle.std.specs.Prelude.{◌≡◌, ◌≢◌, ◌⊎◌, ℕ, List, [], ◌∷◌, ◌++◌}
 use Rattle.std.specs.List.{AllByRecursion}
 use Rattle.pxe_vendor.specs.Place.{Site}
-use Rattle.hall_types.specs.Hall.{Hall, new_hall, second}
+use Rattle.hall_types.specs.Hall.{Hall}
 use Rattle.hall_events.specs.declared.event.Event.{Event}
 use Rattle.hall_desk.specs.Attempt.{IsRan}
-use Rattle.hall_desk.specs.Headline.{HasHistory, Headline}
-use Rattle.hall_desk.specs.History.{AllLead, IsCutRun, Item, came_unanswered, came_unreplied}
-use Rattle.hall_desk.specs.Octets.{missed_answer}
+use Rattle.hall_desk.specs.Headline.{HasHistory, Headline, requested}
+use Rattle.hall_desk.specs.History.{AllLead, IsCutRun, Item, Origin, came_unanswered, came_unreplied}
+use Rattle.hall_desk.specs.Octets.{IsArrivalStep, IsGiven, missed_answer}
 use Rattle.hall_desk.specs.declared.arrival.Answer.{Answer}
 use Rattle.hall_desk.specs.declared.arrival.Arrival.{Arrival}
 
@@ -17,34 +17,42 @@ AreAnswered [] answers = answers ≡ []
 AreAnswered (arrival ∷ arrivals) [] = ⊥
 AreAnswered (arrival ∷ arrivals) (a ∷ answers) = (a ≢ missed_answer arrival.input) × AreAnswered arrivals answers
 
+-- each arrival was answered so, or by a silence that the hall gives to which those before it led from this one
+abbrev pub AreGiven : Site → Hall → List Arrival → List Answer → Type 0
+AreGiven site h [] answers = answers ≡ []
+AreGiven site h (arrival ∷ arrivals) [] = ⊥
+AreGiven site h (arrival ∷ arrivals) (a ∷ answers) =
+    IsGiven site h arrival.input arrival.moment arrival.fresh a
+    × ((next : Hall) → IsArrivalStep site h arrival.input arrival.moment arrival.fresh a next → AreGiven site next arrivals answers)
+
 -- some of the arrivals with their answers lead from this hall to the other, perhaps with one more whose answer wasn't given
 abbrev pub IsCutEnd : Site → Hall → List Arrival → List Answer → Hall → Type 0
 IsCutEnd site h arrivals answers end = (cut : List Item) × IsCutRun site arrivals answers cut × AllLead h cut end
 
 -- Arrivals led from this hall, each with its answer. Of a store that was settled a stop leaves a hall on the way; and the hall at their
--- end alone, if each was answered.
+-- end alone, if each was given its answer.
 pub record HasRun {S : Type 0} (holds : S → Hall → Type 0) (leaves : S → List Hall → Type 0) (old new : S) (site : Site) (h : Hall) (arrivals : List Arrival) (answers : List Answer) : Type 0 where
   pub ran : IsRan holds new site h arrivals answers
-  pub settled : leaves old (h ∷ []) → AreAnswered arrivals answers → leaves new (ran.end ∷ [])
+  pub settled : leaves old (h ∷ []) → AreGiven site h arrivals answers → leaves new (ran.end ∷ [])
   pub stop : (hs : List Hall) → leaves old hs → (more : List Hall) × leaves new (more ++ hs) × AllByRecursion (IsCutEnd site h arrivals answers) more
 
--- one of these histories leads to the hall, from the new hall with this admin, and keeps all laws
-abbrev pub IsEnd : List ℕ → List ℕ → (List Item → Type 0) → Hall → Type 0
-IsEnd admin digest IsOne h = (items : List Item) × IsOne items × Headline (new_hall second admin digest) items h
+-- one of these histories leads to the hall, and keeps all laws
+abbrev pub IsEnd : Origin → (List Item → Type 0) → Hall → Type 0
+IsEnd origin IsOne h = (items : List Item) × IsOne items × Headline origin items h
 
 -- `holds` says which hall a store has, and `leaves` that a stop leaves one of these halls
-module _ {S : Type 0} (holds : S → Hall → Type 0) (leaves : S → List Hall → Type 0) (store : S) (admin digest : List ℕ) where
+module _ {S : Type 0} (holds : S → Hall → Type 0) (leaves : S → List Hall → Type 0) (store : S) (origin : Origin) where
   -- the store has a hall to which this history leads, and a stop leaves that hall and no other
   pub record IsSettled (items : List Item) : Type 0 where
-    pub history : HasHistory holds store admin digest items
+    pub history : HasHistory holds store origin items
     pub settled : leaves store (history.end ∷ [])
 
-module _ {S : Type 0} (leaves : S → List Hall → Type 0) (store : S) (admin digest : List ℕ) where
+module _ {S : Type 0} (leaves : S → List Hall → Type 0) (store : S) (origin : Origin) where
   -- a stop leaves a hall to which one of these histories leads
   pub record IsLeft (IsOne : List Item → Type 0) : Type 0 where
     pub halls : List Hall
     pub left : leaves store halls
-    pub each : AllByRecursion (IsEnd admin digest IsOne) halls
+    pub each : AllByRecursion (IsEnd origin IsOne) halls
 
 -- ---- what came by the stop
 
@@ -55,6 +63,10 @@ OrUnanswered past site arrival items = (items ≡ past) ⊎ (items ≡ past ++ c
 -- what came before, or that and the event, whose reply wasn't given
 abbrev pub OrUnreplied : List Item → Site → Event → ℕ → List ℕ → List Item → Type 0
 OrUnreplied past site e moment fresh items = (items ≡ past) ⊎ (items ≡ past ++ came_unreplied site e moment fresh ∷ [])
+
+-- what came before, or that and some request that came at this moment, with these fresh octets, whose answer wasn't given
+abbrev pub OrSomeRequest : List Item → Site → ℕ → List ℕ → List Item → Type 0
+OrSomeRequest past site moment fresh items = (items ≡ past) ⊎ ((octets : List ℕ) × (items ≡ past ++ came_unanswered site (requested octets moment fresh) ∷ []))
 
 -- what came before, and then some of the arrivals with their answers, and then perhaps one more without
 abbrev pub AndCutRun : List Item → Site → List Arrival → List Answer → List Item → Type 0

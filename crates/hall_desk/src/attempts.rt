@@ -1,8 +1,11 @@
 //! Attempts to carry out what came.
-ghost use Rattle.std.specs.Prelude.{◌≡◌, None, false};
+ghost use Rattle.std.specs.Prelude.{◌≡◌, false};
 ghost use Rattle.hall_types.specs.Hall.{Hall};
-ghost use Rattle.hall_desk.specs.Account.{IsDatagram, IsFound, IsReadAs};
-ghost use Rattle.hall_desk.specs.Attempt.{Attempts};
+ghost use Rattle.hall_events.specs.declared.event.Event.{Event};
+ghost use Rattle.hall_events.specs.declared.event.Event.TheVariants as event;
+ghost use Rattle.hall_desk.specs.declared.account.Came.TheVariants as came;
+ghost use Rattle.hall_desk.specs.Account.{IsDatagram, IsFound, IsNoted, IsReadAs, given_or_missed, nothing_noted};
+ghost use Rattle.hall_desk.specs.Attempt.{Attempts, IsOnlyRead};
 ghost use Rattle.hall_desk.specs.Octets.{missed_answer};
 ghost use Rattle.hall_desk.specs.declared.arrival.Input.TheVariants as input;
 
@@ -34,8 +37,9 @@ pub(crate) fn attempt_datagram<S: HallStore>(
 ) -> Result<Answer, Unavailable>
     ensures attempts { Attempts S.HallStore.is_clean S.HallStore.holds S.HallStore.leaves store.old store.new place.now (input.Datagram port octets.now) moment fresh result }
     ensures came { IsReadAs (input.Datagram port octets.now) account.new.came }
-    ensures found { account.old.notes.decision ≡ None → S.HallStore.is_clean store.new → (h : Hall) → S.HallStore.holds store.old h → IsFound h (input.Datagram port octets.now) account.new }
-    ensures unlisted { enlists ≡ false → S.HallStore.is_clean store.new → (h : Hall) → S.HallStore.holds store.old h → S.HallStore.holds store.new h }
+    ensures found { account.old.notes ≡ nothing_noted → S.HallStore.is_clean store.new → (h : Hall) → S.HallStore.holds store.old h
+        → IsFound enlists place.now h (input.Datagram port octets.now) moment fresh (given_or_missed (input.Datagram port octets.now) result) account.new }
+    ensures unlisted { enlists ≡ false → S.HallStore.is_clean store.new → IsOnlyRead S.HallStore.holds S.HallStore.leaves store.old store.new }
 {
     steps_keep_halls_sound();
     decisions_keep_the_rules();
@@ -78,6 +82,8 @@ pub(crate) fn attempt_request<S: HallStore>(
 ) -> Result<Answer, Unavailable>
     ensures attempts { Attempts S.HallStore.is_clean S.HallStore.holds S.HallStore.leaves store.old store.new place.now (input.Request octets.now) moment fresh result }
     ensures came { IsReadAs (input.Request octets.now) account.new.came }
+    ensures found { account.old.notes ≡ nothing_noted → S.HallStore.is_clean store.new → (h : Hall) → S.HallStore.holds store.old h
+        → (e : Event) → account.new.came ≡ came.Asked e → IsNoted place.now h e moment fresh (given_or_missed (input.Request octets.now) result) account.new.notes }
 {
     steps_keep_halls_sound();
     decisions_keep_the_rules();
@@ -110,6 +116,8 @@ pub(crate) fn attempt_quiet<S: HallStore>(
 ) -> Result<Answer, Unavailable>
     ensures attempts { Attempts S.HallStore.is_clean S.HallStore.holds S.HallStore.leaves store.old store.new place.now input.Quiet moment fresh result }
     ensures came { IsReadAs input.Quiet account.new.came }
+    ensures found { account.old.notes ≡ nothing_noted → S.HallStore.is_clean store.new → (h : Hall) → S.HallStore.holds store.old h
+        → IsNoted place.now h event.Quiet moment fresh (given_or_missed input.Quiet result) account.new.notes }
 {
     steps_keep_halls_sound();
     decisions_keep_the_rules();
@@ -129,8 +137,9 @@ pub(crate) fn attempt<S: HallStore>(
 ) -> Result<Answer, Unavailable>
     ensures attempts { Attempts S.HallStore.is_clean S.HallStore.holds S.HallStore.leaves store.old store.new place.now arrival.now.input arrival.now.moment arrival.now.fresh result }
     ensures came { IsReadAs arrival.now.input account.new.came }
-    ensures found { account.old.notes.decision ≡ None → S.HallStore.is_clean store.new → (h : Hall) → S.HallStore.holds store.old h → IsFound h arrival.now.input account.new }
-    ensures unlisted { enlists ≡ false → IsDatagram arrival.now.input → S.HallStore.is_clean store.new → (h : Hall) → S.HallStore.holds store.old h → S.HallStore.holds store.new h }
+    ensures found { account.old.notes ≡ nothing_noted → S.HallStore.is_clean store.new → (h : Hall) → S.HallStore.holds store.old h
+        → IsFound enlists place.now h arrival.now.input arrival.now.moment arrival.now.fresh (given_or_missed arrival.now.input result) account.new }
+    ensures unlisted { enlists ≡ false → IsDatagram arrival.now.input → S.HallStore.is_clean store.new → IsOnlyRead S.HallStore.holds S.HallStore.leaves store.old store.new }
 {
     let moment = arrival.moment;
     let fresh = arrival.fresh;

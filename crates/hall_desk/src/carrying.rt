@@ -1,10 +1,12 @@
 //! Carrying out what came.
-ghost use Rattle.std.specs.Prelude.{◌≡◌, None, false};
+ghost use Rattle.std.specs.Prelude.{◌≡◌, None, false, OnErr, OnOk};
 ghost use Rattle.hall_types.specs.Hall.{Hall};
 ghost use Rattle.hall_events.specs.Reply.{Content};
 ghost use Rattle.hall_events.specs.declared.event.Event.TheVariants as event;
 ghost use Rattle.laws_model.specs.Decision.{decision_of};
-ghost use Rattle.hall_desk.specs.Account.{IsDecided, is_unlisted};
+ghost use Rattle.hall_desk.specs.Account.{IsDecided, found_for, is_unlisted, with_move};
+ghost use Rattle.hall_desk.specs.Attempt.{IsOnlyRead};
+ghost use Rattle.hall_desk.specs.Moved.{moved_by};
 ghost use Rattle.hall_desk.specs.Octets.{frame_answer, no_answer, response_answer};
 ghost use Rattle.hall_desk.specs.Plan.{CarriesOut};
 
@@ -50,8 +52,10 @@ pub(crate) fn carry_frame<S: HallStore>(
     ensures carried { CarriesOut S.HallStore.is_clean S.HallStore.holds S.HallStore.leaves store.old store.new result
         (λ h. (decision_of place.now h (event.Frame port client.now) moment fresh).rows)
         (λ h answer. answer ≡ frame_answer place.now frame.now client.now (decision_of place.now h (event.Frame port client.now) moment fresh).content) }
-    ensures decided { notes.old.decision ≡ None → S.HallStore.is_clean store.new → (h : Hall) → S.HallStore.holds store.old h → IsDecided h port client.now notes.new.decision }
-    ensures unlisted { enlists ≡ false → S.HallStore.is_clean store.new → (h : Hall) → S.HallStore.holds store.old h → S.HallStore.holds store.new h }
+    ensures decided { notes.old.decision ≡ None → notes.old.unlisted ≡ false → S.HallStore.is_clean store.new → (h : Hall) → S.HallStore.holds store.old h → IsDecided enlists h port client.now notes.new }
+    ensures moved { S.HallStore.is_clean store.new → OnOk result ((h : Hall) → S.HallStore.holds store.old h → notes.new.moved ≡ moved_by notes.old.machine (decision_of place.now h (event.Frame port client.now) moment fresh).rows) }
+    ensures unmoved { OnErr result (notes.new.moved ≡ notes.old.moved) }
+    ensures unlisted { enlists ≡ false → S.HallStore.is_clean store.new → IsOnlyRead S.HallStore.holds S.HallStore.leaves store.old store.new }
 {
     let (change, decision) = plan_client(alloc, store, port, client)?;
     notes.decision = Some(decision);
@@ -75,9 +79,12 @@ pub(crate) fn carry_request<S: HallStore>(
     fresh: Token,
     notes: &mut Notes,
 ) -> Result<Answer, Unavailable>
-    ensures { CarriesOut S.HallStore.is_clean S.HallStore.holds S.HallStore.leaves store.old store.new result
+    ensures carried { CarriesOut S.HallStore.is_clean S.HallStore.holds S.HallStore.leaves store.old store.new result
         (λ h. (decision_of place.now h event.now moment fresh).rows)
         (λ h answer. answer ≡ response_answer (decision_of place.now h event.now moment fresh).content) }
+    ensures noted { S.HallStore.is_clean store.new → OnOk result ((h : Hall) → S.HallStore.holds store.old h
+        → notes.new ≡ with_move (decision_of place.now h event.now moment fresh).rows (found_for h moment event.now notes.old)) }
+    ensures unmoved { OnErr result (notes.new.moved ≡ notes.old.moved) }
 {
     let (change, reply) = planned(alloc, store, place, event, moment, fresh, notes)?;
     let answer = response(alloc, reply)?;
@@ -95,9 +102,12 @@ pub(crate) fn carry_quiet<S: HallStore>(
     fresh: Token,
     notes: &mut Notes,
 ) -> Result<Answer, Unavailable>
-    ensures { CarriesOut S.HallStore.is_clean S.HallStore.holds S.HallStore.leaves store.old store.new result
+    ensures carried { CarriesOut S.HallStore.is_clean S.HallStore.holds S.HallStore.leaves store.old store.new result
         (λ h. (decision_of place.now h event.Quiet moment fresh).rows)
         (λ h answer. answer ≡ no_answer (decision_of place.now h event.Quiet moment fresh).content) }
+    ensures noted { S.HallStore.is_clean store.new → OnOk result ((h : Hall) → S.HallStore.holds store.old h
+        → notes.new ≡ with_move (decision_of place.now h event.Quiet moment fresh).rows (found_for h moment event.Quiet notes.old)) }
+    ensures unmoved { OnErr result (notes.new.moved ≡ notes.old.moved) }
 {
     let (change, reply) = planned(alloc, store, place, &Event::Quiet, moment, fresh, notes)?;
     drop(reply);

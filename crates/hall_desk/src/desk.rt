@@ -3,18 +3,19 @@ ghost use Rattle.std.specs.Prelude.{◌≡◌, true, false, ℕ, List, [], ◌�
 ghost use Rattle.hall_events.specs.Reply.{reply_of};
 ghost use Rattle.desk_command.specs.Command.{sender};
 ghost use Rattle.laws_model.specs.Decision.{decision_of};
-ghost use Rattle.hall_types.specs.Hall.{Hall, new_hall, second};
+ghost use Rattle.hall_types.specs.Hall.{Hall, second};
 ghost use Rattle.desk_views.specs.Look.{Looks};
 ghost use Rattle.boot_desk.specs.Sound.{IsSound};
+ghost use Rattle.laws_past.specs.Laws.{IsFrame};
 ghost use Rattle.hall_desk.specs.Account.{IsDatagram, IsFound, IsReadAs};
-ghost use Rattle.hall_desk.specs.Attempt.{ChangeNothing, GivesAnswer};
+ghost use Rattle.hall_desk.specs.Attempt.{ChangeNothing, GivesAnswer, IsOnlyRead};
 ghost use Rattle.hall_desk.specs.Desk.{enlists_of, site_of, store_of};
 ghost use Rattle.hall_desk.specs.Headline.{HasHistory};
-ghost use Rattle.hall_desk.specs.History.{Item, carried_out, exchanged, exchanges};
+ghost use Rattle.hall_desk.specs.History.{BeginsWith, Item, Origin, carried_out, exchanged, exchanges};
 ghost use Rattle.hall_desk.specs.Octets.{IsGiven};
 ghost use Rattle.hall_desk.specs.Plan.{CarriesOut, Plans};
 ghost use Rattle.hall_desk.specs.Sender.{if_enabled};
-ghost use Rattle.hall_desk.specs.Stops.{AndCutRun, AreAnswered, HasRun, IsLeft, IsSettled, OrUnanswered, OrUnreplied};
+ghost use Rattle.hall_desk.specs.Stops.{AndCutRun, AreGiven, HasRun, IsLeft, IsSettled, OrUnanswered, OrUnreplied};
 
 use crate::account::{Account, Came, Notes};
 use crate::arrival::{Answer, Arrival};
@@ -40,13 +41,23 @@ pub struct Desk<S> {
     enlists: bool,
 }
 
+// Whether an event is refused by a desk that doesn't enlist: a client's frame that writes rows enlists the client.
+fn is_refused(enlists: bool, event: &Event, change: &Change) -> bool
+    ensures { enlists ≡ false → IsFrame event.now → result ≡ false → change.now ≡ [] }
+{
+    match event {
+        Event::Frame { .. } => !enlists && !change.writes().is_empty(),
+        _ => false,
+    }
+}
+
 impl<S: HallStore> Desk<S> {
-    /// The desk of a store's hall. To a new hall nothing came yet.
+    /// The desk of a store's hall. To a new hall, or one that was just carried over from the first schema, nothing came yet.
     pub fn new(store: S, place: Place) -> Desk<S>
         ensures store { store_of result ≡ store }
         ensures site { site_of result ≡ place }
         ensures enlists { enlists_of result ≡ true }
-        ensures history { (admin digest : List ℕ) → S.HallStore.holds store (new_hall second admin digest) → HasHistory S.HallStore.holds (store_of result) admin digest [] }
+        ensures history { (origin : Origin) (h : Hall) → BeginsWith origin h → S.HallStore.holds store h → HasHistory S.HallStore.holds (store_of result) origin [] }
     {
         histories_keep_the_laws();
         Desk {
@@ -56,8 +67,8 @@ impl<S: HallStore> Desk<S> {
         }
     }
 
-    /// The desk as one that enlists no unknown client: its frame counts as not having come, and gets silence. No datagram changes the hall
-    /// then.
+    /// The desk as one that enlists no unknown client: its frame counts as not having come, and gets silence; as an event it is refused as
+    /// `Unavailable`. No datagram and no frame changes the hall then, nor what a stop leaves.
     pub fn without_enlisting(self) -> Desk<S>
         ensures store { store_of result ≡ store_of self }
         ensures site { site_of result ≡ site_of self }
@@ -76,7 +87,8 @@ impl<S: HallStore> Desk<S> {
         self.store
     }
 
-    /// The rows that an event writes, and its answer. Nothing is written.
+    /// The rows that an event writes, and its answer. Nothing is written. The frame of a client that is to be enlisted, by a desk that doesn't,
+    /// is refused.
     pub fn plan(
         &mut self,
         alloc: Global,
@@ -88,9 +100,10 @@ impl<S: HallStore> Desk<S> {
         ensures enlists { enlists_of self.new ≡ enlists_of self.old }
         ensures plan { Looks S.HallStore.is_clean S.HallStore.holds S.HallStore.leaves (store_of self.old) (store_of self.new) result
             (λ h planned. Plans (decision_of (site_of self.old) h event.now moment fresh) planned) }
+        ensures unlisted { enlists_of self.old ≡ false → IsFrame event.now → IfOk result (λ planned. planned.0 ≡ []) }
     {
         let mut notes = Notes::NONE;
-        planned(
+        let (change, reply) = planned(
             alloc,
             &mut self.store,
             &self.place,
@@ -98,7 +111,11 @@ impl<S: HallStore> Desk<S> {
             moment,
             fresh,
             &mut notes,
-        )
+        )?;
+        if is_refused(self.enlists, event, &change) {
+            return Err(Unavailable);
+        }
+        Ok((change, reply))
     }
 
     /// The enabled operator whose token has this digest. Nothing is written.
@@ -127,15 +144,16 @@ impl<S: HallStore> Desk<S> {
         ensures step { CarriesOut S.HallStore.is_clean S.HallStore.holds S.HallStore.leaves (store_of self.old) (store_of self.new) result
             (λ h. (decision_of (site_of self.old) h event.now moment fresh).rows)
             (λ h reply. reply ≡ reply_of second (decision_of (site_of self.old) h event.now moment fresh).content) }
-        ensures history { S.HallStore.is_clean (store_of self.new) → IfOk result (λ reply. (admin digest : List ℕ) (past : List Item)
-            → HasHistory S.HallStore.holds (store_of self.old) admin digest past
-            → HasHistory S.HallStore.holds (store_of self.new) admin digest (past ++ carried_out (site_of self.old) event.now moment fresh reply ∷ [])) }
-        ensures settled { S.HallStore.is_clean (store_of self.new) → IfOk result (λ reply. (admin digest : List ℕ) (past : List Item)
-            → IsSettled S.HallStore.holds S.HallStore.leaves (store_of self.old) admin digest past
-            → IsSettled S.HallStore.holds S.HallStore.leaves (store_of self.new) admin digest (past ++ carried_out (site_of self.old) event.now moment fresh reply ∷ [])) }
-        ensures stop { S.HallStore.is_clean (store_of self.new) → (admin digest : List ℕ) (past : List Item)
-            → IsSettled S.HallStore.holds S.HallStore.leaves (store_of self.old) admin digest past
-            → IsLeft S.HallStore.leaves (store_of self.new) admin digest (OrUnreplied past (site_of self.old) event.now moment fresh) }
+        ensures history { S.HallStore.is_clean (store_of self.new) → IfOk result (λ reply. (origin : Origin) (past : List Item)
+            → HasHistory S.HallStore.holds (store_of self.old) origin past
+            → HasHistory S.HallStore.holds (store_of self.new) origin (past ++ carried_out (site_of self.old) event.now moment fresh reply ∷ [])) }
+        ensures settled { S.HallStore.is_clean (store_of self.new) → IfOk result (λ reply. (origin : Origin) (past : List Item)
+            → IsSettled S.HallStore.holds S.HallStore.leaves (store_of self.old) origin past
+            → IsSettled S.HallStore.holds S.HallStore.leaves (store_of self.new) origin (past ++ carried_out (site_of self.old) event.now moment fresh reply ∷ [])) }
+        ensures stop { S.HallStore.is_clean (store_of self.new) → (origin : Origin) (past : List Item)
+            → IsSettled S.HallStore.holds S.HallStore.leaves (store_of self.old) origin past
+            → IsLeft S.HallStore.leaves (store_of self.new) origin (OrUnreplied past (site_of self.old) event.now moment fresh) }
+        ensures unlisted { enlists_of self.old ≡ false → IsFrame event.now → S.HallStore.is_clean (store_of self.new) → IsOnlyRead S.HallStore.holds S.HallStore.leaves (store_of self.old) (store_of self.new) }
     {
         histories_keep_the_laws();
         decisions_keep_the_rules();
@@ -156,6 +174,7 @@ impl<S: HallStore> Desk<S> {
         ensures step { CarriesOut S.HallStore.is_clean S.HallStore.holds S.HallStore.leaves (store_of self.old) (store_of self.new) result
             (λ h. (decision_of (site_of self.old) h event.now moment fresh).rows)
             (λ h reply. reply ≡ reply_of second (decision_of (site_of self.old) h event.now moment fresh).content) }
+        ensures unlisted { enlists_of self.old ≡ false → IsFrame event.now → S.HallStore.is_clean (store_of self.new) → IsOnlyRead S.HallStore.holds S.HallStore.leaves (store_of self.old) (store_of self.new) }
     {
         let (change, reply) = self.plan(alloc, event, moment, fresh)?;
         write(&mut self.store, &change)?;
@@ -170,20 +189,21 @@ impl<S: HallStore> Desk<S> {
         ensures site { site_of self.new ≡ site_of self.old }
         ensures answer { GivesAnswer S.HallStore.is_clean S.HallStore.holds S.HallStore.leaves (store_of self.old) (store_of self.new)
             (site_of self.old) arrival.now.input arrival.now.moment arrival.now.fresh result.0 }
-        ensures history { S.HallStore.is_clean (store_of self.new) → (admin digest : List ℕ) (past : List Item)
-            → HasHistory S.HallStore.holds (store_of self.old) admin digest past
-            → HasHistory S.HallStore.holds (store_of self.new) admin digest (past ++ exchanged (site_of self.old) arrival.now result.0 ∷ []) }
-        ensures settled { S.HallStore.is_clean (store_of self.new) → (admin digest : List ℕ) (past : List Item)
-            → (was : IsSettled S.HallStore.holds S.HallStore.leaves (store_of self.old) admin digest past)
+        ensures history { S.HallStore.is_clean (store_of self.new) → (origin : Origin) (past : List Item)
+            → HasHistory S.HallStore.holds (store_of self.old) origin past
+            → HasHistory S.HallStore.holds (store_of self.new) origin (past ++ exchanged (site_of self.old) arrival.now result.0 ∷ []) }
+        ensures settled { S.HallStore.is_clean (store_of self.new) → (origin : Origin) (past : List Item)
+            → (was : IsSettled S.HallStore.holds S.HallStore.leaves (store_of self.old) origin past)
             → IsGiven (site_of self.old) was.history.end arrival.now.input arrival.now.moment arrival.now.fresh result.0
-            → IsSettled S.HallStore.holds S.HallStore.leaves (store_of self.new) admin digest (past ++ exchanged (site_of self.old) arrival.now result.0 ∷ []) }
-        ensures stop { S.HallStore.is_clean (store_of self.new) → (admin digest : List ℕ) (past : List Item)
-            → IsSettled S.HallStore.holds S.HallStore.leaves (store_of self.old) admin digest past
-            → IsLeft S.HallStore.leaves (store_of self.new) admin digest (OrUnanswered past (site_of self.old) arrival.now) }
+            → IsSettled S.HallStore.holds S.HallStore.leaves (store_of self.new) origin (past ++ exchanged (site_of self.old) arrival.now result.0 ∷ []) }
+        ensures stop { S.HallStore.is_clean (store_of self.new) → (origin : Origin) (past : List Item)
+            → IsSettled S.HallStore.holds S.HallStore.leaves (store_of self.old) origin past
+            → IsLeft S.HallStore.leaves (store_of self.new) origin (OrUnanswered past (site_of self.old) arrival.now) }
         ensures came { IsReadAs arrival.now.input result.1.came }
-        ensures found { S.HallStore.is_clean (store_of self.new) → (h : Hall) → S.HallStore.holds (store_of self.old) h → IsFound h arrival.now.input result.1 }
+        ensures found { S.HallStore.is_clean (store_of self.new) → (h : Hall) → S.HallStore.holds (store_of self.old) h
+            → IsFound (enlists_of self.old) (site_of self.old) h arrival.now.input arrival.now.moment arrival.now.fresh result.0 result.1 }
         ensures enlists { enlists_of self.new ≡ enlists_of self.old }
-        ensures unlisted { enlists_of self.old ≡ false → IsDatagram arrival.now.input → S.HallStore.is_clean (store_of self.new) → (h : Hall) → S.HallStore.holds (store_of self.old) h → S.HallStore.holds (store_of self.new) h }
+        ensures unlisted { enlists_of self.old ≡ false → IsDatagram arrival.now.input → S.HallStore.is_clean (store_of self.new) → IsOnlyRead S.HallStore.holds S.HallStore.leaves (store_of self.old) (store_of self.new) }
     {
         histories_keep_the_laws();
         self.take(alloc, arrival)
@@ -196,9 +216,10 @@ impl<S: HallStore> Desk<S> {
         ensures answer { GivesAnswer S.HallStore.is_clean S.HallStore.holds S.HallStore.leaves (store_of self.old) (store_of self.new)
             (site_of self.old) arrival.now.input arrival.now.moment arrival.now.fresh result.0 }
         ensures came { IsReadAs arrival.now.input result.1.came }
-        ensures found { S.HallStore.is_clean (store_of self.new) → (h : Hall) → S.HallStore.holds (store_of self.old) h → IsFound h arrival.now.input result.1 }
+        ensures found { S.HallStore.is_clean (store_of self.new) → (h : Hall) → S.HallStore.holds (store_of self.old) h
+            → IsFound (enlists_of self.old) (site_of self.old) h arrival.now.input arrival.now.moment arrival.now.fresh result.0 result.1 }
         ensures enlists { enlists_of self.new ≡ enlists_of self.old }
-        ensures unlisted { enlists_of self.old ≡ false → IsDatagram arrival.now.input → S.HallStore.is_clean (store_of self.new) → (h : Hall) → S.HallStore.holds (store_of self.old) h → S.HallStore.holds (store_of self.new) h }
+        ensures unlisted { enlists_of self.old ≡ false → IsDatagram arrival.now.input → S.HallStore.is_clean (store_of self.new) → IsOnlyRead S.HallStore.holds S.HallStore.leaves (store_of self.old) (store_of self.new) }
     {
         let mut account = Account {
             came: Came::Quiet,
@@ -224,18 +245,18 @@ impl<S: HallStore> Desk<S> {
         ensures site { site_of self.new ≡ site_of self.old }
         ensures answer { GivesAnswer S.HallStore.is_clean S.HallStore.holds S.HallStore.leaves (store_of self.old) (store_of self.new)
             (site_of self.old) arrival.now.input arrival.now.moment arrival.now.fresh result }
-        ensures history { S.HallStore.is_clean (store_of self.new) → (admin digest : List ℕ) (past : List Item)
-            → HasHistory S.HallStore.holds (store_of self.old) admin digest past
-            → HasHistory S.HallStore.holds (store_of self.new) admin digest (past ++ exchanged (site_of self.old) arrival.now result ∷ []) }
-        ensures settled { S.HallStore.is_clean (store_of self.new) → (admin digest : List ℕ) (past : List Item)
-            → (was : IsSettled S.HallStore.holds S.HallStore.leaves (store_of self.old) admin digest past)
+        ensures history { S.HallStore.is_clean (store_of self.new) → (origin : Origin) (past : List Item)
+            → HasHistory S.HallStore.holds (store_of self.old) origin past
+            → HasHistory S.HallStore.holds (store_of self.new) origin (past ++ exchanged (site_of self.old) arrival.now result ∷ []) }
+        ensures settled { S.HallStore.is_clean (store_of self.new) → (origin : Origin) (past : List Item)
+            → (was : IsSettled S.HallStore.holds S.HallStore.leaves (store_of self.old) origin past)
             → IsGiven (site_of self.old) was.history.end arrival.now.input arrival.now.moment arrival.now.fresh result
-            → IsSettled S.HallStore.holds S.HallStore.leaves (store_of self.new) admin digest (past ++ exchanged (site_of self.old) arrival.now result ∷ []) }
-        ensures stop { S.HallStore.is_clean (store_of self.new) → (admin digest : List ℕ) (past : List Item)
-            → IsSettled S.HallStore.holds S.HallStore.leaves (store_of self.old) admin digest past
-            → IsLeft S.HallStore.leaves (store_of self.new) admin digest (OrUnanswered past (site_of self.old) arrival.now) }
+            → IsSettled S.HallStore.holds S.HallStore.leaves (store_of self.new) origin (past ++ exchanged (site_of self.old) arrival.now result ∷ []) }
+        ensures stop { S.HallStore.is_clean (store_of self.new) → (origin : Origin) (past : List Item)
+            → IsSettled S.HallStore.holds S.HallStore.leaves (store_of self.old) origin past
+            → IsLeft S.HallStore.leaves (store_of self.new) origin (OrUnanswered past (site_of self.old) arrival.now) }
         ensures enlists { enlists_of self.new ≡ enlists_of self.old }
-        ensures unlisted { enlists_of self.old ≡ false → IsDatagram arrival.now.input → S.HallStore.is_clean (store_of self.new) → (h : Hall) → S.HallStore.holds (store_of self.old) h → S.HallStore.holds (store_of self.new) h }
+        ensures unlisted { enlists_of self.old ≡ false → IsDatagram arrival.now.input → S.HallStore.is_clean (store_of self.new) → IsOnlyRead S.HallStore.holds S.HallStore.leaves (store_of self.old) (store_of self.new) }
     {
         let (answer, account) = self.answer_with_account(alloc, arrival);
         drop(account);
@@ -253,15 +274,15 @@ impl<S: HallStore> Desk<S> {
         ensures run { S.HallStore.is_clean (store_of self.new) → IfOk result (λ answers. (h : Hall) → S.HallStore.holds (store_of self.old) h → IsSound h
             → HasRun S.HallStore.holds S.HallStore.leaves (store_of self.old) (store_of self.new) (site_of self.old) h arrivals.now answers.items) }
         ensures one_each { IfOk result (λ answers. length answers.items ≡ length arrivals.now) }
-        ensures history { S.HallStore.is_clean (store_of self.new) → IfOk result (λ answers. (admin digest : List ℕ) (past : List Item)
-            → HasHistory S.HallStore.holds (store_of self.old) admin digest past
-            → HasHistory S.HallStore.holds (store_of self.new) admin digest (past ++ exchanges (site_of self.old) arrivals.now answers.items)) }
-        ensures settled { S.HallStore.is_clean (store_of self.new) → IfOk result (λ answers. (admin digest : List ℕ) (past : List Item)
-            → IsSettled S.HallStore.holds S.HallStore.leaves (store_of self.old) admin digest past → AreAnswered arrivals.now answers.items
-            → IsSettled S.HallStore.holds S.HallStore.leaves (store_of self.new) admin digest (past ++ exchanges (site_of self.old) arrivals.now answers.items)) }
-        ensures stop { S.HallStore.is_clean (store_of self.new) → IfOk result (λ answers. (admin digest : List ℕ) (past : List Item)
-            → IsSettled S.HallStore.holds S.HallStore.leaves (store_of self.old) admin digest past
-            → IsLeft S.HallStore.leaves (store_of self.new) admin digest (AndCutRun past (site_of self.old) arrivals.now answers.items)) }
+        ensures history { S.HallStore.is_clean (store_of self.new) → IfOk result (λ answers. (origin : Origin) (past : List Item)
+            → HasHistory S.HallStore.holds (store_of self.old) origin past
+            → HasHistory S.HallStore.holds (store_of self.new) origin (past ++ exchanges (site_of self.old) arrivals.now answers.items)) }
+        ensures settled { S.HallStore.is_clean (store_of self.new) → IfOk result (λ answers. (origin : Origin) (past : List Item)
+            → (was : IsSettled S.HallStore.holds S.HallStore.leaves (store_of self.old) origin past) → AreGiven (site_of self.old) was.history.end arrivals.now answers.items
+            → IsSettled S.HallStore.holds S.HallStore.leaves (store_of self.new) origin (past ++ exchanges (site_of self.old) arrivals.now answers.items)) }
+        ensures stop { S.HallStore.is_clean (store_of self.new) → IfOk result (λ answers. (origin : Origin) (past : List Item)
+            → IsSettled S.HallStore.holds S.HallStore.leaves (store_of self.old) origin past
+            → IsLeft S.HallStore.leaves (store_of self.new) origin (AndCutRun past (site_of self.old) arrivals.now answers.items)) }
         ensures idle { S.HallStore.is_clean (store_of self.new) → (h : Hall) → S.HallStore.holds (store_of self.old) h
             → ChangeNothing (site_of self.old) h arrivals.now → S.HallStore.holds (store_of self.new) h }
         ensures err { OnErr result (self.new ≡ self.old) }

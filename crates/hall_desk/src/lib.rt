@@ -21,6 +21,6 @@ mod writing;
 pub use account::{Account, Came, Notes};
 pub use arrival::{Answer, Arrival, Input};
 pub use desk::Desk;
-pub use laws::{histories_go_on, histories_keep_the_laws, items_are_steps};
+pub use laws::{answered_are_given, histories_go_on, histories_keep_the_laws, items_are_steps};
 pub use moved::{Moved, Seen};
 pub use serving::Served;

@@ -1,6 +1,9 @@
 //! What is planned for every event.
+ghost use Rattle.std.specs.Prelude.{◌≡◌, OnOk};
+ghost use Rattle.hall_types.specs.Hall.{Hall};
 ghost use Rattle.laws_model.specs.Decision.{decision_of};
 ghost use Rattle.desk_views.specs.Look.{Looks};
+ghost use Rattle.hall_desk.specs.Account.{found_for};
 ghost use Rattle.hall_desk.specs.Plan.{Plans};
 
 use crate::account::Notes;
@@ -25,8 +28,10 @@ pub(crate) fn planned<S: HallStore>(
     fresh: Token,
     notes: &mut Notes,
 ) -> Result<(Change, Reply), Unavailable>
-    ensures { Looks S.HallStore.is_clean S.HallStore.holds S.HallStore.leaves store.old store.new result
+    ensures planned { Looks S.HallStore.is_clean S.HallStore.holds S.HallStore.leaves store.old store.new result
         (λ h its. Plans (decision_of place.now h event.now moment fresh) its) }
+    ensures noted { S.HallStore.is_clean store.new → OnOk result ((h : Hall) → S.HallStore.holds store.old h → notes.new ≡ found_for h moment event.now notes.old) }
+    ensures unmoved { notes.new.moved ≡ notes.old.moved }
 {
     match event {
         Event::Frame { port, client } => plan_frame(alloc, store, place, *port, client),

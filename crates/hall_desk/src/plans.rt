@@ -1,5 +1,5 @@
 //! What is planned for each event.
-ghost use Rattle.std.specs.Prelude.{◌≡◌, [], List, IfOk, option_copied};
+ghost use Rattle.std.specs.Prelude.{◌≡◌, [], List, IfOk, OnOk, option_copied, option_map};
 ghost use Rattle.pxe_vendor.specs.Place.{Site};
 ghost use Rattle.hall_types.specs.Hall.{Hall, second};
 ghost use Rattle.hall_types.specs.Lookup.{next_expired};
@@ -15,6 +15,7 @@ ghost use Rattle.boot_desk.specs.Views as view;
 ghost use Rattle.laws_model.specs.Decision as made;
 ghost use Rattle.laws_model.specs.Decision.{framed, given_if, judged, refuses, verdict_content};
 ghost use Rattle.desk_views.specs.Look.{Looks};
+ghost use Rattle.hall_desk.specs.Account.{about};
 ghost use Rattle.hall_desk.specs.Plan.{Plans, rows_for};
 
 use crate::account::Notes;
@@ -146,8 +147,10 @@ pub(crate) fn plan_script<S: HallStore>(
     fresh: Token,
     notes: &mut Notes,
 ) -> Result<(Change, Reply), Unavailable>
-    ensures { Looks S.HallStore.is_clean S.HallStore.holds S.HallStore.leaves store.old store.new result
+    ensures planned { Looks S.HallStore.is_clean S.HallStore.holds S.HallStore.leaves store.old store.new result
         (λ h planned. Plans (given_if place.now.host (view.view_at h mac) moment fresh) planned) }
+    ensures noted { S.HallStore.is_clean store.new → OnOk result ((h : Hall) → S.HallStore.holds store.old h → notes.new ≡ about (option_map (λ its. its.machine) (view.view_at h mac)) notes.old) }
+    ensures unmoved { notes.new.moved ≡ notes.old.moved }
 {
     let view = view_at(alloc, store, mac)?;
     notes.note_boot_view(&view);
@@ -196,8 +199,10 @@ pub(crate) fn plan_report<S: HallStore>(
     moment: Moment,
     notes: &mut Notes,
 ) -> Result<(Change, Reply), Unavailable>
-    ensures { Looks S.HallStore.is_clean S.HallStore.holds S.HallStore.leaves store.old store.new result
+    ensures planned { Looks S.HallStore.is_clean S.HallStore.holds S.HallStore.leaves store.old store.new result
         (λ h planned. Plans (judged (reported (view.report_view h boot) token progress moment)) planned) }
+    ensures noted { S.HallStore.is_clean store.new → OnOk result ((h : Hall) → S.HallStore.holds store.old h → notes.new ≡ about (option_map (λ its. its.at.machine) (view.report_view h boot)) notes.old) }
+    ensures unmoved { notes.new.moved ≡ notes.old.moved }
 {
     let view = report_view(alloc, store, boot)?;
     notes.note_report_view(&view);
@@ -215,8 +220,10 @@ pub(crate) fn judge_answer<S: HallStore>(
     moment: Moment,
     notes: &mut Notes,
 ) -> Result<(Change, Reply), Unavailable>
-    ensures { Looks S.HallStore.is_clean S.HallStore.holds S.HallStore.leaves store.old store.new result
+    ensures planned { Looks S.HallStore.is_clean S.HallStore.holds S.HallStore.leaves store.old store.new result
         (λ h planned. Plans (judged (answered (view.order_view h order) outcome moment)) planned) }
+    ensures noted { S.HallStore.is_clean store.new → OnOk result ((h : Hall) → S.HallStore.holds store.old h → notes.new ≡ about (option_map (λ its. its.at.machine) (view.order_view h order)) notes.old) }
+    ensures unmoved { notes.new.moved ≡ notes.old.moved }
 {
     let view = order_view(alloc, store, order)?;
     notes.note_order_view(&view);
@@ -243,8 +250,10 @@ pub(crate) fn plan_quiet<S: HallStore>(
     moment: Moment,
     notes: &mut Notes,
 ) -> Result<(Change, Reply), Unavailable>
-    ensures { Looks S.HallStore.is_clean S.HallStore.holds S.HallStore.leaves store.old store.new result
+    ensures planned { Looks S.HallStore.is_clean S.HallStore.holds S.HallStore.leaves store.old store.new result
         (λ h planned. Plans (record { rows = swept (view.machine_view h (next_expired h moment)) moment; content = nothing }) planned) }
+    ensures noted { S.HallStore.is_clean store.new → OnOk result ((h : Hall) → S.HallStore.holds store.old h → notes.new ≡ about (option_map (λ its. its.machine) (view.machine_view h (next_expired h moment))) notes.old) }
+    ensures unmoved { notes.new.moved ≡ notes.old.moved }
 {
     let view = expired_view(alloc, store, moment)?;
     notes.note_boot_view(&view);

@@ -1,6 +1,6 @@
 //! What is planned for what operators and the power program ask.
-ghost use Rattle.std.specs.Prelude.{◌≡◌, [], map, IfOk, Ok, None};
-ghost use Rattle.hall_types.specs.Hall.{pair};
+ghost use Rattle.std.specs.Prelude.{◌≡◌, [], map, IfOk, OnOk, Ok, None, option_map};
+ghost use Rattle.hall_types.specs.Hall.{Hall, pair};
 ghost use Rattle.hall_types.specs.Lookup.{waiting};
 ghost use Rattle.hall_types.specs.Rows.{at, listed};
 ghost use Rattle.boot_desk.specs.Decided.{Decides};
@@ -12,6 +12,7 @@ ghost use Rattle.desk_command.specs.Effect.{Effect};
 ghost use Rattle.laws_model.specs.Decision.{commanded, if_role, judged, listed_if, listed_of, may_answer, may_see_machines, may_see_orders, says};
 ghost use Rattle.hall_events.specs.Reply.{machine_list, waiting_orders};
 ghost use Rattle.desk_views.specs.Look.{Looks};
+ghost use Rattle.hall_desk.specs.Account.{about, if_may, machine_keyed, machine_named, machine_sent, sent_by};
 ghost use Rattle.hall_desk.specs.Plan.{Plans};
 ghost use Rattle.hall_desk.specs.Sender.{if_enabled};
 
@@ -32,7 +33,9 @@ fn noted_sender<S: HallStore>(
     bearer: Option<Digest>,
     notes: &mut Notes,
 ) -> Result<Option<Operator>, Unavailable>
-    ensures { Looks S.HallStore.is_clean S.HallStore.holds S.HallStore.leaves store.old store.new result (λ h answer. answer ≡ commands.sender h bearer) }
+    ensures sender { Looks S.HallStore.is_clean S.HallStore.holds S.HallStore.leaves store.old store.new result (λ h answer. answer ≡ commands.sender h bearer) }
+    ensures noted { S.HallStore.is_clean store.new → OnOk result ((h : Hall) → S.HallStore.holds store.old h → notes.new ≡ sent_by (commands.sender h bearer) notes.old) }
+    ensures unmoved { notes.new.moved ≡ notes.old.moved }
 {
     let operator = sender(store, bearer)?;
     notes.note_operator(&operator);
@@ -86,8 +89,10 @@ fn plan_new_command<S: HallStore>(
     moment: Moment,
     notes: &mut Notes,
 ) -> Result<(Change, Reply), Unavailable>
-    ensures { Looks S.HallStore.is_clean S.HallStore.holds S.HallStore.leaves store.old store.new result
+    ensures planned { Looks S.HallStore.is_clean S.HallStore.holds S.HallStore.leaves store.old store.new result
         (λ h planned. Plans (commanded (commands.keyed h by.now None key wish.now moment)) planned) }
+    ensures noted { S.HallStore.is_clean store.new → OnOk result ((h : Hall) → S.HallStore.holds store.old h → notes.new ≡ about (machine_named h by.now wish.now) notes.old) }
+    ensures unmoved { notes.new.moved ≡ notes.old.moved }
 {
     if !may_send(by.role, wish) {
         return refused(alloc, Refusal::RoleNeeded);
@@ -109,8 +114,10 @@ fn plan_keyed<S: HallStore>(
     moment: Moment,
     notes: &mut Notes,
 ) -> Result<(Change, Reply), Unavailable>
-    ensures { Looks S.HallStore.is_clean S.HallStore.holds S.HallStore.leaves store.old store.new result
+    ensures planned { Looks S.HallStore.is_clean S.HallStore.holds S.HallStore.leaves store.old store.new result
         (λ h planned. Plans (commanded (commands.keyed h by.now (at h.receipts (pair by.now.name key)) key wish.now moment)) planned) }
+    ensures noted { S.HallStore.is_clean store.new → OnOk result ((h : Hall) → S.HallStore.holds store.old h → notes.new ≡ about (machine_keyed h by.now (at h.receipts (pair by.now.name key)) wish.now) notes.old) }
+    ensures unmoved { notes.new.moved ≡ notes.old.moved }
 {
     match store.receipt(alloc, &by.name, key)? {
         Some(receipt) => {
@@ -132,8 +139,10 @@ pub(crate) fn plan_command<S: HallStore>(
     moment: Moment,
     notes: &mut Notes,
 ) -> Result<(Change, Reply), Unavailable>
-    ensures { Looks S.HallStore.is_clean S.HallStore.holds S.HallStore.leaves store.old store.new result
+    ensures planned { Looks S.HallStore.is_clean S.HallStore.holds S.HallStore.leaves store.old store.new result
         (λ h planned. Plans (commanded (commands.command_decision h bearer key wish.now moment)) planned) }
+    ensures noted { S.HallStore.is_clean store.new → OnOk result ((h : Hall) → S.HallStore.holds store.old h → notes.new ≡ about (machine_sent h (commands.sender h bearer) key wish.now) (sent_by (commands.sender h bearer) notes.old)) }
+    ensures unmoved { notes.new.moved ≡ notes.old.moved }
 {
     match noted_sender(store, bearer, notes)? {
         Some(by) if by.enabled => plan_keyed(alloc, store, &by, key, wish, moment, notes),
@@ -200,8 +209,10 @@ pub(crate) fn plan_orders<S: HallStore>(
     bearer: Option<Digest>,
     notes: &mut Notes,
 ) -> Result<(Change, Reply), Unavailable>
-    ensures { Looks S.HallStore.is_clean S.HallStore.holds S.HallStore.leaves store.old store.new result
+    ensures planned { Looks S.HallStore.is_clean S.HallStore.holds S.HallStore.leaves store.old store.new result
         (λ h planned. Plans (if_role may_see_orders (commands.sender h bearer) (says (waiting_orders (waiting h)))) planned) }
+    ensures noted { S.HallStore.is_clean store.new → OnOk result ((h : Hall) → S.HallStore.holds store.old h → notes.new ≡ sent_by (commands.sender h bearer) notes.old) }
+    ensures unmoved { notes.new.moved ≡ notes.old.moved }
 {
     match noted_sender(store, bearer, notes)? {
         Some(by) if by.enabled => {
@@ -224,8 +235,10 @@ pub(crate) fn plan_order_answer<S: HallStore>(
     moment: Moment,
     notes: &mut Notes,
 ) -> Result<(Change, Reply), Unavailable>
-    ensures { Looks S.HallStore.is_clean S.HallStore.holds S.HallStore.leaves store.old store.new result
+    ensures planned { Looks S.HallStore.is_clean S.HallStore.holds S.HallStore.leaves store.old store.new result
         (λ h planned. Plans (if_role may_answer (commands.sender h bearer) (judged (answered (view.order_view h order) outcome moment))) planned) }
+    ensures noted { S.HallStore.is_clean store.new → OnOk result ((h : Hall) → S.HallStore.holds store.old h → notes.new ≡ about (if_may may_answer (commands.sender h bearer) (option_map (λ its. its.at.machine) (view.order_view h order))) (sent_by (commands.sender h bearer) notes.old)) }
+    ensures unmoved { notes.new.moved ≡ notes.old.moved }
 {
     match noted_sender(store, bearer, notes)? {
         Some(by) if by.enabled => {
@@ -262,8 +275,10 @@ pub(crate) fn plan_one_machine<S: HallStore>(
     id: Number,
     notes: &mut Notes,
 ) -> Result<(Change, Reply), Unavailable>
-    ensures { Looks S.HallStore.is_clean S.HallStore.holds S.HallStore.leaves store.old store.new result
+    ensures planned { Looks S.HallStore.is_clean S.HallStore.holds S.HallStore.leaves store.old store.new result
         (λ h planned. Plans (if_role may_see_machines (commands.sender h bearer) (listed_if h (at h.machines id))) planned) }
+    ensures noted { S.HallStore.is_clean store.new → OnOk result ((h : Hall) → S.HallStore.holds store.old h → notes.new ≡ sent_by (commands.sender h bearer) notes.old) }
+    ensures unmoved { notes.new.moved ≡ notes.old.moved }
 {
     match noted_sender(store, bearer, notes)? {
         Some(by) if by.enabled => {
@@ -283,8 +298,10 @@ pub(crate) fn plan_machines<S: HallStore>(
     bearer: Option<Digest>,
     notes: &mut Notes,
 ) -> Result<(Change, Reply), Unavailable>
-    ensures { Looks S.HallStore.is_clean S.HallStore.holds S.HallStore.leaves store.old store.new result
+    ensures planned { Looks S.HallStore.is_clean S.HallStore.holds S.HallStore.leaves store.old store.new result
         (λ h planned. Plans (if_role may_see_machines (commands.sender h bearer) (says (machine_list (map (listed_of h) (listed h.machines))))) planned) }
+    ensures noted { S.HallStore.is_clean store.new → OnOk result ((h : Hall) → S.HallStore.holds store.old h → notes.new ≡ sent_by (commands.sender h bearer) notes.old) }
+    ensures unmoved { notes.new.moved ≡ notes.old.moved }
 {
     match noted_sender(store, bearer, notes)? {
         Some(by) if by.enabled => {

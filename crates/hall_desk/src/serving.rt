@@ -4,10 +4,11 @@ ghost use Rattle.std.specs.Io.KnownBytes.{Appends};
 ghost use Rattle.hall_http.specs.Noted.{failed_of, inner_of, takes_of};
 ghost use Rattle.hall_desk.specs.Attempt.{IsAnswered};
 ghost use Rattle.hall_desk.specs.Desk.{enlists_of, site_of, store_of};
-ghost use Rattle.hall_desk.specs.Headline.{HasHistory, HasServed};
-ghost use Rattle.hall_desk.specs.History.{Item};
+ghost use Rattle.hall_desk.specs.Headline.{HasHistory, HasServed, HasSomeRequest};
+ghost use Rattle.hall_desk.specs.History.{Item, Origin};
 ghost use Rattle.hall_desk.specs.Octets.{octets_of};
 ghost use Rattle.hall_desk.specs.Served.{IfReadFailed, IfWriteFailed, IsReadInTime, IsSent, IsServed, IsWritten};
+ghost use Rattle.hall_desk.specs.Stops.{IsLeft, IsSettled, OrSomeRequest};
 ghost use Rattle.hall_desk.specs.declared.arrival.Input.TheVariants as input;
 ghost use Rattle.hall_desk.specs.declared.serving.Served.TheVariants as served;
 
@@ -91,6 +92,8 @@ impl<S: HallStore> Desk<S> {
         ensures enlists { enlists_of self.new ≡ enlists_of self.old }
         ensures step { S.HallStore.is_clean (store_of self.new) → IfSome result (λ answer. IfSome (R.remaining (inner_of reader.old)) (λ octets.
             IsAnswered S.HallStore.holds S.HallStore.leaves (store_of self.old) (store_of self.new) (site_of self.old) (input.Request octets) moment fresh answer)) }
+        ensures some { S.HallStore.is_clean (store_of self.new) → IfSome result (λ answer. (octets : List ℕ)
+            × IsAnswered S.HallStore.holds S.HallStore.leaves (store_of self.old) (store_of self.new) (site_of self.old) (input.Request octets) moment fresh answer) }
         ensures same { IfNone result (self.new ≡ self.old) }
         ensures fails { IfNone result ((failed_of reader.new ≡ true) ⊎ (takes_of reader.new ≡ 4096)) }
         ensures in_time { IsReadInTime (R.remaining (inner_of reader.old)) (R.remaining (inner_of reader.new)) }
@@ -113,7 +116,8 @@ impl<S: HallStore> Desk<S> {
     /// Reads one request, until it is decided or the input ends, and answers it; both the reader and the writer are to be
     /// new. What the request changes is kept before the first octet is written. However the octets come cut, the answer
     /// is that to all of them. With all that came to the hall since it was new, it is a history that keeps all laws; a request whose
-    /// reads failed is no part of it. At most 4,096 reads give octets, at most 512 each, and none comes after the request is whole.
+    /// reads failed is no part of it. A reader and a writer that don't tell what they gave and took promise less (`goes_on`, `stop`): that some
+    /// request came, or none, also where the desk stops. At most 4,096 reads give octets, at most 512 each, and none comes after the request is whole.
     pub fn serve_one<R: Read, W: Write>(
         &mut self,
         alloc: Global,
@@ -131,8 +135,12 @@ impl<S: HallStore> Desk<S> {
         ensures served { S.HallStore.is_clean (store_of self.new) → IfSome (R.remaining (inner_of reader.old)) (λ octets. IfSome (W.contents (inner_of writer.old)) (λ before.
             IsServed S.HallStore.holds S.HallStore.leaves (store_of self.old) (store_of self.new) (site_of self.old) moment fresh octets before result (W.contents (inner_of writer.new)))) }
         ensures history { S.HallStore.is_clean (store_of self.new) → IfSome (R.remaining (inner_of reader.old)) (λ octets. IfSome (W.contents (inner_of writer.old)) (λ before.
-            (admin digest : List ℕ) (past : List Item) → HasHistory S.HallStore.holds (store_of self.old) admin digest past
-            → HasServed S.HallStore.holds (store_of self.new) admin digest past (site_of self.old) octets moment fresh before result (W.contents (inner_of writer.new)))) }
+            (origin : Origin) (past : List Item) → HasHistory S.HallStore.holds (store_of self.old) origin past
+            → HasServed S.HallStore.holds (store_of self.new) origin past (site_of self.old) octets moment fresh before result (W.contents (inner_of writer.new)))) }
+        ensures goes_on { S.HallStore.is_clean (store_of self.new) → (origin : Origin) (past : List Item) → HasHistory S.HallStore.holds (store_of self.old) origin past
+            → HasSomeRequest S.HallStore.holds (store_of self.new) origin past (site_of self.old) moment fresh }
+        ensures stop { S.HallStore.is_clean (store_of self.new) → (origin : Origin) (past : List Item) → IsSettled S.HallStore.holds S.HallStore.leaves (store_of self.old) origin past
+            → IsLeft S.HallStore.leaves (store_of self.new) origin (OrSomeRequest past (site_of self.old) moment fresh) }
         ensures same { result ≡ served.ReadFailed → (self.new ≡ self.old) × (writer.new ≡ writer.old) }
         ensures read_failed { IfReadFailed result (failed_of reader.new) (takes_of reader.new) }
         ensures in_time { IsReadInTime (R.remaining (inner_of reader.old)) (R.remaining (inner_of reader.new)) }

@@ -1,9 +1,9 @@
 //! A connection becomes a store: of a new hall, or of the hall that the file has, which is carried over if it's of the first schema.
 ghost use Rattle.sql_schema.specs.Words.{state, HasCleanDisk, Survives, Hall, new_hall, second, Holds, IsHeld, SpellHall};
-ghost use Rattle.std.specs.Prelude.{◌≡◌, ◌≢◌, ◌↔◌, IsTrue, IfOk, IfErr, Ok, Err, [], ◌∷◌};
+ghost use Rattle.std.specs.Prelude.{◌≡◌, ◌≢◌, ◌↔◌, ◌⊎◌, IsTrue, IfOk, IfErr, Ok, Err, [], ◌∷◌};
 ghost use Rattle.sql_tables.specs.Creating.{KeepsTables, MayLeaveBesides, is_a_name_taken};
 ghost use Rattle.sql_tables.specs.Migrating.{BecomeHall, IsRightMigration};
-ghost use Rattle.sql_tables.specs.Opening.{IsRightAnswer};
+ghost use Rattle.sql_tables.specs.Opening.{IsRightAnswer, NamesNoSchema};
 ghost use Rattle.hall_sql.specs.Opening.{connection_after, connection_of, migration_of, outcome};
 ghost use Rattle.hall_sql.specs.Store.{connection};
 
@@ -57,8 +57,8 @@ impl<S: Alter> SqlStore<S> {
     ///
     /// # Errors
     ///
-    /// `NotAHall` where a table, a column or the one row that names the schema is missing, `OtherVersion` where that row
-    /// names another schema than the second, and `Unavailable` where memory or the disk failed.
+    /// `NotAHall` where a table, a column, an index or the one row that names the schema is missing, `OtherVersion` where that
+    /// row names another schema than the second, and `Unavailable` where memory or the disk failed.
     pub fn open(
         alloc: Global,
         mut conn: Connection<S>,
@@ -70,6 +70,7 @@ impl<S: Alter> SqlStore<S> {
         ensures opened { IfOk result (λ store. HasCleanDisk (state S.Store (connection store)) → (h : Hall) → SpellHall (state S.Store conn).now.trees h → IsHeld (state S.Store (connection store)) h) }
         ensures refused { IfErr result (λ refused. HasCleanDisk (state S.Store refused.connection) → IsTrue (state S.Store conn).is_open → (h : Hall) → SpellHall (state S.Store conn).now.trees h → refused.fault ≡ OpenFault.Unavailable) }
         ensures answered { HasCleanDisk (state S.Store (connection_of result)) → IsRightAnswer (state S.Store conn).now (outcome result) }
+        ensures no_hall { HasCleanDisk (state S.Store (connection_of result)) → NamesNoSchema (state S.Store conn).now → (outcome result ≡ Err OpenFault.NotAHall) ⊎ (outcome result ≡ Err OpenFault.Unavailable) }
         ensures kept { HasCleanDisk (state S.Store (connection_of result)) → KeepsTables (state S.Store conn) (state S.Store (connection_of result)) }
         ensures survives { Survives (state S.Store conn) (state S.Store (connection_of result)) (λ _. ⊥) }
     {
@@ -89,8 +90,8 @@ impl<S: Alter> SqlStore<S> {
     ///
     /// # Errors
     ///
-    /// `NotAHall` where a table, a column or the one row that names the schema is missing, or the first schema has a table `wipes`,
-    /// which only the second has; `OtherVersion` where that row names neither the first schema nor the second; `Unavailable` where
+    /// `NotAHall` where a table, a column, an index or the one row that names the schema is missing, or the first schema has a table
+    /// `wipes`, which only the second has; `OtherVersion` where that row names neither the first schema nor the second; `Unavailable` where
     /// memory or the disk failed. A refusal leaves the tables as they were.
     pub fn migrate(
         alloc: Global,
@@ -102,6 +103,7 @@ impl<S: Alter> SqlStore<S> {
         ensures opened { IfOk result (λ done. HasCleanDisk (state S.Store (connection done.0)) → (h : Hall) → BecomeHall (state S.Store conn).now.trees h → IsHeld (state S.Store (connection done.0)) h) }
         ensures refused { IfErr result (λ refused. HasCleanDisk (state S.Store refused.connection) → IsTrue (state S.Store conn).is_open → (h : Hall) → BecomeHall (state S.Store conn).now.trees h → refused.fault ≡ OpenFault.Unavailable) }
         ensures answered { HasCleanDisk (state S.Store (connection_after result)) → IsRightMigration (state S.Store conn).now (migration_of result) }
+        ensures no_hall { HasCleanDisk (state S.Store (connection_after result)) → NamesNoSchema (state S.Store conn).now → (migration_of result ≡ Err OpenFault.NotAHall) ⊎ (migration_of result ≡ Err OpenFault.Unavailable) }
         ensures kept { HasCleanDisk (state S.Store (connection_after result)) → migration_of result ≢ Ok Migrated.Now → KeepsTables (state S.Store conn) (state S.Store (connection_after result)) }
         ensures crash { HasCleanDisk (state S.Store (connection_after result)) → (h : Hall) → BecomeHall (state S.Store conn).now.trees h → MayLeaveBesides h (state S.Store conn) (state S.Store (connection_after result)) }
     {

@@ -5,10 +5,11 @@ use crate::over_file::{Copying, Doing, Found, over_file};
 use desk_operations::{Exit, write_text};
 use desk_values::Fault;
 use hallboot_files::{
-    FileIdentity, changed_at, hold, now_text, put_aside, put_in_place, remove_with_beside,
+    FileIdentity, LOG, changed_at, hold, now_text, put_aside, put_in_place, remove_with_beside,
     with_end, write_copy,
 };
 use hallboot_tasks::{HallSum, sum_text};
+use std::fs::File;
 use std::io::ErrorKind;
 use std::{fs, io};
 
@@ -134,12 +135,35 @@ fn of_copy(rt: &HostRuntime, from: &str, error: &io::Error) -> Failure {
     }
 }
 
+// A copy, and its log where there is one, can be opened.
+fn check_copy(rt: &HostRuntime, from: &str) -> Result<(), Failure> {
+    if let Err(error) = File::open(rt, from) {
+        return Err(of_copy(rt, from, &error));
+    }
+    let log = path_with(rt, from, LOG)?;
+    match File::open(rt, log.as_str()) {
+        Err(error) if error.kind() != ErrorKind::NotFound => {
+            Err(refused(rt, log.as_str(), &error))
+        }
+        _ => Ok(()),
+    }
+}
+
+// Why a copy that can be opened wasn't written to a new file.
+fn of_writing(rt: &HostRuntime, from: &str, new: &str, error: &io::Error) -> Failure {
+    match error.kind() {
+        ErrorKind::InvalidData | ErrorKind::IsADirectory => of_copy(rt, from, error),
+        _ => refused(rt, new, error),
+    }
+}
+
 // Writes what a copy has to a new file, and says what it amounts to.
 fn taken(rt: &HostRuntime, from: &str, new: &str) -> Result<HallSum, Failure> {
     check_journal(rt, from)?;
+    check_copy(rt, from)?;
     match write_copy(rt, &Joined, from, new) {
         Ok(_) => copy_sum(rt, new),
-        Err(error) => Err(of_copy(rt, from, &error)),
+        Err(error) => Err(of_writing(rt, from, new, &error)),
     }
 }
 

@@ -14,7 +14,7 @@ const SOCKET: &str = "an address and a port are as in 10.0.0.5:67";
 
 const ADDRESS: &str = "an IPv4 address is as in 10.0.0.5";
 
-const DIGEST: &str = "a digest has 64 hexadecimal digits in lower case";
+const DIGEST: &str = "a digest has 64 hexadecimal digits";
 
 const FRESH: &str = "it has 32 hexadecimal digits";
 
@@ -131,10 +131,6 @@ fn wrong_token<'a>(words: &Words<'a>) -> Option<Wrong<'a>> {
         ),
         (Some(token), None) if !is_bearer_token(token) => secret("--token", TOKEN),
         (None, Some(_)) => secret("--token-file", TOKEN),
-        (None, None) if words.file.is_some() => secret(
-            "--token",
-            "one of --token and --token-file is needed",
-        ),
         _ => None,
     }
 }

@@ -1,12 +1,10 @@
-//! Random octets of the system, had in blocks.
+//! Random octets, had in blocks.
 ghost use Rattle.std.specs.Prelude.{◌≡◌, ◌<◌, ◌++◌, ◌↔◌, [], length, IsNone, IfNone, IfSome, OnErr, OnOk};
+ghost use Rattle.hallboot_tasks.specs.RandomBlock.{TakesNext};
 
 use hall_types::Token;
-use rand::rngs::SysRng;
 use rand_core::TryRng;
-use std::io;
 use std::marker::Model;
-use std::random::RandomSource;
 
 // How many octets are had at once, those of 256 tokens.
 const BLOCK: usize = 4_096;
@@ -45,6 +43,7 @@ impl RandomBlock {
     // The next 16 octets, which no later token takes. None where there are fewer.
     fn take(&mut self) -> Option<Token>
         ensures next { IfSome result (λ token. self.old ≡ token ++ self.new) }
+        ensures size { IfSome result (λ token. length token ≡ TOKEN) }
         ensures none { IsNone result ↔ (length self.old < TOKEN) }
         ensures same { IfNone result (self.new ≡ self.old) }
     {
@@ -55,20 +54,24 @@ impl RandomBlock {
         Some(token)
     }
 
-    // Has a new block from the system, in one call.
-    fn fill<S: RandomSource>(&mut self, source: &S) -> io::Result<()>
-        ensures filled { OnOk result (length self.new ≡ BLOCK) }
+    // Has a new block from the source, in one call.
+    fn fill<R: TryRng>(&mut self, source: &mut R) -> Result<(), R::Error>
+        ensures given { OnOk result (R.TryRng.may_fill source.old self.new source.new) }
+        ensures size { OnOk result (length self.new ≡ BLOCK) }
         ensures none { OnErr result (self.new ≡ []) }
     {
         self.taken = BLOCK;
-        let mut random = SysRng::new(source);
-        random.try_fill_bytes(&mut self.octets)?;
+        source.try_fill_bytes(&mut self.octets)?;
         self.taken = 0;
         Ok(())
     }
 
-    /// The next 16 octets, from a new block where this one has no more. None where the system gives no block.
-    pub fn token<S: RandomSource>(&mut self, source: &S) -> Option<Token> {
+    /// The next 16 octets, from a new block of the source where this one has no more. None where the source gives no block.
+    pub fn token<R: TryRng>(&mut self, source: &mut R) -> Option<Token>
+        ensures next { IfSome result (λ token. TakesNext R.TryRng.may_fill self.old source.old token self.new source.new) }
+        ensures none { IfNone result (length self.old < TOKEN) }
+        ensures left { IfNone result (self.new ≡ []) }
+    {
         if let Some(token) = self.take() {
             return Some(token);
         }

@@ -14,6 +14,7 @@ use hall_store::HallStore;
 use hallboot_asked::{BackupPlan, Serving};
 use hallboot_files::{Joining, ServedFile};
 use pxe_vendor::{Place, PlaceFault};
+use rand::rngs::SysRng;
 use serve_sockets::{Service, Source};
 use std::alloc::Global;
 
@@ -130,7 +131,7 @@ fn serve_over<S: HallStore, J: Joining>(
         last: backed_up,
     };
     let mut service = Service::new(rt.alloc(), desk_over(store, place, part.enlists), sockets);
-    let mut stamps = Stamps::since(rt, start);
+    let mut stamps = Stamps::since(rt, start, SysRng::new(rt));
     let mut lines = Lines::new(rt.alloc(), log);
     let ended = serve_part(
         rt,

@@ -1,10 +1,11 @@
 //! Where a service's stamps come from.
-ghost use Rattle.std.specs.Prelude.{◌≤◌};
+ghost use Rattle.std.specs.Prelude.{◌≡◌, ◌≤◌, ◌<◌, ◌+◌, ◌*◌, ◌/◌, ◌%◌, ◌↔◌, IfSome, IsNone};
+ghost use Rattle.std.specs.Duration.{as_nanos};
 
 use crate::random_block::RandomBlock;
-use hall_types::Moment;
+use hall_types::{MAX_MOMENT, Moment};
+use rand_core::TryRng;
 use serve_sockets::{Source, Stamp};
-use std::random::RandomSource;
 use std::time::{Clock, Duration, Instant, SystemTime, UNIX_EPOCH};
 
 // The milliseconds of a second.
@@ -16,56 +17,81 @@ fn since_1970(clock: &impl Clock) -> Option<Duration> {
     time.duration_since(UNIX_EPOCH).ok()
 }
 
+// The moment of a time since 1970, its whole seconds. None after the last moment.
+fn moment_of(since: Duration) -> Option<Moment>
+    ensures moment { IfSome result (λ moment. moment ≡ as_nanos since / 1_000_000_000) }
+    ensures none { IsNone result ↔ (MAX_MOMENT < as_nanos since / 1_000_000_000) }
+{
+    Moment::new(since.as_secs()).ok()
+}
+
 // The moment of the system's clock. None before 1970.
 pub(crate) fn now(clock: &impl Clock) -> Option<Moment> {
-    Moment::new(since_1970(clock)?.as_secs()).ok()
+    moment_of(since_1970(clock)?)
 }
 
 // How many milliseconds it is to the next whole second, rounded up.
 fn to_next_second(since: Duration) -> u32
-    ensures least { 1 ≤ result }
-    ensures most { result ≤ 1000 }
+    ensures reached { 1_000_000_000 ≤ as_nanos since % 1_000_000_000 + result * 1_000_000 }
+    ensures soonest { as_nanos since % 1_000_000_000 + result * 1_000_000 < 1_001_000_000 }
 {
     SECOND - since.subsec_millis()
 }
 
-/// The system's clocks and its random source.
+/// The system's clocks, and a source of random octets with a block that it gave.
 #[derive(Drop)]
-pub(crate) struct Stamps<'a, R> {
-    rt: &'a R,
+pub(crate) struct Stamps<'a, C, R> {
+    clock: &'a C,
     start: Instant,
+    random: R,
     block: RandomBlock,
 }
 
-impl<'a, R: Clock> Stamps<'a, R> {
+impl<'a, C: Clock, R: TryRng> Stamps<'a, C, R> {
+    ghost use Rattle.std.specs.Prelude.{[]};
+
     /// Stamps that count milliseconds from a start on.
-    pub(crate) fn since(rt: &'a R, start: Instant) -> Stamps<'a, R> {
+    pub(crate) fn since(clock: &'a C, start: Instant, random: R) -> Stamps<'a, C, R>
+        ensures block { result.block ≡ [] }
+        ensures random { result.random ≡ random }
+    {
         Stamps {
-            rt,
+            clock,
             start,
+            random,
             block: RandomBlock::new(),
         }
     }
 
     // Milliseconds since the start.
     fn millis(&self) -> Option<u64> {
-        let now = Instant::now(self.rt).ok()?;
+        let now = Instant::now(self.clock).ok()?;
         u64::try_from(now.duration_since(self.start).as_millis()).ok()
     }
 }
 
-impl<'a, R: Clock + RandomSource> Source for Stamps<'a, R> {
+impl<'a, C: Clock, R: TryRng> Source for Stamps<'a, C, R> {
+    ghost use Rattle.std.specs.Prelude.{MatchOption};
+    ghost use Rattle.hallboot_tasks.specs.RandomBlock.{TakesNext, TakesNone};
+
+    // A stamp has the next octets, which no other stamp has.
+    ghost may_give = { λ old given new. MatchOption given (TakesNone old.block new.block)
+        (λ stamp. TakesNext R.TryRng.may_fill old.block old.random stamp.fresh new.block new.random) };
+
     fn stamp(&mut self) -> Option<Stamp> {
+        let moment = now(self.clock)?;
+        let millis = self.millis()?;
+        let fresh = self.block.token(&mut self.random)?;
         Some(Stamp {
-            moment: now(self.rt)?,
-            fresh: self.block.token(self.rt)?,
-            millis: self.millis()?,
+            moment,
+            fresh,
+            millis,
         })
     }
 
     // Deadlines are whole seconds, so that none passes earlier.
     fn pause(&mut self) -> u64 {
-        match since_1970(self.rt) {
+        match since_1970(self.clock) {
             Some(since) => u64::from(to_next_second(since)),
             None => u64::from(SECOND),
         }

@@ -9,6 +9,7 @@ use desk_values::{Fault, LogFormat};
 use hallboot_asked::{Serving, fault_of};
 use hallboot_files::ServedFile;
 use mio::Poll;
+use rand::rngs::SysRng;
 use serve_sockets::{Addresses, BindFault, MAX_CONNECTIONS, Sockets};
 use std::io;
 use std::time::Instant;
@@ -79,7 +80,7 @@ fn ready(rt: &HostRuntime) -> Result<Instant, Fault> {
     if let Err(error) = has_room(rt) {
         return Err(fault_of(&error));
     }
-    reserve_stack(rt);
+    reserve_stack(&mut SysRng::new(rt));
     let start = started(rt)?;
     desk_operations::write_text(&mut rt.stdout(), "hall desk ready\n")?;
     Ok(start)

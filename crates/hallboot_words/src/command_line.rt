@@ -17,13 +17,14 @@ fn option<'a>(alloc: Global, word: &Word) -> Arg<'a> {
         .allow_hyphen_values(true)
 }
 
-fn arg<'a>(alloc: Global, word: &Word) -> Arg<'a> {
+fn arg<'a>(alloc: Global, word: &Word) -> Result<Arg<'a>, AllocError> {
     let arg = option(alloc, word);
     match word.given {
-        Given::Always => arg.long(word.name).required(true),
-        Given::Maybe => arg.long(word.name),
-        Given::OrElse(value) => arg.long(word.name).default_value(value),
-        Given::Last => arg.required(true).allow_hyphen_values(false),
+        Given::Always => Ok(arg.long(word.name).required(true)),
+        Given::Maybe => Ok(arg.long(word.name)),
+        Given::Unless(other) => arg.long(word.name).required_unless_present(other),
+        Given::OrElse(value) => Ok(arg.long(word.name).default_value(value)),
+        Given::Last => Ok(arg.required(true).allow_hyphen_values(false)),
     }
 }
 
@@ -37,7 +38,7 @@ fn why<'a>(alloc: Global) -> Arg<'a> {
 
 fn push_args<'a>(alloc: Global, args: &mut Vec<Arg<'a>>, words: &[Word]) -> Result<(), AllocError> {
     for word in words {
-        push(args, arg(alloc, word))?;
+        push(args, arg(alloc, word)?)?;
     }
     Ok(())
 }

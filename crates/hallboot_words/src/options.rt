@@ -15,6 +15,8 @@ pub(crate) enum Given {
     /// It has to be given.
     Always,
     Maybe,
+    /// It has to be given where the other option isn't.
+    Unless(&'static str),
     OrElse(&'static str),
     /// By its place, after the options.
     Last,
@@ -166,7 +168,7 @@ pub(crate) const TOKEN: Word = Word {
     name: "token",
     value: "TOKEN",
     help: "The bearer token of an administrator",
-    given: Given::Maybe,
+    given: Given::Unless("token-file"),
 };
 
 pub(crate) const TOKEN_FILE: Word = Word {

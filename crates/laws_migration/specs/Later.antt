@@ -1,24 +1,25 @@
--- What holds of each step once a hall of the first schema was carried over to the second.
+-- What holds of each step of a hall of the second schema, also where it was carried over from the first.
 use Rattle.std.specs.Prelude.{List, ◌++◌}
 use Rattle.hall_types.specs.Hall.{Hall}
 use Rattle.boot_desk.specs.Sound.{IsSound}
 use Rattle.laws_model.specs.Step.{Step}
-use Rattle.laws_past.specs.Laws.{AcceptsOnce, AcceptsWithOk, AlwaysWaitsForOne, AnswersAccepted, BootsLocally, CountsAnswerOnce, CountsOwnBoot, CountsStartedFirst, CountsVerdictOnce, DeploysRightly, EntersByTable, ErasesRightly, GivesScripts, KeepsMachines, NumbersOnce, QueuesAtEntries, RefusesWithoutChange, RepeatsFirst, ScriptIsAsked, WaitsForOne, WaitsNoMore}
+use Rattle.laws_past.specs.Laws.{AcceptsOnce, AcceptsWithOk, AlwaysWaitsForOne, AnswersAccepted, AreTyped, BootsLocally, CountsAnswerOnce, CountsOwnBoot, CountsStartedFirst, CountsVerdictOnce, DeploysRightly, EntersByTable, ErasesRightly, GivesScripts, KeepsMachines, NumbersOnce, QueuesAtEntries, RefusesWithoutChange, RepeatsFirst, ScriptIsAsked, WaitsForOne, WaitsNoMore}
 use Rattle.laws_past.specs.Past.{AtEachStep}
 
 -- a law of a step whose past is these steps of the first schema and then some of the second
 abbrev pub After : List Step → (List Step → Step → Type 0) → List Step → Step → Type 0
 After steps P past s = P (steps ++ past) s
 
--- each law of the past, of each of the steps that came after those of the first schema, and led to this sound hall
+-- Each law of the past, of each of the steps that came after those of the first schema, and led to this sound hall. A hall that was new
+-- with the second schema has none before. Three laws ask that what the steps of the first schema brought is of its type.
 pub record KeepsLaws (steps more : List Step) (end : Hall) : Type 0 where
   pub sound : IsSound end
   pub local_boots : AtEachStep (After steps BootsLocally) more
   -- erasing and deploying
   pub scripts_are_asked : AtEachStep (After steps ScriptIsAsked) more
-  pub texts_are_scripts : AtEachStep (After steps GivesScripts) more
-  pub erasing_is_released : AtEachStep (After steps ErasesRightly) more
-  pub deploying_is_commanded : AtEachStep (After steps DeploysRightly) more
+  pub texts_are_scripts : AreTyped steps → AtEachStep (After steps GivesScripts) more
+  pub erasing_is_released : AreTyped steps → AtEachStep (After steps ErasesRightly) more
+  pub deploying_is_commanded : AreTyped steps → AtEachStep (After steps DeploysRightly) more
   -- counting
   pub own_boots : AtEachStep (After steps CountsOwnBoot) more
   pub started_first : AtEachStep (After steps CountsStartedFirst) more

@@ -1,3 +1,4 @@
 pub mod FirstErasing
 pub mod FirstSchema
 pub mod Later
+pub mod Origin

@@ -16,6 +16,7 @@ ghost use Rattle.laws_past.specs.Past.{AtEachStep};
 ghost use Rattle.laws_migration.specs.FirstErasing.{ErasesFully};
 ghost use Rattle.laws_migration.specs.FirstSchema.{AllKeepFull, ArePlain, AsksQuick, IsFirstRun, IsFirstStep, IsForgotten, KeepsNoKind, NoneAsksQuick, StepKeepsFull, StepKeepsNoKind, first_content, plain};
 ghost use Rattle.laws_migration.specs.Later.{KeepsLaws};
+ghost use Rattle.laws_migration.specs.Origin.{BeginsWith, Origin, first_steps};
 
 use boot_desk::new_halls_are_sound;
 use laws_past::{
@@ -97,12 +98,11 @@ pub fn first_erasing_is_released()
     erasing_is_released();
 }
 
-/// Once a hall of the first schema was carried over, each further step keeps each law of the past, where its past has the steps of the
-/// first schema as they were, and then those of the second. What arrivals bring is of its type.
-pub fn laws_hold_later()
-    ensures { (admin digest : List ℕ) (h next end : Hall) (steps more : List Step)
-        → AreTyped steps → AreTyped more → IsFirstRun (new_hall first admin digest) steps h → IsMigrated h next → IsRun next more end
-        → KeepsLaws steps more end }
+/// Whatever comes to a hall of the second schema, new or carried over from the first, keeps each law of the past, where its past has the
+/// steps of the first schema as they were, and then those of the second. What arrivals bring is of its type.
+pub fn laws_hold_from_origins()
+    ensures { (origin : Origin) (begin end : Hall) (steps : List Step)
+        → BeginsWith origin begin → AreTyped steps → IsRun begin steps end → KeepsLaws (first_steps origin) steps end }
 {
     new_halls_are_sound();
     steps_keep_halls_sound();

@@ -1,6 +1,7 @@
 //! The laws of the past.
-ghost use Rattle.std.specs.Prelude.{ℕ, List};
+ghost use Rattle.std.specs.Prelude.{◌≡◌, ℕ, List};
 ghost use Rattle.hall_types.specs.Hall.{Hall, new_hall, second};
+ghost use Rattle.boot_desk.specs.Sound.{IsSound};
 ghost use Rattle.laws_model.specs.Step.{IsRun, Step};
 ghost use Rattle.laws_past.specs.Laws.{AcceptsOnce, AcceptsWithOk, AlwaysWaitsForOne, AnswersAccepted, BootsLocally, AreTyped, CountsAnswerOnce, CountsOwnBoot, CountsStartedFirst, CountsVerdictOnce, DeploysRightly, EntersByTable, ErasesRightly, GivesScripts, KeepsMachines, NumbersOnce, QueuesAtEntries, RefusesWithoutChange, RepeatsFirst, ScriptIsAsked, WaitsForOne, WaitsNoMore};
 ghost use Rattle.laws_past.specs.Past.{AtEachStep};
@@ -11,29 +12,26 @@ use laws_steps::steps_keep_halls_sound;
 
 /// A Deployed machine that asks for its script is told to boot its own disk, and nothing changes.
 pub fn local_boots()
-    ensures { (admin digest : List ℕ) (end : Hall) (steps : List Step)
-        → IsRun (new_hall second admin digest) steps end → AtEachStep BootsLocally steps }
+    ensures { (h end : Hall) (steps : List Step)
+        → IsSound h → h.schema ≡ second → IsRun h steps end → AtEachStep BootsLocally steps }
 {
-    new_halls_are_sound();
     steps_keep_halls_sound();
     boot_desk::local_boot();
 }
 
 /// No number of a machine, a boot or an order is issued twice, not even once its row is gone.
 pub fn numbers_once()
-    ensures { (admin digest : List ℕ) (end : Hall) (steps : List Step)
-        → IsRun (new_hall second admin digest) steps end → AtEachStep NumbersOnce steps }
+    ensures { (h end : Hall) (steps : List Step)
+        → IsSound h → h.schema ≡ second → IsRun h steps end → AtEachStep NumbersOnce steps }
 {
-    new_halls_are_sound();
     steps_keep_halls_sound();
 }
 
 /// A script is given to no one but who asked for one.
 pub fn scripts_are_asked()
-    ensures { (admin digest : List ℕ) (end : Hall) (steps : List Step)
-        → IsRun (new_hall second admin digest) steps end → AtEachStep ScriptIsAsked steps }
+    ensures { (h end : Hall) (steps : List Step)
+        → IsSound h → h.schema ≡ second → IsRun h steps end → AtEachStep ScriptIsAsked steps }
 {
-    new_halls_are_sound();
     steps_keep_halls_sound();
 }
 
@@ -84,22 +82,20 @@ pub fn own_boots()
 
 /// Of a boot at most one report that it has started counts, before all its other reports, and at most one verdict.
 pub fn reports_count_once()
-    ensures started { (admin digest : List ℕ) (end : Hall) (steps : List Step)
-        → IsRun (new_hall second admin digest) steps end → AtEachStep CountsStartedFirst steps }
-    ensures verdict { (admin digest : List ℕ) (end : Hall) (steps : List Step)
-        → IsRun (new_hall second admin digest) steps end → AtEachStep CountsVerdictOnce steps }
+    ensures started { (h end : Hall) (steps : List Step)
+        → IsSound h → h.schema ≡ second → IsRun h steps end → AtEachStep CountsStartedFirst steps }
+    ensures verdict { (h end : Hall) (steps : List Step)
+        → IsSound h → h.schema ≡ second → IsRun h steps end → AtEachStep CountsVerdictOnce steps }
 {
-    new_halls_are_sound();
     steps_keep_halls_sound();
 }
 
 /// Each entry of a machine is its making, or a row of the life cycle's table, whose signal an accepted command gave, a
 /// counted report of a boot of this machine, a counted answer to an order of it, its deadline, or a fourth boot.
 pub fn entries_by_table()
-    ensures { (admin digest : List ℕ) (end : Hall) (steps : List Step)
-        → IsRun (new_hall second admin digest) steps end → AtEachStep EntersByTable steps }
+    ensures { (h end : Hall) (steps : List Step)
+        → IsSound h → h.schema ≡ second → IsRun h steps end → AtEachStep EntersByTable steps }
 {
-    new_halls_are_sound();
     steps_keep_halls_sound();
     refusals_change_nothing();
 }
@@ -109,12 +105,12 @@ pub fn entries_by_table()
 /// operator is disabled), and changes nothing. A request that is answered by the status 200 has had its command accepted: with what
 /// stands before, once, however often it came.
 pub fn request_keys()
-    ensures once { (admin digest : List ℕ) (end : Hall) (steps : List Step)
-        → IsRun (new_hall second admin digest) steps end → AtEachStep AcceptsOnce steps }
-    ensures ok { (admin digest : List ℕ) (end : Hall) (steps : List Step)
-        → IsRun (new_hall second admin digest) steps end → AtEachStep AcceptsWithOk steps }
-    ensures again { (admin digest : List ℕ) (end : Hall) (steps : List Step)
-        → IsRun (new_hall second admin digest) steps end → AtEachStep RepeatsFirst steps }
+    ensures once { (h end : Hall) (steps : List Step)
+        → IsSound h → h.schema ≡ second → IsRun h steps end → AtEachStep AcceptsOnce steps }
+    ensures ok { (h end : Hall) (steps : List Step)
+        → IsSound h → h.schema ≡ second → IsRun h steps end → AtEachStep AcceptsWithOk steps }
+    ensures again { (h end : Hall) (steps : List Step)
+        → IsSound h → h.schema ≡ second → IsRun h steps end → AtEachStep RepeatsFirst steps }
     ensures accepted { (admin digest : List ℕ) (end : Hall) (steps : List Step)
         → IsRun (new_hall second admin digest) steps end → AtEachStep AnswersAccepted steps }
 {
@@ -126,28 +122,26 @@ pub fn request_keys()
 /// machine, with the kind of that entry's row, and never waits again once it doesn't. An answer counts at most once for each
 /// order, and never after the order was withdrawn.
 pub fn orders_and_answers()
-    ensures waits { (admin digest : List ℕ) (end : Hall) (steps : List Step)
-        → IsRun (new_hall second admin digest) steps end → WaitsForOne end }
-    ensures always { (admin digest : List ℕ) (end : Hall) (steps : List Step)
-        → IsRun (new_hall second admin digest) steps end → AtEachStep AlwaysWaitsForOne steps }
-    ensures queued { (admin digest : List ℕ) (end : Hall) (steps : List Step)
-        → IsRun (new_hall second admin digest) steps end → AtEachStep QueuesAtEntries steps }
-    ensures again { (admin digest : List ℕ) (end : Hall) (steps : List Step)
-        → IsRun (new_hall second admin digest) steps end → AtEachStep WaitsNoMore steps }
-    ensures answered { (admin digest : List ℕ) (end : Hall) (steps : List Step)
-        → IsRun (new_hall second admin digest) steps end → AtEachStep CountsAnswerOnce steps }
+    ensures waits { (h end : Hall) (steps : List Step)
+        → IsSound h → h.schema ≡ second → IsRun h steps end → WaitsForOne end }
+    ensures always { (h end : Hall) (steps : List Step)
+        → IsSound h → h.schema ≡ second → IsRun h steps end → AtEachStep AlwaysWaitsForOne steps }
+    ensures queued { (h end : Hall) (steps : List Step)
+        → IsSound h → h.schema ≡ second → IsRun h steps end → AtEachStep QueuesAtEntries steps }
+    ensures again { (h end : Hall) (steps : List Step)
+        → IsSound h → h.schema ≡ second → IsRun h steps end → AtEachStep WaitsNoMore steps }
+    ensures answered { (h end : Hall) (steps : List Step)
+        → IsSound h → h.schema ≡ second → IsRun h steps end → AtEachStep CountsAnswerOnce steps }
 {
-    new_halls_are_sound();
     steps_keep_halls_sound();
     refusals_change_nothing();
 }
 
 /// A machine stays, unless it is deleted by an accepted command.
 pub fn machines_stay()
-    ensures { (admin digest : List ℕ) (end : Hall) (steps : List Step)
-        → IsRun (new_hall second admin digest) steps end → AtEachStep KeepsMachines steps }
+    ensures { (h end : Hall) (steps : List Step)
+        → IsSound h → h.schema ≡ second → IsRun h steps end → AtEachStep KeepsMachines steps }
 {
-    new_halls_are_sound();
     steps_keep_halls_sound();
     refusals_change_nothing();
 }

@@ -3,24 +3,24 @@ use Rattle.std.proofs.Common.{◌≡◌, ℕ, List, [], ◌∷◌, Result, Ok, E
 use Rattle.std.specs.Prelude.{IfOk}
 use Rattle.std.specs.List.{AllByRecursion}
 use Rattle.sqlite.specs.Tree.{Trees}
-use Rattle.hall_types.specs.Hall.{Hall, new_hall, second}
+use Rattle.hall_types.specs.Hall.{Hall}
 use Rattle.sqlite_rules.specs.Lists.{Has}
 use Rattle.sql_schema.specs.Spelling.{SpellHall}
-use Rattle.hall_desk.specs.History.{Item}
+use Rattle.hall_desk.specs.History.{Item, Origin}
 use Rattle.hall_desk.specs.Headline.{Headline}
 use Rattle.hall_desk.specs.Stops.{IsEnd, IsSettled}
 
-pub of_halls : (db : Trees) (admin digest : List ℕ) (IsOne : List Item → Type 0) (h : Hall) (halls : List Hall) → Has halls h → SpellHall db h
-    → AllByRecursion (IsEnd admin digest IsOne) halls → (end : Hall) × SpellHall db end × IsEnd admin digest IsOne end
-of_halls db admin digest IsOne h [] has spells all = absurd has
-of_halls db admin digest IsOne h (x ∷ halls) (inl is) spells all = (h, spells, subst (IsEnd admin digest IsOne) (sym is) all.0)
-of_halls db admin digest IsOne h (x ∷ halls) (inr has) spells all = of_halls db admin digest IsOne h halls has spells all.1
+pub of_halls : (db : Trees) (origin : Origin) (IsOne : List Item → Type 0) (h : Hall) (halls : List Hall) → Has halls h → SpellHall db h
+    → AllByRecursion (IsEnd origin IsOne) halls → (end : Hall) × SpellHall db end × IsEnd origin IsOne end
+of_halls db origin IsOne h [] has spells all = absurd has
+of_halls db origin IsOne h (x ∷ halls) (inl is) spells all = (h, spells, subst (IsEnd origin IsOne) (sym is) all.0)
+of_halls db origin IsOne h (x ∷ halls) (inr has) spells all = of_halls db origin IsOne h halls has spells all.1
 
 -- a store that was opened has the hall to which a history leads
 pub opened : {S F : Type 0} (clean : S → Type 0) (holds : S → Hall → Type 0) (leaves : S → List Hall → Type 0) (db : Trees) (r : Result S F)
     → IfOk r (λ store. clean store → (h : Hall) → SpellHall db h → holds store h) → IfOk r (λ store. clean store → (h : Hall) → SpellHall db h → leaves store (h ∷ []))
-    → IfOk r (λ store. clean store → (admin digest : List ℕ) (items : List Item) (h : Hall) → Headline (new_hall second admin digest) items h → SpellHall db h → IsSettled holds leaves store admin digest items)
-opened clean holds leaves db (Ok store) held settled = λ is admin digest items h headline spells. record {
+    → IfOk r (λ store. clean store → (origin : Origin) (items : List Item) (h : Hall) → Headline origin items h → SpellHall db h → IsSettled holds leaves store origin items)
+opened clean holds leaves db (Ok store) held settled = λ is origin items h headline spells. record {
   history = record { end = h; held = held is h spells; headline = headline };
   settled = settled is h spells;
 }

@@ -3,6 +3,7 @@ ghost use Rattle.std.specs.Prelude.{◌≡◌, ℕ, List, length, IfOk};
 ghost use Rattle.sqlite.specs.Held.{state};
 ghost use Rattle.sqlite.specs.State.{HasCleanDisk};
 ghost use Rattle.hall_types.specs.Hall.{Hall, new_hall, second};
+ghost use Rattle.laws_migration.specs.Origin.{created};
 ghost use Rattle.hall_desk.specs.Headline.{Headline};
 ghost use Rattle.hall_desk.specs.History.{exchanges};
 
@@ -26,7 +27,7 @@ fn answer_all<S: HallStore + Drop>(
     ensures one_each { IfOk result (λ done. length done.0.items ≡ length arrivals.now) }
     ensures clean { IfOk result (λ done. S.HallStore.is_clean done.1 → S.HallStore.is_clean store) }
     ensures headline { IfOk result (λ done. S.HallStore.is_clean done.1 → (admin digest : List ℕ) → S.HallStore.holds store (new_hall second admin digest)
-        → (end : Hall) × Headline (new_hall second admin digest) (exchanges place arrivals.now done.0.items) end) }
+        → (end : Hall) × Headline (created admin digest) (exchanges place arrivals.now done.0.items) end) }
 {
     let mut desk = Desk::new(store, place);
     match desk.run(alloc, arrivals) {
@@ -44,7 +45,7 @@ pub fn memory_keeps_the_headline(
     arrivals: &[Arrival],
 ) -> Result<Vec<Answer>, Unavailable>
     ensures one_each { IfOk result (λ answers. length answers.items ≡ length arrivals.now) }
-    ensures headline { IfOk result (λ answers. (end : Hall) × Headline (new_hall second admin digest) (exchanges place arrivals.now answers.items) end) }
+    ensures headline { IfOk result (λ answers. (end : Hall) × Headline (created admin digest) (exchanges place arrivals.now answers.items) end) }
 {
     let store = MemoryStore::create(alloc, admin, digest)?;
     let (answers, store) = answer_all(alloc, store, place, arrivals)?;
@@ -63,7 +64,7 @@ pub fn sqlite_keeps_the_headline<S: Alter + Drop>(
     arrivals: &[Arrival],
 ) -> Result<(Vec<Answer>, Connection<S>), Unavailable>
     ensures one_each { IfOk result (λ done. length done.0.items ≡ length arrivals.now) }
-    ensures headline { IfOk result (λ done. HasCleanDisk (state S.Store done.1) → (end : Hall) × Headline (new_hall second admin digest) (exchanges place arrivals.now done.0.items) end) }
+    ensures headline { IfOk result (λ done. HasCleanDisk (state S.Store done.1) → (end : Hall) × Headline (created admin digest) (exchanges place arrivals.now done.0.items) end) }
 {
     let Ok(store) = SqlStore::create(alloc, conn, admin, digest) else {
         return Err(Unavailable);

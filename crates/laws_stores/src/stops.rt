@@ -3,10 +3,10 @@ ghost use Rattle.std.specs.Prelude.{ℕ, List, IfOk};
 ghost use Rattle.sqlite.specs.Held.{state};
 ghost use Rattle.sqlite.specs.Tree.{Trees};
 ghost use Rattle.pxe_vendor.specs.Place.{Site};
-ghost use Rattle.hall_types.specs.Hall.{Hall, new_hall, second};
+ghost use Rattle.hall_types.specs.Hall.{Hall};
 ghost use Rattle.sql_schema.specs.Spelling.{SpellHall};
 ghost use Rattle.hall_desk.specs.Headline.{Headline};
-ghost use Rattle.hall_desk.specs.History.{Item};
+ghost use Rattle.hall_desk.specs.History.{Item, Origin};
 ghost use Rattle.hall_desk.specs.Stops.{AndCutRun, IsEnd, IsLeft, IsSettled, OrUnanswered, OrUnreplied};
 ghost use Rattle.hall_desk.specs.declared.arrival.Answer.{Answer};
 ghost use Rattle.hall_desk.specs.declared.arrival.Arrival.{Arrival};
@@ -22,15 +22,15 @@ use std::alloc::Global;
 /// All tables that a stop may leave of a desk's store, by the clause `stop` of the call, spell a hall to which one of that clause's
 /// histories leads.
 pub fn stops_leave_ends<S: Alter>(store: &SqlStore<S>)
-    ensures answer { (admin digest : List ℕ) (past : List Item) (site : Site) (arrival : Arrival)
-        → IsLeft ⟦<SqlStore<S> as HallStore>⟧.leaves store.now admin digest (OrUnanswered past site arrival)
-        → (db : Trees) → (state S.Store (connection store.now)).may_leave db → (h : Hall) × SpellHall db h × IsEnd admin digest (OrUnanswered past site arrival) h }
-    ensures run { (admin digest : List ℕ) (past : List Item) (site : Site) (arrivals : List Arrival) (answers : List Answer)
-        → IsLeft ⟦<SqlStore<S> as HallStore>⟧.leaves store.now admin digest (AndCutRun past site arrivals answers)
-        → (db : Trees) → (state S.Store (connection store.now)).may_leave db → (h : Hall) × SpellHall db h × IsEnd admin digest (AndCutRun past site arrivals answers) h }
-    ensures step { (admin digest : List ℕ) (past : List Item) (site : Site) (e : Event) (moment : ℕ) (fresh : List ℕ)
-        → IsLeft ⟦<SqlStore<S> as HallStore>⟧.leaves store.now admin digest (OrUnreplied past site e moment fresh)
-        → (db : Trees) → (state S.Store (connection store.now)).may_leave db → (h : Hall) × SpellHall db h × IsEnd admin digest (OrUnreplied past site e moment fresh) h }
+    ensures answer { (origin : Origin) (past : List Item) (site : Site) (arrival : Arrival)
+        → IsLeft ⟦<SqlStore<S> as HallStore>⟧.leaves store.now origin (OrUnanswered past site arrival)
+        → (db : Trees) → (state S.Store (connection store.now)).may_leave db → (h : Hall) × SpellHall db h × IsEnd origin (OrUnanswered past site arrival) h }
+    ensures run { (origin : Origin) (past : List Item) (site : Site) (arrivals : List Arrival) (answers : List Answer)
+        → IsLeft ⟦<SqlStore<S> as HallStore>⟧.leaves store.now origin (AndCutRun past site arrivals answers)
+        → (db : Trees) → (state S.Store (connection store.now)).may_leave db → (h : Hall) × SpellHall db h × IsEnd origin (AndCutRun past site arrivals answers) h }
+    ensures step { (origin : Origin) (past : List Item) (site : Site) (e : Event) (moment : ℕ) (fresh : List ℕ)
+        → IsLeft ⟦<SqlStore<S> as HallStore>⟧.leaves store.now origin (OrUnreplied past site e moment fresh)
+        → (db : Trees) → (state S.Store (connection store.now)).may_leave db → (h : Hall) × SpellHall db h × IsEnd origin (OrUnreplied past site e moment fresh) h }
 {
     let _ = store;
 }
@@ -45,9 +45,9 @@ pub fn open_again<S: Alter>(
     alloc: Global,
     conn: Connection<S>,
 ) -> Result<SqlStore<S>, Refused<S, OpenFault>>
-    ensures { IfOk result (λ store. ⟦<SqlStore<S> as HallStore>⟧.is_clean store → (admin digest : List ℕ) (items : List Item) (h : Hall)
-        → Headline (new_hall second admin digest) items h → SpellHall (state S.Store conn).now.trees h
-        → IsSettled ⟦<SqlStore<S> as HallStore>⟧.holds ⟦<SqlStore<S> as HallStore>⟧.leaves store admin digest items) }
+    ensures { IfOk result (λ store. ⟦<SqlStore<S> as HallStore>⟧.is_clean store → (origin : Origin) (items : List Item) (h : Hall)
+        → Headline origin items h → SpellHall (state S.Store conn).now.trees h
+        → IsSettled ⟦<SqlStore<S> as HallStore>⟧.holds ⟦<SqlStore<S> as HallStore>⟧.leaves store origin items) }
 {
     SqlStore::open(alloc, conn)
 }

@@ -2,6 +2,8 @@
 //! input has a line `ADMIN DIGEST`, and then a line for each thing that is done with that new hall, as play_store says. Beside them:
 //!
 //! - `new ADMIN DIGEST` goes on with another new hall;
+//! - `== ways` ends the halls too: each half plays them twice more then, all arrivals that stand together by one run of the desk, and each
+//!   that is an event as a step. What is written for them must be the same;
 //! - `== files` ends the halls: the lines after it are played over files, as play_files says, and only in the second half;
 //! - `== stops` ends the files: after it come a line `look ..`, by which halls are compared, and lines `CALLS OCTETS LINE && LINE ..`,
 //!   each LINE one of the lines over a file. They are played over an empty file and then over what the lines before them left: the

@@ -5,7 +5,7 @@ use crate::files::{play_file_line, play_lines};
 use hall_sql::SqlStore;
 use hall_types::{Digest, Name};
 use play_log::LogFault;
-use play_store::{Asked, PlayFault, play};
+use play_store::{Asked, PlayFault, Way, play};
 use sqlite::{Alter, Connection, FileStore, Files};
 use sqlite_disk::Disk;
 use std::alloc::Global;
@@ -13,11 +13,12 @@ use std::alloc::Global;
 /// What is played over the tables of files.
 #[derive(Clone, Copy)]
 pub enum Task<'a> {
-    /// The lines of the log from a place on, over the store of a new hall.
+    /// The lines of the log from a place on, over the store of a new hall, whose desk answers in this way.
     Hall {
         admin: (Name, Digest),
         lines: &'a [String],
         from: usize,
+        way: Way,
     },
     /// The lines of the log from a place on, each over the tables as they are then.
     File {
@@ -68,11 +69,13 @@ fn play_over_tables<S: Alter + Drop>(
     (name, digest): (Name, Digest),
     lines: &[String],
     from: usize,
+    way: Way,
     out: &mut Outcome,
 ) -> Connection<S> {
     match SqlStore::create(alloc, conn, name, digest) {
         Ok(store) => {
-            let (done, store) = play(alloc, store, lines, from, &mut out.text, &mut out.asked);
+            let (text, asked) = (&mut out.text, &mut out.asked);
+            let (done, store) = play(alloc, store, lines, from, way, text, asked);
             out.done = done;
             store.into_connection()
         }
@@ -118,9 +121,12 @@ fn over_tables<S: Alter + Drop>(
     out: &mut Outcome,
 ) -> Connection<S> {
     match task {
-        Task::Hall { admin, lines, from } => {
-            play_over_tables(alloc, conn, *admin, lines, *from, out)
-        }
+        Task::Hall {
+            admin,
+            lines,
+            from,
+            way,
+        } => play_over_tables(alloc, conn, *admin, lines, *from, *way, out),
         Task::File { lines, from } => {
             let (done, conn) = play_lines(alloc, conn, lines, *from, &mut out.text);
             out.done = done;

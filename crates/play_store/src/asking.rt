@@ -1,4 +1,4 @@
-//! What the desk asked of its stores.
+//! What the desk asked of its stores, and in which ways it was asked.
 use hall_desk::Input;
 use hall_store::{Call, Probe};
 
@@ -17,6 +17,11 @@ pub struct Asked {
     pub reads_of_script: u64,
     /// The lists read for datagrams, script requests, reports, answers to orders and commands.
     pub lists: u64,
+    /// The runs, and the arrivals that they answered.
+    pub runs: u64,
+    pub arrivals: u64,
+    /// The steps.
+    pub steps: u64,
 }
 
 fn is_listing(octets: &[u8]) -> bool {
@@ -28,7 +33,21 @@ impl Asked {
     pub const NONE: Asked = Asked {
         reads_of_script: 0,
         lists: 0,
+        runs: 0,
+        arrivals: 0,
+        steps: 0,
     };
+
+    /// Notes a run that answered so many arrivals.
+    pub fn note_run(&mut self, arrivals: usize) {
+        self.runs = self.runs.saturating_add(1);
+        self.arrivals = self.arrivals.saturating_add(arrivals as u64);
+    }
+
+    /// Notes a step.
+    pub fn note_step(&mut self) {
+        self.steps = self.steps.saturating_add(1);
+    }
 
     /// Notes what was asked for one arrival.
     pub fn note<S>(&mut self, input: &Input, probe: &Probe<S>) {

@@ -29,7 +29,8 @@ fn cut(alloc: Global, input: &Input, len: usize) -> Result<Input, Fault> {
     }
 }
 
-fn len_of(input: &Input) -> usize {
+/// How many octets came.
+pub fn len_of(input: &Input) -> usize {
     match input {
         Input::Datagram { octets, .. } | Input::Request(octets) => octets.as_slice().len(),
         Input::Quiet => 0,

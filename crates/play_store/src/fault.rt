@@ -9,6 +9,7 @@ pub enum Fault {
     Arrival,
     Word,
     Unavailable,
+    Way,
     Memory,
 }
 
@@ -18,6 +19,7 @@ impl Fault {
             Fault::Arrival => "the arrival, or the administrator, is malformed",
             Fault::Word => "a word is missing, malformed, or one too many",
             Fault::Unavailable => "the store can't answer",
+            Fault::Way => "a run or a step is answered otherwise than the arrivals by themselves",
             Fault::Memory => "out of memory",
         }
     }
@@ -36,8 +38,11 @@ impl<T: Drop> From<AllocFailed<T>> for Fault {
 }
 
 impl From<LineFault> for Fault {
-    fn from(_: LineFault) -> Fault {
-        Fault::Arrival
+    fn from(fault: LineFault) -> Fault {
+        match fault {
+            LineFault::Memory => Fault::Memory,
+            _ => Fault::Arrival,
+        }
     }
 }
 

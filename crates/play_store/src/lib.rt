@@ -16,15 +16,21 @@
 //!   answer that isn't that before it, after the number of octets;
 //! - `slow STEP CALL REQUEST` answers a request from a reader that gives so many octets a read at most, and fails at that read, the first
 //!   being 1, or at none where CALL is `-`;
+//! - `reads_fail REQUEST` answers a request from a reader of one octet a read that fails at its first read, at its second and so on, up to
+//!   that of the last octet, and writes how many failed; `writes_fail REQUEST` to a writer that fails before the first octet, after it and
+//!   so on, until it takes all: how many failed, and then the answer;
 //! - `failing CALL LINE` plays a line, any of those above, over the store that fails at one of its calls, the first being 1;
 //! - `each LINE` plays it over the store that fails at its first call, then at its second and so on, until it isn't refused, and writes
 //!   at how many calls it was.
+//!
+//! Arrivals are answered by themselves, or in the ways of `ways.rt`.
 #![tactic(auto)]
 
 mod arriving;
 mod asking;
 mod changes;
 mod cutting;
+mod failing;
 mod fault;
 mod finding;
 mod imports;
@@ -35,11 +41,13 @@ mod reads;
 mod records;
 mod reports;
 mod serving;
+mod ways;
 pub mod words;
 
 pub use asking::Asked;
 pub use changes::change;
 pub use fault::{Fault, PlayFault};
-pub use log::{FILES, STOPS, is_head, read_log};
+pub use log::{FILES, STOPS, WAYS, is_head, read_log};
 pub use playing::{is_comment, play, play_line, push_comment, write_answer, write_text};
+pub use ways::Way;
 pub use words::first;

@@ -3,6 +3,9 @@ use play_log::{LogFault, next_line};
 use std::alloc::Global;
 use std::io::{BufReader, Read};
 
+/// The line at the end of halls whose arrivals are answered in each way.
+pub const WAYS: &str = "== ways";
+
 /// The line after which a log goes on with files.
 pub const FILES: &str = "== files";
 
@@ -11,7 +14,7 @@ pub const STOPS: &str = "== stops";
 
 /// Whether a part of the log begins with this line.
 pub fn is_head(line: &str) -> bool {
-    line == "new" || line == FILES || line == STOPS || line.starts_with("new ")
+    line == "new" || line == WAYS || line == FILES || line == STOPS || line.starts_with("new ")
 }
 
 /// Reads a log to its end: its lines.

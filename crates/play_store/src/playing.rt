@@ -3,6 +3,7 @@ use crate::arriving::{arrive, is_arrival, log, log_object, log_unlisted};
 use crate::asking::Asked;
 use crate::changes::apply;
 use crate::cutting::cuts;
+use crate::failing::{fail_reads, fail_writes};
 use crate::fault::{Fault, PlayFault};
 use crate::imports::{import_of, import_over, parse_rows};
 use crate::log::is_head;
@@ -10,6 +11,7 @@ use crate::looking::look;
 use crate::reads::read;
 use crate::reports::print;
 use crate::serving::{Ends, serve};
+use crate::ways::{Way, arrivals_at, run, step};
 use crate::words::{count, first};
 use hall_store::{HallStore, Probe};
 use play_log::LogFault;
@@ -139,6 +141,8 @@ fn play_once<S: HallStore>(
         "short" => short(alloc, store, rest, line),
         "slow" => slow(alloc, store, rest, line),
         "cuts" => cuts(alloc, store, rest, line),
+        "reads_fail" => fail_reads(alloc, store, rest, line),
+        "writes_fail" => fail_writes(alloc, store, rest, line),
         _ => {
             let mut store = store;
             let done = ask(alloc, &mut store, kind, rest, line);
@@ -226,6 +230,14 @@ pub fn play_line<S: HallStore>(
     }
 }
 
+// Whether another part of the log begins here, or the log ends.
+fn begins_part(lines: &[String]) -> bool {
+    match lines.first() {
+        Some(line) => is_head(line.as_str()),
+        None => true,
+    }
+}
+
 /// Writes a text.
 pub fn write_text<W: Write>(writer: &mut W, text: &str) -> Result<(), LogFault> {
     match writer.write_all(text.as_bytes()) {
@@ -249,26 +261,58 @@ pub fn write_answer<W: Write>(
     Ok(())
 }
 
-/// Plays the lines from a place on over the store, which is given back, up to where another part of the log begins.
+// Plays the first of the lines, or by one run all arrivals at their beginning; how many those are.
+fn play_first<S: HallStore>(
+    alloc: Global,
+    store: S,
+    lines: &[String],
+    way: Way,
+    line: &mut String,
+    asked: &mut Asked,
+) -> (usize, Result<(), Fault>, S) {
+    let Some(text) = lines.first() else {
+        return (0, Ok(()), store);
+    };
+    let text = text.as_str();
+    let arrivals = arrivals_at(lines).min(lines.len());
+    if arrivals == 0 || way == Way::Alone {
+        let (done, store) = play_line(alloc, store, text, line, asked);
+        return (1, done, store);
+    }
+    if way == Way::Steps {
+        let (done, store) = step(alloc, store, text, line, asked);
+        return (1, done, store);
+    }
+    let (together, _) = lines.split_at(arrivals);
+    let (done, store) = run(alloc, store, together, line, asked);
+    (arrivals, done, store)
+}
+
+/// Plays the lines from a place on over the store, which is given back, up to where another part of the log begins. Arrivals are
+/// answered in this way.
 pub fn play<S: HallStore + Drop, W: Write>(
     alloc: Global,
     store: S,
     lines: &[String],
     from: usize,
+    way: Way,
     writer: &mut W,
     asked: &mut Asked,
 ) -> (Result<(), PlayFault>, S) {
     let mut store = store;
-    for (at, text) in lines.iter().enumerate().skip(from) {
-        if is_head(text.as_str()) {
+    let mut at = from;
+    for _ in lines {
+        let rest = lines.get(at..).unwrap_or(&[]);
+        if begins_part(rest) {
             break;
         }
         let mut line = String::new(alloc);
-        let (done, after) = play_line(alloc, store, text.as_str(), &mut line, asked);
+        let (count, done, after) = play_first(alloc, store, rest, way, &mut line, asked);
         store = after;
         if let Err(fault) = write_answer(writer, at, done, line.as_str()) {
             return (Err(fault), store);
         }
+        at = at.saturating_add(count);
     }
     (Ok(()), store)
 }

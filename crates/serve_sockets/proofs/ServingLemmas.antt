@@ -6,7 +6,7 @@ use Rattle.pxe_vendor.specs.Place.{Site}
 use Rattle.hall_types.specs.Hall.{Hall}
 use Rattle.desk_views.specs.Look.{IsLook}
 use Rattle.http_requests.specs.Decided.{IsDecided}
-use Rattle.hall_desk.specs.Attempt.{IsAnswered, IsKept, IsTorn}
+use Rattle.hall_desk.specs.Attempt.{IsAnswered, IsKept, IsOnlyRead, IsTorn}
 use Rattle.hall_desk.specs.AttemptLaws.{answered_on, missed_same}
 use Rattle.hall_desk.specs.Octets.{octets_of}
 use Rattle.hall_desk.specs.declared.arrival.Answer.{Answer}
@@ -15,7 +15,7 @@ use Rattle.hall_desk.specs.declared.arrival.Input.{Input}
 use Rattle.hall_desk.specs.declared.arrival.Input.TheVariants.{Request}
 use Rattle.serve_sockets.specs.Connection.{Moves}
 use Rattle.serve_sockets.specs.Serving.{IfRequest, IsRequest, IsWaiting}
-use Rattle.serve_sockets.specs.Turn.{IsOnlyRead, Tells}
+use Rattle.serve_sockets.specs.Turn.{Tells}
 use Rattle.serve_sockets.specs.declared.serving.Step.{Step}
 use Rattle.serve_sockets.specs.declared.serving.Step.TheVariants as step
 use Rattle.serve_sockets.specs.declared.turn.Handover.{Handover}

@@ -2,11 +2,13 @@ pub mod Connection
 pub mod Group
 pub mod Listing
 pub mod Lists
+pub mod Replying
 pub mod Ring
 pub mod ServedTime
 pub mod Service
 pub mod Serving
 pub mod Sockets
+pub mod Stamps
 pub mod Table
 pub mod Turn
 pub mod Yielding

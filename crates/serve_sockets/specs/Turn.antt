@@ -1,19 +1,24 @@
 -- What a turn did, and what a log says of it.
-use Rattle.std.specs.Prelude.{◌≡◌, ◌≤◌, ◌+◌, ◌-◌, ◌*◌, ℕ, Bool, true, false, List, [], length, slice_index}
+use Rattle.std.specs.Prelude.{◌≡◌, ◌≤◌, ◌+◌, ◌-◌, ◌*◌, ℕ, Bool, true, false, List, [], ◌++◌, length, slice_index, Option}
 use Rattle.pxe_vendor.specs.Place.{Site}
 use Rattle.hall_types.specs.Hall.{Hall}
 use Rattle.boot_desk.specs.Sound.{IsSound}
-use Rattle.hall_desk.specs.Attempt.{IsAnswered, IsRan}
+use Rattle.hall_desk.specs.Attempt.{IsAnswered}
+use Rattle.hall_desk.specs.Headline.{HasHistory}
+use Rattle.hall_desk.specs.History.{Item, Origin, exchanges}
+use Rattle.hall_desk.specs.Stops.{AndCutRun, AreGiven, HasRun, IsLeft, IsSettled}
 use Rattle.hall_desk.specs.declared.arrival.Answer.{Answer}
 use Rattle.hall_desk.specs.declared.arrival.Answer.TheVariants as answer
 use Rattle.hall_desk.specs.declared.arrival.Arrival.{Arrival}
 use Rattle.hall_desk.specs.declared.arrival.Input.{Input}
 use Rattle.hall_desk.specs.declared.arrival.Input.TheVariants as input
+use Rattle.serve_sockets.specs.Stamps.{AreStamped}
 use Rattle.serve_sockets.specs.declared.turn.Handover.{Handover}
 use Rattle.serve_sockets.specs.declared.turn.Kind.{Kind}
 use Rattle.serve_sockets.specs.declared.turn.Kind.TheVariants as kind
 use Rattle.serve_sockets.specs.declared.turn.Said.{Said}
 use Rattle.serve_sockets.specs.declared.turn.Said.TheVariants as said
+use Rattle.serve_sockets.specs.declared.turn.Stamp.{Stamp}
 use Rattle.serve_sockets.specs.declared.turn.Turn.{Turn}
 use Rattle.serve_sockets.specs.declared.turn.Turn.TheVariants as turn
 
@@ -146,14 +151,24 @@ module _ {S : Type 0} (holds : S → Hall → Type 0) (leaves : S → List Hall 
     pub tells : Tells handover what said
     pub answered : IsAnswered holds leaves old new site what moment fresh said
 
--- a store was only read: it has each hall that it had, and a stop leaves what it left before
-pub record IsOnlyRead {S : Type 0} (holds : S → Hall → Type 0) (leaves : S → List Hall → Type 0) (old new : S) : Type 0 where
-  pub same : (h : Hall) → holds old h → holds new h
-  pub stop : (h : Hall) → holds old h → (hs : List Hall) → leaves old hs → leaves new hs
-
--- the hall went on by so many arrivals at most, one at a time; `holds` says which hall a store has
-pub record WentOn {S : Type 0} (holds : S → Hall → Type 0) (old new : S) (site : Site) (most : ℕ) : Type 0 where
+-- Turns were served: so many arrivals at most were handed to the desk, one at a time, each with the moment and the fresh octets of a stamp
+-- of its own that the source gave.
+pub record AreServed {S C : Type 0} (holds : S → Hall → Type 0) (leaves : S → List Hall → Type 0) (gives : C → Option Stamp → C → Type 0)
+    (old new : S) (source source' : C) (site : Site) (most : ℕ) : Type 0 where
   pub arrivals : List Arrival
   pub answers : List Answer
   pub few : length arrivals ≤ most
-  pub ran : (h : Hall) → holds old h → IsSound h → IsRan holds new site h arrivals answers
+  pub stamped : AreStamped gives source arrivals source'
+  pub run : (h : Hall) → holds old h → IsSound h → HasRun holds leaves old new site h arrivals answers
+
+-- That is what came to the hall since it was new. Of a store that was settled a stop leaves the hall after some of the arrivals, or
+-- after one more whose answer wasn't given; and the hall at their end alone, if each was given its answer.
+pub record WentOn {S C : Type 0} (holds : S → Hall → Type 0) (leaves : S → List Hall → Type 0) (gives : C → Option Stamp → C → Type 0)
+    (old new : S) (source source' : C) (site : Site) (most : ℕ) : Type 0 where
+  pub served : AreServed holds leaves gives old new source source' site most
+  pub history : (origin : Origin) (past : List Item) → HasHistory holds old origin past
+      → HasHistory holds new origin (past ++ exchanges site served.arrivals served.answers)
+  pub settled : (origin : Origin) (past : List Item) → (was : IsSettled holds leaves old origin past) → AreGiven site was.history.end served.arrivals served.answers
+      → IsSettled holds leaves new origin (past ++ exchanges site served.arrivals served.answers)
+  pub stop : (origin : Origin) (past : List Item) → IsSettled holds leaves old origin past
+      → IsLeft leaves new origin (AndCutRun past site served.arrivals served.answers)

@@ -1,8 +1,7 @@
 //! Handing what came to the desk.
 ghost use Rattle.std.specs.Prelude.{◌≡◌, false};
-ghost use Rattle.hall_types.specs.Hall.{Hall};
 ghost use Rattle.hall_desk.specs.Account.{IsDatagram};
-ghost use Rattle.hall_desk.specs.Attempt.{GivesAnswer};
+ghost use Rattle.hall_desk.specs.Attempt.{GivesAnswer, IsOnlyRead};
 ghost use Rattle.hall_desk.specs.Desk.{enlists_of, site_of, store_of};
 ghost use Rattle.hall_desk.specs.declared.arrival.Input.TheVariants as input;
 
@@ -25,7 +24,8 @@ fn hand_watched<S: HallStore, L: TurnLog>(
     ensures enlists { enlists_of desk.new ≡ enlists_of desk.old }
     ensures answered { GivesAnswer S.HallStore.is_clean S.HallStore.holds S.HallStore.leaves (store_of desk.old) (store_of desk.new)
         (site_of desk.old) input stamp.moment stamp.fresh result.0 }
-    ensures unlisted { enlists_of desk.old ≡ false → IsDatagram input → S.HallStore.is_clean (store_of desk.new) → (h : Hall) → S.HallStore.holds (store_of desk.old) h → S.HallStore.holds (store_of desk.new) h }
+    ensures unlisted { enlists_of desk.old ≡ false → IsDatagram input → S.HallStore.is_clean (store_of desk.new)
+        → IsOnlyRead S.HallStore.holds S.HallStore.leaves (store_of desk.old) (store_of desk.new) }
 {
     let arrival = Arrival {
         moment: stamp.moment,
@@ -52,7 +52,8 @@ pub(crate) fn hand<S: HallStore, L: TurnLog>(
     ensures enlists { enlists_of desk.new ≡ enlists_of desk.old }
     ensures answered { GivesAnswer S.HallStore.is_clean S.HallStore.holds S.HallStore.leaves (store_of desk.old) (store_of desk.new)
         (site_of desk.old) input stamp.moment stamp.fresh result }
-    ensures unlisted { enlists_of desk.old ≡ false → IsDatagram input → S.HallStore.is_clean (store_of desk.new) → (h : Hall) → S.HallStore.holds (store_of desk.old) h → S.HallStore.holds (store_of desk.new) h }
+    ensures unlisted { enlists_of desk.old ≡ false → IsDatagram input → S.HallStore.is_clean (store_of desk.new)
+        → IsOnlyRead S.HallStore.holds S.HallStore.leaves (store_of desk.old) (store_of desk.new) }
 {
     let (answer, _) = hand_watched(alloc, desk, log, stamp, input);
     answer
@@ -86,7 +87,8 @@ pub(crate) fn hand_datagram<S: HallStore, L: TurnLog>(
     ensures enlists { enlists_of desk.new ≡ enlists_of desk.old }
     ensures answered { GivesAnswer S.HallStore.is_clean S.HallStore.holds S.HallStore.leaves (store_of desk.old) (store_of desk.new)
         (site_of desk.old) (input.Datagram port octets.now) stamp.moment stamp.fresh result }
-    ensures unlisted { enlists_of desk.old ≡ false → S.HallStore.is_clean (store_of desk.new) → (h : Hall) → S.HallStore.holds (store_of desk.old) h → S.HallStore.holds (store_of desk.new) h }
+    ensures unlisted { enlists_of desk.old ≡ false → S.HallStore.is_clean (store_of desk.new)
+        → IsOnlyRead S.HallStore.holds S.HallStore.leaves (store_of desk.old) (store_of desk.new) }
 {
     match Vec::from_slice(alloc, octets) {
         Ok(octets) => {

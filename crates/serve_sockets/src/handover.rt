@@ -60,6 +60,7 @@ pub(crate) fn handover(
     answer: &Answer,
 ) -> Handover
     ensures kind { result.kind ≡ kind }
+    ensures from { result.from ≡ from }
     ensures len { result.len ≡ len }
     ensures said { result.said ≡ said_of kind answer.now }
 {

@@ -10,6 +10,7 @@ mod lists;
 mod next_ready;
 mod number;
 mod ports;
+mod replying;
 mod ring;
 mod room;
 mod served_time;

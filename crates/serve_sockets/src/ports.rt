@@ -1,6 +1,7 @@
 //! The sockets at which a service is reached.
 ghost use Rattle.std.specs.Prelude.{◌≤◌, IfOk, length};
 
+use crate::replying::{SendReply, Way};
 use crate::ring::Origin;
 use hall_types::Port;
 use mio::net::{TcpListener, UdpSocket};
@@ -92,12 +93,18 @@ impl Ports {
         }
     }
 
-    /// Sends a datagram.
-    pub fn send(&self, port: Port, octets: &[u8], target: SocketAddr) -> io::Result<usize> {
-        match port {
-            Port::Discover => self.discover.send_to(octets, target),
-            Port::Boot => self.boot.send_to(octets, target),
+    fn send_to(&self, way: Way, octets: &[u8]) -> io::Result<usize> {
+        match way.port {
+            Port::Discover => self.discover.send_to(octets, way.client),
+            Port::Boot => self.boot.send_to(octets, way.client),
         }
+    }
+}
+
+impl SendReply for Ports {
+    // One to a client without an address couldn't be sent: the system would send it to this machine itself.
+    fn send_reply(&mut self, way: Way, octets: &[u8]) -> bool {
+        !way.client.ip().is_unspecified() && self.send_to(way, octets).is_ok()
     }
 }
 

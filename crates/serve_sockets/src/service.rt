@@ -2,17 +2,17 @@
 ghost use Rattle.std.specs.Prelude.{◌≡◌, ◌<◌, ◌&&◌, ◌||◌};
 ghost use Rattle.serve_sockets.specs.Turn.{is_unavailable};
 
-use crate::handing::{hand_datagram, hand_quiet};
+use crate::handing::hand_quiet;
 use crate::handover::{handover, is_unavailable};
+use crate::replying::{Way, reply};
 use crate::ring::Origin;
 use crate::serving::advance;
 use crate::sockets::{SHORT_PAUSE, Sockets};
 use crate::turn::{Handover, Kind, Said, Source, Stamp, Turn, TurnLog};
-use hall_desk::{Answer, Desk};
+use hall_desk::{Answer, Desk, histories_keep_the_laws};
 use hall_store::HallStore;
 use hall_types::Port;
 use std::alloc::Global;
-use std::net::SocketAddr;
 
 /// A desk, and the sockets at which it is reached. Contracts see the desk, and how many turns there were since the last
 /// eighth one.
@@ -40,11 +40,12 @@ fn is_still_opening(is_opening: bool, moved: bool, answer: &Answer) -> bool
 
 impl<S: HallStore> Service<S> {
     ghost use Rattle.std.specs.Prelude.{◌≡◌, ◌≢◌, ◌<◌, ◌+◌, ◌-◌, ◌%◌, true, false, IfSome, unwrap_or};
-    ghost use Rattle.hall_types.specs.Hall.{Hall};
+    ghost use Rattle.hall_desk.specs.Attempt.{IsOnlyRead};
     ghost use Rattle.hall_desk.specs.Desk.{enlists_of, site_of, store_of};
     ghost use Rattle.serve_sockets.specs.Service.{desk_of, is_opening_of, sockets_of, turns_of};
     ghost use Rattle.serve_sockets.specs.Sockets.{places_of};
-    ghost use Rattle.serve_sockets.specs.Turn.{HandsDatagram, HandsNothing, IfHanded, IsHanded, IsOnlyRead, IsPutOff, IsQuiet, IsUnavailable, WentOn};
+    ghost use Rattle.serve_sockets.specs.Stamps.{IsPassed};
+    ghost use Rattle.serve_sockets.specs.Turn.{AreServed, HandsDatagram, HandsNothing, IfHanded, IsHanded, IsPutOff, IsQuiet, IsUnavailable, WentOn};
 
     /// The service of a desk. It begins by quiet moments.
     pub fn new(alloc: Global, desk: Desk<S>, sockets: Sockets) -> Service<S>
@@ -80,6 +81,7 @@ impl<S: HallStore> Service<S> {
     /// overdue.
     pub fn wait<C: Source>(&mut self, source: &mut C)
         ensures desk { desk_of self.new ≡ desk_of self.old }
+        ensures source { IsPassed C.Source.may_give source.old source.new }
         ensures turns { turns_of self.new ≡ turns_of self.old }
         ensures opening { is_opening_of self.new ≡ is_opening_of self.old }
     {
@@ -99,7 +101,7 @@ impl<S: HallStore> Service<S> {
     ///
     /// At most one arrival is handed to the desk, with the moment and the fresh octets of the stamp. A datagram's answer is
     /// sent to where the datagram came from; that of a request waits until the client takes it. A datagram leaves the hall of a
-    /// desk that enlists none as it is. The log is told of the arrival; the turn isn't noted.
+    /// desk that enlists none as it is, and what a stop may leave. The log is told of the arrival; the turn isn't noted.
     pub fn turn<L: TurnLog>(&mut self, stamp: Stamp, log: &mut L) -> Turn
         ensures clean { S.HallStore.is_clean (store_of (desk_of self.new)) → S.HallStore.is_clean (store_of (desk_of self.old)) }
         ensures site { site_of (desk_of self.new) ≡ site_of (desk_of self.old) }
@@ -109,8 +111,8 @@ impl<S: HallStore> Service<S> {
         ensures same { HandsNothing result → desk_of self.new ≡ desk_of self.old }
         ensures read { S.HallStore.is_clean (store_of (desk_of self.new)) → IsPutOff result → IsOnlyRead S.HallStore.holds S.HallStore.leaves
             (store_of (desk_of self.old)) (store_of (desk_of self.new)) }
-        ensures unlisted { enlists_of (desk_of self.old) ≡ false → HandsDatagram result → S.HallStore.is_clean (store_of (desk_of self.new)) → (h : Hall)
-            → S.HallStore.holds (store_of (desk_of self.old)) h → S.HallStore.holds (store_of (desk_of self.new)) h }
+        ensures unlisted { enlists_of (desk_of self.old) ≡ false → HandsDatagram result → S.HallStore.is_clean (store_of (desk_of self.new))
+            → IsOnlyRead S.HallStore.holds S.HallStore.leaves (store_of (desk_of self.old)) (store_of (desk_of self.new)) }
         ensures turns { turns_of self.new ≡ (turns_of self.old + 1) % 8 }
         ensures eighth { turns_of self.old ≡ 7 → IsQuiet result }
         ensures opening { is_opening_of self.old ≡ true → IsQuiet result }
@@ -170,30 +172,23 @@ impl<S: HallStore> Service<S> {
         ensures same { HandsNothing result → desk_of self.new ≡ desk_of self.old }
         ensures read { S.HallStore.is_clean (store_of (desk_of self.new)) → IsPutOff result → IsOnlyRead S.HallStore.holds S.HallStore.leaves
             (store_of (desk_of self.old)) (store_of (desk_of self.new)) }
-        ensures unlisted { enlists_of (desk_of self.old) ≡ false → HandsDatagram result → S.HallStore.is_clean (store_of (desk_of self.new)) → (h : Hall)
-            → S.HallStore.holds (store_of (desk_of self.old)) h → S.HallStore.holds (store_of (desk_of self.new)) h }
+        ensures unlisted { enlists_of (desk_of self.old) ≡ false → HandsDatagram result → S.HallStore.is_clean (store_of (desk_of self.new))
+            → IsOnlyRead S.HallStore.holds S.HallStore.leaves (store_of (desk_of self.old)) (store_of (desk_of self.new)) }
         ensures turns { turns_of self.new ≡ turns_of self.old }
         ensures opening { is_opening_of self.new ≡ is_opening_of self.old }
     {
-        let (len, from) = match self.sockets.receive(port) {
+        let (len, client) = match self.sockets.receive(port) {
             Ok(received) => received,
             Err(turn) => return turn,
         };
+        let way = Way { port, client };
         let octets = &self.sockets.buffer.as_slice()[..len];
-        let answer = hand_datagram(self.alloc, &mut self.desk, log, stamp, port, octets);
-        let handover = handover(Kind::Datagram(port), Some(from), len, &answer);
-        if self.send(port, &answer, from) {
+        let ports = &mut self.sockets.ports;
+        let (handover, is_sent) = reply(self.alloc, &mut self.desk, log, stamp, way, octets, ports);
+        if is_sent {
             Turn::Handed(handover)
         } else {
             Turn::Unsent(handover)
-        }
-    }
-
-    // Sends an answer that is a reply, and says whether it could be sent.
-    fn send(&self, port: Port, answer: &Answer, target: SocketAddr) -> bool {
-        match answer {
-            Answer::Octets(octets) => self.sockets.send(port, octets.as_slice(), target),
-            Answer::Unavailable | Answer::Silence => true,
         }
     }
 
@@ -208,8 +203,8 @@ impl<S: HallStore> Service<S> {
         ensures same { HandsNothing result → desk_of self.new ≡ desk_of self.old }
         ensures read { S.HallStore.is_clean (store_of (desk_of self.new)) → IsPutOff result → IsOnlyRead S.HallStore.holds S.HallStore.leaves
             (store_of (desk_of self.old)) (store_of (desk_of self.new)) }
-        ensures unlisted { enlists_of (desk_of self.old) ≡ false → HandsDatagram result → S.HallStore.is_clean (store_of (desk_of self.new)) → (h : Hall)
-            → S.HallStore.holds (store_of (desk_of self.old)) h → S.HallStore.holds (store_of (desk_of self.new)) h }
+        ensures unlisted { enlists_of (desk_of self.old) ≡ false → HandsDatagram result → S.HallStore.is_clean (store_of (desk_of self.new))
+            → IsOnlyRead S.HallStore.holds S.HallStore.leaves (store_of (desk_of self.old)) (store_of (desk_of self.new)) }
         ensures turns { turns_of self.new ≡ turns_of self.old }
         ensures opening { is_opening_of self.new ≡ is_opening_of self.old }
     {
@@ -249,8 +244,8 @@ impl<S: HallStore> Service<S> {
         ensures clean { S.HallStore.is_clean (store_of (desk_of self.new)) → S.HallStore.is_clean (store_of (desk_of self.old)) }
         ensures site { site_of (desk_of self.new) ≡ site_of (desk_of self.old) }
         ensures enlists { enlists_of (desk_of self.new) ≡ enlists_of (desk_of self.old) }
-        ensures went_on { S.HallStore.is_clean (store_of (desk_of self.new)) → WentOn S.HallStore.holds
-            (store_of (desk_of self.old)) (store_of (desk_of self.new)) (site_of (desk_of self.old)) 1 }
+        ensures served { S.HallStore.is_clean (store_of (desk_of self.new)) → AreServed S.HallStore.holds S.HallStore.leaves C.Source.may_give
+            (store_of (desk_of self.old)) (store_of (desk_of self.new)) source.old source.new (site_of (desk_of self.old)) 1 }
     {
         self.wait(source);
         let Some(stamp) = source.stamp() else {
@@ -267,6 +262,9 @@ impl<S: HallStore> Service<S> {
     /// Serves so many turns, each with a stamp of the source, and tells each to the log; or ends after the first quiet moment for
     /// which the store is unavailable, as one is that a fault has shut: how many turns are left then. A turn without a stamp does
     /// nothing for 100 milliseconds, and the log is told when such turns begin.
+    ///
+    /// With all that came to the hall since it was new, it is a history that keeps all laws. A stop leaves, of a store that was settled, the
+    /// hall after some of the arrivals, or after one more whose answer wasn't given.
     pub fn serve_turns<C: Source, L: TurnLog>(
         &mut self,
         source: &mut C,
@@ -277,9 +275,10 @@ impl<S: HallStore> Service<S> {
         ensures clean { S.HallStore.is_clean (store_of (desk_of self.new)) → S.HallStore.is_clean (store_of (desk_of self.old)) }
         ensures site { site_of (desk_of self.new) ≡ site_of (desk_of self.old) }
         ensures enlists { enlists_of (desk_of self.new) ≡ enlists_of (desk_of self.old) }
-        ensures went_on { S.HallStore.is_clean (store_of (desk_of self.new)) → WentOn S.HallStore.holds
-            (store_of (desk_of self.old)) (store_of (desk_of self.new)) (site_of (desk_of self.old)) (turns - unwrap_or result 0) }
+        ensures went_on { S.HallStore.is_clean (store_of (desk_of self.new)) → WentOn S.HallStore.holds S.HallStore.leaves C.Source.may_give
+            (store_of (desk_of self.old)) (store_of (desk_of self.new)) source.old source.new (site_of (desk_of self.old)) (turns - unwrap_or result 0) }
     {
+        histories_keep_the_laws();
         for served in 0..turns {
             if self.serve_turn(source, log) {
                 return Some(turns - served - 1);

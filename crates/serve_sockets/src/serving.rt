@@ -1,12 +1,13 @@
 //! Serving a connection by steps.
 ghost use Rattle.std.specs.Prelude.{◌≡◌};
+ghost use Rattle.hall_desk.specs.Attempt.{IsOnlyRead};
 ghost use Rattle.hall_desk.specs.Desk.{enlists_of, site_of, store_of};
 ghost use Rattle.hall_desk.specs.Octets.{octets_of};
 ghost use Rattle.hall_desk.specs.declared.arrival.Answer.TheVariants.{Unavailable};
 ghost use Rattle.hall_desk.specs.declared.arrival.Input.TheVariants.{Request};
 ghost use Rattle.serve_sockets.specs.Connection.{input_of, left_of, stream_of};
 ghost use Rattle.serve_sockets.specs.Serving.{IfRequest, IsOnlyMoved, IsRequest, IsWaiting, PutsOff};
-ghost use Rattle.serve_sockets.specs.Turn.{IsOnlyRead, Tells};
+ghost use Rattle.serve_sockets.specs.Turn.{Tells};
 
 use crate::connection::{Connection, Put, Taken};
 use crate::handing::hand;

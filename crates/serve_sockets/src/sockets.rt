@@ -3,6 +3,7 @@ ghost use Rattle.std.specs.Prelude.{◌≡◌, ◌<◌, ◌≤◌, ◌+◌, IfEr
 ghost use Rattle.serve_sockets.specs.Ring.{IsPlace, ready_of};
 ghost use Rattle.serve_sockets.specs.ServedTime.{served_of};
 ghost use Rattle.serve_sockets.specs.Serving.{IfRequest, IsOnlyMoved, PutsOff};
+ghost use Rattle.serve_sockets.specs.Stamps.{IsPassed};
 ghost use Rattle.serve_sockets.specs.Table.{slots_of};
 ghost use Rattle.serve_sockets.specs.Turn.{HandsNothing, IsPutOff};
 
@@ -44,7 +45,8 @@ pub struct Sockets {
     // Has nothing registered, so that nothing ends a wait for it early.
     still: Poll,
     events: Events,
-    ports: Ports,
+    /// By which replies are sent.
+    pub(crate) ports: Ports,
     table: Table<TcpStream>,
     accepted: u64,
     time: ServedTime,
@@ -125,7 +127,9 @@ impl Sockets {
     }
 
     // For how many milliseconds at most something is waited for where nothing is known to be there.
-    fn pause<C: Source>(&self, source: &mut C) -> u64 {
+    fn pause<C: Source>(&self, source: &mut C) -> u64
+        ensures { C.Source.may_give source.old None source.new }
+    {
         let pause = source.pause();
         if self.is_lame {
             pause.min(RETRY_PAUSE)
@@ -148,7 +152,9 @@ impl Sockets {
 
     /// Marks where something is. Waits for something to come if nothing is known to be there: for the source's pause at most, less
     /// while a connection is open, so that a late one is closed in time. Between two late ones nothing is waited for.
-    pub(crate) fn wait<C: Source>(&mut self, source: &mut C) {
+    pub(crate) fn wait<C: Source>(&mut self, source: &mut C)
+        ensures { IsPassed C.Source.may_give source.old source.new }
+    {
         if self.is_idle() {
             let millis = self.pause(source);
             self.look(millis);
@@ -273,12 +279,6 @@ impl Sockets {
             Ok(received) => Ok(received),
             Err(error) => Err(self.missed(Origin::Port(port), &error)),
         }
-    }
-
-    /// Sends a datagram, and says whether it could be sent. One to a client without an address couldn't: the system would send it to
-    /// this machine itself.
-    pub(crate) fn send(&self, port: Port, octets: &[u8], target: SocketAddr) -> bool {
-        !target.ip().is_unspecified() && self.ports.send(port, octets, target).is_ok()
     }
 
     /// Accepts a connection.

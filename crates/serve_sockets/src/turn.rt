@@ -16,11 +16,19 @@ pub struct Stamp {
 
 /// Where stamps come from: clocks, and a source of random octets.
 pub trait Source {
+    ghost use Rattle.std.specs.Prelude.{⊤, Option, None};
+    ghost use Rattle.serve_sockets.specs.declared.turn.Stamp.{Stamp};
+
+    // Holds of the source before a call, of the stamp that the call gave, if it gave one, and of the source after it.
+    ghost may_give: { Self → Option Stamp → Self → Type 0 } = { λ _ _ _. ⊤ };
+
     /// The stamp of the next turn, and nothing where a clock or the random octets failed.
-    fn stamp(&mut self) -> Option<Stamp>;
+    fn stamp(&mut self) -> Option<Stamp>
+        ensures { may_give self.old result self.new };
 
     /// For how many milliseconds at most a turn waits where nothing is known to be there.
-    fn pause(&mut self) -> u64;
+    fn pause(&mut self) -> u64
+        ensures { may_give self.old None self.new };
 }
 
 /// What was handed to the desk.

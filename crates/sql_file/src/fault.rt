@@ -7,7 +7,7 @@ pub enum FileFault {
     /// The file already has one of a hall's tables.
     #[error("the file already has one of a hall's tables")]
     NotEmpty,
-    /// There is no file, or a hall's table is missing in it, or a column of one, or the one row that names its schema.
+    /// There is no file, or a hall's table is missing in it, or a column of one, an index, or the one row that names its schema.
     #[error("the file isn't a hall's")]
     NotAHall,
     /// The tables are those of another schema.

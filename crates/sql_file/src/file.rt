@@ -177,8 +177,8 @@ fn look(rt: &HostRuntime, path: &str) -> Result<(), FileFault> {
 ///
 /// # Errors
 ///
-/// `NotAHall` where there is no file, which isn't made, where a hall's table is missing in it, or a column of one, or the one row that
-/// names its schema, and where a file of the first schema has a table `wipes`. `OtherVersion` where that row names neither schema.
+/// `NotAHall` where there is no file, which isn't made, where a hall's table is missing in it, or a column of one, an index, or the one
+/// row that names its schema, and where a file of the first schema has a table `wipes`. `OtherVersion` where that row names neither schema.
 /// `Unavailable` where another program has the file open, and where memory or the disk failed. A refusal leaves the tables as they
 /// were.
 pub fn migrate(rt: &HostRuntime, path: &str) -> Result<Ended<Migrated>, FileFault> {
@@ -191,7 +191,7 @@ pub fn migrate(rt: &HostRuntime, path: &str) -> Result<Ended<Migrated>, FileFaul
 /// # Errors
 ///
 /// The task isn't done: `NotAHall` where there is no file, which isn't made, and where a hall's table is missing in it, or a column
-/// of one, or the one row that names its schema. `OtherVersion` where that row names another schema. `Unavailable` where another
+/// of one, an index, or the one row that names its schema. `OtherVersion` where that row names another schema. `Unavailable` where another
 /// program has the file open, and where memory or the disk failed.
 pub fn over<T: StoreTask>(
     rt: &HostRuntime,

@@ -1,8 +1,14 @@
 -- Looks at the tables of a file, inside a transaction that is undone.
-use Rattle.sql_schema.specs.Words.{AllByRecursion, Null, Int, Error, SqlInputError, Row, Database, understood, Schema, State, IsUnchanged, Shown, store_error, Outlines, IsPlain, Compiled, CompileError, cell, items_in_order, shown_answer, shown_same}
-use Rattle.std.proofs.Common.{◌≡◌, ◌≢◌, inl, inr, ℕ, ℤ, pos, List, [], ◌∷◌, Ok, Err, Result, true, refl, sym, subst, ◌∙◌, ◌↔◌}
+use Rattle.sql_schema.specs.Words.{AllByRecursion, Null, Int, Error, SqlInputError, Row, Database, reads_listing, Schema, State, IsUnchanged, store_error, Outlines, IsPlain, Command, Compiled, CompileError, Returning, append-nil, cell, column, command_of, items_in_order}
+use Rattle.std.proofs.Common.{◌≡◌, ◌≢◌, inl, inr, ℕ, ℤ, pos, List, [], ◌∷◌, Ok, Err, Result, Option, None, Bool, true, false, true≢false, refl, sym, ap, subst, ◌∙◌, ◌↔◌, if◌then◌else◌}
+use Rattle.sqlite_resolve.specs.Compile.{compiled}
+use Rattle.sqlite_resolve.specs.Lowering.{Checked, and_then}
+use Rattle.sqlite_resolve.specs.declared.error.CompileError.TheVariants.{NoSuchTable}
+use Rattle.sqlite_tied.specs.Compute.{everything}
+use Rattle.sqlite.specs.Effect.{Reads}
+use Rattle.sqlite.specs.Listing.{IsSourceOf, if_select, listing_schema, misses_table, understood}
 use Rattle.sqlite_trees.specs.declared.error.StoreError.TheVariants as fault
-use Rattle.sqlite.specs.State.{FailsToQuery, IsNotRun}
+use Rattle.sqlite.specs.State.{FailsToQuery, IsNotRun, Shown}
 use Rattle.sql_schema.specs.Steps.{IsStep}
 use Rattle.sql_schema.specs.StepLaws.{fails}
 use Rattle.sql_tables.specs.declared.fault.OpenFault.{OpenFault}
@@ -10,7 +16,7 @@ use Rattle.sql_tables.specs.declared.fault.OpenFault.TheVariants.{NotAHall, Othe
 use Rattle.sql_tables.specs.declared.looking.Wanted.{Wanted}
 use Rattle.sql_tables.specs.declared.looking.Wanted.TheVariants.{First, Second}
 use Rattle.sql_schema.specs.declared.creating.TheConstants.{FIND_NUMBERS}
-use Rattle.sql_tables.specs.Opening.{AreFound, AreUnderstood, HasTables, IsAnswerFor, IsSchemaRow, IsUnderstood, IsVersionOf, SaysSchema, first_rows, second_rows, wanted_number, wanted_rows}
+use Rattle.sql_tables.specs.Opening.{AreFound, AreUnderstood, HasTables, IsAnswerFor, IsAnswerOf, IsFoundBy, IsOneRow, IsSchemaRow, IsUnderstood, IsVersionOf, NamesSchema, SaysSchema, ShowsRows, first_rows, has_indexes, if_indexed, second_rows, wanted_number, wanted_rows}
 use Rattle.sql_tables.proofs.TransactionLemmas.{asked}
 
 -- ---- whether texts are understood
@@ -91,32 +97,103 @@ no_version wanted db NotAHall missing n says = missing (compiled_of _ says.reads
 no_version wanted db OtherVersion missing n says = absurd missing
 no_version wanted db Unavailable missing n says = tt
 
-module _ (old new : State) (n : ℤ) (rows : List Row) (says : SaysSchema old.now n) (got : Shown FIND_NUMBERS.now [] old new rows) where
-  pub schema_row : IsSchemaRow n rows
-  schema_row = (
-    says.last.0,
-    says.last.1,
-    says.last.2,
-    items_in_order (λ (x : Row). pos 1) (λ x. x) [] [] (λ x. true) (λ x. refl) _ 0 (cell 2 ∷ cell 3 ∷ cell 4 ∷ cell 5 ∷ []) []
-        ((Null ∷ Int n ∷ Int says.last.0 ∷ Int says.last.1 ∷ Int says.last.2 ∷ []) ∷ []) old.now.trees says.last.3 refl rows
-        (shown_answer old.now.schema FIND_NUMBERS.now says.reads [] old new rows refl got) (tt, tt),
-  )
+pub not_found : (Names : ℤ → Type 0) (wanted : Wanted) (db : Database) (e : OpenFault) → AreFound (FIND_NUMBERS.now ∷ []) db (Err e) → IsFoundBy Names wanted (Err e)
+not_found Names wanted db NotAHall missing = tt
+not_found Names wanted db OtherVersion missing = absurd missing
+not_found Names wanted db Unavailable missing = tt
 
-  pub schema_still : new.now ≡ old.now
-  schema_still = (shown_same FIND_NUMBERS.now [] old.now.schema says.reads.plain old new rows refl got).0.now_is
+pub none_found : (Names : ℤ → Type 0) (wanted : Wanted) (e : OpenFault) → e ≢ OtherVersion → IsFoundBy Names wanted (Err e)
+none_found Names wanted NotAHall other = tt
+none_found Names wanted OtherVersion other = absurd (other refl)
+none_found Names wanted Unavailable other = tt
+
+-- ---- what the query of the numbers shows
+
+abbrev pub IsBare : Compiled → Type 0
+IsBare c = (c.returning ≡ None) × (c.formats ≡ [])
+
+-- whatever its command is, the text returns nothing and wants no time
+bare_by : (make : List (List ℕ) × (Command × Option Returning) → Compiled) → ((plan : List (List ℕ) × (Command × Option Returning)) → ((make plan).returning ≡ plan.1.1) × ((make plan).formats ≡ plan.0))
+    → (k : Checked Command) (c : Compiled)
+    → and_then (and_then (and_then k (λ x. Ok (x, None))) (λ found. Ok ([], found))) (λ plan. Ok (make plan)) ≡ Ok c → IsBare c
+bare_by make made (Ok x) c e = let is : make ([], (x, None)) ≡ c = cc in subst IsBare is (made ([], (x, None)))
+bare_by make made (Err f) c e = absurd cc
+
+compiled_bare : (schema : Schema) (c : Compiled) → compiled schema FIND_NUMBERS.now ≡ Ok c → IsBare c
+unfolding compiled everything
+compiled_bare schema c e = bare_by _ (λ plan. (refl, refl)) _ c e
+
+-- no table of SQLite's own is called `hall`
+none_listed : if_select (compiled listing_schema FIND_NUMBERS.now) ≡ Err NoSuchTable
+unfolding compiled everything listing_schema
+none_listed = refl
+
+-- over each schema where it is understood
+bare : (schema : Schema) (c : Compiled) → understood schema FIND_NUMBERS.now ≡ Ok c → IsBare c × (reads_listing schema FIND_NUMBERS.now ≡ false)
+unfolding understood
+bare schema c e = by (compiled schema FIND_NUMBERS.now) refl e
+  where
+    by : (r : Checked Compiled) → compiled schema FIND_NUMBERS.now ≡ r → (if misses_table r then if_select (compiled listing_schema FIND_NUMBERS.now) else r) ≡ Ok c → IsBare c × (misses_table r ≡ false)
+    by (Ok d) is same = let one : d ≡ c = cc in (subst IsBare one (compiled_bare schema d is), refl)
+    by (Err NoSuchTable) is same = let no : Err NoSuchTable ≡ Ok c = sym none_listed ∙ same in absurd cc
+    by (Err f) is same = absurd cc
+
+pub shown_rows : (old new : State) (rows : List Row) → Shown FIND_NUMBERS.now [] old new rows → ShowsRows old.now FIND_NUMBERS.now rows × IsUnchanged old new
+unfolding Shown
+shown_rows old new rows h =
+    let known = bare old.now.schema h.0 h.1.is in
+    let it = rw (known.0.0, known.0.1, append-nil []) at h.2 in
+    let db : it.0 ≡ old.now = subst (λ b. IsSourceOf b old.now it.0) known.1 it.1 in
+    (record { query = h.0; means = h.1.is; shown = subst (λ d. Reads h.0.command d [] rows) db it.2 }, it.3)
+
+-- the row that is asked of a `hall` as this program makes it
+pub schema_row : (db : Database) (n : ℤ) (rows : List Row) → SaysSchema db n → ShowsRows db FIND_NUMBERS.now rows → IsSchemaRow n rows
+schema_row db n rows says shown =
+    let is = sym (ap command_of shown.means) ∙ says.reads.is in (
+      says.last.0,
+      says.last.1,
+      says.last.2,
+      items_in_order (λ (x : Row). pos 1) (λ x. x) [] [] (λ x. true) (λ x. refl) _ 0 (cell 2 ∷ cell 3 ∷ cell 4 ∷ cell 5 ∷ []) []
+          ((Null ∷ Int n ∷ Int says.last.0 ∷ Int says.last.1 ∷ Int says.last.2 ∷ []) ∷ []) db.trees says.last.3 refl rows
+          ((subst (λ k. Reads k db [] rows) is shown.shown).answer Null) (tt, tt),
+    )
+
+-- it names no other number
+pub one_schema : (db : Database) (n m : ℤ) → SaysSchema db n → NamesSchema db m → n ≡ m
+one_schema db n m says names =
+    let row = schema_row db n names.rows says names.shown in
+    let both : names.one.row ∷ [] ≡ (Int n ∷ Int row.0 ∷ Int row.1 ∷ Int row.2 ∷ []) ∷ [] = sym names.one.only ∙ row.3 in
+    let same : names.one.row ≡ Int n ∷ Int row.0 ∷ Int row.1 ∷ Int row.2 ∷ [] = cc in
+    let number : Int n ≡ Int m = sym (ap (λ r. column r 0) same) ∙ names.one.number in
+    cc
+
+-- what was found in the rows that were shown
+pub found_in : (wanted : Wanted) (db : Database) (rows : List Row) (r : Result (Unit {0}) OpenFault) → ShowsRows db FIND_NUMBERS.now rows → IsFoundBy (IsOneRow rows) wanted r → IsFoundBy (NamesSchema db) wanted r
+found_in wanted db rows (Ok done) shown one = record { rows = rows; shown = shown; one = one }
+found_in wanted db rows (Err NotAHall) shown none = tt
+found_in wanted db rows (Err OtherVersion) shown other = (other.0, record { rows = rows; shown = shown; one = other.1 }, other.2)
+found_in wanted db rows (Err Unavailable) shown none = tt
 
 -- ---- all of a look
 
 module _ (wanted : Wanted) (db : Database) where
   -- the number of the schema can't be read, or isn't the one that is wanted
-  pub stopped : (e : OpenFault) → ((n : ℤ) → SaysSchema db n → IsVersionOf wanted n (Err e)) → IsAnswerFor wanted db (Err e)
-  stopped NotAHall told = record { told = (λ n says. absurd (told n says), λ says has. told (wanted_number wanted) says) }
-  stopped OtherVersion told = record { told = told }
-  stopped Unavailable told = record { told = tt }
+  pub stopped : (e : OpenFault) → ((n : ℤ) → SaysSchema db n → IsVersionOf wanted n (Err e)) → IsFoundBy (NamesSchema db) wanted (Err e) → IsAnswerOf (HasTables wanted) wanted db (Err e)
+  stopped NotAHall told found = record { told = (λ n says. absurd (told n says), λ says has. told (wanted_number wanted) says) }
+  stopped OtherVersion told found = record { told = found }
+  stopped Unavailable told found = record { told = tt }
 
   -- it is, and the other tables were asked for
-  pub looked : (now : Database) (r : Result (Unit {0}) OpenFault) → ((n : ℤ) → SaysSchema db n → n ≡ wanted_number wanted) → ((n : ℤ) → SaysSchema db n → now ≡ db) → AreFound (wanted_rows wanted) now r → IsAnswerFor wanted db r
-  looked now (Ok done) told same found = record { told = λ n says. (told n says, subst (λ (d : Database). HasTables wanted d.schema) (same n says) found) }
-  looked now (Err NotAHall) told same found = record { told = (told, λ says has. found (subst (λ (d : Database). HasTables wanted d.schema) (sym (same (wanted_number wanted) says)) has)) }
-  looked now (Err OtherVersion) told same found = absurd found
-  looked now (Err Unavailable) told same found = record { told = tt }
+  pub looked : (now : Database) (r : Result (Unit {0}) OpenFault) → NamesSchema db (wanted_number wanted) → now ≡ db → AreFound (wanted_rows wanted) now r → IsAnswerOf (HasTables wanted) wanted db r
+  looked now (Ok done) names same found = record { told = (names, subst (λ (d : Database). HasTables wanted d.schema) same found) }
+  looked now (Err NotAHall) names same found = record { told = (λ n says. one_schema db n (wanted_number wanted) says names, λ says has. found (subst (λ (d : Database). HasTables wanted d.schema) (sym same) has)) }
+  looked now (Err OtherVersion) names same found = absurd found
+  looked now (Err Unavailable) names same found = record { told = tt }
+
+  -- the indexes were asked for besides
+  pub indexed : (has : Bool) (r : Result (Unit {0}) OpenFault) → has ≡ has_indexes db.schema → IsAnswerOf (HasTables wanted) wanted db r → IsAnswerFor wanted db (if_indexed has r)
+  indexed true (Ok done) is looked = record { told = (looked.told.0, (looked.told.1, sym is)) }
+  indexed false (Ok done) is looked = record { told = (λ n says. one_schema db n (wanted_number wanted) says looked.told.0, λ says all. absurd (true≢false (sym (is ∙ all.1)))) }
+  indexed has (Err NotAHall) is looked = record { told = (looked.told.0, λ says all. looked.told.1 says all.0) }
+  indexed has (Err OtherVersion) is looked = record { told = looked.told }
+  indexed has (Err Unavailable) is looked = record { told = tt }

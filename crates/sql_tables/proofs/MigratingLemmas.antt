@@ -6,12 +6,12 @@ use Rattle.sqlite_schema.specs.Names.{same_name}
 use Rattle.sqlite_tied.specs.Compute.{everything}
 use Rattle.sql_tables.specs.Creating.{IsMade, MayLeaveBesides}
 use Rattle.sql_tables.specs.Migrating.{BecomeHall, IsCarriedOver, IsFirst, IsRightMigration, TellsMigrated, SpellFirst, first_schema}
-use Rattle.sql_tables.specs.Opening.{HasTables, IsAnswerFor, IsReady, IsRightAnswer, SaysSchema, first_rows}
+use Rattle.sql_tables.specs.Opening.{HasAll, IsAnswerFor, IsReady, IsRightAnswer, SaysSchema, first_rows, has_indexes}
 use Rattle.sql_tables.specs.declared.fault.OpenFault.{OpenFault}
 use Rattle.sql_tables.specs.declared.fault.OpenFault.TheVariants.{NotAHall, OtherVersion, Unavailable}
 use Rattle.sql_tables.specs.declared.looking.Wanted.TheVariants.{First}
 use Rattle.sql_tables.specs.declared.migrating.Migrated.{Migrated}
-use Rattle.sql_tables.proofs.LookLemmas.{all_compiled}
+use Rattle.sql_tables.proofs.LookLemmas.{all_compiled, one_schema}
 use Rattle.sql_tables.proofs.OpenLemmas.{has_second, says_second}
 use Rattle.sql_schema.specs.declared.creating.TheConstants.{FIND_NUMBERS}
 
@@ -30,6 +30,10 @@ wipes_free : is_used first_schema (codes "wipes") ≡ false
 unfolding same_name
 wipes_free = refl
 
+first_indexed : has_indexes first_schema ≡ true
+unfolding same_name
+first_indexed = refl
+
 -- trees list one schema at most
 first_schema_of : (db : Database) (h : Hall) → IsSound db.schema db.trees → SpellFirst db.trees h → db.schema ≡ first_schema
 first_schema_of db h sound spelt = lists_once _ db.schema first_schema sound.lists spelt.sound.lists
@@ -38,8 +42,8 @@ module _ (db : Database) (h : Hall) (sound : IsSound db.schema db.trees) (spelt 
   says_first : SaysSchema db (pos 1)
   says_first = record { reads = subst (λ s. IsQueryText s FIND_NUMBERS.now find_numbers_query) (sym (first_schema_of db h sound spelt)) find_numbers_is_first; last = (_, _, _, spelt.last) }
 
-  has_first : HasTables First db.schema
-  has_first = subst (HasTables First) (sym (first_schema_of db h sound spelt)) (all_compiled first_schema first_rows plain_first)
+  has_first : HasAll First db.schema
+  has_first = subst (HasAll First) (sym (first_schema_of db h sound spelt)) (all_compiled first_schema first_rows plain_first, first_indexed)
 
   has_no_wipes : is_used db.schema (codes "wipes") ≡ false
   has_no_wipes = ap (λ s. is_used s (codes "wipes")) (first_schema_of db h sound spelt) ∙ wipes_free
@@ -54,8 +58,8 @@ second_alone : (db : Database) (h : Hall) (r : Result Migrated OpenFault) → Is
 second_alone db h (Ok done) sound spelt told = tt
 second_alone db h (Err NotAHall) sound spelt (inl (inl told)) = two_is_one (told.told.0 (pos 2) (says_second db h sound spelt))
 second_alone db h (Err NotAHall) sound spelt (inl (inr told)) = absurd (told.told.1 (says_second db h sound spelt) (has_second db h sound spelt))
-second_alone db h (Err NotAHall) sound spelt (inr told) = two_is_one (told.0.told (pos 2) (says_second db h sound spelt)).0
-second_alone db h (Err OtherVersion) sound spelt told = absurd (told.1.told (pos 2) (says_second db h sound spelt) refl)
+second_alone db h (Err NotAHall) sound spelt (inr told) = two_is_one (one_schema db (pos 2) (pos 1) (says_second db h sound spelt) told.0.told.0)
+second_alone db h (Err OtherVersion) sound spelt told = absurd (told.1.told.2 (sym (one_schema db (pos 2) told.1.told.0 (says_second db h sound spelt) told.1.told.1)))
 second_alone db h (Err Unavailable) sound spelt told = refl
 
 -- and so are those of the first schema
@@ -64,7 +68,7 @@ first_alone db h (Ok done) sound spelt told = tt
 first_alone db h (Err NotAHall) sound spelt (inl (inl told)) = absurd (told.told.1 (says_first db h sound spelt) (has_first db h sound spelt))
 first_alone db h (Err NotAHall) sound spelt (inl (inr told)) = two_is_one (sym (told.told.0 (pos 1) (says_first db h sound spelt)))
 first_alone db h (Err NotAHall) sound spelt (inr told) = absurd (true≢false (sym told.1 ∙ has_no_wipes db h sound spelt))
-first_alone db h (Err OtherVersion) sound spelt told = absurd (told.0.told (pos 1) (says_first db h sound spelt) refl)
+first_alone db h (Err OtherVersion) sound spelt told = absurd (told.0.told.2 (sym (one_schema db (pos 1) told.0.told.0 (says_first db h sound spelt) told.0.told.1)))
 first_alone db h (Err Unavailable) sound spelt told = refl
 
 pub refused_alone : (old : State) (h : Hall) (r : Result Migrated OpenFault) → IsLive old → IsTrue old.is_open → BecomeHall old.now.trees h → IsRightMigration old.now r → IfErr r (λ e. e ≡ Unavailable)
@@ -95,7 +99,7 @@ first_right db Unavailable other told = record { told = tt }
 module _ (old mid : State) (h : Hall) (live : IsLive old) (ready : IsReady old mid) where
   -- where they are of the first schema, it's one that another one becomes
   pub first_of : IsAnswerFor First old.now (Ok tt) → BecomeHall old.now.trees h → (g : Hall) × IsFirst mid.now g × IsCarriedOver g h
-  first_of told (inl spelt) = two_is_one (told.told (pos 2) (says_second old.now h (live ready.was_open).0 spelt)).0
+  first_of told (inl spelt) = two_is_one (one_schema old.now (pos 2) (pos 1) (says_second old.now h (live ready.was_open).0 spelt) told.told.0)
   first_of told (inr it) = (
     it.0,
     subst (λ (d : Database). IsFirst d it.0) (sym ready.same) (record { schema = first_schema_of old.now it.0 (live ready.was_open).0 it.1; spelt = it.1 }),
@@ -105,7 +109,7 @@ module _ (old mid : State) (h : Hall) (live : IsLive old) (ready : IsReady old m
   -- where they aren't, it's spelt
   pub second_of : IsAnswerFor First old.now (Err OtherVersion) → BecomeHall old.now.trees h → SpellHall mid.now.trees h
   second_of told (inl spelt) = subst (λ (d : Database). SpellHall d.trees h) (sym ready.same) spelt
-  second_of told (inr it) = absurd (told.told (pos 1) (says_first old.now it.0 (live ready.was_open).0 it.1) refl)
+  second_of told (inr it) = absurd (told.told.2 (sym (one_schema old.now (pos 1) told.told.0 (says_first old.now it.0 (live ready.was_open).0 it.1) told.told.1)))
 
 -- ---- from call to call
 

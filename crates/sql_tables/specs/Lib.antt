@@ -1,5 +1,6 @@
 pub mod Creating
 pub mod Migrating
 pub mod Opening
+pub mod OpeningLaws
 pub mod Running
 pub mod Probe

@@ -65,7 +65,8 @@ BecomeHall db h = SpellHall db h ⊎ ((g : Hall) × SpellFirst db g × IsCarried
 
 -- what an answer tells, where a want of memory or of the disk can be answered of any tables
 abbrev pub TellsMigrated : Database → Result Migrated OpenFault → Type 0
-TellsMigrated db (Ok Now) = IsAnswerFor First db (Ok tt)
+-- the first schema was there, and nothing had the name of the table that the second has more
+TellsMigrated db (Ok Now) = IsAnswerFor First db (Ok tt) × (is_used db.schema (codes "wipes") ≡ false)
 TellsMigrated db (Ok Already) = IsAnswerFor Second db (Ok tt)
 -- one of the tables isn't there, or those of the first schema are, and something has the name of the table that the second has more
 TellsMigrated db (Err NotAHall) = (IsAnswerFor First db (Err NotAHall) ⊎ IsAnswerFor Second db (Err NotAHall)) ⊎ (IsAnswerFor First db (Ok tt) × (is_used db.schema (codes "wipes") ≡ true))

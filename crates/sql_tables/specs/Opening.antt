@@ -1,6 +1,9 @@
 -- What is asked of a file before its hall is used, and what each refusal says.
-use Rattle.sql_schema.specs.Words.{AllByRecursion, Null, Int, Database, understood, Row, Schema, State, Compiled, IsQueryText, find_numbers_query}
-use Rattle.std.specs.Prelude.{◌≡◌, ◌≢◌, ℕ, ℤ, pos, List, [], ◌∷◌, ◌++◌, map, ⊤, false, Result, Ok, Err, IsTrue}
+use Rattle.sql_schema.specs.Words.{AllByRecursion, Null, Int, Database, understood, Row, Schema, State, Compiled, Index, IsQueryText, column, find_numbers_query, list_all}
+use Rattle.sql_schema.specs.Tables.{boots_index, interfaces_index, orders_index}
+use Rattle.sqlite_schema.specs.Names.{index_named}
+use Rattle.std.specs.Prelude.{◌≡◌, ◌≢◌, ℕ, ℤ, pos, Bool, true, false, if◌then◌else◌, List, [], ◌∷◌, ◌++◌, map, is_some, ⊤, Result, Ok, Err, IsTrue}
+use Rattle.sqlite.specs.Effect.{Reads}
 use Rattle.sql_tables.specs.declared.fault.OpenFault.{OpenFault}
 use Rattle.sql_tables.specs.declared.fault.OpenFault.TheVariants.{NotAHall, OtherVersion, Unavailable}
 use Rattle.sql_tables.specs.declared.looking.Wanted.{Wanted}
@@ -38,7 +41,37 @@ AreUnderstood schema texts = AllByRecursion (IsUnderstood schema) texts
 abbrev pub HasTables : Wanted → Schema → Type 0
 HasTables wanted schema = AreUnderstood schema (wanted_rows wanted)
 
--- the table `hall` is there with its columns, and its one row says that the schema has this number
+-- indexes of these three names are there
+abbrev pub has_indexes : Schema → Bool
+has_indexes schema = list_all (λ (i : Index). is_some (index_named schema i.name)) (interfaces_index ∷ boots_index ∷ orders_index ∷ [])
+
+-- all of this schema is there but `hall`
+abbrev pub HasAll : Wanted → Schema → Type 0
+HasAll wanted schema = HasTables wanted schema × (has_indexes schema ≡ true)
+
+-- a query without parameters shows these rows of a database
+pub record ShowsRows (db : Database) (sql : List ℕ) (rows : List Row) : Type 0 where
+  pub query : Compiled
+  pub means : understood db.schema sql ≡ Ok query
+  pub shown : Reads query.command db [] rows
+
+-- the first value of the one row among these is this number
+pub record IsOneRow (rows : List Row) (n : ℤ) : Type 0 where
+  pub row : Row
+  pub only : rows ≡ row ∷ []
+  pub number : column row 0 ≡ Int n
+
+-- `hall` has one row that can be read, which names the schema by this number
+pub record NamesSchema (db : Database) (n : ℤ) : Type 0 where
+  pub rows : List Row
+  pub shown : ShowsRows db FIND_NUMBERS.now rows
+  pub one : IsOneRow rows n
+
+-- `hall` has no such row: it isn't there, it has no column of these, no row or several, or no number in it
+abbrev pub NamesNoSchema : Database → Type 0
+NamesNoSchema db = (n : ℤ) → NamesSchema db n → ⊥
+
+-- the table `hall` is there as this program makes it, and its one row says that the schema has this number
 pub record SaysSchema (db : Database) (n : ℤ) : Type 0 where
   pub reads : IsQueryText db.schema FIND_NUMBERS.now find_numbers_query
   pub last : (machine : ℤ) × (boot : ℤ) × (order : ℤ) × (db.trees 0 ≡ (Int (pos 1) ∷ Null ∷ Int n ∷ Int machine ∷ Int boot ∷ Int order ∷ []) ∷ [])
@@ -56,11 +89,16 @@ Tells (Err Unavailable) Good Missing Other = ⊤
 abbrev pub IfSaid : Result (Unit {0}) OpenFault → Type 0 → Type 0
 IfSaid r P = Tells r P P P
 
--- what the answer says of the tables of a file, where this schema is asked for: its tables are there, one of them isn't, or the number is another one
-pub record IsAnswerFor (wanted : Wanted) (db : Database) (r : Result (Unit {0}) OpenFault) : Type 0 where
-  pub told : Tells r ((n : ℤ) → SaysSchema db n → (n ≡ wanted_number wanted) × HasTables wanted db.schema)
-      (((n : ℤ) → SaysSchema db n → n ≡ wanted_number wanted) × (SaysSchema db (wanted_number wanted) → HasTables wanted db.schema → ⊥))
-      ((n : ℤ) → SaysSchema db n → n ≢ wanted_number wanted)
+-- what the answer says of a file that is asked for this schema and what else has to be there. Ok: the one row of `hall` names the schema, and
+-- all is there. OtherVersion: that row names another schema. NotAHall: neither is so of a `hall` as this program makes it
+pub record IsAnswerOf (Has : Schema → Type 0) (wanted : Wanted) (db : Database) (r : Result (Unit {0}) OpenFault) : Type 0 where
+  pub told : Tells r (NamesSchema db (wanted_number wanted) × Has db.schema)
+      (((n : ℤ) → SaysSchema db n → n ≡ wanted_number wanted) × (SaysSchema db (wanted_number wanted) → Has db.schema → ⊥))
+      ((n : ℤ) × NamesSchema db n × (n ≢ wanted_number wanted))
+
+-- what the answer says of the tables and indexes of a file, where this schema is asked for
+abbrev pub IsAnswerFor : Wanted → Database → Result (Unit {0}) OpenFault → Type 0
+IsAnswerFor wanted db r = IsAnswerOf (HasAll wanted) wanted db r
 
 -- what the answer says of a hall of the second schema
 abbrev pub IsRightAnswer : Database → Result (Unit {0}) OpenFault → Type 0
@@ -75,6 +113,15 @@ AreFound texts db r = Tells r (AreUnderstood db.schema texts) (AreUnderstood db.
 -- whether the schema has the wanted number was asked
 abbrev pub IsVersionOf : Wanted → ℤ → Result (Unit {0}) OpenFault → Type 0
 IsVersionOf wanted n r = Tells r (n ≡ wanted_number wanted) ⊥ (n ≢ wanted_number wanted)
+
+-- the number was found, which is the wanted one or another
+abbrev pub IsFoundBy : (ℤ → Type 0) → Wanted → Result (Unit {0}) OpenFault → Type 0
+IsFoundBy Names wanted r = Tells r (Names (wanted_number wanted)) ⊤ ((n : ℤ) × Names n × (n ≢ wanted_number wanted))
+
+-- the answer of a look at the tables, where it's known whether the indexes are there
+abbrev pub if_indexed : Bool → Result (Unit {0}) OpenFault → Result (Unit {0}) OpenFault
+if_indexed indexed (Ok done) = if indexed then Ok done else Err NotAHall
+if_indexed indexed (Err e) = Err e
 
 -- the one row of `hall`, with the number of the schema first
 abbrev pub IsSchemaRow : ℤ → List Row → Type 0

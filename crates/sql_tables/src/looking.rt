@@ -1,8 +1,8 @@
 //! What is asked of a file's tables, inside a transaction that writes nothing.
 ghost use Rattle.sql_schema.specs.Words.{state, HasCleanDisk, Survives};
-ghost use Rattle.std.specs.Prelude.{◌≡◌, ◌≢◌, ⊤, ℤ, IfOk, IfErr, map};
+ghost use Rattle.std.specs.Prelude.{◌≡◌, ◌≢◌, ⊤, ℤ, Err, IfOk, IfErr, map};
 ghost use Rattle.sql_schema.specs.Steps.{IsStep};
-ghost use Rattle.sql_tables.specs.Opening.{AreFound, IsAnswerFor, IsSchemaRow, IsVersionOf, SaysSchema, wanted_number, wanted_rows};
+ghost use Rattle.sql_tables.specs.Opening.{AreFound, HasTables, IsAnswerOf, IsFoundBy, IsOneRow, IsSchemaRow, IsVersionOf, NamesSchema, SaysSchema, wanted_number, wanted_rows};
 
 use crate::fault::OpenFault;
 use crate::running::ask;
@@ -71,7 +71,9 @@ fn column_fault(error: &Error) -> OpenFault
 
 // The number of the schema in the one row.
 fn schema_in(rows: &Vec<Row>) -> Result<i64, OpenFault>
-    ensures { (n : ℤ) → IsSchemaRow n rows.now.items → IfOk result (λ schema. schema ≡ n) × IfErr result (λ e. e ≡ OpenFault.Unavailable) }
+    ensures said { (n : ℤ) → IsSchemaRow n rows.now.items → IfOk result (λ schema. schema ≡ n) × IfErr result (λ e. e ≡ OpenFault.Unavailable) }
+    ensures one { IfOk result (λ schema. IsOneRow rows.now.items schema) }
+    ensures never { result ≢ Err OpenFault.OtherVersion }
 {
     if rows.len() != 1 {
         return Err(OpenFault::NotAHall);
@@ -93,7 +95,8 @@ fn number_of(wanted: Wanted) -> i64
 
 // Whether the schema in the one row is the one that is wanted.
 fn version_in(rows: &Vec<Row>, wanted: Wanted) -> Result<(), OpenFault>
-    ensures { (n : ℤ) → IsSchemaRow n rows.now.items → IsVersionOf wanted n result }
+    ensures told { (n : ℤ) → IsSchemaRow n rows.now.items → IsVersionOf wanted n result }
+    ensures found { IsFoundBy (IsOneRow rows.now.items) wanted result }
 {
     let schema = match schema_in(rows) {
         Ok(schema) => schema,
@@ -109,8 +112,9 @@ fn version_in(rows: &Vec<Row>, wanted: Wanted) -> Result<(), OpenFault>
 // Whether the schema is the one that is wanted: `hall` is asked for first, then its one row.
 fn has_version<S: Alter>(tx: &mut Transaction<'_, S>, wanted: Wanted) -> Result<(), OpenFault>
     ensures same_reference { tx.new.conn.ghost_name ≡ tx.old.conn.ghost_name }
-    ensures step { HasCleanDisk (state S.Store tx.new.conn.now) → IsStep (state S.Store tx.old.conn.now) (state S.Store tx.new.conn.now) result (λ _. (n : ℤ) → SaysSchema (state S.Store tx.old.conn.now).now n → (state S.Store tx.new.conn.now).now ≡ (state S.Store tx.old.conn.now).now) }
+    ensures step { HasCleanDisk (state S.Store tx.new.conn.now) → IsStep (state S.Store tx.old.conn.now) (state S.Store tx.new.conn.now) result (λ _. (state S.Store tx.new.conn.now).now ≡ (state S.Store tx.old.conn.now).now) }
     ensures told { HasCleanDisk (state S.Store tx.new.conn.now) → (n : ℤ) → SaysSchema (state S.Store tx.old.conn.now).now n → IsVersionOf wanted n result }
+    ensures found { HasCleanDisk (state S.Store tx.new.conn.now) → IsFoundBy (NamesSchema (state S.Store tx.old.conn.now).now) wanted result }
     ensures survives { Survives (state S.Store tx.old.conn.now) (state S.Store tx.new.conn.now) (λ _. ⊥) }
 {
     if let Err(fault) = understands(tx, &[FIND_NUMBERS]) {
@@ -126,7 +130,7 @@ fn has_version<S: Alter>(tx: &mut Transaction<'_, S>, wanted: Wanted) -> Result<
 pub(crate) fn look<S: Alter>(tx: &mut Transaction<'_, S>, wanted: Wanted) -> Result<(), OpenFault>
     ensures same_reference { tx.new.conn.ghost_name ≡ tx.old.conn.ghost_name }
     ensures step { HasCleanDisk (state S.Store tx.new.conn.now) → IsStep (state S.Store tx.old.conn.now) (state S.Store tx.new.conn.now) result (λ _. ⊤) }
-    ensures answered { HasCleanDisk (state S.Store tx.new.conn.now) → IsAnswerFor wanted (state S.Store tx.old.conn.now).now result }
+    ensures answered { HasCleanDisk (state S.Store tx.new.conn.now) → IsAnswerOf (HasTables wanted) wanted (state S.Store tx.old.conn.now).now result }
     ensures survives { Survives (state S.Store tx.old.conn.now) (state S.Store tx.new.conn.now) (λ _. ⊥) }
 {
     match has_version(tx, wanted) {

@@ -1,6 +1,7 @@
 //! The tables of a hall of the first schema are carried over to the second, in one transaction.
 ghost use Rattle.sql_schema.specs.Words.{is_used, state, HasCleanDisk, IsLive, Survives, Hall, Machine, machine_values, IsHeld, Leaves, HallRows, Spells};
-ghost use Rattle.std.specs.Prelude.{◌≡◌, ◌≢◌, Err, IfErr, IsTrue, List, Ok, OnErr, OnOk, [], ◌∷◌, codes, map, true};
+ghost use Rattle.sql_tables.specs.Opening.{NamesNoSchema};
+ghost use Rattle.std.specs.Prelude.{◌≡◌, ◌≢◌, ◌⊎◌, Err, IfErr, IfOk, IsTrue, List, Ok, OnErr, OnOk, [], ◌∷◌, codes, false, map, true};
 ghost use Rattle.sql_schema.specs.Steps.{IsStep};
 ghost use Rattle.sql_tables.specs.Creating.{IsMade, KeepsTables, MayLeaveBesides};
 ghost use Rattle.sql_tables.specs.Migrating.{BecomeHall, IsCarriedOver, IsFirst, IsRightMigration, carried_rows, is_erasing, with_kind_of, with_kinds_of};
@@ -85,6 +86,7 @@ fn carry_over<S: Alter>(tx: &mut Transaction<'_, S>) -> Result<(), Error>
 fn carry_first<S: Alter>(conn: &mut Connection<S>) -> Result<(), OpenFault>
     ensures clean { HasCleanDisk (state S.Store conn.new) → HasCleanDisk (state S.Store conn.old) }
     ensures made { HasCleanDisk (state S.Store conn.new) → (h next : Hall) → IsFirst (state S.Store conn.old).now h → IsCarriedOver h next → IsMade (state S.Store conn.old) (state S.Store conn.new) result next }
+    ensures free { IfOk result (λ _. is_used (state S.Store conn.old).now.schema (codes "wipes") ≡ false) }
     ensures used { result ≡ Err OpenFault.NotAHall → is_used (state S.Store conn.old).now.schema (codes "wipes") ≡ true }
     ensures never { result ≢ Err OpenFault.OtherVersion }
     ensures refused { HasCleanDisk (state S.Store conn.new) → OnErr result (KeepsTables (state S.Store conn.old) (state S.Store conn.new)) }
@@ -124,13 +126,14 @@ fn migrate<S: Alter>(conn: &mut Connection<S>) -> Result<Migrated, OpenFault>
 /// Carries the tables of a hall of the first schema over to the second, in one transaction: the table of kinds of erasing is made, with
 /// a row for each machine whose disks are to be erased, or were to be, all of them in full, and the tables name the second schema. No
 /// other row changes. Tables of the second schema stay as they are. A file that is neither is refused as `OtherVersion`, and one that
-/// lacks a table, or has a table `wipes` beside the first schema, as `NotAHall`; a refusal leaves the tables as they were.
+/// lacks a table or an index, or has a table `wipes` beside the first schema, as `NotAHall`; a refusal leaves the tables as they were.
 pub fn migrate_tables<S: Alter>(conn: &mut Connection<S>) -> Result<Migrated, OpenFault>
     ensures clean { HasCleanDisk (state S.Store conn.new) → HasCleanDisk (state S.Store conn.old) }
     ensures held { HasCleanDisk (state S.Store conn.new) → OnOk result ((h : Hall) → BecomeHall (state S.Store conn.old).now.trees h → IsHeld (state S.Store conn.new) h) }
     ensures settled { HasCleanDisk (state S.Store conn.new) → OnOk result ((h : Hall) → BecomeHall (state S.Store conn.old).now.trees h → Leaves (state S.Store conn.new) (h ∷ [])) }
     ensures refused { HasCleanDisk (state S.Store conn.new) → IsTrue (state S.Store conn.old).is_open → (h : Hall) → BecomeHall (state S.Store conn.old).now.trees h → IfErr result (λ e. e ≡ OpenFault.Unavailable) }
     ensures answered { HasCleanDisk (state S.Store conn.new) → IsRightMigration (state S.Store conn.old).now result }
+    ensures no_hall { HasCleanDisk (state S.Store conn.new) → NamesNoSchema (state S.Store conn.old).now → (result ≡ Err OpenFault.NotAHall) ⊎ (result ≡ Err OpenFault.Unavailable) }
     ensures kept { HasCleanDisk (state S.Store conn.new) → result ≢ Ok Migrated.Now → KeepsTables (state S.Store conn.old) (state S.Store conn.new) }
     ensures crash { HasCleanDisk (state S.Store conn.new) → (h : Hall) → BecomeHall (state S.Store conn.old).now.trees h → MayLeaveBesides h (state S.Store conn.old) (state S.Store conn.new) }
 {

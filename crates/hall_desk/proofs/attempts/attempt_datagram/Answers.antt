@@ -1,8 +1,14 @@
-use Rattle.std.proofs.Common.{refl}
+use Rattle.std.proofs.Common.{◌≡◌, ◌∙◌, ap, refl, subst, sym}
 use Rattle.hall_events.specs.declared.event.Event.TheVariants.{Frame}
 use Rattle.hall_desk.specs.Octets.{frame_answer}
 use Rattle.hall_desk.specs.declared.arrival.Answer.TheVariants.{Silence}
 use Rattle.hall_desk.specs.declared.arrival.Input.TheVariants as input
+use Rattle.pxe_vendor.specs.declared.clients.Client.{Client}
+use Rattle.hall_desk.specs.Account.{IsDecided, IsMoved, given_or_missed}
+use Rattle.hall_desk.specs.declared.account.Account.{Account}
+use Rattle.hall_desk.specs.declared.account.Came.TheVariants as came
+use Rattle.hall_desk.specs.declared.account.Notes.{Notes}
+use Rattle.hall_desk.proofs.AccountLemmas.{frame_moved}
 use Rattle.hall_desk.proofs.AttemptLemmas.{attempt_answered, attempt_asked, attempt_missed, no_client, no_frame}
 use Rattle.hall_desk.proofs.attempts.attempt_datagram.Goals as goal
 
@@ -44,3 +50,18 @@ returns-in_default-clause-attempts g c clean = (
       c.args.moment c.args.fresh Silence
       (no_client c.args.octets.now c.in-Ok.frame c.in-Err-client.cause c.in-Ok.ensures.only c.in-Err-client.ensures.only c.in_default.not-Memory, refl),
 )
+
+one_client : (a b : Client) → came.Client a ≡ came.Client b → a ≡ b
+one_client a b is = cc
+
+pub returns-in-Ok-client-clause-found : goal.returns-in-Ok-client-clause-found
+returns-in-Ok-client-clause-found g c = λ none clean h held client is.
+    let carried = c.carry_frame-answer.ensures in
+    let same : c.in-Ok-client.client ≡ client = one_client _ _ (sym (ap (λ (account : Account). account.came) c.note_came-in-Ok-client.ensures) ∙ is) in
+    subst (λ its. IsDecided c.args.enlists h c.args.port its c.note_came-in-Ok-client.new.self.notes
+    × IsMoved c.args.place.now h c.args.port its c.args.moment c.args.fresh (given_or_missed (input.Datagram c.args.port c.args.octets.now) c.carry_frame-answer.result) c.note_came-in-Ok-client.new.self.notes) same
+    (rw (c.note_came-in-Ok-client.ensures) (
+      carried.decided (ap (λ (n : Notes). n.decision) none) (ap (λ (n : Notes). n.unlisted) none) clean h held,
+      frame_moved (g.S.HallStore.holds c.args.store.now) c.args.place.now c.in-Ok.frame c.args.port c.args.octets.now c.in-Ok-client.client c.args.moment c.args.fresh
+          c.carry_frame-answer.result c.args.account.now.notes c.carry_frame-answer.new.notes none (carried.moved clean) carried.unmoved (carried.carried clean).1.answer h held,
+    ))

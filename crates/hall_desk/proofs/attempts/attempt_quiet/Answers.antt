@@ -7,7 +7,7 @@ use Rattle.hall_desk.proofs.attempts.attempt_quiet.Goals as goal
 
 pub returns-clause-attempts : goal.returns-clause-attempts
 returns-clause-attempts g c clean =
-    let done = c.carry_quiet.ensures clean in (
+    let done = c.carry_quiet.ensures.carried clean in (
       done.0,
       attempt_asked g.S.HallStore.holds g.S.HallStore.leaves
           (record { keep = c.decisions_keep_the_rules.ensures; sound = c.steps_keep_halls_sound.ensures.rows }) g.S.HallStore.second_schema

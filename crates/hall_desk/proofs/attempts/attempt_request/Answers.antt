@@ -6,7 +6,7 @@ use Rattle.hall_desk.proofs.attempts.attempt_request.Goals as goal
 
 pub returns-in-Ok-clause-attempts : goal.returns-in-Ok-clause-attempts
 returns-in-Ok-clause-attempts g c clean =
-    let done = c.carry_request-answer.ensures clean in (
+    let done = c.carry_request-answer.ensures.carried clean in (
       done.0,
       attempt_asked g.S.HallStore.holds g.S.HallStore.leaves
           (record { keep = c.decisions_keep_the_rules.ensures; sound = c.steps_keep_halls_sound.ensures.rows }) g.S.HallStore.second_schema

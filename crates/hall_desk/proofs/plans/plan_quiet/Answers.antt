@@ -5,8 +5,8 @@ use Rattle.boot_desk.specs.Views as view
 use Rattle.hall_desk.proofs.PlanLemmas.{each_right}
 use Rattle.hall_desk.proofs.plans.plan_quiet.Goals as goal
 
-pub returns : goal.returns
-returns g c clean =
+pub returns-clause-planned : goal.returns-clause-planned
+returns-clause-planned g c clean =
     let read = c.in_ok-view.ensures clean in
     let look = read.1 in (
       read.0,

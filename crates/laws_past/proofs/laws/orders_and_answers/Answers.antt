@@ -1,32 +1,30 @@
-use Rattle.std.proofs.Common.{refl}
-use Rattle.hall_types.specs.Hall.{new_hall, second}
 use Rattle.laws_past.specs.Laws.{AlwaysWaitsForOne, CountsAnswerOnce, QueuesAtEntries, WaitsNoMore}
 use Rattle.laws_past.proofs.Frame.{anything, at_each}
 use Rattle.laws_past.proofs.OrderLemmas.{KnowsAnswers, answers_once, answers_step, new_answers, one_waits, queues_at_entries, waits_no_more}
 use Rattle.laws_past.proofs.laws.orders_and_answers.Goals as goal
 
 pub returns-clause-waits : goal.returns-clause-waits
-returns-clause-waits c = λ admin digest end steps run. one_waits end (c.steps_keep_halls_sound.ensures.from_new admin digest end steps run).0
+returns-clause-waits c = λ h end steps sound in_second run. one_waits end (c.steps_keep_halls_sound.ensures.run h end steps run sound in_second).0
 
 pub returns-clause-always : goal.returns-clause-always
-returns-clause-always c = λ admin digest end steps run.
+returns-clause-always c = λ h end steps sound in_second run.
     at_each c.steps_keep_halls_sound.ensures.step (λ s. Unit {0}) (λ past h. Unit {0}) (λ past s given is sound later old. tt)
     AlwaysWaitsForOne (λ past s is sound old. one_waits s.before sound)
-    steps (new_hall second admin digest) end (anything steps) (c.new_halls_are_sound.ensures second admin digest) refl tt run
+    steps h end (anything steps) sound in_second tt run
 
 pub returns-clause-queued : goal.returns-clause-queued
-returns-clause-queued c = λ admin digest end steps run.
+returns-clause-queued c = λ h end steps sound in_second run.
     at_each c.steps_keep_halls_sound.ensures.step (λ s. Unit {0}) (λ past h. Unit {0}) (λ past s given is sound later old. tt)
     QueuesAtEntries (λ past s is sound old. queues_at_entries c.refusals_change_nothing.ensures.hall past s is sound)
-    steps (new_hall second admin digest) end (anything steps) (c.new_halls_are_sound.ensures second admin digest) refl tt run
+    steps h end (anything steps) sound in_second tt run
 
 pub returns-clause-again : goal.returns-clause-again
-returns-clause-again c = λ admin digest end steps run.
+returns-clause-again c = λ h end steps sound in_second run.
     at_each c.steps_keep_halls_sound.ensures.step (λ s. Unit {0}) (λ past h. Unit {0}) (λ past s given is sound later old. tt)
     WaitsNoMore (λ past s is sound old. waits_no_more past s is sound)
-    steps (new_hall second admin digest) end (anything steps) (c.new_halls_are_sound.ensures second admin digest) refl tt run
+    steps h end (anything steps) sound in_second tt run
 
 pub returns-clause-answered : goal.returns-clause-answered
-returns-clause-answered c = λ admin digest end steps run.
+returns-clause-answered c = λ h end steps sound in_second run.
     at_each c.steps_keep_halls_sound.ensures.step (λ s. Unit {0}) KnowsAnswers (answers_step) CountsAnswerOnce (answers_once)
-    steps (new_hall second admin digest) end (anything steps) (c.new_halls_are_sound.ensures second admin digest) refl (new_answers (new_hall second admin digest)) run
+    steps h end (anything steps) sound in_second (new_answers h) run

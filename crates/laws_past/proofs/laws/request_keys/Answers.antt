@@ -10,20 +10,20 @@ use Rattle.laws_past.proofs.Receipts.{AllOfAccepted, answers_accepted, no_receip
 use Rattle.laws_past.proofs.laws.request_keys.Goals as goal
 
 pub returns-clause-once : goal.returns-clause-once
-returns-clause-once c = λ admin digest end steps run.
+returns-clause-once c = λ h end steps sound in_second run.
     at_each c.steps_keep_halls_sound.ensures.step (λ s. Unit {0}) KeepsReceipts (keys_step) AcceptsOnce (accepts_once)
-    steps (new_hall second admin digest) end (anything steps) (c.new_halls_are_sound.ensures second admin digest) refl (new_keys (new_hall second admin digest)) run
+    steps h end (anything steps) sound in_second (new_keys h) run
 
 pub returns-clause-again : goal.returns-clause-again
-returns-clause-again c = λ admin digest end steps run.
+returns-clause-again c = λ h end steps sound in_second run.
     at_each c.steps_keep_halls_sound.ensures.step (λ s. Unit {0}) KeepsReceipts (keys_step) RepeatsFirst (repeats_first)
-    steps (new_hall second admin digest) end (anything steps) (c.new_halls_are_sound.ensures second admin digest) refl (new_keys (new_hall second admin digest)) run
+    steps h end (anything steps) sound in_second (new_keys h) run
 
 pub returns-clause-ok : goal.returns-clause-ok
-returns-clause-ok c = λ admin digest end steps run.
+returns-clause-ok c = λ h end steps sound in_second run.
     at_each c.steps_keep_halls_sound.ensures.step (λ s. Unit {0}) (λ past h. Unit {0}) (λ past s given is sound later old. tt)
     AcceptsWithOk (λ past s is sound old. accepts_with_ok past s is sound)
-    steps (new_hall second admin digest) end (anything steps) (c.new_halls_are_sound.ensures second admin digest) refl tt run
+    steps h end (anything steps) sound in_second tt run
 
 pub returns-clause-accepted : goal.returns-clause-accepted
 returns-clause-accepted c = λ admin digest end steps run.

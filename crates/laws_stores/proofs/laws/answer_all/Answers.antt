@@ -1,4 +1,5 @@
-use Rattle.std.proofs.Common.{[], subst}
+use Rattle.std.proofs.Common.{[], refl, subst}
+use Rattle.laws_migration.specs.Origin.{created}
 use Rattle.hall_types.specs.Hall.{new_hall, second}
 use Rattle.hall_desk.specs.Headline.{Headline}
 use Rattle.hall_desk.specs.History.{exchanges}
@@ -6,6 +7,6 @@ use Rattle.laws_stores.proofs.laws.answer_all.Goals as goal
 
 pub returns-in-Ok-clause-headline : goal.returns-in-Ok-clause-headline
 returns-in-Ok-clause-headline g c = λ clean admin digest held.
-    let start = c.new-desk.ensures.history admin digest held in
-    let after = c.in-Ok.ensures.history (subst g.S.HallStore.is_clean c.into_store.ensures clean) admin digest [] start in
-    (after.end, subst (λ at. Headline (new_hall second admin digest) (exchanges at c.args.arrivals.now c.in-Ok.answers.items) after.end) c.new-desk.ensures.site after.headline)
+    let start = c.new-desk.ensures.history (created admin digest) (new_hall second admin digest) refl held in
+    let after = c.in-Ok.ensures.history (subst g.S.HallStore.is_clean c.into_store.ensures clean) (created admin digest) [] start in
+    (after.end, subst (λ at. Headline (created admin digest) (exchanges at c.args.arrivals.now c.in-Ok.answers.items) after.end) c.new-desk.ensures.site after.headline)

@@ -1,10 +1,17 @@
 use Rattle.sqlite.specs.Held.{state}
 use Rattle.sqlite.specs.State.{HasCleanDisk}
+use Rattle.laws_migration.specs.Origin.{carried_over}
 use Rattle.hall_sql.specs.Store.{HasHall, StopLeaves, connection}
-use Rattle.laws_stores.proofs.MigratingLemmas.{goes_on}
+use Rattle.laws_stores.proofs.MigratingLemmas.{become, begun, goes_on, left}
 use Rattle.laws_stores.proofs.migrating.migrated_goes_on.Goals as goal
 
-pub returns : goal.returns
-returns g c =
+pub returns-clause-settled : goal.returns-clause-settled
+returns-clause-settled g c =
     goes_on (λ store. HasCleanDisk (state g.S.Store (connection store))) (HasHall g.S.Store) (StopLeaves g.S.Store) (state g.S.Store c.args.conn).now.trees
-    c.migrate.result c.items_are_steps.ensures c.first_runs_go_on.ensures.sound c.laws_hold_later.ensures c.migrate.ensures.held c.migrate.ensures.settled
+    c.migrate.result c.histories_keep_the_laws.ensures c.migrate.ensures.held c.migrate.ensures.settled
+
+pub returns-clause-stop : goal.returns-clause-stop
+returns-clause-stop g c = λ clean admin digest steps h next run spelt over db may.
+    left db ((state g.S.Store c.args.conn).may_leave db) next (carried_over admin digest steps)
+    (begun c.histories_keep_the_laws.ensures admin digest steps (state g.S.Store c.args.conn).now.trees h next run spelt over)
+    (c.migrate.ensures.crash clean next (become c.histories_keep_the_laws.ensures admin digest steps (state g.S.Store c.args.conn).now.trees h next run spelt over) db may)

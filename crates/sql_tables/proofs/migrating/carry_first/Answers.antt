@@ -1,8 +1,8 @@
-use Rattle.sql_schema.specs.Words.{Held, state}
-use Rattle.std.proofs.Common.{◌≡◌, IsTrue, rules, subst, sym}
+use Rattle.sql_schema.specs.Words.{Held, is_used, state}
+use Rattle.std.proofs.Common.{◌≡◌, IsTrue, codes, false, rules, subst, sym}
 use Rattle.sql_tables.specs.Migrating.{IsFirst}
 use Rattle.sql_tables.proofs.CarriedLemmas.{spells_carried}
-use Rattle.sql_tables.proofs.TransactionLemmas.{made, refused}
+use Rattle.sql_tables.proofs.TransactionLemmas.{made, refused, whatever}
 use Rattle.sql_tables.proofs.migrating.carry_first.Goals as goal
 
 pub returns-clause-made : goal.returns-clause-made
@@ -22,3 +22,7 @@ returns-clause-refused g c =
     rw (← same) (λ clean.
     refused g.S.Store c.args.conn.now c.transaction-tx.result.conn.now c.carry_over-done.new.tx.conn.now c.end.new.tx.0 c.carry_over-done.result c.end.result _ c.transaction-tx.ensures.begun
     c.carry_over-done.ensures.made c.carry_over-done.ensures.survives c.end.ensures.ended c.end.ensures.survives clean (c.is_autocommit.ensures.settled auto))
+
+pub returns-clause-free : goal.returns-clause-free
+returns-clause-free g c =
+    let free : is_used (state g.S.Store c.args.conn.now).now.schema (codes "wipes") ≡ false = search rules in whatever c.end.result free

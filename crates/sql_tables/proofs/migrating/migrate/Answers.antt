@@ -1,5 +1,5 @@
-use Rattle.sql_schema.specs.Words.{Database, state}
-use Rattle.std.proofs.Common.{◌≢◌, Err, Ok, ap, rules, subst}
+use Rattle.sql_schema.specs.Words.{Database, is_used, state}
+use Rattle.std.proofs.Common.{◌≡◌, ◌≢◌, Err, Ok, ap, codes, false, rules, subst}
 use Rattle.sql_tables.specs.Opening.{IsRightAnswer}
 use Rattle.sql_tables.specs.declared.fault.OpenFault.{OpenFault}
 use Rattle.sql_tables.specs.declared.fault.OpenFault.TheVariants.{OtherVersion}
@@ -16,7 +16,9 @@ returns-in-Ok-carry_first-clause-made g c clean h become =
     made_after (Ok Now) h c.look_for.ensures.survives before (c.in-Ok-carry_first.ensures.made clean it.0 h it.1 it.2) (λ held. held)
 
 pub returns-in-Ok-carry_first-clause-answered : goal.returns-in-Ok-carry_first-clause-answered
-returns-in-Ok-carry_first-clause-answered g c clean = record { told = c.in-Ok.ensures.answered (c.carry_first.ensures.clean clean) }
+returns-in-Ok-carry_first-clause-answered g c clean =
+    let before = c.carry_first.ensures.clean clean in
+    record { told = (c.in-Ok.ensures.answered before, subst (λ (d : Database). is_used d.schema (codes "wipes") ≡ false) (c.in-Ok.ensures.ready before).same c.in-Ok-carry_first.ensures.free) }
 
 pub returns-in-Err-carry_first-clause-made : goal.returns-in-Err-carry_first-clause-made
 returns-in-Err-carry_first-clause-made g c clean h become =

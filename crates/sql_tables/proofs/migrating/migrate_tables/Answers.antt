@@ -1,6 +1,7 @@
 use Rattle.sql_schema.specs.Words.{state, IsHeld, Leaves}
 use Rattle.std.proofs.Common.{[], ◌∷◌}
 use Rattle.sql_tables.specs.Migrating.{BecomeHall}
+use Rattle.sql_tables.specs.OpeningLaws.{no_hall_to_migrate}
 use Rattle.sql_tables.proofs.MigratingLemmas.{on_each, refused_alone}
 use Rattle.sql_tables.proofs.TransactionLemmas.{on_ok, settles}
 use Rattle.sql_tables.proofs.migrating.migrate_tables.Goals as goal
@@ -15,3 +16,6 @@ returns-clause-settled g c clean =
 
 pub returns-clause-refused : goal.returns-clause-refused
 returns-clause-refused g c clean here h become = refused_alone (state g.S.Store c.args.conn.now) h c.migrate.result c.migrate.ensures.live here become (c.migrate.ensures.answered clean)
+
+pub returns-clause-no_hall : goal.returns-clause-no_hall
+returns-clause-no_hall g c clean none = no_hall_to_migrate (state g.S.Store c.args.conn.now).now c.migrate.result (c.migrate.ensures.answered clean) none

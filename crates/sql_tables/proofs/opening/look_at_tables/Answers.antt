@@ -1,5 +1,6 @@
 use Rattle.sql_schema.specs.Words.{state}
 use Rattle.sql_tables.specs.declared.looking.Wanted.TheVariants.{Second}
+use Rattle.sql_tables.specs.OpeningLaws.{no_hall}
 use Rattle.sql_tables.proofs.OpenLemmas.{has_second, held_ready, on_said, refused_as, says_second}
 use Rattle.sql_tables.proofs.TransactionLemmas.{settles}
 use Rattle.sql_tables.proofs.opening.look_at_tables.Goals as goal
@@ -18,3 +19,6 @@ returns-clause-refused g c clean here h spelt =
     let db = (state g.S.Store c.args.conn.now).now in
     let sound = (c.look_for.ensures.live here).0 in
     refused_as Second db c.look_for.result (says_second db h sound spelt) (has_second db h sound spelt) (c.look_for.ensures.answered clean)
+
+pub returns-clause-no_hall : goal.returns-clause-no_hall
+returns-clause-no_hall g c clean none = no_hall Second (state g.S.Store c.args.conn.now).now c.look_for.result (c.look_for.ensures.answered clean) none

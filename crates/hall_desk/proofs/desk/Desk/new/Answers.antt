@@ -1,10 +1,9 @@
-use Rattle.std.proofs.Common.{refl, []}
-use Rattle.hall_types.specs.Hall.{new_hall, second}
+use Rattle.std.proofs.Common.{[], refl}
 use Rattle.hall_desk.proofs.desk.Desk.new.Goals as goal
 
 pub returns-clause-history : goal.returns-clause-history
-returns-clause-history g c = λ admin digest held. record {
-  end = new_hall second admin digest;
+returns-clause-history g c = λ origin h begins held. record {
+  end = h;
   held = held;
-  headline = c.histories_keep_the_laws.ensures admin digest [] (new_hall second admin digest) refl;
+  headline = c.histories_keep_the_laws.ensures origin h [] h begins refl;
 }

@@ -53,16 +53,16 @@ returns-clause-run g c = λ clean h held sound.
     (c.loop-arrival.invariant.ran clean h held sound)
 
 pub returns-clause-history : goal.returns-clause-history
-returns-clause-history g c = λ clean admin digest past was.
+returns-clause-history g c = λ clean origin past was.
     after_run (record { laws = c.histories_keep_the_laws.ensures }) g.S.HallStore.holds g.S.HallStore.leaves (store_of c.args.self.now) (store_of c.loop-arrival.self)
-    (site_of c.args.self.now) admin digest past was c.args.arrivals.now c.loop-arrival.answers.items (λ h held sound. (returns-clause-run g c clean h held sound).ran)
+    (site_of c.args.self.now) origin past was c.args.arrivals.now c.loop-arrival.answers.items (λ h held sound. (returns-clause-run g c clean h held sound).ran)
 
 pub returns-clause-settled : goal.returns-clause-settled
-returns-clause-settled g c = λ clean admin digest past was.
+returns-clause-settled g c = λ clean origin past was.
     run_given (record { laws = c.histories_keep_the_laws.ensures }) g.S.HallStore.holds g.S.HallStore.leaves (store_of c.args.self.now) (store_of c.loop-arrival.self)
-    (site_of c.args.self.now) admin digest past was c.args.arrivals.now c.loop-arrival.answers.items (returns-clause-run g c clean)
+    (site_of c.args.self.now) origin past was c.args.arrivals.now c.loop-arrival.answers.items (returns-clause-run g c clean)
 
 pub returns-clause-stop : goal.returns-clause-stop
-returns-clause-stop g c = λ clean admin digest past was.
+returns-clause-stop g c = λ clean origin past was.
     run_stop (record { laws = c.histories_keep_the_laws.ensures }) g.S.HallStore.holds g.S.HallStore.leaves (store_of c.args.self.now) (store_of c.loop-arrival.self)
-    (site_of c.args.self.now) admin digest past was c.args.arrivals.now c.loop-arrival.answers.items (returns-clause-run g c clean)
+    (site_of c.args.self.now) origin past was c.args.arrivals.now c.loop-arrival.answers.items (returns-clause-run g c clean)

@@ -16,8 +16,8 @@ returns-clause-settled g c = λ clean.
     (λ h sound second. c.decisions_keep_the_rules.ensures (site_of c.args.self.now) h c.args.event.now c.args.moment c.args.fresh sound second) g.S.HallStore.second_schema (c.carry_out.ensures.step clean).1
 
 pub returns-clause-stop : goal.returns-clause-stop
-returns-clause-stop g c = λ clean admin digest past was.
+returns-clause-stop g c = λ clean origin past was.
     event_stop (record { laws = c.histories_keep_the_laws.ensures }) g.S.HallStore.holds g.S.HallStore.leaves (store_of c.args.self.now) (store_of c.carry_out.new.self)
-    (site_of c.args.self.now) admin digest past was c.args.event.now c.args.moment c.args.fresh c.event_is_typed.ensures
+    (site_of c.args.self.now) origin past was c.args.event.now c.args.moment c.args.fresh c.event_is_typed.ensures
     (λ h sound second. c.decisions_keep_the_rules.ensures (site_of c.args.self.now) h c.args.event.now c.args.moment c.args.fresh sound second) g.S.HallStore.second_schema
     c.carry_out.result (c.carry_out.ensures.step clean).1

@@ -17,3 +17,6 @@ returns-clause-opened g c clean h spelt = rw c.over.ensures.conn (c.in_default.e
 
 pub returns-clause-answered : goal.returns-clause-answered
 returns-clause-answered g c clean = c.in_default.ensures.answered (rw c.over.ensures.conn at clean)
+
+pub returns-clause-no_hall : goal.returns-clause-no_hall
+returns-clause-no_hall g c clean = c.in_default.ensures.no_hall (rw c.over.ensures.conn at clean)

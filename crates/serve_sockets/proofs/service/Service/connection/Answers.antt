@@ -27,7 +27,7 @@ returns-clause-read g c = λ clean off.
     c.advance-step.ensures.read clean (step_off c.advance-step.result c.settle.result c.settle.ensures.handed c.settle.ensures.moved off)
 
 pub returns-clause-unlisted : goal.returns-clause-unlisted
-returns-clause-unlisted g c = λ off frame clean h held.
+returns-clause-unlisted g c = λ off frame clean.
     absurd (no_datagram c.settle.result
     (turn_handed c.advance-step.result c.settle.result _ (λ handover. IsOfDatagram handover.kind → ⊥) (λ handover asked. of_request handover.kind asked.tells.kind)
     c.settle.ensures.handed c.settle.ensures.moved c.settle.ensures.put_off (c.advance-step.ensures.request clean)) frame)

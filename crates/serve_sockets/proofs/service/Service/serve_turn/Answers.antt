@@ -1,13 +1,15 @@
 use Rattle.std.proofs.Common.{ap}
 use Rattle.hall_desk.specs.Desk.{store_of}
-use Rattle.serve_sockets.proofs.WentOnLemmas.{went_nowhere, went_one}
+use Rattle.serve_sockets.proofs.WentOnLemmas.{served_one, served_unstamped}
 use Rattle.serve_sockets.proofs.service.Service.serve_turn.Goals as goal
 
-pub returns-in_default-clause-went_on : goal.returns-in_default-clause-went_on
-returns-in_default-clause-went_on g c = λ clean. rw c.miss.ensures.desk (rw c.wait.ensures.desk (went_nowhere g.S.HallStore.holds _ _ _))
+pub returns-in_default-clause-served : goal.returns-in_default-clause-served
+returns-in_default-clause-served g c = λ clean.
+    rw c.miss.ensures.desk
+    (rw c.wait.ensures.desk (served_unstamped g.S.HallStore.holds g.S.HallStore.leaves g.C.Source.may_give _ _ _ _ _ c.wait.ensures.source c.in_default.ensures))
 
-pub returns-clause-went_on : goal.returns-clause-went_on
-returns-clause-went_on g c = λ clean.
+pub returns-clause-served : goal.returns-clause-served
+returns-clause-served g c = λ clean.
     rw (← c.wait.ensures.desk)
-    (went_one g.S.HallStore.holds g.S.HallStore.leaves _ _ _ _ _ c.turn-turn.result (c.turn-turn.ensures.handed clean)
-    (λ nothing. ap store_of (c.turn-turn.ensures.same nothing)) (c.turn-turn.ensures.read clean))
+    (served_one g.S.HallStore.holds g.S.HallStore.leaves g.C.Source.may_give _ _ _ _ _ _ c.wait.ensures.source c.in-Some.stamp c.in-Some.ensures
+    c.turn-turn.result (c.turn-turn.ensures.handed clean) (λ nothing. ap store_of (c.turn-turn.ensures.same nothing)) (c.turn-turn.ensures.read clean))

@@ -1,5 +1,6 @@
 use Rattle.std.proofs.Common.{◌∙◌, arith, refl}
-use Rattle.serve_sockets.proofs.WentOnLemmas.{went_nowhere, went_then, went_within}
+use Rattle.serve_sockets.proofs.PastLemmas.{went_on}
+use Rattle.serve_sockets.proofs.WentOnLemmas.{served_none, served_then, served_within}
 use Rattle.serve_sockets.proofs.service.Service.serve_turns.Goals as goal
 
 pub loop-served-init : goal.loop-served-init
@@ -7,7 +8,7 @@ loop-served-init g c = record {
   clean = λ clean. clean;
   site = refl;
   enlists = refl;
-  went = λ clean. went_nowhere g.S.HallStore.holds _ _ _;
+  served = λ clean. served_none g.S.HallStore.holds g.S.HallStore.leaves g.C.Source.may_give _ _ _ _;
 }
 
 pub loop-served-preserved : goal.loop-served-preserved
@@ -17,8 +18,9 @@ loop-served-preserved g c =
       clean = λ clean. before.clean (c.serve_turn.ensures.clean clean);
       site = c.serve_turn.ensures.site ∙ before.site;
       enlists = c.serve_turn.ensures.enlists ∙ before.enlists;
-      went = λ clean.
-          went_then g.S.HallStore.holds _ _ _ _ _ _ _ before.site (before.went (c.serve_turn.ensures.clean clean)) (c.serve_turn.ensures.went_on clean);
+      served = λ clean.
+          served_then g.S.HallStore.holds g.S.HallStore.leaves g.C.Source.may_give _ _ _ _ _ _ _ _ _ _ before.site (before.served (c.serve_turn.ensures.clean clean))
+          (c.serve_turn.ensures.served clean);
     }
 
 pub returns-then-serve_turn-clause-clean : goal.returns-then-serve_turn-clause-clean
@@ -33,8 +35,10 @@ returns-then-serve_turn-clause-enlists g c = c.serve_turn.ensures.enlists ∙ c.
 pub returns-then-serve_turn-clause-went_on : goal.returns-then-serve_turn-clause-went_on
 returns-then-serve_turn-clause-went_on g c = λ clean.
     let before = c.loop-served.invariant in
-    went_within g.S.HallStore.holds _ _ _ _ _ (omega arith)
-    (went_then g.S.HallStore.holds _ _ _ _ _ _ _ before.site (before.went (c.serve_turn.ensures.clean clean)) (c.serve_turn.ensures.went_on clean))
+    went_on (record { laws = c.histories_keep_the_laws.ensures }) g.S.HallStore.holds g.S.HallStore.leaves g.C.Source.may_give _ _ _ _ _ _
+    (served_within g.S.HallStore.holds g.S.HallStore.leaves g.C.Source.may_give _ _ _ _ _ _ _ (omega arith)
+    (served_then g.S.HallStore.holds g.S.HallStore.leaves g.C.Source.may_give _ _ _ _ _ _ _ _ _ _ before.site (before.served (c.serve_turn.ensures.clean clean))
+    (c.serve_turn.ensures.served clean)))
 
 pub returns-clause-clean : goal.returns-clause-clean
 returns-clause-clean g c = λ clean. c.loop-served.invariant.clean clean
@@ -46,4 +50,6 @@ pub returns-clause-enlists : goal.returns-clause-enlists
 returns-clause-enlists g c = c.loop-served.invariant.enlists
 
 pub returns-clause-went_on : goal.returns-clause-went_on
-returns-clause-went_on g c = λ clean. went_within g.S.HallStore.holds _ _ _ _ _ (omega arith) (c.loop-served.invariant.went clean)
+returns-clause-went_on g c = λ clean.
+    went_on (record { laws = c.histories_keep_the_laws.ensures }) g.S.HallStore.holds g.S.HallStore.leaves g.C.Source.may_give _ _ _ _ _ _
+    (served_within g.S.HallStore.holds g.S.HallStore.leaves g.C.Source.may_give _ _ _ _ _ _ _ (omega arith) (c.loop-served.invariant.served clean))

@@ -1,5 +1,6 @@
 use Rattle.std.proofs.Common.{◌∙◌, arith, refl, sym}
 use Rattle.std.proofs.lemmas.Bool.{false≢true}
+use Rattle.serve_sockets.proofs.ServingLemmas.{read_same}
 use Rattle.serve_sockets.proofs.TurnLemmas.{no_handover, not_eighth, not_off, of_quiet, turns_within}
 use Rattle.serve_sockets.proofs.service.Service.turn.Goals as goal
 
@@ -52,7 +53,7 @@ pub returns-in-Some-clause-same : goal.returns-in-Some-clause-same
 returns-in-Some-clause-same g c = λ nothing. refl
 
 pub returns-in-Some-clause-unlisted : goal.returns-in-Some-clause-unlisted
-returns-in-Some-clause-unlisted g c = λ off frame clean h held. held
+returns-in-Some-clause-unlisted g c = λ off frame clean. read_same g.S.HallStore.holds g.S.HallStore.leaves _
 
 pub returns-in-Some-clause-turns : goal.returns-in-Some-clause-turns
 returns-in-Some-clause-turns g c = refl
@@ -139,7 +140,7 @@ pub returns-in-Some-Listener-clause-same : goal.returns-in-Some-Listener-clause-
 returns-in-Some-Listener-clause-same g c = λ nothing. refl
 
 pub returns-in-Some-Listener-clause-unlisted : goal.returns-in-Some-Listener-clause-unlisted
-returns-in-Some-Listener-clause-unlisted g c = λ off frame clean h held. held
+returns-in-Some-Listener-clause-unlisted g c = λ off frame clean. read_same g.S.HallStore.holds g.S.HallStore.leaves _
 
 pub returns-in-Some-Listener-clause-turns : goal.returns-in-Some-Listener-clause-turns
 returns-in-Some-Listener-clause-turns g c = refl

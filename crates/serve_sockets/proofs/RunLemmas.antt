@@ -1,0 +1,162 @@
+-- A run, and then another.
+use Rattle.std.proofs.Common.{List, [], ◌∷◌, ◌++◌, append_assoc, inl, inr, refl, subst, sym}
+use Rattle.std.specs.Prelude.{◌⊎◌, ⊤}
+use Rattle.std.specs.List.{AllByRecursion}
+use Rattle.pxe_vendor.specs.Place.{Site}
+use Rattle.hall_types.specs.Hall.{Hall}
+use Rattle.boot_desk.specs.Sound.{IsSound}
+use Rattle.hall_desk.specs.Attempt.{IsAnswered, IsKept, IsOnlyRead, IsTorn}
+use Rattle.hall_desk.specs.History.{AllLead, IsCutRun, Item, came_unanswered, exchanges}
+use Rattle.hall_desk.specs.Octets.{HasMissed, IsArrivalRun, IsArrivalStep, IsGiven}
+use Rattle.hall_desk.specs.Stops.{AreGiven, HasRun, IsCutEnd}
+use Rattle.hall_desk.specs.declared.arrival.Answer.{Answer}
+use Rattle.hall_desk.specs.declared.arrival.Arrival.{Arrival}
+use Rattle.serve_sockets.proofs.SilenceLemmas.{silent_idle}
+
+pub all_append : (P : Hall → Type 0) (xs ys : List Hall) → AllByRecursion P xs → AllByRecursion P ys → AllByRecursion P (xs ++ ys)
+all_append P [] ys a b = b
+all_append P (x ∷ xs) ys a b = (a.0, all_append P xs ys a.1 b)
+
+pub all_on : (h : Hall) (past : List Item) (now : Hall) → AllLead h past now → (items : List Item) (end : Hall) → AllLead now items end → AllLead h (past ++ items) end
+all_on h [] now led items end more = subst (λ (from : Hall). AllLead from items end) led more
+all_on h (x ∷ past) now led items end more = (led.0, led.1, all_on led.0 past now led.2 items end more)
+
+pub of_run : (site : Site) (h : Hall) (xs : List Arrival) (is : List Answer) (end : Hall) → IsArrivalRun site h xs is end → AllLead h (exchanges site xs is) end
+of_run site h [] [] end run = run
+of_run site h [] (a ∷ is) end run = absurd run
+of_run site h (x ∷ xs) [] end run = absurd run
+of_run site h (x ∷ xs) (a ∷ is) end run = (run.0, run.1, of_run site run.0 xs is end run.2)
+
+-- ---- two runs
+
+run_then : (site : Site) (xs ys : List Arrival) (is bs : List Answer) (h mid end : Hall)
+    → IsArrivalRun site h xs is mid → IsArrivalRun site mid ys bs end → IsArrivalRun site h (xs ++ ys) (is ++ bs) end
+run_then site [] ys [] bs h mid end first then = subst (λ (from : Hall). IsArrivalRun site from ys bs end) first then
+run_then site [] ys (a ∷ is) bs h mid end first then = absurd first
+run_then site (x ∷ xs) ys [] bs h mid end first then = absurd first
+run_then site (x ∷ xs) ys (a ∷ is) bs h mid end first then =
+    (first.0, first.1, run_then site xs ys is bs first.0 mid end first.2 then)
+
+-- what a stop cut of the first one is cut of both
+cut_first : (site : Site) (xs ys : List Arrival) (is bs : List Answer) (cut : List Item) → IsCutRun site xs is cut → IsCutRun site (xs ++ ys) (is ++ bs) cut
+cut_first site xs ys is bs [] it = tt
+cut_first site [] ys is bs (item ∷ cut) it = absurd it
+cut_first site (x ∷ xs) ys [] bs (item ∷ cut) it = absurd it
+cut_first site (x ∷ xs) ys (a ∷ is) bs (item ∷ cut) (inl it) = inl it
+cut_first site (x ∷ xs) ys (a ∷ is) bs (item ∷ cut) (inr it) = inr (it.0, cut_first site xs ys is bs cut it.1)
+
+-- and so is the whole first one with what is cut of the second
+cut_then : (site : Site) (h mid : Hall) (xs ys : List Arrival) (is bs : List Answer) → IsArrivalRun site h xs is mid → (cut : List Item) → IsCutRun site ys bs cut
+    → IsCutRun site (xs ++ ys) (is ++ bs) (exchanges site xs is ++ cut)
+cut_then site h mid [] ys [] bs run cut it = it
+cut_then site h mid [] ys (a ∷ is) bs run cut it = absurd run
+cut_then site h mid (x ∷ xs) ys [] bs run cut it = absurd run
+cut_then site h mid (x ∷ xs) ys (a ∷ is) bs run cut it = inr (refl, cut_then site run.0 mid xs ys is bs run.2 cut it)
+
+-- as many answers as arrivals
+abbrev AreSame : List Arrival → List Answer → Type 0
+AreSame [] [] = ⊤
+AreSame (x ∷ xs) (a ∷ is) = AreSame xs is
+AreSame xs is = ⊥
+
+same_run : (site : Site) (h : Hall) (xs : List Arrival) (is : List Answer) (end : Hall) → IsArrivalRun site h xs is end → AreSame xs is
+same_run site h [] [] end run = tt
+same_run site h [] (a ∷ is) end run = absurd run
+same_run site h (x ∷ xs) [] end run = absurd run
+same_run site h (x ∷ xs) (a ∷ is) end run = same_run site run.0 xs is end run.2
+
+given_first : (site : Site) (h : Hall) (xs ys : List Arrival) (is bs : List Answer) → AreGiven site h (xs ++ ys) (is ++ bs) → AreSame xs is → AreGiven site h xs is
+given_first site h [] ys [] bs all same = refl
+given_first site h [] ys (a ∷ is) bs all same = absurd same
+given_first site h (x ∷ xs) ys [] bs all same = absurd same
+given_first site h (x ∷ xs) ys (a ∷ is) bs all same = (all.0, λ next step. given_first site next xs ys is bs (all.1 next step) same)
+
+given_then : (site : Site) (h mid : Hall) (xs ys : List Arrival) (is bs : List Answer) → IsArrivalRun site h xs is mid → AreGiven site h (xs ++ ys) (is ++ bs)
+    → AreGiven site mid ys bs
+given_then site h mid [] ys [] bs run all = subst (λ (from : Hall). AreGiven site from ys bs) (sym run) all
+given_then site h mid [] ys (a ∷ is) bs run all = absurd run
+given_then site h mid (x ∷ xs) ys [] bs run all = absurd run
+given_then site h mid (x ∷ xs) ys (a ∷ is) bs run all = given_then site run.0 mid xs ys is bs run.2 (all.1 run.0 run.1)
+
+module _ {S : Type 0} (holds : S → Hall → Type 0) (leaves : S → List Hall → Type 0) (site : Site) (h : Hall) where
+  module _ (old mid new : S) (xs ys : List Arrival) (is bs : List Answer) (first : HasRun holds leaves old mid site h xs is)
+      (then : HasRun holds leaves mid new site first.ran.end ys bs) where
+    ends_first : (halls : List Hall) → AllByRecursion (IsCutEnd site h xs is) halls → AllByRecursion (IsCutEnd site h (xs ++ ys) (is ++ bs)) halls
+    ends_first [] all = tt
+    ends_first (x ∷ halls) all = ((all.0.0, cut_first site xs ys is bs all.0.0 all.0.1, all.0.2), ends_first halls all.1)
+
+    ends_then : (halls : List Hall) → AllByRecursion (IsCutEnd site first.ran.end ys bs) halls → AllByRecursion (IsCutEnd site h (xs ++ ys) (is ++ bs)) halls
+    ends_then [] all = tt
+    ends_then (x ∷ halls) all = (
+      (
+        exchanges site xs is ++ all.0.0,
+        cut_then site h first.ran.end xs ys is bs first.ran.run all.0.0 all.0.1,
+        all_on h (exchanges site xs is) first.ran.end (of_run site h xs is first.ran.end first.ran.run) all.0.0 x all.0.2,
+      ),
+      ends_then halls all.1,
+    )
+
+    stop_then : (hs : List Hall) → leaves old hs → (more : List Hall) × leaves new (more ++ hs) × AllByRecursion (IsCutEnd site h (xs ++ ys) (is ++ bs)) more
+    stop_then hs left =
+        let one = first.stop hs left in
+        let two = then.stop (one.0 ++ hs) one.1 in (
+          two.0 ++ one.0,
+          subst (leaves new) (sym (append_assoc two.0 one.0 hs)) two.1,
+          all_append (IsCutEnd site h (xs ++ ys) (is ++ bs)) two.0 one.0 (ends_then two.0 two.2) (ends_first one.0 one.2),
+        )
+
+    pub has_run_then : HasRun holds leaves old new site h (xs ++ ys) (is ++ bs)
+    has_run_then = record {
+      ran = record {
+        end = then.ran.end;
+        run = run_then site xs ys is bs h first.ran.end then.ran.end first.ran.run then.ran.run;
+        held = then.ran.held;
+        sound = then.ran.sound;
+      };
+      settled = λ left all.
+          then.settled (first.settled left (given_first site h xs ys is bs all (same_run site h xs is first.ran.end first.ran.run)))
+          (given_then site h first.ran.end xs ys is bs first.ran.run all);
+      stop = stop_then;
+    }
+
+  -- nothing came, and the store was only read
+  pub has_run_none : (old new : S) → IsOnlyRead holds leaves old new → holds old h → IsSound h → HasRun holds leaves old new site h [] []
+  has_run_none old new only held sound = record {
+    ran = record { end = h; run = refl; held = only.same h held; sound = sound };
+    settled = λ left all. only.stop h held (h ∷ []) left;
+    stop = λ hs left. ([], only.stop h held hs left, tt);
+  }
+
+  module _ (old new : S) (arrival : Arrival) (a : Answer) (it : IsAnswered holds leaves old new site arrival.input arrival.moment arrival.fresh a) (held : holds old h)
+      (sound : IsSound h) where
+    stop_one : (hs : List Hall) → leaves old hs → (more : List Hall) × leaves new (more ++ hs) × AllByRecursion (IsCutEnd site h (arrival ∷ []) (a ∷ [])) more
+    stop_one hs left = (torn.next ∷ [], torn.left, (by torn.step, tt))
+      where
+        torn : IsTorn holds leaves old new site arrival.input arrival.moment arrival.fresh h hs
+        torn = it.crash h held sound hs left
+
+        by : IsArrivalStep site h arrival.input arrival.moment arrival.fresh torn.answer torn.next → IsCutEnd site h (arrival ∷ []) (a ∷ []) torn.next
+        by (inl come) = (came_unanswered site arrival ∷ [], inl (refl, refl), (torn.next, (torn.answer, come), refl))
+        by (inr missed) = ([], tt, missed.same)
+
+    -- what counts as not having come, and was given its answer, is a silence that leaves all as it was
+    still : HasMissed h arrival.input a h → IsGiven site h arrival.input arrival.moment arrival.fresh a → leaves old (h ∷ []) → leaves new (h ∷ [])
+    still missed (inl given) left = absurd (given missed.answer)
+    still missed (inr silent) left = it.still h held (silent_idle site h arrival.input arrival.moment arrival.fresh silent) (h ∷ []) left
+
+    -- one arrival came
+    pub has_run_one : HasRun holds leaves old new site h (arrival ∷ []) (a ∷ [])
+    has_run_one = by (it.step h held sound)
+      where
+        by : IsKept holds leaves old new site arrival.input arrival.moment arrival.fresh h a ⊎ (HasMissed h arrival.input a h × holds new h)
+            → HasRun holds leaves old new site h (arrival ∷ []) (a ∷ [])
+        by (inl kept) = record {
+          ran = record { end = kept.next; run = (kept.next, inl kept.come, refl); held = kept.held; sound = kept.sound };
+          settled = λ left all. kept.settled left;
+          stop = stop_one;
+        }
+        by (inr missed) = record {
+          ran = record { end = h; run = (h, inr missed.0, refl); held = missed.1; sound = sound };
+          settled = λ left all. still missed.0 all.0 left;
+          stop = stop_one;
+        }

@@ -1,0 +1,17 @@
+-- Which arrivals have the stamps that a source gave.
+use Rattle.std.specs.Prelude.{◌≡◌, ◌⊎◌, List, [], ◌∷◌, Option, Some, None}
+use Rattle.hall_desk.specs.declared.arrival.Arrival.{Arrival}
+use Rattle.serve_sockets.specs.declared.turn.Stamp.{Stamp}
+
+-- `gives` says which stamp a call gives, if any, and between which states of the source
+module _ {C : Type 0} (gives : C → Option Stamp → C → Type 0) where
+  -- the source was asked for nothing, or how long a turn waits
+  abbrev pub IsPassed : C → C → Type 0
+  IsPassed from till = (till ≡ from) ⊎ gives from None till
+
+  -- These arrivals in turn have the moments and the fresh octets of stamps that the source gave, each those of a stamp of its own.
+  pub data AreStamped : C → List Arrival → C → Type 0 where
+    ended : {c : C} → AreStamped c [] c
+    passed : {c d e : C} {stamp : Option Stamp} {arrivals : List Arrival} → gives c stamp d → AreStamped d arrivals e → AreStamped c arrivals e
+    handed : {c d e : C} {stamp : Stamp} {arrival : Arrival} {arrivals : List Arrival} → gives c (Some stamp) d
+        → arrival.moment ≡ stamp.moment → arrival.fresh ≡ stamp.fresh → AreStamped d arrivals e → AreStamped c (arrival ∷ arrivals) e

@@ -1,0 +1,69 @@
+//! Replies to datagrams.
+ghost use Rattle.std.specs.Prelude.{◌≡◌, false};
+ghost use Rattle.hall_desk.specs.Attempt.{IsOnlyRead};
+ghost use Rattle.hall_desk.specs.Desk.{enlists_of, site_of, store_of};
+ghost use Rattle.serve_sockets.specs.Replying.{IsReplied, IsSent};
+
+use crate::handing::hand_datagram;
+use crate::handover::handover;
+use crate::turn::{Handover, Kind, Stamp, TurnLog};
+use hall_desk::{Answer, Desk};
+use hall_store::HallStore;
+use hall_types::Port;
+use std::alloc::Global;
+use std::net::SocketAddr;
+
+/// At which port a datagram came, and from where. Its reply goes the same way back.
+#[derive(Clone, Copy)]
+pub(crate) struct Way {
+    pub(crate) port: Port,
+    pub(crate) client: SocketAddr,
+}
+
+/// What sends replies.
+pub(crate) trait SendReply {
+    ghost use Rattle.std.specs.Prelude.{⊤, ℕ, List};
+    ghost use Rattle.serve_sockets.specs.declared.replying.Way.{Way};
+
+    // Holds of what sends before a call, of the way and the octets that it was given, and of what sends after it.
+    ghost may_send: { Self → Way → List ℕ → Self → Type 0 } = { λ _ _ _ _. ⊤ };
+
+    /// Sends octets that way as one datagram, and says whether it could be sent.
+    fn send_reply(&mut self, way: Way, octets: &[u8]) -> bool
+        ensures { may_send self.old way octets.now self.new };
+}
+
+// Sends an answer that is a reply, once, and says whether it could be sent. Nothing is sent for another answer.
+fn send<P: SendReply>(sender: &mut P, way: Way, answer: &Answer) -> bool
+    ensures { IsSent P.SendReply.may_send sender.old way answer.now sender.new }
+{
+    match answer {
+        Answer::Octets(octets) => sender.send_reply(way, octets.as_slice()),
+        Answer::Unavailable | Answer::Silence => true,
+    }
+}
+
+/// Hands a datagram over, and sends its own answer, if it is a reply, once, the way that the datagram came: what is told of it, and
+/// whether the reply could be sent.
+pub(crate) fn reply<S: HallStore, L: TurnLog, P: SendReply>(
+    alloc: Global,
+    desk: &mut Desk<S>,
+    log: &mut L,
+    stamp: Stamp,
+    way: Way,
+    octets: &[u8],
+    sender: &mut P,
+) -> (Handover, bool)
+    ensures site { site_of desk.new ≡ site_of desk.old }
+    ensures enlists { enlists_of desk.new ≡ enlists_of desk.old }
+    ensures replied { IsReplied S.HallStore.is_clean S.HallStore.holds S.HallStore.leaves P.SendReply.may_send (store_of desk.old) (store_of desk.new)
+        sender.old sender.new (site_of desk.old) stamp.moment stamp.fresh way octets.now result.0 }
+    ensures unlisted { enlists_of desk.old ≡ false → S.HallStore.is_clean (store_of desk.new)
+        → IsOnlyRead S.HallStore.holds S.HallStore.leaves (store_of desk.old) (store_of desk.new) }
+{
+    let answer = hand_datagram(alloc, desk, log, stamp, way.port, octets);
+    let kind = Kind::Datagram(way.port);
+    let handover = handover(kind, Some(way.client), octets.len(), &answer);
+    let is_sent = send(sender, way, &answer);
+    (handover, is_sent)
+}

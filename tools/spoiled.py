@@ -1,0 +1,47 @@
+"""Runs of a program of which one request for memory is refused, or which ends before one of its calls on files: for refuse_memory.py and old_file.py."""
+import os, shutil, subprocess, sys, tempfile
+
+ENDED = 77
+
+
+def compiler():
+    """A C compiler, None where there is none."""
+    return next((found for found in map(shutil.which, ("cc", "gcc", "clang")) if found), None)
+
+
+class Spoiler:
+    """The library of spoil_calls.c, in a folder of its own. `with` removes it."""
+
+    def __enter__(self):
+        self.folder = tempfile.TemporaryDirectory(prefix="spoil-calls-")
+        self.library = f"{self.folder.name}/spoil_calls.so"
+        source = os.path.join(os.path.dirname(os.path.abspath(__file__)), "spoil_calls.c")
+        subprocess.run([compiler(), "-O1", "-shared", "-fPIC", "-o", self.library, source, "-ldl"], check=True)
+        return self
+
+    def __exit__(self, *_):
+        self.folder.cleanup()
+
+    def run(self, words, text="", refuse=0, stop=0, folder=None):
+        """The run of a command line, and how many requests for memory and calls on files there were (0 where it was ended)."""
+        told, tell = os.pipe()
+        spoiled = {"LD_PRELOAD": self.library, "REFUSE": str(refuse), "STOP": str(stop), "TELL": str(tell)}
+        try:
+            done = subprocess.run(words, input=text, capture_output=True, text=True, pass_fds=[tell], cwd=folder, timeout=300, env={**os.environ, **spoiled})
+        finally:
+            os.close(tell)
+        with os.fdopen(told) as tale:
+            counts = tale.read().split() or ["0", "0"]
+        return done, int(counts[0]), int(counts[1])
+
+
+def end(tool, checks, failed, whole=""):
+    """Prints the line that the gate counts, and ends."""
+    print(f"{tool}: {checks} checks, {failed} failed" + (f" ({whole})" if whole else ""), flush=True)
+    sys.exit(1 if failed else 0)
+
+
+def end_without_compiler(tool):
+    """Ends a tool that has nothing to check where no C compiler is found."""
+    if compiler() is None:
+        end(tool, 0, 0, "left out: no C compiler")
