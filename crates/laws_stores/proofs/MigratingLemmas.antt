@@ -15,7 +15,7 @@ use Rattle.laws_migration.specs.FirstSchema.{IsFirstRun}
 use Rattle.laws_migration.specs.Origin.{carried_over}
 use Rattle.hall_desk.specs.History.{AllLead, BeginsWith, Item, Origin}
 use Rattle.hall_desk.specs.Headline.{Headline}
-use Rattle.hall_desk.specs.Stops.{IsSettled}
+use Rattle.laws_stores.specs.Migrating.{GoesOn}
 use Rattle.sql_schema.specs.Spelling.{SpellHall}
 use Rattle.sql_tables.specs.Migrating.{BecomeHall, IsCarriedOver, SpellFirst, is_erasing, with_full}
 
@@ -70,16 +70,21 @@ module _ (keeps : Keeps) (admin digest : List ℕ) (steps : List Step) (db : Tre
 pub goes_on : {S F M : Type 0} (clean : S → Type 0) (holds : S → Hall → Type 0) (leaves : S → List Hall → Type 0) (db : Trees) (r : Result (S × M) F) → Keeps
     → IfOk r (λ done. clean done.0 → (h : Hall) → BecomeHall db h → holds done.0 h) → IfOk r (λ done. clean done.0 → (h : Hall) → BecomeHall db h → leaves done.0 (h ∷ []))
     → IfOk r (λ done. clean done.0 → (admin digest : List ℕ) (steps : List Step) (h next : Hall) → IsFirstRun (new_hall first admin digest) steps h → SpellFirst db h → IsMigrated h next
-    → IsSettled holds leaves done.0 (carried_over admin digest steps) [])
+    → GoesOn holds leaves done.0 (carried_over admin digest steps) next)
 goes_on clean holds leaves db (Ok done) keeps held settled = λ is admin digest steps h next run spelt over.
     let become = become keeps admin digest steps db h next run spelt over in
     record {
-      history = record { end = next; held = held is next become; headline = begun keeps admin digest steps db h next run spelt over };
-      settled = settled is next become;
+      held = held is next become;
+      left = settled is next become;
+      begun = record {
+        history = record { end = next; held = held is next become; headline = begun keeps admin digest steps db h next run spelt over };
+        settled = settled is next become;
+      };
+      laws = λ items end led. keeps (carried_over admin digest steps) next items end (h, run, over) led;
     }
 goes_on clean holds leaves db (Err fault) keeps held settled = tt
 
 -- what a stop leaves on the way
 pub left : (db : Trees) (old : Type 0) (next : Hall) (origin : Origin) → Headline origin [] next → old ⊎ SpellHall db next → old ⊎ ((end : Hall) × SpellHall db end × Headline origin [] end)
-left db old next origin begun (inl before) = inl before
-left db old next origin begun (inr spells) = inr (next, spells, begun)
+left db old next origin headline (inl before) = inl before
+left db old next origin headline (inr spells) = inr (next, spells, headline)

@@ -9,9 +9,9 @@ ghost use Rattle.laws_migration.specs.Origin.{carried_over};
 ghost use Rattle.laws_model.specs.Migration.{IsMigrated};
 ghost use Rattle.laws_model.specs.Step.{Step};
 ghost use Rattle.hall_desk.specs.Headline.{Headline};
-ghost use Rattle.hall_desk.specs.Stops.{IsSettled};
 ghost use Rattle.hall_sql.specs.Opening.{connection_after};
 ghost use Rattle.sql_schema.specs.Spelling.{SpellHall};
+ghost use Rattle.laws_stores.specs.Migrating.{GoesOn};
 ghost use Rattle.sql_tables.specs.Migrating.{SpellFirst};
 
 use hall_desk::histories_keep_the_laws;
@@ -22,7 +22,7 @@ use sqlite::{Alter, Connection};
 use std::alloc::Global;
 
 /// Carries the tables of a hall over to which a run from a new hall of the first schema leads. Its history goes on: the store has the hall
-/// that it becomes, and a stop leaves that hall alone (`settled`), so that the clauses of the desk's calls hold of it from there. A stop
+/// that it becomes, and a stop leaves that hall alone (`goes_on`), so that the clauses of the desk's calls hold of it from there. A stop
 /// on the way leaves what it left before, or tables that spell the hall that it becomes (`stop`).
 ///
 /// # Errors
@@ -32,9 +32,9 @@ pub fn migrated_goes_on<S: Alter>(
     alloc: Global,
     conn: Connection<S>,
 ) -> Result<(SqlStore<S>, Migrated), Refused<S, OpenFault>>
-    ensures settled { IfOk result (λ done. ⟦<SqlStore<S> as HallStore>⟧.is_clean done.0 → (admin digest : List ℕ) (steps : List Step) (h next : Hall)
+    ensures goes_on { IfOk result (λ done. ⟦<SqlStore<S> as HallStore>⟧.is_clean done.0 → (admin digest : List ℕ) (steps : List Step) (h next : Hall)
         → IsFirstRun (new_hall first admin digest) steps h → SpellFirst (state S.Store conn).now.trees h → IsMigrated h next
-        → IsSettled ⟦<SqlStore<S> as HallStore>⟧.holds ⟦<SqlStore<S> as HallStore>⟧.leaves done.0 (carried_over admin digest steps) []) }
+        → GoesOn ⟦<SqlStore<S> as HallStore>⟧.holds ⟦<SqlStore<S> as HallStore>⟧.leaves done.0 (carried_over admin digest steps) next) }
     ensures stop { HasCleanDisk (state S.Store (connection_after result)) → (admin digest : List ℕ) (steps : List Step) (h next : Hall)
         → IsFirstRun (new_hall first admin digest) steps h → SpellFirst (state S.Store conn).now.trees h → IsMigrated h next
         → (db : Trees) → (state S.Store (connection_after result)).may_leave db

@@ -5,8 +5,8 @@ use Rattle.hall_sql.specs.Store.{HasHall, StopLeaves, connection}
 use Rattle.laws_stores.proofs.MigratingLemmas.{become, begun, goes_on, left}
 use Rattle.laws_stores.proofs.migrating.migrated_goes_on.Goals as goal
 
-pub returns-clause-settled : goal.returns-clause-settled
-returns-clause-settled g c =
+pub returns-clause-goes_on : goal.returns-clause-goes_on
+returns-clause-goes_on g c =
     goes_on (λ store. HasCleanDisk (state g.S.Store (connection store))) (HasHall g.S.Store) (StopLeaves g.S.Store) (state g.S.Store c.args.conn).now.trees
     c.migrate.result c.histories_keep_the_laws.ensures c.migrate.ensures.held c.migrate.ensures.settled
 
