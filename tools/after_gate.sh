@@ -11,6 +11,7 @@ for name in hallboot hallctl play_desk play_cases play_requests; do
     if [ -x "$built" ]; then export "${name^^}=$built"; fi
 done
 tools=(
+    case_words.sh
     program_rows.sh
     hallctl_peer.sh
     token_trial.sh

@@ -61,7 +61,7 @@ def hall(machines, status):
 def discover(id):
     mac = address(id).replace(":", "")
     frame = "010106001122334400008000" + "00" * 16 + mac + "00" * 202 + "63825363" + OPTIONS + uuid(id) + "ff"
-    return f"discover 1000 {TOKEN} {frame}"
+    return f"frame 1000 discover octets {frame}"
 
 
 def desk_round(what, id, count):
@@ -69,7 +69,7 @@ def desk_round(what, id, count):
     if what == "offer":
         return [discover(id)]
     if what == "script":
-        return [f"script 1000 {TOKEN} {address(id)}"]
+        return [f"script 1000 {address(id)} {TOKEN}"]
     if what == "repeat":
         return [command("hello", 0, '"command":"lock","machine":1')]
     if what == "list":
@@ -82,8 +82,8 @@ def desk_round(what, id, count):
         ]
     return [
         command("abc", count, f'"command":"commission","machine":{id},"tests":false'),
-        f"script 1000 {TOKEN} {address(id)}",
-        f"report 1000 {count + 1} {TOKEN} failed",
+        f"script 1000 {address(id)} {TOKEN}",
+        f"report 1000 {count + 1} failed {TOKEN}",
     ]
 
 

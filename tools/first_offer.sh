@@ -1,7 +1,7 @@
 #!/usr/bin/env bash
 # The first OFFER, a minute or two after a clone: builds what answers one frame, without proving it, gives it one machine's DISCOVER, and
 # shows that and the desk's answer in words and octets. It is the call of `hallboot frame`, by the program of stored runs that needs least
-# beside it. It wants rt, the Rattle kit's command, and python3. Usage: tools/first_offer.sh
+# beside it, as the act `run` of its cases. It wants rt, the Rattle kit's command, and python3. Usage: tools/first_offer.sh
 set -euo pipefail
 here=$(cd "$(dirname "$0")" && pwd)
 stored=$here/../crates/hallboot
@@ -20,14 +20,16 @@ trap ended EXIT
 frame=$(tail -n 1 "$stored/stdin")
 mac=$(head -n 1 "$stored/stdin")
 status=0
-(cd "$here/../crates/play_requests" && printf 'office discover %s\\n\\n%s\\n\n' "$mac" "$frame" | rt try > "$work/answer" 2> "$work/said") || status=$?
+printf '== the first OFFER\nrun discover %s\\n\\n%s\\n\n' "$mac" "$frame" > "$work/offer.cases"
+(cd "$here/../crates/play_requests" && rt try --data "offer.cases=$work/offer.cases" -- offer.cases > "$work/answer" 2> "$work/said") || status=$?
 kill "$shown" 2> /dev/null || true
 [ ! -t 2 ] || printf '\r                              \r' >&2
-read -r _ outcome offer < "$work/answer" || true
-if [ $status != 0 ] || [ "${outcome:-}" != 'done' ]; then
+# nothing is wanted of the act in that file, so what comes of it is printed: the way it ended, and in the next line what was written
+if [ $status != 0 ] || ! grep -q '^  came   0 done$' "$work/answer"; then
     cat "$work/said" "$work/answer" >&2
     exit 1
 fi
+offer=$(sed -n '/^  came   0 done$/ { n; s/^ *//p }' "$work/answer")
 offer=${offer%'\n'}
 python3 "$here/frame_words.py" "A machine's DISCOVER" <<< "$frame"
 python3 "$here/frame_words.py" "The desk's OFFER" <<< "$offer"

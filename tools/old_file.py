@@ -1,11 +1,11 @@
 # A hall's file of the first version is carried over, also where memory or the program ends. The argument says how many requests for memory apart those
 # are that are refused. The variable HALLBOOT names the program.
-import os, shutil, sqlite3, subprocess, sys, tempfile
+import os, re, shutil, sqlite3, subprocess, sys, tempfile
 from concurrent.futures import ThreadPoolExecutor
 from spoiled import ENDED, Spoiler, compiler, end
 
 TOOL, APART, HALLBOOT = "old_file", int(sys.argv[1]), os.environ["HALLBOOT"]
-LOG = os.path.join(os.path.dirname(os.path.abspath(__file__)), "..", "crates", "play_desk", "stdin")
+CASES = os.path.join(os.path.dirname(os.path.abspath(__file__)), "..", "crates", "play_desk", "data", "migration.tables.cases")
 MIGRATE = [HALLBOOT, "migrate", "--db", "old.db"]
 checks = failed = 0
 
@@ -19,12 +19,10 @@ def check(holds, words):
 
 
 def texts():
-    """The SQL of the log from the comment that names the first version on."""
-    with open(LOG) as file:
-        lines = file.read().split("\n")
-    first = next(at for at, line in enumerate(lines) if line.startswith("# A hall of the first version")) + 1
-    last = next(at for at in range(first, len(lines)) if not lines[at].startswith("sql "))
-    return [line.removeprefix("sql ") for line in lines[first:last]]
+    """The SQL of the first case, which makes the tables of the first version."""
+    with open(CASES) as file:
+        first = re.split("^== ", file.read(), flags=re.MULTILINE)[1]
+    return re.findall("^sql (.*)$", first, re.MULTILINE)
 
 
 def make(folder, *more):
@@ -88,7 +86,7 @@ def spoiled(spoiler, first, refuse, stop):
     """The verdict on a migration that is spoiled there: what it left, or what is wrong."""
     with tempfile.TemporaryDirectory() as folder:
         shutil.copy(f"{first}/old.db", folder)
-        done, _, _ = spoiler.run(MIGRATE, "", refuse, stop, folder)
+        done = spoiler.run(MIGRATE, "", refuse, stop, folder).done
         left = {FIRST: "first", SECOND: "second"}.get(dump(folder), "neither")
         if done.returncode == 0:
             return "unseen" if left == "second" and done.stdout == "migrated\n" else f"status 0, {done.stdout!r}, and the tables are of the {left} schema"
@@ -119,7 +117,7 @@ if compiler():
         make(first)
         shutil.copy(f"{first}/old.db", second)
         FIRST = dump(first)
-        done, requests, calls = spoiler.run(MIGRATE, "", folder=second)
+        done, requests, calls, _ = spoiler.run(MIGRATE, "", folder=second)
         SECOND = dump(second)
         check(done.stdout == "migrated\n" and FIRST != SECOND and calls > 0, f"a migration that nothing spoils: {done}, {calls} calls")
         refused, stopped = range(1, requests + 1, APART), range(1, calls + 1)

@@ -1,4 +1,4 @@
-# Refuses each single request for memory of play_desk over the forty arrivals of its log, and of programs that play a call a line. The argument says
+# Refuses each single request for memory of play_desk over the forty arrivals of its cases, and of programs that play a single act. The argument says
 # how many requests apart those of the forty arrivals are. The variables PLAY_DESK, PLAY_CASES and PLAY_REQUESTS name the programs.
 import os, re, sys
 from concurrent.futures import ThreadPoolExecutor
@@ -7,44 +7,61 @@ from spoiled import Spoiler, end, end_without_compiler
 TOOL = "refuse_memory"
 APART = int(sys.argv[1])
 CRATES = os.path.join(os.path.dirname(os.path.abspath(__file__)), "..", "crates")
-# so many requests of a single call are refused at most
+# so many requests of a single act are refused at most
 MOST = 120
-# how a call is answered for which there is no memory, in hexadecimal too; Io is what couldn't be written for that
-WANTING = re.compile(r"\b(Memory|OutOfMemory|AllocError|out of memory|[Uu]navailable|503)\b|Io$|^485454502f312e3120353033")
+# how an act is answered for which there is no memory; Io is what couldn't be written for that
+WANTING = re.compile(r"\b(Memory|OutOfMemory|AllocError|out of memory|[Uu]navailable|503)\b|Io$")
+# play_desk's writes on standard output, counted from 0, that say what came of a file of a hall, in memory and in SQLite, and of a file of tables
+HALLS, TABLES = (0, 5), (8,)
+# what is asked of a hall of play_desk
+ASKED = ("rows", "import", "hall", "machine-text", "order-text", "export", "machines", "orders", "machine", "log", "log_object", "serve")
 
 
-def program(crate):
-    return os.environ[crate.upper()]
+def acts_of(crate, names):
+    """The acts of a program's cases in order, but of those that are wrong on purpose, in the files of such names."""
+    with open(f"{CRATES}/{crate}/args") as file:
+        files = [name for name in file.read().split() if re.fullmatch(names, name) and not name.startswith("wrong.")]
+    acts = []
+    for name in files:
+        with open(f"{CRATES}/{crate}/data/{name}") as file:
+            acts += [line for line in file.read().split("\n") if line and line != "=" and not line.startswith(("#", "== ", "= ", "  "))]
+    return acts
 
 
-def lines_of(crate):
-    with open(f"{CRATES}/{crate}/stdin") as file:
-        return file.read().split("\n")
+def kind_of(act):
+    return act.split(" ")[0]
+
+
+class Bare:
+    """A file of acts of which nothing is wanted: its program prints what comes of each."""
+
+    def __init__(self, spoiler, crate, name, acts):
+        self.spoiler, self.words = spoiler, [os.environ[crate.upper()], name]
+        with open(f"{spoiler.folder.name}/{name}", "w") as file:
+            file.write("\n".join(["== bare acts", *acts, ""]))
+
+    def play(self, refuse=0):
+        return self.spoiler.run(self.words, refuse=refuse, folder=self.spoiler.folder.name)
 
 
 class Arrivals:
-    """The forty arrivals of play_desk's log, and the line that prints the tables after them."""
+    """The forty arrivals of play_desk's cases, and the act that prints the tables after them."""
 
     def __init__(self, spoiler):
-        self.spoiler = spoiler
-        stored = lines_of("play_desk")
-        first = next(at for at, line in enumerate(stored) if line.startswith("each "))
-        self.head = stored[first - 2].removeprefix("new ")
-        self.arrivals = []
-        for line in stored[first:]:
-            if not line.startswith("each "):
-                break
-            self.arrivals.append(line.removeprefix("each "))
-        self.look = next(line for line in stored[first:] if line.startswith("look "))
-        assert len(self.arrivals) == 40
-        self.whole, self.said, self.requests = self.play(self.arrivals, 0)
-        assert self.whole.returncode == 0 and len(self.said) == 3 and self.said[0] == self.said[1] and not self.said[2], self.whole.stderr
+        acts = acts_of("play_desk", r"failures\.cases")
+        first = next(at for at, act in enumerate(acts) if kind_of(act) == "each")
+        last = next(at for at in range(first, len(acts)) if kind_of(acts[at]) != "each")
+        arrivals = [act.removeprefix("each ") for act in acts[first:last]]
+        assert len(arrivals) == 40 and kind_of(acts[first - 1]) == "new" and kind_of(acts[last]) == "watch"
+        begin, look = acts[first - 1], acts[last].replace("watch", "look", 1)
+        self.file = Bare(spoiler, "play_desk", "forty.once.cases", [begin, *arrivals, look])
+        whole = self.file.play()
+        self.said, self.requests = halves_of(whole.done.stdout), whole.requests
+        assert whole.done.returncode == 0 and len(self.said) == 3 and len(self.said[0]) > 40, whole.done.stderr
+        assert self.said[0] == self.said[1] and not self.said[2]
         # the same without one of the arrivals
-        self.without = [self.play(self.arrivals[:k] + self.arrivals[k + 1:], 0)[1][0] for k in range(40)]
-
-    def play(self, arrivals, refuse):
-        done, requests, _ = self.spoiler.run([program("play_desk")], "\n".join([self.head, *arrivals, self.look, ""]), refuse)
-        return done, halves_of(done.stdout), requests
+        fewer = [Bare(spoiler, "play_desk", f"without_{k}.once.cases", [begin, *arrivals[:k], *arrivals[k + 1:], look]) for k in range(40)]
+        self.without = [halves_of(file.play().done.stdout, 39)[0] for file in fewer]
 
     def lacks_one(self, half):
         """Whether a half is as it is where one of its arrivals counts as not having come."""
@@ -62,7 +79,8 @@ class Arrivals:
         return all(is_refused(half[at]) or half[at] == self.said[0][at] for at in range(place, 40)) and half[40:] == ["unavailable"]
 
     def judge(self, refuse):
-        done, halves, _ = self.play(self.arrivals, refuse)
+        done = self.file.play(refuse).done
+        halves = halves_of(done.stdout)
         if done.returncode != 0:
             # the program's own want of memory ends it with a fault, and all that it printed before stands
             is_told = done.returncode == 1 and done.stderr.startswith("play_desk: ")
@@ -77,44 +95,57 @@ class Arrivals:
         return "unread" if self.is_unread(half) else "refused" if self.lacks_one(half) else "shut" if self.is_shut(half) else "wrong"
 
 
-def halves_of(text):
-    """The answers to the arrivals and then the tables, in each half: over the store in memory, and over that in SQLite."""
+def halves_of(text, arrivals=40):
+    """The answers to so many arrivals and then the lines of the tables, in each half: over the store in memory, and over that in SQLite."""
     halves = [[]]
     for line in text.split("\n"):
-        if line.startswith("at most "):
+        if line.startswith(("memory: ", "SQLite: ")):
             halves.append([])
-        elif line and not line.startswith("== "):
-            halves[-1].append(line)
-    return halves
+        elif line.startswith("  came   "):
+            halves[-1].append([line[9:]])
+        elif line.startswith("         "):
+            halves[-1][-1].append(line[9:])
+    return [["\n".join(lines) for lines in half[:arrivals]] + [line for lines in half[arrivals:] for line in lines] for half in halves]
 
 
-def is_refused(line):
-    return line in ("silence", "unavailable") or line.startswith("485454502f312e3120353033")
+def is_refused(answer):
+    return answer in ("silence", "unavailable") or answer.startswith("503 ")
 
 
 class Call:
-    """A log of one call: the crate that plays it, the log up to the call, and the call's lines."""
+    """A file with one act, after others: it's played to its end as often as there are such writes, at the program's end where there are none."""
 
-    def __init__(self, crate, before, lines):
-        self.crate, self.before, self.log = crate, "\n".join([*before, ""]), "\n".join([*before, *lines, ""])
+    def __init__(self, spoiler, crate, kind, act, before=(), writes=()):
+        self.crate, self.act, self.writes = crate, act, writes
+        name = f"{crate}_{kind}" + (".tables.cases" if writes == TABLES else ".once.cases")
+        self.file = Bare(spoiler, crate, name, [*before, act])
+        # the same file but for the act, of which a comment of the same size is left
+        self.bare = Bare(spoiler, crate, f"before_{name}", [*before, f"#{act[1:]}"])
 
-    def refuse(self, spoiler):
+    def asked(self, whole):
+        """The numbers of the act's requests for memory, and of those that print what came of it."""
+        if not self.writes:
+            return list(range(1, whole.requests + 1))
+        bare, asked = self.bare.play().written, []
+        for write in self.writes:
+            begin, end = [written[write] - (written[write - 1] if write else 0) for written in (bare, whole.written)]
+            asked += range(whole.written[write] - (end - begin) + 1, whole.written[write] + 1)
+        return asked
+
+    def refuse(self):
         """How many of its requests for memory were refused, each alone, and the first of them for which something else came of it, 0 for none."""
-        whole, last, _ = spoiler.run([program(self.crate)], self.log)
-        if whole.returncode != 0:
+        whole = self.file.play()
+        if whole.done.returncode != 0:
             return 0, -1
-        # in a log over two stores the call over the second one comes last
-        first = spoiler.run([program(self.crate)], self.before)[1] if self.before.strip() else 0
-        asked = range(first + 1, last + 1)
+        asked = self.asked(whole)
         tried = asked[::max(1, -(-len(asked) // MOST))]
         for refuse in tried:
-            done, _, _ = spoiler.run([program(self.crate)], self.log, refuse)
-            if not self.is_wanting(whole.stdout, done):
+            if not self.is_wanting(whole.done.stdout, self.file.play(refuse).done):
                 return len(tried), refuse
         return len(tried), 0
 
     def is_wanting(self, whole, done):
-        """Whether a run is the whole one, or one whose call, or which itself, ended for want of memory."""
+        """Whether a run is the whole one, or one whose act, or which itself, ended for want of memory."""
         if done.returncode != 0 and not (done.returncode == 1 and done.stderr.startswith(f"{self.crate}: ")):
             return False
         return is_wanting_first(done.stdout, whole)
@@ -128,26 +159,25 @@ def is_wanting_first(text, whole):
     return True
 
 
-def calls():
-    """A call for each kind of line of the programs that play a call a line, and of play_desk's lines that are no arrivals."""
-    found = {}
+def calls(spoiler):
+    """A call for each kind of act of the programs that play a call an act, and of what is asked of a hall and of a file's tables."""
+    found = []
     for crate in ("play_cases", "play_requests"):
-        for line in lines_of(crate):
-            kind = line.split(" ")[0]
-            # the answer to `characters` lists what each of many calls took
-            if line and not line.startswith("#") and kind != "characters":
-                found.setdefault((crate, kind), Call(crate, [], [line]))
-    stored = lines_of("play_desk")
-    head = stored[0]
-    hall = [line for line in stored[1:60] if line.startswith("request ")][:12]
-    for kind in ("rows", "import", "hall", "machine-text", "order-text", "export", "machines", "orders", "machine", "log", "log_object", "serve"):
-        line = max((line for line in stored if line.split(" ")[0] == kind), key=len)
-        found["play_desk", kind] = Call("play_desk", [head, *hall], [line])
-    create = next(line for line in stored if line.startswith("create "))
-    old = [create, "sql DROP TABLE wipes", "sql UPDATE hall SET schema = 1"]
-    for kind, before, line in (("create", [], create), ("open", [create], "open"), ("migrate", old, "migrate")):
-        found["play_desk", kind] = Call("play_desk", [head, "== files", "new", *before], [line])
-    return list(found.values())
+        acts = {kind_of(act): act for act in reversed(acts_of(crate, r".*"))}
+        # the answer to `characters` lists what each of many calls took
+        found += [Call(spoiler, crate, kind, act) for kind, act in acts.items() if kind != "characters"]
+    acts = acts_of("play_desk", r"\w+\.cases")
+    hall = ["new", *[act for act in acts if kind_of(act) in ("command", "script", "report")][:12]]
+    for kind in ASKED:
+        longest = max((act for act in acts if kind_of(act) == kind), key=len)
+        found.append(Call(spoiler, "play_desk", kind, longest, hall, HALLS))
+    create = next(act for act in acts_of("play_desk", r".*\.tables\.cases") if kind_of(act) == "create")
+    empty = ["new", "query SELECT 1"]
+    made = [*empty, create]
+    old = [*made, "sql DROP TABLE wipes", "sql UPDATE hall SET schema = 1"]
+    for act, before in ((create, empty), ("open", made), ("migrate", old)):
+        found.append(Call(spoiler, "play_desk", kind_of(act), act, before, TABLES))
+    return found
 
 
 def main():
@@ -160,12 +190,12 @@ def main():
             counts[verdict] += 1
             if verdict == "wrong":
                 print(f"BAD: request {refuse} of {forty.requests} refused: neither nothing was seen nor was one arrival refused alone", file=sys.stderr)
-        every = calls()
-        for call, (tried_in_call, wrong) in zip(every, pool.map(lambda call: call.refuse(spoiler), every)):
+        every = calls(spoiler)
+        for call, (tried_in_call, wrong) in zip(every, pool.map(Call.refuse, every)):
             checks += tried_in_call
             if wrong:
                 failed += 1
-                print(f"BAD: request {wrong} refused: {call.crate}: {call.log[-200:]!r}", file=sys.stderr)
+                print(f"BAD: request {wrong} refused: {call.crate}: {call.act[:200]!r}", file=sys.stderr)
     failed += counts["wrong"]
     end(TOOL, len(tried) + checks, failed,
         f"{len(tried)} of {forty.requests} requests for memory of the forty arrivals: {counts['unseen']} unseen, {counts['refused']} one arrival refused, "

@@ -1,12 +1,13 @@
 /* Spoils one call of a program that is started with this library before the C library (LD_PRELOAD). Of its requests for memory (malloc,
    realloc) the one with the number in REFUSE is refused; before that of its calls on files (pwrite, write, ftruncate, fsync, fdatasync, rename,
-   link, unlink) with the number in STOP the program ends at once, with status 77. Numbers begin with 1. At the end the file descriptor in
-   TELL is told how many requests and calls there were. */
+   link, unlink) with the number in STOP the program ends at once, with status 77. Numbers begin with 1. Before each write on standard output,
+   and at the end, the file descriptor in TELL is told how many requests and calls there were. */
 #define _GNU_SOURCE
 #include <dlfcn.h>
 #include <errno.h>
 #include <stdio.h>
 #include <stdlib.h>
+#include <sys/syscall.h>
 #include <sys/types.h>
 #include <unistd.h>
 
@@ -41,8 +42,17 @@ static void count_call(void) {
     if (calls == at) _exit(77);
 }
 
+/* by the system's own call, which isn't counted */
+__attribute__((destructor)) static void tell(void) {
+    char text[48];
+    int file = (int)number_in("TELL");
+    int len = snprintf(text, sizeof text, "%lu %lu\n", requests, calls);
+    if (file > 2 && syscall(SYS_write, file, text, (size_t)len) < 0) return;
+}
+
 /* standard input, output and error aren't files of the hall */
 static void count_call_on(int file) {
+    if (file == STDOUT_FILENO) tell();
     if (file > 2) count_call();
 }
 
@@ -75,10 +85,3 @@ SPOILED(int, fdatasync, count_call_on(file), (int file), (file))
 SPOILED(int, rename, count_call(), (const char *from, const char *to), (from, to))
 SPOILED(int, link, count_call(), (const char *from, const char *to), (from, to))
 SPOILED(int, unlink, count_call(), (const char *name), (name))
-
-__attribute__((destructor)) static void tell(void) {
-    char text[48];
-    int file = (int)number_in("TELL");
-    int len = snprintf(text, sizeof text, "%lu %lu\n", requests, calls);
-    if (file > 2 && write(file, text, (size_t)len) < 0) return;
-}

@@ -1,7 +1,9 @@
 """Runs of a program of which one request for memory is refused, or which ends before one of its calls on files: for refuse_memory.py and old_file.py."""
-import os, shutil, subprocess, sys, tempfile
+import collections, os, shutil, subprocess, sys, tempfile
 
 ENDED = 77
+# A run, how many requests for memory and calls on files there were (0 where it was ended), and how many requests before each write on standard output.
+Run = collections.namedtuple("Run", "done requests calls written")
 
 
 def compiler():
@@ -23,7 +25,7 @@ class Spoiler:
         self.folder.cleanup()
 
     def run(self, words, text="", refuse=0, stop=0, folder=None):
-        """The run of a command line, and how many requests for memory and calls on files there were (0 where it was ended)."""
+        """The run of a command line."""
         told, tell = os.pipe()
         spoiled = {"LD_PRELOAD": self.library, "REFUSE": str(refuse), "STOP": str(stop), "TELL": str(tell)}
         try:
@@ -31,8 +33,9 @@ class Spoiler:
         finally:
             os.close(tell)
         with os.fdopen(told) as tale:
-            counts = tale.read().split() or ["0", "0"]
-        return done, int(counts[0]), int(counts[1])
+            counts = [tuple(map(int, line.split())) for line in tale]
+        requests, calls = counts.pop() if counts and done.returncode != ENDED else (0, 0)
+        return Run(done, requests, calls, [before for before, _ in counts])
 
 
 def end(tool, checks, failed, whole=""):

@@ -5,7 +5,8 @@
 use crate::fault::Fault;
 use hall_store::HallStore;
 use hall_types::{Change, Digest, MacAddress, MachineUuid, Moment, Number};
-use play_store::{change, first, words};
+use play_log::{digest, first, issued, mac, moment, number, uuid};
+use play_store::change;
 use std::alloc::Global;
 
 /// A call of a store.
@@ -26,13 +27,13 @@ pub enum Call {
 pub fn parse_call(alloc: Global, text: &str) -> Result<Call, Fault> {
     let (what, rest) = first(text);
     let found = match what {
-        "machine" => Call::Machine(words::number(rest)?),
-        "address" => Call::Address(words::mac(rest)?),
-        "unknown" => Call::Unknown(words::mac(rest)?),
-        "uuid" => Call::Uuid(words::uuid(rest)?),
-        "interfaces" => Call::Interfaces(words::number(rest)?),
-        "digest" => Call::Operator(words::digest(rest)?),
-        "expired" => Call::Expired(words::moment(rest)?),
+        "machine" => Call::Machine(issued(number(rest)?)?),
+        "address" => Call::Address(mac(rest)?),
+        "unknown" => Call::Unknown(mac(rest)?),
+        "uuid" => Call::Uuid(uuid(rest)?),
+        "interfaces" => Call::Interfaces(issued(number(rest)?)?),
+        "digest" => Call::Operator(digest(rest)?),
+        "expired" => Call::Expired(moment(number(rest)?)?),
         "list" => Call::List,
         "apply" => Call::Apply(change(alloc, rest)?),
         _ => return Err(Fault::Line),
@@ -41,7 +42,7 @@ pub fn parse_call(alloc: Global, text: &str) -> Result<Call, Fault> {
 }
 
 // What is counted of the number that a look-up answers.
-fn number(found: Option<Number>) -> Result<u64, Fault> {
+fn found_number(found: Option<Number>) -> Result<u64, Fault> {
     match found {
         Some(id) => Ok(id.get()),
         None => Err(Fault::Refused),
@@ -81,9 +82,9 @@ fn list<S: HallStore>(alloc: Global, store: &mut S) -> Result<u64, Fault> {
 pub fn counted<S: HallStore>(alloc: Global, store: &mut S, call: &Call) -> Result<u64, Fault> {
     match call {
         Call::Machine(id) => version(store, *id),
-        Call::Address(mac) => number(store.by_mac(*mac)?),
+        Call::Address(mac) => found_number(store.by_mac(*mac)?),
         Call::Unknown(mac) => one(store.by_mac(*mac)?.is_none()),
-        Call::Uuid(uuid) => number(store.by_uuid(*uuid)?),
+        Call::Uuid(uuid) => found_number(store.by_uuid(*uuid)?),
         Call::Interfaces(id) => interfaces(alloc, store, *id),
         Call::Operator(digest) => one(store.operator_by_digest(digest)?.is_some()),
         Call::Expired(moment) => one(store.next_expired(*moment)?.is_none()),

@@ -1,6 +1,6 @@
 //! Why a benchmark ends early.
+use cases::CaseFault;
 use hall_store::Unavailable;
-use play_log::{LineFault, LogFault};
 use sql_file::FileFault;
 
 /// Why a benchmark ends early.
@@ -33,20 +33,8 @@ impl Fault {
     }
 }
 
-impl From<LogFault> for Fault {
-    fn from(_: LogFault) -> Fault {
-        Fault::Log
-    }
-}
-
-impl From<LineFault> for Fault {
-    fn from(_: LineFault) -> Fault {
-        Fault::Line
-    }
-}
-
-impl From<play_store::Fault> for Fault {
-    fn from(_: play_store::Fault) -> Fault {
+impl From<CaseFault> for Fault {
+    fn from(_: CaseFault) -> Fault {
         Fault::Line
     }
 }

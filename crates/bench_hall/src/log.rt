@@ -4,9 +4,8 @@ use crate::fault::Fault;
 use hall_desk::Arrival;
 use hall_types::{Digest, Name};
 use play_log::{admin, arrival};
-use play_store::read_log;
 use std::alloc::Global;
-use std::io::Read;
+use std::io::{BufRead, BufReader, Read};
 
 // The line after which stands what is measured.
 const ROUNDS: &str = "== rounds";
@@ -57,9 +56,19 @@ fn add_lines(alloc: Global, log: &mut Log, lines: Vec<String>) -> Result<(), Fau
     Ok(())
 }
 
+fn lines_of<R: Read + Drop>(alloc: Global, reader: R) -> Result<Vec<String>, Fault> {
+    let reader = BufReader::new(alloc, reader).map_err(|_| Fault::Memory)?;
+    let mut lines = Vec::new(alloc);
+    for line in reader.lines(alloc) {
+        let line = line.map_err(|_| Fault::Log)?;
+        lines.push(line).map_err(|_| Fault::Memory)?;
+    }
+    Ok(lines)
+}
+
 /// Reads a log to its end.
 pub fn read<R: Read + Drop>(alloc: Global, reader: R) -> Result<Log, Fault> {
-    let lines = read_log(alloc, reader)?;
+    let lines = lines_of(alloc, reader)?;
     let Some(first) = lines.first() else {
         return Err(Fault::Line);
     };

@@ -1,108 +1,89 @@
-//! What frames are answered, by what is known of their clients.
+//! How clients are answered, by what is known of them.
+use crate::frames::print_field;
 use boot_desk::{Decision, FrameView, enlist, frame};
+use cases::{CaseFault, Out, Played};
 use dhcp_frame::read;
-use hall_types::{Client, Machine, Number, RowWrite};
-use play_log::{CaseAnswer, LineFault, halves, issued, number, numbers, octets_of, port};
-use pxe_vendor::client;
+use hall_desk::Input;
+use hall_types::{Client, Number, Port, RowWrite};
+use play_log::{arrival, halves, issued, number, numbers};
+use pxe_vendor::{NotServed, client};
 use std::alloc::Global;
 
-fn known(text: &str) -> Result<Option<Number>, LineFault> {
-    if text == "-" {
-        return Ok(None);
-    }
-    Ok(Some(issued(number(text)?)?))
-}
-
-fn client_in(alloc: Global, source: &str) -> Result<Client, LineFault> {
-    let octets = octets_of(alloc, source)?;
-    let Ok(frame) = read(octets.as_slice()) else {
-        return Err(LineFault::Form);
-    };
+fn client_of(alloc: Global, octets: &[u8]) -> Result<Client, CaseFault> {
+    let frame = read(octets).map_err(|_| CaseFault::Form)?;
     match client(alloc, &frame) {
         Ok(client) => Ok(client),
-        Err(_) => Err(LineFault::Form),
+        Err(NotServed::Memory) => Err(CaseFault::Memory),
+        Err(_) => Err(CaseFault::Form),
     }
 }
 
-fn print_decision(out: &mut CaseAnswer, decision: Decision) {
-    match decision {
-        Decision::Loader => out.push("loader"),
-        Decision::ScriptUrl => out.push("script"),
-        Decision::Enlist => out.push("enlist"),
-        Decision::Silent(silence) => {
-            out.push("silence ");
-            out.fault(silence as u8, silence);
-        }
+// The client whose frame arrives, and the port.
+fn client_in(alloc: Global, words: &str) -> Result<(Port, Client), CaseFault> {
+    let arrival = arrival(alloc, words)?;
+    match &arrival.input {
+        Input::Datagram { port, octets } => Ok((*port, client_of(alloc, octets.as_slice())?)),
+        _ => Err(CaseFault::Form),
     }
 }
 
-// What is known of a client, `BY_ADDRESS BY_UUID MACHINES LAST`.
-fn print_known(
-    out: &mut CaseAnswer,
-    at: &str,
-    words: &str,
-    client: &Client,
-) -> Result<(), LineFault> {
+fn known(word: &str) -> Result<Option<Number>, CaseFault> {
+    if word == "-" {
+        return Ok(None);
+    }
+    Ok(Some(issued(number(word)?)?))
+}
+
+/// How a client is answered, `BY_ADDRESS BY_UUID MACHINES LAST, ARRIVAL`: the machines with its address and with its UUID, how
+/// many machines the hall has, and the last number of a machine.
+pub fn decide(rest: &str, out: &mut Out) -> Played {
+    let (words, arrival) = halves(rest, ", ")?;
     let (by_mac, words) = halves(words, " ")?;
     let (by_uuid, words) = halves(words, " ")?;
     let (machines, last) = halves(words, " ")?;
-    let at = port(at)?;
     let view = FrameView {
         by_mac: known(by_mac)?,
         by_uuid: known(by_uuid)?,
         machines: number(machines)?,
         numbers: numbers(last)?,
     };
-    print_decision(out, frame(&view, at, client));
+    let (port, client) = client_in(out.alloc(), arrival)?;
+    match frame(&view, port, &client) {
+        Decision::Loader => out.push("loader"),
+        Decision::ScriptUrl => out.push("script"),
+        Decision::Enlist => out.push("enlist"),
+        Decision::Silent(cause) => out.show(format_args!("silence {} {cause:?}", cause as u8)),
+    }
     Ok(())
 }
 
-/// How a frame is answered, `PORT, BY_ADDRESS BY_UUID MACHINES LAST, OCTETS`: the machines with the client's address and with
-/// its UUID, how many machines the hall has, and the last number of a machine.
-pub fn decide(alloc: Global, rest: &str, out: &mut CaseAnswer) -> Result<(), LineFault> {
-    let (at, rest) = halves(rest, ", ")?;
-    let (words, source) = halves(rest, ", ")?;
-    let client = client_in(alloc, source)?;
-    print_known(out, at, words, &client)
-}
-
-fn print_machine(out: &mut CaseAnswer, machine: &Machine) {
-    let (id, status, pool) = (machine.id.get(), machine.status.text(), machine.pool);
-    out.show(format_args!("machine {id} {status} {pool}"));
-    if let Some(uuid) = machine.uuid {
-        out.push(" uuid ");
-        out.hex(&uuid.octets());
-    }
-}
-
-fn print_row(out: &mut CaseAnswer, row: &RowWrite) {
-    out.separate();
+fn print_row(row: &RowWrite, out: &mut Out) {
     match row {
         RowWrite::PutMachine { machine, was } => {
-            out.push(if was.is_none() { "new " } else { "changed " });
-            print_machine(out, machine);
+            let (id, status, pool) = (machine.id.get(), machine.status.text(), machine.pool);
+            out.push(if was.is_none() { "new" } else { "changed" });
+            out.show(format_args!(" machine {id} {status} {pool}"));
+            if let Some(uuid) = machine.uuid {
+                print_field("uuid", &uuid.octets(), out);
+            }
         }
         RowWrite::PutInterface(interface) => {
-            let machine = interface.machine.get();
-            out.show(format_args!("interface of {machine} "));
+            out.show(format_args!("interface of {} ", interface.machine.get()));
             out.hex(&interface.mac.octets());
         }
-        RowWrite::PutNumbers(numbers) => {
-            out.push("last machine ");
-            out.show(numbers.machine.get());
-        }
+        RowWrite::PutNumbers(last) => out.show(format_args!("last machine {}", last.machine.get())),
         _ => out.push("another row"),
     }
+    out.push("\n");
 }
 
-/// The rows of a frame's client that is enlisted, `LAST, OCTETS`.
-pub fn enlisted(alloc: Global, rest: &str, out: &mut CaseAnswer) -> Result<(), LineFault> {
-    let (last, source) = halves(rest, ", ")?;
+/// The rows of a client that is enlisted, `LAST, ARRIVAL`.
+pub fn enlisted(rest: &str, out: &mut Out) -> Played {
+    let (last, arrival) = halves(rest, ", ")?;
     let issued = numbers(last)?;
-    let client = client_in(alloc, source)?;
-    let change = enlist(alloc, &client, issued)?;
-    for row in change.writes() {
-        print_row(out, row);
+    let (_, client) = client_in(out.alloc(), arrival)?;
+    for row in enlist(out.alloc(), &client, issued)?.writes() {
+        print_row(row, out);
     }
     Ok(())
 }

@@ -1,95 +1,57 @@
 //! Kinds that have words, and their numbers in tables.
+use cases::{CaseFault, Out, Played};
 use hall_types::{
-    Erase, Numbered, OrderKind, OrderStage, Outcome, Progress, Purpose, Refusal, Role, Stage,
-    Status, arch_number,
+    Erase, Numbered, OrderKind, OrderStage, Outcome, Progress, Purpose, Role, Stage, Status,
+    arch_number,
 };
-use play_log::{CaseAnswer, LineFault, halves};
+use play_log::halves;
 use pxe_vendor::Arch;
 
-fn print_numbered(out: &mut CaseAnswer, number: u8, word: &str) {
-    out.separate();
-    out.show(format_args!("{number} {word}"));
-}
-
-// Each kind that has a number, with its word.
+// Each one of a kind that has a number, with its number and its word.
 macro_rules! print_known {
-    ($out:ident, $kind:ident) => {
+    ($out:ident, $kind:ident, $one:ident, $number:expr, $word:expr) => {
         for number in 0..=u8::MAX {
-            if let Some(one) = $kind::with_number(number) {
-                print_numbered($out, one.number(), one.text());
+            if let Some($one) = $kind::with_number(number) {
+                $out.show(format_args!("{} {}\n", $number, $word));
             }
         }
     };
-}
-
-// Each stage that has a number.
-macro_rules! print_stages {
-    ($out:ident, $kind:ident) => {
-        for number in 0..=u8::MAX {
-            if let Some(stage) = $kind::with_number(number) {
-                $out.separate();
-                $out.fault(stage.number(), stage);
-            }
-        }
-    };
-}
-
-fn print_archs(out: &mut CaseAnswer) {
-    for number in 0..=u8::MAX {
-        if let Some(arch) = Arch::with_number(number) {
-            print_numbered(out, arch_number(arch), arch.text());
-        }
-    }
 }
 
 /// All of a kind, with their numbers.
-pub fn known(rest: &str, out: &mut CaseAnswer) -> Result<(), LineFault> {
+pub fn known(rest: &str, out: &mut Out) -> Played {
     match rest {
-        "statuses" => print_known!(out, Status),
-        "roles" => print_known!(out, Role),
-        "purposes" => print_known!(out, Purpose),
-        "order kinds" => print_known!(out, OrderKind),
-        "kinds of erasing" => print_known!(out, Erase),
-        "stages" => print_stages!(out, Stage),
-        "order stages" => print_stages!(out, OrderStage),
-        "architectures" => print_archs(out),
-        _ => return Err(LineFault::Form),
+        "statuses" => print_known!(out, Status, one, one.number(), one.text()),
+        "roles" => print_known!(out, Role, one, one.number(), one.text()),
+        "purposes" => print_known!(out, Purpose, one, one.number(), one.text()),
+        "order kinds" => print_known!(out, OrderKind, one, one.number(), one.text()),
+        "kinds of erasing" => print_known!(out, Erase, one, one.number(), one.text()),
+        "stages" => print_known!(out, Stage, one, one.number(), format_args!("{one:?}")),
+        "order stages" => print_known!(out, OrderStage, one, one.number(), format_args!("{one:?}")),
+        "architectures" => print_known!(out, Arch, one, arch_number(one), one.text()),
+        _ => return Err(CaseFault::Form),
     }
     Ok(())
 }
 
-// The word of what was read from a word.
-macro_rules! print_read {
-    ($out:ident, $kind:ident, $word:ident) => {
-        match $word.parse::<$kind>() {
-            Ok(one) => $out.push(one.text()),
-            Err(_) => $out.push("none"),
-        }
-    };
-}
-
 /// What a word is as one of a kind, `KIND WORD`.
-pub fn named(rest: &str, out: &mut CaseAnswer) -> Result<(), LineFault> {
+pub fn named(rest: &str, out: &mut Out) -> Played {
     let (kind, word) = halves(rest, " ")?;
-    match kind {
-        "role" => print_read!(out, Role, word),
-        "erase" => print_read!(out, Erase, word),
-        "progress" => print_read!(out, Progress, word),
-        "outcome" => print_read!(out, Outcome, word),
-        "arch" => print_read!(out, Arch, word),
-        _ => return Err(LineFault::Form),
-    }
+    let text = match kind {
+        "role" => word.parse::<Role>().ok().map(|one| one.text()),
+        "erase" => word.parse::<Erase>().ok().map(|one| one.text()),
+        "progress" => word.parse::<Progress>().ok().map(|one| one.text()),
+        "outcome" => word.parse::<Outcome>().ok().map(|one| one.text()),
+        "arch" => word.parse::<Arch>().ok().map(|one| one.text()),
+        _ => return Err(CaseFault::Form),
+    };
+    out.push(text.unwrap_or("none"));
     Ok(())
 }
 
 /// The status with this text.
-pub fn status(text: &str) -> Result<Status, LineFault> {
-    for number in 0..=u8::MAX {
-        if let Some(status) = Status::with_number(number)
-            && status.text() == text
-        {
-            return Ok(status);
-        }
-    }
-    Err(LineFault::Form)
+pub fn status(text: &str) -> Result<Status, CaseFault> {
+    let mut statuses = (0..=u8::MAX).filter_map(|number| Status::with_number(number));
+    let found = statuses.find(|status| status.text() == text);
+    found.ok_or(CaseFault::Form)
 }

@@ -1,12 +1,13 @@
 //! The life cycle of machines.
 use crate::kinds::status;
+use cases::{CaseFault, Out, Played};
 use hall_types::{
     Arch, BootCount, Digest, Erase, LastIssued, Machine, Moment, Name, Number, Numbers, Operator,
     Outcome, Progress, Refusal, Role, Status, Version,
 };
 use life_cycle::Signal::{self, *};
 use life_cycle::{Action, Entered, Step, enter, may, next};
-use play_log::{CaseAnswer, LineFault, halves, moment, name, number};
+use play_log::{halves, moment, name, number};
 
 const SIGNALS: [(&str, Signal); 21] = [
     ("commission", By(Action::Commission)),
@@ -32,18 +33,14 @@ const SIGNALS: [(&str, Signal); 21] = [
     ("fourth boot", FourthBoot),
 ];
 
-fn signal(text: &str) -> Result<Signal, LineFault> {
-    for (name, signal) in &SIGNALS {
-        if *name == text {
-            return Ok(*signal);
-        }
-    }
-    Err(LineFault::Form)
+fn signal(text: &str) -> Result<Signal, CaseFault> {
+    let known = SIGNALS.iter().find(|known| known.0 == text);
+    known.map(|known| known.1).ok_or(CaseFault::Form)
 }
 
-// The first machine, in version 1.
-fn machine_in(pool: Name, status: Status) -> Machine {
-    Machine {
+// The first machine, in version 1, for which an order with this number waits, none if it is 0.
+fn beginning(pool: Name, status: Status, order: LastIssued) -> Entered {
+    let machine = Machine {
         id: Number::FIRST,
         arch: Arch::Uefi64,
         uuid: None,
@@ -59,211 +56,154 @@ fn machine_in(pool: Name, status: Status) -> Machine {
         deadline: None,
         boot: None,
         boots: BootCount::NONE,
-        waiting: None,
-    }
-}
-
-fn print_step(out: &mut CaseAnswer, name: &str, step: Step) {
-    out.separate();
-    out.push(name);
-    out.push(": ");
-    out.push(step.status.text());
-    if let Some(order) = step.order {
-        out.push(" with ");
-        out.push(order.text());
-    }
-}
-
-// The status that a rescue began from.
-fn origin(text: &str) -> Result<Option<Status>, LineFault> {
-    if text == "-" {
-        return Ok(None);
-    }
-    Ok(Some(status(text)?))
-}
-
-/// Where each signal leads that leads somewhere, `STATUS, tests|no tests, STATUS|-`, the last the one that a rescue began
-/// from.
-pub fn signals(rest: &str, out: &mut CaseAnswer) -> Result<(), LineFault> {
-    let mut parts = rest.split(", ");
-    let (Some(from), Some(tests), Some(back)) = (parts.next(), parts.next(), parts.next()) else {
-        return Err(LineFault::Form);
+        waiting: Number::new(order.get()).ok(),
     };
-    let mut machine = machine_in(name("east")?, status(from)?);
-    machine.tests = tests == "tests";
-    machine.back = origin(back)?;
+    let numbers = Numbers {
+        machine: LastIssued::NONE,
+        boot: LastIssued::NONE,
+        order,
+    };
+    Entered {
+        machine,
+        numbers,
+        order: None,
+        withdrawn: None,
+    }
+}
+
+fn print_steps(machine: &Machine, out: &mut Out) {
     for (name, signal) in &SIGNALS {
-        if let Some(step) = next(&machine, *signal) {
-            print_step(out, name, step);
+        if let Some(step) = next(machine, *signal) {
+            out.show(format_args!("{name}: {}", step.status.text()));
+            if let Some(order) = step.order {
+                out.show(format_args!(" with {}", order.text()));
+            }
+            out.push("\n");
+        }
+    }
+}
+
+// With which heading a machine is tried: whether tests were asked for, and the status from which a rescue began.
+const TRIED: [(&str, bool, Option<Status>); 4] = [
+    ("", false, None),
+    ("rescued from Deployed:\n", false, Some(Status::Deployed)),
+    ("tests:\n", true, None),
+    ("tests, rescued from Broken:\n", true, Some(Status::Broken)),
+];
+
+/// Where each signal leads that leads somewhere from a status, and once more for each machine of which it is otherwise.
+pub fn signals(rest: &str, out: &mut Out) -> Played {
+    let mut machine = beginning(name("east")?, status(rest)?, LastIssued::NONE).machine;
+    let mut last = String::new(out.alloc());
+    for (with, tests, back) in TRIED {
+        (machine.tests, machine.back) = (tests, back);
+        let mut steps = Out::new(out.alloc());
+        print_steps(&machine, &mut steps);
+        let steps = steps.into_text()?;
+        if steps.as_str() != last.as_str() {
+            out.show(format_args!("{with}{steps}"));
+            last = steps;
         }
     }
     Ok(())
 }
 
-const NO_NUMBERS: Numbers = Numbers {
-    machine: LastIssued::NONE,
-    boot: LastIssued::NONE,
-    order: LastIssued::NONE,
-};
-
-fn print_deadline(out: &mut CaseAnswer, machine: &Machine) {
+fn print_deadline(machine: &Machine, out: &mut Out) {
     match machine.deadline {
         Some(deadline) => out.show(format_args!("deadline {deadline}")),
         None => out.push("no deadline"),
     }
 }
 
-// A machine for which an order with this number waits, none if it is 0.
-fn beginning(machine: Machine, order: LastIssued) -> Entered {
-    Entered {
-        machine: Machine {
-            waiting: Number::new(order.get()).ok(),
-            ..machine
-        },
-        numbers: Numbers {
-            order,
-            ..NO_NUMBERS
-        },
-        order: None,
-        withdrawn: None,
-    }
-}
-
-// What a step makes of it, the same where no order is left.
-fn entered(before: &Entered, step: Step, moment: Moment) -> Entered {
-    enter(&before.machine, step, moment, before.numbers).unwrap_or(*before)
-}
-
-// What a signal makes of it, the same where the signal leads nowhere.
-fn taken(before: &Entered, signal: Signal, moment: Moment) -> Entered {
-    match next(&before.machine, signal) {
-        Some(step) => entered(before, step, moment),
+// What a step makes of it, the same where there is no step or no order is left.
+fn entered(before: &Entered, step: Option<Step>, moment: Moment) -> Entered {
+    match step {
+        Some(step) => enter(&before.machine, step, moment, before.numbers).unwrap_or(*before),
         None => *before,
     }
 }
 
 /// The deadline of a machine that enters a status at the moment 1000.
-pub fn limit(rest: &str, out: &mut CaseAnswer) -> Result<(), LineFault> {
-    let step = Step {
-        status: status(rest)?,
-        order: None,
-    };
-    let ready = beginning(machine_in(name("east")?, Status::Ready), LastIssued::NONE);
-    print_deadline(out, &entered(&ready, step, moment(1000)?).machine);
+pub fn limit(rest: &str, out: &mut Out) -> Played {
+    let (status, order) = (status(rest)?, None);
+    let ready = beginning(name("east")?, Status::Ready, LastIssued::NONE);
+    let after = entered(&ready, Some(Step { status, order }), moment(1000)?);
+    print_deadline(&after.machine, out);
     Ok(())
-}
-
-fn print_kept(out: &mut CaseAnswer, machine: &Machine) {
-    out.push(if machine.owner.is_some() {
-        "owner "
-    } else {
-        "- "
-    });
-    out.push(if machine.erase.is_some() {
-        "erase "
-    } else {
-        "- "
-    });
-    out.push(if machine.boot.is_some() { "boot" } else { "-" });
 }
 
 /// Whether a step keeps the owner, the kind of erasing and the boot, `STATUS, SIGNAL`.
-pub fn kept(rest: &str, out: &mut CaseAnswer) -> Result<(), LineFault> {
+pub fn kept(rest: &str, out: &mut Out) -> Played {
     let (from, by) = halves(rest, ", ")?;
-    let pool = name("east")?;
-    let machine = Machine {
-        owner: Some(pool),
-        erase: Some(Erase::Full),
-        boot: Some(Number::FIRST),
-        ..machine_in(pool, status(from)?)
-    };
-    let before = beginning(machine, LastIssued::NONE);
-    print_kept(out, &taken(&before, signal(by)?, moment(1000)?).machine);
+    let mut before = beginning(name("east")?, status(from)?, LastIssued::NONE);
+    let mut machine = before.machine;
+    machine.owner = Some(machine.pool);
+    machine.erase = Some(Erase::Full);
+    machine.boot = Some(Number::FIRST);
+    before.machine = machine;
+    let step = next(&machine, signal(by)?);
+    let after = entered(&before, step, moment(1000)?).machine;
+    let owner = if after.owner.is_some() { "owner" } else { "-" };
+    let erase = if after.erase.is_some() { "erase" } else { "-" };
+    let boot = if after.boot.is_some() { "boot" } else { "-" };
+    out.show(format_args!("{owner} {erase} {boot}"));
     Ok(())
-}
-
-fn operator(name: Name, role: Role) -> Operator {
-    Operator {
-        name,
-        role,
-        digest: Digest::from([0; 32]),
-        enabled: true,
-    }
 }
 
 fn permission(answer: Result<(), Refusal>) -> &'static str {
-    match answer {
-        Ok(()) => "yes",
-        Err(refusal) => refusal.name(),
-    }
+    answer.err().map_or("yes", |refusal| refusal.name())
 }
 
-// The answers to an operator as no member of the pool and as a member.
-fn print_permissions(
-    out: &mut CaseAnswer,
-    who: &str,
-    operator: &Operator,
-    machine: &Machine,
-    action: Action,
-) {
-    out.separate();
-    out.push(who);
-    out.push(permission(may(operator, machine, action, false)));
-    out.push(" ");
-    out.push(permission(may(operator, machine, action, true)));
-}
-
-/// Who may take an action on a machine of alice's: a stranger, the owner and an admin.
-pub fn permissions(rest: &str, out: &mut CaseAnswer) -> Result<(), LineFault> {
+/// Who may take an action on a machine of the owner's: each operator as no member of its pool, and as a member.
+pub fn permissions(rest: &str, out: &mut Out) -> Played {
     let By(action) = signal(rest)? else {
-        return Err(LineFault::Form);
+        return Err(CaseFault::Form);
     };
-    let alice = name("alice")?;
-    let machine = Machine {
-        owner: Some(alice),
-        ..machine_in(name("east")?, Status::Allocated)
-    };
-    let stranger = operator(name("mallory")?, Role::User);
-    let owner = operator(alice, Role::User);
-    let admin = operator(name("root")?, Role::Admin);
-    print_permissions(out, "stranger ", &stranger, &machine, action);
-    print_permissions(out, "owner ", &owner, &machine, action);
-    print_permissions(out, "admin ", &admin, &machine, action);
+    let mut machine = beginning(name("east")?, Status::Allocated, LastIssued::NONE).machine;
+    machine.owner = Some(name("owner")?);
+    for (who, role) in [
+        ("stranger", Role::User),
+        ("owner", Role::User),
+        ("admin", Role::Admin),
+    ] {
+        let operator = Operator {
+            name: name(who)?,
+            role,
+            digest: Digest::from([0; 32]),
+            enabled: true,
+        };
+        let other = permission(may(&operator, &machine, action, false));
+        let member = permission(may(&operator, &machine, action, true));
+        out.show(format_args!("{who} {other}, as a member {member}\n"));
+    }
     Ok(())
 }
 
-fn print_entered(out: &mut CaseAnswer, entered: &Entered) {
-    out.separate();
-    out.push(entered.machine.status.text());
-    out.push(", ");
-    print_deadline(out, &entered.machine);
+fn print_entered(entered: &Entered, out: &mut Out) {
+    out.show(format_args!("{}, ", entered.machine.status.text()));
+    print_deadline(&entered.machine, out);
     if let Some(order) = entered.order {
-        let (number, kind) = (order.number.get(), order.kind.text());
-        out.show(format_args!(", order {number} {kind}"));
+        out.show(format_args!(", order {} {}", order.number.get(), order.kind.text()));
     }
     if let Some(withdrawn) = entered.withdrawn {
-        let number = withdrawn.get();
-        out.show(format_args!(", withdrawn {number}"));
+        out.show(format_args!(", withdrawn {}", withdrawn.get()));
     }
+    out.push("\n");
 }
 
-/// What signals make of a machine in turn, `STATUS, ORDER, SIGNAL at MOMENT, ..`, and its version and the last order at the
-/// end.
-pub fn life(rest: &str, out: &mut CaseAnswer) -> Result<(), LineFault> {
-    let mut parts = rest.split(", ");
-    let (Some(from), Some(order)) = (parts.next(), parts.next()) else {
-        return Err(LineFault::Form);
-    };
-    let Ok(order) = LastIssued::new(number(order)?) else {
-        return Err(LineFault::Form);
-    };
-    let mut at = beginning(machine_in(name("east")?, status(from)?), order);
-    for part in parts {
+/// What signals make of a machine in turn, `STATUS, ORDER, SIGNAL at MOMENT, ..`; then its version and the last order.
+pub fn life(rest: &str, out: &mut Out) -> Played {
+    let (from, rest) = halves(rest, ", ")?;
+    let (order, rest) = halves(rest, ", ")?;
+    let order = LastIssued::new(number(order)?).map_err(|_| CaseFault::Form)?;
+    let mut at = beginning(name("east")?, status(from)?, order);
+    for part in rest.split(", ") {
         let (by, seconds) = halves(part, " at ")?;
-        at = taken(&at, signal(by)?, moment(number(seconds)?)?);
-        print_entered(out, &at);
+        let step = next(&at.machine, signal(by)?);
+        at = entered(&at, step, moment(number(seconds)?)?);
+        print_entered(&at, out);
     }
     let (version, last) = (at.machine.version.get(), at.numbers.order.get());
-    out.show(format_args!("; version {version}, last order {last}"));
+    out.show(format_args!("version {version}, last order {last}"));
     Ok(())
 }

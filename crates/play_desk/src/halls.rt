@@ -1,239 +1,148 @@
-//! The halls of a log, over each store.
-use crate::trials::play_stops;
+//! Halls that cases begin, over a store, and the tables of files.
+use cases::{CaseFault, CaseFile, Comparison, Out, Played, Player, came_of};
+use hall_sql::SqlStore;
+use hall_store::HallStore;
 use hall_types::{Digest, Name};
-use play_files::{Outcome, Task, empty_files, play_in};
-use play_log::{LogFault, admin};
-use play_store::{Asked, FILES, Fault, PlayFault, STOPS, WAYS, Way, play, read_log, write_text};
+use play_files::{Fresh, Tables};
+use play_log::{admin, first, is_arrival};
+use play_store::{Asked, Hall, Looked, Way};
 use std::alloc::Global;
-use std::io::{Read, Write};
 use store_memory::MemoryStore;
 
-/// What a hall is made over.
-#[derive(Clone, Copy)]
-enum Over {
-    Memory,
-    Sqlite,
+// Ada, and the digest of the token abc (SHA-256).
+const ADMIN: &str = "ada ba7816bf8f01cfea414140de5dae2223b00361a396177a9cb410ff61f20015ad";
+
+/// A store over which a new hall can be begun.
+pub trait Begun: HallStore + Drop {
+    /// A new hall with this administrator.
+    fn begin(alloc: Global, name: Name, digest: Digest) -> Result<Self, CaseFault>;
 }
 
-// A hall in memory.
-fn in_memory<W: Write>(
-    alloc: Global,
-    (name, digest): (Name, Digest),
-    lines: &[String],
-    from: usize,
+impl Begun for MemoryStore {
+    fn begin(alloc: Global, name: Name, digest: Digest) -> Result<MemoryStore, CaseFault> {
+        MemoryStore::create(alloc, name, digest).map_err(|_| CaseFault::Memory)
+    }
+}
+
+impl<A: Fresh> Begun for SqlStore<A> {
+    fn begin(alloc: Global, name: Name, digest: Digest) -> Result<SqlStore<A>, CaseFault> {
+        let conn = A::fresh(alloc)?;
+        SqlStore::create(alloc, conn, name, digest).map_err(|_| CaseFault::Memory)
+    }
+}
+
+/// Halls over stores of one kind, one after the other.
+#[derive(Drop)]
+pub struct Halls<S> {
     way: Way,
-    writer: &mut W,
-    asked: &mut Asked,
-) -> Result<(), PlayFault> {
-    match MemoryStore::create(alloc, name, digest) {
-        Ok(store) => {
-            let (done, _) = play(alloc, store, lines, from, way, writer, asked);
-            done
+    /// Absent before the first.
+    hall: Option<Hall<S>>,
+}
+
+impl<S: Begun> Halls<S> {
+    /// Halls whose arrivals are answered in this way.
+    pub fn new(way: Way) -> Halls<S> {
+        Halls { way, hall: None }
+    }
+
+    /// What the halls asked of their stores.
+    pub fn asked(&self) -> Asked {
+        match &self.hall {
+            Some(hall) => hall.asked,
+            None => Asked::default(),
         }
-        Err(_) => Err(PlayFault::Log(LogFault::Memory)),
+    }
+
+    fn begin(&mut self, alloc: Global, words: &str) -> Played {
+        let (name, digest) = admin(if words.is_empty() { ADMIN } else { words })?;
+        let store = S::begin(alloc, name, digest)?;
+        let looked = Looked::nothing(alloc);
+        self.hall = Some(Hall::new(store, self.way, self.asked(), looked));
+        Ok(())
     }
 }
 
-/// Plays a part of the log over empty files, and writes what is answered.
-pub fn play_part<W: Write>(
-    alloc: Global,
-    task: &Task<'_>,
-    writer: &mut W,
-    asked: &mut Asked,
-) -> Result<(), PlayFault> {
-    let Ok(files) = empty_files(alloc) else {
-        return Err(PlayFault::Log(LogFault::Memory));
-    };
-    let mut out = Outcome::none(alloc, *asked);
-    let (_, files) = play_in(alloc, files, task, &mut out);
-    drop(files);
-    *asked = out.asked;
-    if writer.write_all(out.text.as_slice()).is_err() {
-        return Err(PlayFault::Log(LogFault::Io));
+impl<S: Begun> Player for Halls<S> {
+    fn play(&mut self, act: &str, out: &mut Out) -> Played {
+        match (first(act), &mut self.hall) {
+            (("new", words), _) => self.begin(out.alloc(), words),
+            (_, Some(hall)) => hall.play(act, out),
+            (_, None) => Err(CaseFault::Form),
+        }
     }
-    out.done
 }
 
-// A hall of which the first line names the administrator.
-fn play_hall<W: Write>(
-    alloc: Global,
-    over: Over,
-    words: &str,
-    lines: &[String],
-    from: usize,
-    way: Way,
-    writer: &mut W,
-    asked: &mut Asked,
-) -> Result<(), PlayFault> {
-    let Ok(admin) = admin(words) else {
-        let cause = Fault::Arrival;
-        return Err(PlayFault::Line { line: from, cause });
-    };
-    match over {
-        Over::Memory => in_memory(alloc, admin, lines, from, way, writer, asked),
-        Over::Sqlite => {
-            let task = Task::Hall {
-                admin,
-                lines,
-                from,
-                way,
+/// Such halls, where arrivals that stand together are answered by one run.
+#[derive(Drop)]
+pub struct Runs<S> {
+    pub halls: Halls<S>,
+}
+
+impl<S: Begun> Runs<S> {
+    // Answers the arrivals at these places by one run, and compares the answers.
+    fn run(
+        &mut self,
+        file: &CaseFile<'_>,
+        places: &[usize],
+        acts: &[&str],
+        comparison: &mut Comparison,
+    ) -> Played {
+        if let Some(hall) = &mut self.halls.hall
+            && !acts.is_empty()
+        {
+            let answers = hall.run(comparison.alloc(), acts)?;
+            for (at, answer) in places.iter().zip(answers.as_slice()) {
+                comparison.compare(file, *at, answer.as_str());
+            }
+        }
+        Ok(())
+    }
+}
+
+impl<S: Begun> Player for Runs<S> {
+    fn play(&mut self, act: &str, out: &mut Out) -> Played {
+        self.halls.play(act, out)
+    }
+
+    fn play_file(&mut self, file: &CaseFile<'_>, comparison: &mut Comparison) -> Played {
+        let mut places = Vec::new(comparison.alloc());
+        let mut acts = Vec::new(comparison.alloc());
+        for at in 0..file.lines.len() {
+            let Some(act) = file.act(at) else {
+                continue;
             };
-            play_part(alloc, &task, writer, asked)
+            if is_arrival(first(act).0) {
+                places.push(at)?;
+                acts.push(act)?;
+                continue;
+            }
+            self.run(file, places.as_slice(), acts.as_slice(), comparison)?;
+            places.clear();
+            acts.clear();
+            let mut out = Out::new(comparison.alloc());
+            let played = self.halls.play(act, &mut out);
+            comparison.compare(file, at, came_of(played, out)?.as_str());
         }
+        self.run(file, places.as_slice(), acts.as_slice(), comparison)
     }
 }
 
-fn write_asked<W: Write>(alloc: Global, writer: &mut W, asked: Asked) -> Result<(), LogFault> {
-    let Ok(line) = format!(in alloc;
-        "at most {} reads of a script request, {} lists read but for listings\n",
-        asked.reads_of_script, asked.lists
-    ) else {
-        return Err(LogFault::Memory);
-    };
-    write_text(writer, line.as_str())
+/// Files with tables, one after the other.
+#[derive(Drop)]
+pub struct FileTables<A: Fresh> {
+    /// Absent before the first.
+    pub tables: Option<Tables<A>>,
 }
 
-// Each hall of the log over one store, whose desk answers in this way.
-fn play_halls<W: Write>(
-    alloc: Global,
-    over: Over,
-    lines: &[String],
-    way: Way,
-    writer: &mut W,
-    asked: &mut Asked,
-) -> Result<(), PlayFault> {
-    for (at, text) in lines.iter().enumerate() {
-        let text = text.as_str();
-        if text == FILES {
-            break;
+impl<A: Fresh> Player for FileTables<A> {
+    fn play(&mut self, act: &str, out: &mut Out) -> Played {
+        if act == "new" {
+            self.tables = Some(Tables::new(out.alloc(), A::fresh(out.alloc())?));
+            return Ok(());
         }
-        let from = at.saturating_add(1);
-        let head = if at == 0 {
-            Some(text)
-        } else {
-            text.strip_prefix("new ")
-        };
-        if let Some(words) = head {
-            play_hall(alloc, over, words, lines, from, way, writer, asked)?;
+        match &mut self.tables {
+            Some(tables) => tables.play(act, out),
+            None => Err(CaseFault::Form),
         }
     }
-    Ok(())
-}
-
-// The first line of two texts that isn't the same in both, counted from 1.
-fn first_other(text: &[u8], other: &[u8]) -> Option<usize> {
-    let mut line = 1usize;
-    for (octet, another) in text.iter().zip(other) {
-        if octet != another {
-            return Some(line);
-        }
-        if *octet == b'\n' {
-            line = line.saturating_add(1);
-        }
-    }
-    if text.len() == other.len() {
-        return None;
-    }
-    Some(line)
-}
-
-// Plays the halls in another way, and compares what is written for them with what is written where each arrival is answered by itself.
-fn compare(
-    alloc: Global,
-    over: Over,
-    lines: &[String],
-    way: Way,
-    alone: &[u8],
-    asked: &mut Asked,
-) -> Result<(), PlayFault> {
-    let mut text = Vec::new(alloc);
-    let done = play_halls(alloc, over, lines, way, &mut text, asked);
-    let other = first_other(text.as_slice(), alone);
-    drop(text);
-    done?;
-    match other {
-        Some(line) => Err(PlayFault::Line {
-            line,
-            cause: Fault::Way,
-        }),
-        None => Ok(()),
-    }
-}
-
-fn play_ways<W: Write>(
-    alloc: Global,
-    over: Over,
-    lines: &[String],
-    alone: &[u8],
-    writer: &mut W,
-) -> Result<(), PlayFault> {
-    let mut asked = Asked::NONE;
-    compare(alloc, over, lines, Way::Runs, alone, &mut asked)?;
-    compare(alloc, over, lines, Way::Steps, alone, &mut asked)?;
-    let line = format!(in alloc;
-        "{} arrivals in {} runs, and {} events in steps, are answered as by themselves\n",
-        asked.arrivals, asked.runs, asked.steps
-    );
-    let Ok(line) = line else {
-        return Err(PlayFault::Log(LogFault::Memory));
-    };
-    write_text(writer, line.as_str())?;
-    Ok(())
-}
-
-// Each hall of the log over one store, and then what the desk asked; where the log has a line `== ways`, then once more in each other way.
-fn play_store<W: Write>(
-    alloc: Global,
-    over: Over,
-    lines: &[String],
-    writer: &mut W,
-) -> Result<(), PlayFault> {
-    let mut asked = Asked::NONE;
-    play_halls(alloc, over, lines, Way::Alone, writer, &mut asked)?;
-    write_asked(alloc, writer, asked)?;
-    if !lines.iter().any(|line| line.as_str() == WAYS) {
-        return Ok(());
-    }
-    let mut text = Vec::new(alloc);
-    let mut done = play_halls(alloc, over, lines, Way::Alone, &mut text, &mut asked);
-    if done.is_ok() {
-        done = play_ways(alloc, over, lines, text.as_slice(), writer);
-    }
-    drop(text);
-    done
-}
-
-// The files after the line `== files`, and what is played while something stops after the line `== stops`, if they are there.
-fn play_files<W: Write>(alloc: Global, lines: &[String], writer: &mut W) -> Result<(), PlayFault> {
-    let mut is_file = false;
-    for (at, text) in lines.iter().enumerate() {
-        let text = text.as_str();
-        let from = at.saturating_add(1);
-        if text == STOPS {
-            write_text(writer, "== stops\n")?;
-            return play_stops(alloc, lines, from, writer);
-        }
-        if text == FILES {
-            is_file = true;
-            write_text(writer, "== files\n")?;
-        }
-        if is_file && text == "new" {
-            play_part(alloc, &Task::File { lines, from }, writer, &mut Asked::NONE)?;
-        }
-    }
-    Ok(())
-}
-
-/// Plays a log over halls in memory, and then over halls in SQLite, and writes each line's answer.
-pub fn play_twice<R: Read + Drop, W: Write>(
-    alloc: Global,
-    reader: R,
-    writer: &mut W,
-) -> Result<(), PlayFault> {
-    let lines = read_log(alloc, reader)?;
-    let lines = lines.as_slice();
-    play_store(alloc, Over::Memory, lines, writer)?;
-    write_text(writer, "== the same log over the store in SQLite\n")?;
-    play_store(alloc, Over::Sqlite, lines, writer)?;
-    play_files(alloc, lines, writer)
 }

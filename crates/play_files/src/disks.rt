@@ -1,7 +1,7 @@
 //! The two files of a hall on disks in memory, which may stop; what they hold, and what a crash leaves of it. Each function that has a
 //! connection takes one layer of its type: one over all of them takes a minute to prove.
-use play_store::Fault;
-use sqlite::{Connection, FileStore, Files, Options};
+use cases::CaseFault;
+use sqlite::{Alter, Connection, FileStore, Files, Options};
 use sqlite_disk::{Crash, Disk, Fuse, Memory};
 use std::alloc::{AllocError, Global};
 use std::io;
@@ -47,6 +47,13 @@ impl Image {
         }
     }
 
+    pub fn copy(&self, alloc: Global) -> Result<Image, AllocError> {
+        Ok(Image {
+            log: copy(alloc, self.log.as_slice())?,
+            db: copy(alloc, self.db.as_slice())?,
+        })
+    }
+
     /// What two files hold now.
     pub fn of(alloc: Global, files: &Disks) -> Result<Image, AllocError> {
         Ok(Image {
@@ -56,7 +63,7 @@ impl Image {
     }
 
     /// Files with these octets, of which one may stop after so many calls.
-    pub fn disks(&self, alloc: Global, which: Which, calls: u64) -> Result<Disks, Fault> {
+    pub fn disks(&self, alloc: Global, which: Which, calls: u64) -> Result<Disks, CaseFault> {
         let (log_calls, db_calls) = match which {
             Which::Log => (calls, u64::MAX),
             Which::File => (u64::MAX, calls),
@@ -66,14 +73,9 @@ impl Image {
             disk_with(alloc, self.db.as_slice(), db_calls),
         ) {
             (Ok(log), Ok(db)) => Ok(Files { log, db }),
-            _ => Err(Fault::Memory),
+            _ => Err(CaseFault::Memory),
         }
     }
-}
-
-/// Two empty files on disks that don't stop.
-pub fn empty_files(alloc: Global) -> Result<Disks, Fault> {
-    Image::empty(alloc).disks(alloc, Which::Log, u64::MAX)
 }
 
 /// A connection over files, or what is left of them.
@@ -87,6 +89,32 @@ pub fn connect<D: Disk + Drop>(
     match Connection::open_files(alloc, files, Options::new(1)) {
         Ok(conn) => Ok(conn),
         Err((_, left)) => Err(left.into_files()),
+    }
+}
+
+/// A disk of which a new one can be made.
+pub trait Made: Disk + Drop {
+    /// An empty disk that doesn't stop.
+    fn made(alloc: Global) -> Result<Self, CaseFault>;
+}
+
+impl Made for Fuse<Memory> {
+    fn made(alloc: Global) -> Result<Fuse<Memory>, CaseFault> {
+        disk_with(alloc, &[], u64::MAX).map_err(|_| CaseFault::Memory)
+    }
+}
+
+/// A store of SQLite of which a new one can be opened.
+pub trait Fresh: Alter + Drop {
+    /// A connection over no tables.
+    fn fresh(alloc: Global) -> Result<Connection<Self>, CaseFault>;
+}
+
+impl<D: Made> Fresh for FileStore<D> {
+    fn fresh(alloc: Global) -> Result<Connection<FileStore<D>>, CaseFault> {
+        let log = D::made(alloc)?;
+        let db = D::made(alloc)?;
+        connect(alloc, Files { log, db }).map_err(|_| CaseFault::Memory)
     }
 }
 

@@ -1,26 +1,27 @@
-//! Lines over a hall's files, of which one stops. After it the files are opened again: they have the hall before the line that
-//! wasn't answered or the hall after it, all lines before it are kept, and that line, played again, is answered as it was without
+//! Acts over a hall's files, of which one stops. After it the files are opened again: they have the hall before the act that
+//! wasn't answered or the hall after it, all acts before it are kept, and that act, played again, is answered as it was without
 //! a stop, or as its repeat.
-use crate::disks::{Image, Which, crash};
-use crate::tasks::{Outcome, Task, play_in};
-use play_store::{Asked, Fault};
+use crate::disks::{Disks, Image, Which, close, connect, crash};
+use crate::tables::Tables;
+use cases::{CaseFault, Out, Played, Player, came_of};
+use sqlite::{Alter, Connection, FileStore, Files};
+use sqlite_disk::Disk;
 use std::alloc::Global;
-use std::mem;
 
 const MAX_TURNS: u64 = 2_000;
 
-/// Lines that are played over one connection, and what each of them does over files that don't stop, in their order.
+/// Acts that are played over one connection, and what each of them does over files that don't stop, in their order.
 #[derive(Drop)]
 pub struct Run<'a> {
-    /// The line by which halls are compared.
+    /// The act by which halls are compared.
     look: &'a str,
     /// What it prints of the hall before them.
     before: String,
-    texts: Vec<String>,
+    acts: Vec<&'a str>,
     pub answers: Vec<String>,
     /// The answers to their repeats.
     pub repeats: Vec<String>,
-    /// What a look at the hall after them prints.
+    /// What a look at the hall after each prints.
     halls: Vec<String>,
 }
 
@@ -33,77 +34,160 @@ pub enum Seen {
     Wrong(u64),
 }
 
-// The answer to a line over files that don't stop, and what they hold then.
-fn played(alloc: Global, image: &Image, text: &str) -> Result<(String, Image), Fault> {
-    let files = image.disks(alloc, Which::Log, u64::MAX)?;
-    let mut out = Outcome::none(alloc, Asked::NONE);
-    let (_, files) = play_in(alloc, files, &Task::Line(text), &mut out);
-    let answer = mem::replace(&mut out.line, String::new(alloc));
-    drop(out);
-    let image = Image::of(alloc, &files);
-    drop(files);
-    Ok((answer, image?))
+impl Seen {
+    /// Prints it after what it is about.
+    pub fn print(self, out: &mut Out, what: &str) {
+        out.push(what);
+        match self {
+            Seen::Right => out.push(": right\n"),
+            Seen::Wrong(amount) => out.show(format_args!(": wrong after {amount}\n")),
+        }
+    }
 }
 
-fn answer_of(alloc: Global, image: &Image, text: &str) -> Result<String, Fault> {
-    let (answer, _) = played(alloc, image, text)?;
+/// What came of acts over files.
+#[derive(Drop)]
+struct Outcome {
+    /// How many were answered as they were to be, and the last answer.
+    answered: usize,
+    answer: String,
+    is_closed: bool,
+}
+
+fn came<P: Player>(alloc: Global, player: &mut P, act: &str) -> Result<String, CaseFault> {
+    let mut out = Out::new(alloc);
+    let played = player.play(act, &mut out);
+    came_of(played, out)
+}
+
+// Acts one after the other, up to the first that isn't answered so, where answers are given.
+fn play_acts<S: Alter + Drop>(
+    alloc: Global,
+    tables: &mut Tables<S>,
+    acts: &[&str],
+    answers: &[String],
+    outcome: &mut Outcome,
+) -> Played {
+    for (at, act) in acts.iter().enumerate() {
+        outcome.answer = came(alloc, tables, act)?;
+        if let Some(answer) = answers.get(at)
+            && answer.as_str() != outcome.answer.as_str()
+        {
+            return Ok(());
+        }
+        outcome.answered = at.saturating_add(1);
+    }
+    Ok(())
+}
+
+fn over_connection<D: Disk + Drop>(
+    alloc: Global,
+    conn: Connection<FileStore<D>>,
+    acts: &[&str],
+    answers: &[String],
+    outcome: &mut Outcome,
+) -> Option<Files<D>> {
+    let mut tables = Tables::new(alloc, conn);
+    let _ = play_acts(alloc, &mut tables, acts, answers, outcome);
+    let (is_closed, files) = close(tables.into_connection()?);
+    outcome.is_closed = is_closed;
+    Some(files)
+}
+
+fn over_files<D: Disk + Drop>(
+    alloc: Global,
+    files: Files<D>,
+    acts: &[&str],
+    answers: &[String],
+    outcome: &mut Outcome,
+) -> Option<Files<D>> {
+    match connect(alloc, files) {
+        Ok(conn) => over_connection(alloc, conn, acts, answers, outcome),
+        Err(files) => Some(files),
+    }
+}
+
+// Plays acts over files, and closes them.
+fn play_in(
+    alloc: Global,
+    files: Disks,
+    acts: &[&str],
+    answers: &[String],
+) -> Result<(Outcome, Disks), CaseFault> {
+    let mut outcome = Outcome {
+        answered: 0,
+        answer: String::new(alloc),
+        is_closed: false,
+    };
+    match over_files(alloc, files, acts, answers, &mut outcome) {
+        Some(files) => Ok((outcome, files)),
+        None => Err(CaseFault::Io),
+    }
+}
+
+// The answer to an act over files that don't stop, and what they hold then.
+fn played(alloc: Global, image: &Image, act: &str) -> Result<(String, Image), CaseFault> {
+    let files = image.disks(alloc, Which::Log, u64::MAX)?;
+    let (outcome, files) = play_in(alloc, files, &[act], &[])?;
+    Ok((outcome.answer, Image::of(alloc, &files)?))
+}
+
+fn answer_of(alloc: Global, image: &Image, act: &str) -> Result<String, CaseFault> {
+    let (answer, _) = played(alloc, image, act)?;
     Ok(answer)
 }
 
-// Adds a line, played over files that don't stop, and gives what they hold after it.
-fn push_step(alloc: Global, run: &mut Run<'_>, image: &Image, text: &str) -> Result<Image, Fault> {
-    let (answer, then) = played(alloc, image, text)?;
-    run.texts.push(String::from_str(alloc, text)?)?;
+// Adds an act, played over files that don't stop, and gives what they hold after it.
+fn push_step<'a>(
+    alloc: Global,
+    run: &mut Run<'a>,
+    image: &Image,
+    act: &'a str,
+) -> Result<Image, CaseFault> {
+    let (answer, then) = played(alloc, image, act)?;
+    run.acts.push(act)?;
     run.answers.push(answer)?;
-    run.repeats.push(answer_of(alloc, &then, text)?)?;
+    run.repeats.push(answer_of(alloc, &then, act)?)?;
     run.halls.push(answer_of(alloc, &then, run.look)?)?;
     Ok(then)
 }
 
 impl<'a> Run<'a> {
-    /// What lines do over files that hold this, and what they hold after them. ` && ` stands between two lines.
+    /// What acts do over files that hold this, and what they hold after them. ` && ` stands between two acts.
     pub fn new(
         alloc: Global,
         image: &Image,
         look: &'a str,
-        texts: &str,
-    ) -> Result<(Run<'a>, Image), Fault> {
+        acts: &'a str,
+    ) -> Result<(Run<'a>, Image), CaseFault> {
         let mut run = Run {
             look,
             before: answer_of(alloc, image, look)?,
-            texts: Vec::new(alloc),
+            acts: Vec::new(alloc),
             answers: Vec::new(alloc),
             repeats: Vec::new(alloc),
             halls: Vec::new(alloc),
         };
-        let (text, mut rest) = first_line(texts);
-        let mut then = push_step(alloc, &mut run, image, text)?;
-        for _ in 0..texts.len() {
-            if rest.is_empty() {
-                break;
-            }
-            let (text, after) = first_line(rest);
-            rest = after;
-            then = push_step(alloc, &mut run, &then, text)?;
+        let mut then = image.copy(alloc)?;
+        for act in acts.split(" && ") {
+            then = push_step(alloc, &mut run, &then, act)?;
         }
         Ok((run, then))
     }
 
+    // What a look at the hall after so many acts prints.
     fn hall_after(&self, answered: usize) -> &str {
-        match answered.checked_sub(1) {
-            Some(at) => match self.halls.get(at) {
-                Some(hall) => hall.as_str(),
-                None => self.before.as_str(),
-            },
+        match answered.checked_sub(1).and_then(|at| self.halls.get(at)) {
+            Some(hall) => hall.as_str(),
             None => self.before.as_str(),
         }
     }
 
-    // Whether files that a crash left have the hall after so many lines, or after one more, and go on as they do without a stop.
-    fn is_right(&self, alloc: Global, image: &Image, answered: usize) -> Result<bool, Fault> {
+    // Whether files that a crash left have the hall after so many acts, or after one more, and go on as they do without a stop.
+    fn is_right(&self, alloc: Global, image: &Image, answered: usize) -> Result<bool, CaseFault> {
         let hall = answer_of(alloc, image, self.look)?;
         let is_before = hall.as_str() == self.hall_after(answered);
-        if answered == self.texts.len() {
+        if answered == self.acts.len() {
             return Ok(is_before);
         }
         if hall.as_str() == self.hall_after(answered.saturating_add(1)) {
@@ -112,18 +196,18 @@ impl<'a> Run<'a> {
         Ok(is_before && self.is_answered(alloc, image, answered, self.answers.as_slice())?)
     }
 
-    // Whether a line over files that hold this is answered as these answers say, and leaves the hall after it.
+    // Whether an act over files that hold this is answered as these answers say, and leaves the hall after it.
     fn is_answered(
         &self,
         alloc: Global,
         image: &Image,
         at: usize,
         answers: &[String],
-    ) -> Result<bool, Fault> {
-        let (Some(text), Some(answer)) = (self.texts.get(at), answers.get(at)) else {
+    ) -> Result<bool, CaseFault> {
+        let (Some(act), Some(answer)) = (self.acts.get(at), answers.get(at)) else {
             return Ok(false);
         };
-        let (found, then) = played(alloc, image, text.as_str())?;
+        let (found, then) = played(alloc, image, act)?;
         let hall = answer_of(alloc, &then, self.look)?;
         let is_after = hall.as_str() == self.hall_after(at.saturating_add(1));
         Ok(found.as_str() == answer.as_str() && is_after)
@@ -136,20 +220,16 @@ impl<'a> Run<'a> {
         image: &Image,
         which: Which,
         calls: u64,
-    ) -> Result<(bool, bool), Fault> {
+    ) -> Result<(bool, bool), CaseFault> {
         let files = image.disks(alloc, which, calls)?;
-        let steps = Task::Steps {
-            texts: self.texts.as_slice(),
-            answers: self.answers.as_slice(),
-        };
-        let mut out = Outcome::none(alloc, Asked::NONE);
-        let (is_closed, files) = play_in(alloc, files, &steps, &mut out);
-        let answered = out.answered;
-        drop(out);
+        let (acts, answers) = (self.acts.as_slice(), self.answers.as_slice());
+        let (outcome, files) = play_in(alloc, files, acts, answers)?;
+        let (answered, is_closed) = (outcome.answered, outcome.is_closed);
+        drop(outcome);
         let (synced, partly) = crash(alloc, files, calls)?;
         let is_right = self.is_right(alloc, &synced, answered)?
             && self.is_right(alloc, &partly, answered)?;
-        Ok((is_right, is_closed && answered == self.texts.len()))
+        Ok((is_right, is_closed && answered == self.acts.len()))
     }
 
     /// Stops ever later, until nothing stops. Where nothing stops at the first moment, that is wrong.
@@ -159,7 +239,7 @@ impl<'a> Run<'a> {
         image: &Image,
         which: Which,
         step: u64,
-    ) -> Result<Seen, Fault> {
+    ) -> Result<Seen, CaseFault> {
         for turn in 0..MAX_TURNS {
             let calls = step.saturating_mul(turn);
             let (is_right, is_ended) = self.stop(alloc, image, which, calls)?;
@@ -171,13 +251,5 @@ impl<'a> Run<'a> {
             }
         }
         Ok(Seen::Wrong(u64::MAX))
-    }
-}
-
-/// The first of the lines between which ` && ` stands, and those after it.
-pub fn first_line(texts: &str) -> (&str, &str) {
-    match texts.split_once(" && ") {
-        Some((text, rest)) => (text, rest),
-        None => (texts, ""),
     }
 }

@@ -1,79 +1,114 @@
 //! Values in cases.
-use crate::line::LineFault;
-use hall_types::{LastIssued, Moment, Name, Number, Numbers, Port, Version};
+use cases::CaseFault;
+use hall_types::{
+    Arch, Digest, LastIssued, MacAddress, MachineUuid, Moment, Name, Number, Numbers, Port,
+    RequestKey, Token, Version,
+};
+use hex::FromHex;
 use pxe_vendor::Place;
 use std::alloc::Global;
 
 /// A number in decimal digits.
-pub fn number(word: &str) -> Result<u64, LineFault> {
-    match word.parse::<u64>() {
-        Ok(number) => Ok(number),
-        Err(_) => Err(LineFault::Form),
-    }
+pub fn number(word: &str) -> Result<u64, CaseFault> {
+    word.parse::<u64>().map_err(|_| CaseFault::Form)
 }
 
 /// A number of a machine, a boot or an order.
-pub fn issued(number: u64) -> Result<Number, LineFault> {
-    match Number::new(number) {
-        Ok(number) => Ok(number),
-        Err(_) => Err(LineFault::Form),
-    }
+pub fn issued(number: u64) -> Result<Number, CaseFault> {
+    Number::new(number).map_err(|_| CaseFault::Form)
 }
 
 /// The version with this number.
-pub fn version(number: u64) -> Result<Version, LineFault> {
-    match Version::new(number) {
-        Ok(version) => Ok(version),
-        Err(_) => Err(LineFault::Form),
-    }
+pub fn version(number: u64) -> Result<Version, CaseFault> {
+    Version::new(number).map_err(|_| CaseFault::Form)
 }
 
 /// The moment after so many seconds.
-pub fn moment(seconds: u64) -> Result<Moment, LineFault> {
-    match Moment::new(seconds) {
-        Ok(moment) => Ok(moment),
-        Err(_) => Err(LineFault::Form),
-    }
+pub fn moment(seconds: u64) -> Result<Moment, CaseFault> {
+    Moment::new(seconds).map_err(|_| CaseFault::Form)
 }
 
 /// The name with this text.
-pub fn name(text: &str) -> Result<Name, LineFault> {
-    match Name::new(text) {
-        Ok(name) => Ok(name),
-        Err(_) => Err(LineFault::Form),
-    }
+pub fn name(text: &str) -> Result<Name, CaseFault> {
+    Name::new(text).map_err(|_| CaseFault::Form)
 }
 
 /// The last numbers of a hall, of which the last machine's is said.
-pub fn numbers(machine: &str) -> Result<Numbers, LineFault> {
+pub fn numbers(machine: &str) -> Result<Numbers, CaseFault> {
     match LastIssued::new(number(machine)?) {
         Ok(machine) => Ok(Numbers {
             machine,
             boot: LastIssued::NONE,
             order: LastIssued::NONE,
         }),
-        Err(_) => Err(LineFault::Form),
+        Err(_) => Err(CaseFault::Form),
     }
 }
 
 /// The port with this word.
-pub fn port(word: &str) -> Result<Port, LineFault> {
+pub fn port(word: &str) -> Result<Port, CaseFault> {
     match word {
         "discover" => Ok(Port::Discover),
         "boot" => Ok(Port::Boot),
-        _ => Err(LineFault::Form),
+        _ => Err(CaseFault::Form),
     }
 }
 
 /// The boot server 192.0.2.1, the next server 192.0.2.2 and the host hall.example.
-pub fn place(alloc: Global) -> Result<Place, LineFault> {
+pub fn place(alloc: Global) -> Result<Place, CaseFault> {
     match Place::new(alloc, [192, 0, 2, 1], [192, 0, 2, 2], "hall.example") {
         Ok(place) => Ok(place),
-        Err(_) => Err(LineFault::Memory),
+        Err(_) => Err(CaseFault::Memory),
     }
 }
 
 /// The two parts of a text that a separator parts.
-pub fn halves<'a>(text: &'a str, separator: &str) -> Result<(&'a str, &'a str), LineFault> {
-    text.split_once(separator).ok_or(LineFault::Form)
+pub fn halves<'a>(text: &'a str, separator: &str) -> Result<(&'a str, &'a str), CaseFault> {
+    text.split_once(separator).ok_or(CaseFault::Form)
+}
+
+/// The first word, and the words after it.
+pub fn first(words: &str) -> (&str, &str) {
+    words.split_once(' ').unwrap_or((words, ""))
+}
+
+/// The architecture with this word.
+pub fn arch(word: &str) -> Result<Arch, CaseFault> {
+    word.parse::<Arch>().map_err(|_| CaseFault::Form)
+}
+
+/// The hardware address with these digits.
+pub fn mac(word: &str) -> Result<MacAddress, CaseFault> {
+    match wire_mac::read(word.as_bytes()) {
+        Some(octets) => Ok(MacAddress::from(octets)),
+        None => Err(CaseFault::Form),
+    }
+}
+
+// 16 octets in hexadecimal.
+fn sixteen(word: &str) -> Result<[u8; 16], CaseFault> {
+    <[u8; 16] as FromHex>::from_hex(word).map_err(|_| CaseFault::Form)
+}
+
+/// The machine's UUID with these 32 digits.
+pub fn uuid(word: &str) -> Result<MachineUuid, CaseFault> {
+    Ok(MachineUuid::from(sixteen(word)?))
+}
+
+/// The request key with these 32 digits.
+pub fn key(word: &str) -> Result<RequestKey, CaseFault> {
+    Ok(RequestKey::from(sixteen(word)?))
+}
+
+/// The boot's token with these 32 digits.
+pub fn token(word: &str) -> Result<Token, CaseFault> {
+    Ok(Token::from(sixteen(word)?))
+}
+
+/// The digest with these 64 digits.
+pub fn digest(word: &str) -> Result<Digest, CaseFault> {
+    match <[u8; 32] as FromHex>::from_hex(word) {
+        Ok(octets) => Ok(Digest::from(octets)),
+        Err(_) => Err(CaseFault::Form),
+    }
 }

@@ -1,50 +1,38 @@
-//! Answers, and the octets of responses.
+//! Answers and receipts, and the octets of their responses.
 ghost use Rattle.std.specs.Prelude.{IsTrue};
-ghost use Rattle.hall_http.specs.Response.{IsResponse};
+ghost use Rattle.hall_http.specs.Response.{IsStatus};
 
+use cases::{CaseFault, Out, Played};
 use hall_events::{MachineList, Reply};
 use hall_http::{UNAVAILABLE, bytes_of};
+use hall_types::OrderKind::{self, Cycle, Off};
 use hall_types::{
-    Arch, BootCount, Erase, Interface, MacAddress, Machine, MachineUuid, Name, Number, Order,
-    OrderKind, OrderStage, Status, Version,
+    Arch, BootCount, Erase, Interface, MacAddress, Machine, Name, Number, Order, OrderStage,
+    Receipt, RequestKey, Status, Text, Version,
 };
 use ipxe_script::read;
-use play_log::{CaseAnswer, LineFault, issued, name, version};
-use std::alloc::{AllocError, Global};
+use play_log::{halves, issued, name, uuid, version};
+use std::alloc::Global;
 
-fn is_response(reply: &Reply) -> bool
-    ensures { IsTrue result → IsResponse reply.now }
+fn is_status(status: u16) -> bool
+    ensures { IsTrue result → IsStatus status }
 {
-    match reply {
-        Reply::Http { status, .. } => matches!(
-            *status,
-            200 | 400 | 401 | 403 | 404 | 405 | 409 | 410 | 411 | 412 | 413 | 423 | 503
-        ),
-        _ => false,
-    }
+    matches!(
+        status,
+        200 | 400 | 401 | 403 | 404 | 405 | 409 | 410 | 411 | 412 | 413 | 423 | 503
+    )
 }
 
-/// Prints the octets of an answer's response.
-pub fn print_response(
-    alloc: Global,
-    out: &mut CaseAnswer,
-    reply: &Reply,
-) -> Result<(), AllocError> {
-    if let Reply::File(file) = reply {
-        out.push("file ");
-        out.push(file.as_str());
-    } else if is_response(reply) {
-        let octets = bytes_of(alloc, reply)?;
-        out.escaped(octets.as_slice());
-    } else {
-        out.push("no response");
+fn print_response(reply: &Reply, out: &mut Out) -> Played {
+    match reply {
+        Reply::Http { status, .. } if is_status(*status) => {
+            out.escaped(bytes_of(out.alloc(), reply)?.as_slice());
+        }
+        Reply::File(file) => out.show(format_args!("file {}", file.as_str())),
+        _ => out.push("no response"),
     }
     Ok(())
 }
-
-const FIRST: [u8; 6] = [0x52, 0x54, 0, 0x12, 0x34, 0x56];
-
-const SECOND: [u8; 6] = [2, 0, 0, 0, 0, 10];
 
 fn ready(pool: Name, version: Version) -> Machine {
     Machine {
@@ -67,117 +55,110 @@ fn ready(pool: Name, version: Version) -> Machine {
     }
 }
 
-const UUID: [u8; 16] = [
-    0x00, 0x11, 0x22, 0x33, 0x44, 0x55, 0x66, 0x77, 0x88, 0x99, 0xaa, 0xbb, 0xcc, 0xdd, 0xee, 0xff,
-];
+fn interfaces() -> [Interface; 2] {
+    let machine = Number::FIRST;
+    let interface = |mac| Interface { mac, machine };
+    let one = MacAddress::from([0x52, 0x54, 0, 0x12, 0x34, 0x56]);
+    let two = MacAddress::from([2, 0, 0, 0, 0, 10]);
+    [interface(one), interface(two)]
+}
 
-// Such a machine whose disks couldn't be erased.
-fn failed(ready: Machine, owner: Name, image: Name, boot: Number, order: Number) -> Machine {
-    Machine {
-        uuid: Some(MachineUuid::from(UUID)),
+fn order(number: u64, kind: OrderKind) -> Result<Order, CaseFault> {
+    Ok(Order {
+        number: issued(number)?,
+        machine: issued(7)?,
+        kind,
+        stage: OrderStage::Waiting,
+    })
+}
+
+// A machine whose disks couldn't be erased.
+fn one_machine(alloc: Global, is_whole: bool) -> Result<Reply, CaseFault> {
+    let machine = Machine {
+        uuid: Some(uuid("00112233445566778899aabbccddeeff")?),
         status: Status::FailedDiskErasing,
-        owner: Some(owner),
-        image: Some(image),
+        owner: Some(name("olga")?),
+        image: Some(name("jammy")?),
         erase: Some(Erase::Quick),
         locked: true,
         deadline: Some(4700),
-        boot: Some(boot),
-        waiting: Some(order),
-        ..ready
-    }
-}
-
-fn interface(mac: [u8; 6]) -> Interface {
-    Interface {
-        mac: MacAddress::from(mac),
-        machine: Number::FIRST,
-    }
-}
-
-fn made(reply: Result<Reply, AllocError>) -> Result<Reply, LineFault> {
-    reply.ok().ok_or(LineFault::Memory)
-}
-
-fn orders(alloc: Global) -> Result<Reply, LineFault> {
-    let cycle = Order {
-        number: Number::FIRST,
-        machine: issued(7)?,
-        kind: OrderKind::Cycle,
-        stage: OrderStage::Waiting,
+        boot: Some(issued(4)?),
+        waiting: Some(issued(5)?),
+        ..ready(name("lab")?, version(13)?)
     };
-    let off = Order {
-        number: issued(2)?,
-        kind: OrderKind::Off,
-        ..cycle
-    };
-    made(Reply::orders(alloc, &[cycle, off]))
-}
-
-fn one_machine(alloc: Global, is_whole: bool) -> Result<Reply, LineFault> {
-    let ready = ready(name("lab")?, version(13)?);
-    let machine = failed(ready, name("olga")?, name("jammy")?, issued(4)?, issued(5)?);
     if is_whole {
-        let interfaces = [interface(FIRST), interface(SECOND)];
-        return made(Reply::one_machine(alloc, &machine, &interfaces));
+        return Ok(Reply::one_machine(alloc, &machine, &interfaces())?);
     }
-    made(Reply::machine(alloc, &machine))
+    Ok(Reply::machine(alloc, &machine)?)
 }
 
-fn listed(alloc: Global, machine: &Machine) -> Result<Reply, AllocError> {
-    let interfaces = [interface(FIRST), interface(SECOND)];
-    let mut list = MachineList::new(alloc, 2)?;
-    list.push(alloc, machine, &[])?;
-    list.push(alloc, machine, &interfaces)?;
-    list.finish()
-}
-
-fn machines(alloc: Global) -> Result<Reply, LineFault> {
+// A machine that is ready, without interfaces and with two.
+fn machines(alloc: Global) -> Result<Reply, CaseFault> {
     let machine = ready(name("lab")?, version(14)?);
-    Ok(listed(alloc, &machine)?)
+    let mut list = MachineList::new(alloc, 2)?;
+    list.push(alloc, &machine, &[])?;
+    list.push(alloc, &machine, &interfaces())?;
+    Ok(list.finish()?)
 }
 
-fn script(alloc: Global, text: &str) -> Result<Reply, LineFault> {
-    match read(alloc, text) {
-        Ok(script) => Ok(Reply::script(alloc, &script)?),
-        Err(_) => Err(LineFault::Form),
-    }
+fn script(alloc: Global, text: &str) -> Result<Reply, CaseFault> {
+    let script = read(alloc, text).map_err(|_| CaseFault::Memory)?;
+    Ok(Reply::script(alloc, &script)?)
 }
 
-fn no_machines(alloc: Global) -> Result<Reply, AllocError> {
-    MachineList::new(alloc, 0)?.finish()
-}
-
-fn loader(alloc: Global) -> Result<Reply, AllocError> {
-    Ok(Reply::boot_file(String::from_str(alloc, "ipxe.efi")?))
-}
-
-fn reply_of(alloc: Global, word: &str) -> Result<Reply, LineFault> {
-    match word {
-        "done" => made(Reply::done(alloc)),
-        "counted" => made(Reply::counted(alloc)),
-        "repeated" => made(Reply::repeated(alloc)),
-        "gone" => made(Reply::gone(alloc, Number::FIRST)),
-        "exit" => script(alloc, "#!ipxe\nexit\n"),
-        "poweroff" => script(alloc, "#!ipxe\npoweroff\n"),
-        "orders" => orders(alloc),
-        "no orders" => made(Reply::orders(alloc, &[])),
-        "machine" => one_machine(alloc, false),
-        "one machine" => one_machine(alloc, true),
-        "machines" => machines(alloc),
-        "no machines" => made(no_machines(alloc)),
-        "loader" => made(loader(alloc)),
-        _ => Err(LineFault::Form),
-    }
+fn reply_of(alloc: Global, word: &str) -> Result<Reply, CaseFault> {
+    let reply = match word {
+        "done" => Reply::done(alloc),
+        "counted" => Reply::counted(alloc),
+        "repeated" => Reply::repeated(alloc),
+        "gone" => Reply::gone(alloc, Number::FIRST),
+        "exit" => return script(alloc, "#!ipxe\nexit\n"),
+        "poweroff" => return script(alloc, "#!ipxe\npoweroff\n"),
+        "orders" => Reply::orders(alloc, &[order(1, Cycle)?, order(2, Off)?]),
+        "no orders" => Reply::orders(alloc, &[]),
+        "machine" => return one_machine(alloc, false),
+        "one machine" => return one_machine(alloc, true),
+        "machines" => return machines(alloc),
+        "no machines" => MachineList::new(alloc, 0)?.finish(),
+        "loader" => Ok(Reply::boot_file(String::from_str(alloc, "ipxe.efi")?)),
+        _ => return Err(CaseFault::Form),
+    };
+    Ok(reply?)
 }
 
 /// The response of an answer.
-pub fn answered(alloc: Global, rest: &str, out: &mut CaseAnswer) -> Result<(), LineFault> {
+pub fn answered(rest: &str, out: &mut Out) -> Played {
     if rest == "unavailable" {
         out.escaped(UNAVAILABLE);
         return Ok(());
     }
-    let reply = reply_of(alloc, rest)?;
-    let printed = print_response(alloc, out, &reply);
-    drop(reply);
-    Ok(printed?)
+    print_response(&reply_of(out.alloc(), rest)?, out)
+}
+
+fn receipt_of(alloc: Global, rest: &str) -> Result<Receipt, CaseFault> {
+    let (status, rest) = halves(rest, " ")?;
+    let (command, body) = halves(rest, " ")?;
+    Ok(Receipt {
+        operator: name("olga")?,
+        key: RequestKey::from([7; 16]),
+        status: status.parse::<u16>().map_err(|_| CaseFault::Form)?,
+        command: Text::from(String::from_str(alloc, command)?),
+        body: Text::from(String::from_str(alloc, body)?),
+    })
+}
+
+/// A copy of a receipt of olga's, `STATUS COMMAND BODY`.
+pub fn receipt(rest: &str, out: &mut Out) -> Played {
+    let copy = receipt_of(out.alloc(), rest)?.copy(out.alloc())?;
+    out.show(format_args!("{} ", copy.operator));
+    out.hex(&copy.key.octets());
+    let (status, command, body) = (copy.status, copy.command.as_str(), copy.body.as_str());
+    out.show(format_args!(" {status} {command} {body}"));
+    Ok(())
+}
+
+/// The response that a receipt keeps, `STATUS COMMAND BODY`.
+pub fn stored(rest: &str, out: &mut Out) -> Played {
+    let receipt = receipt_of(out.alloc(), rest)?;
+    print_response(&Reply::stored(out.alloc(), &receipt)?, out)
 }

@@ -1,205 +1,146 @@
 //! Lines of logs: arrivals that are played, and what a service notes.
 use boot_desk::{FrameView, frame};
+use cases::{CaseFault, Out, Played};
 use desk_lines::{
     Backup, Failures, arrival_text, backup_line, lost_line, moment_text, unstamped_line,
 };
 use desk_values::LogFormat;
 use dhcp_frame::read;
 use hall_desk::{Account, Answer, Arrival, Came, Input, Notes};
-use hall_types::{Moment, Port, Token};
-use play_log::{CaseAnswer, LineFault, halves, moment, number, numbers, octets_of};
-use pxe_vendor::{Octets, client};
+use hall_types::{Client, Port};
+use play_log::{arrival, first, halves, moment, number, numbers};
+use pxe_vendor::{NotServed, client};
 use serve_lines::turn_line;
 use serve_sockets::{Close, Handover, Kind, Said, Turn};
-use std::alloc::{AllocError, Global};
+use std::alloc::Global;
 use std::net::{IpAddr, Ipv4Addr, SocketAddr};
 
-/// Whether a line is an arrival's: `taken`, or its fault.
-pub fn arrival(alloc: Global, rest: &str, out: &mut CaseAnswer) -> Result<(), LineFault> {
-    match play_log::arrival(alloc, rest) {
-        Ok(_) => out.push("taken"),
-        Err(fault) => out.show(fault),
-    }
+/// Whether words are an arrival's: `taken`, or the fault.
+pub fn arrival_of(rest: &str, out: &mut Out) -> Played {
+    arrival(out.alloc(), rest)?;
+    out.push("taken");
     Ok(())
 }
 
-// A datagram of two octets from 192.0.2.9:68 whose answer couldn't be sent, a connection from there that is closed, a quiet moment.
-fn turn_of(word: &str) -> Result<Turn, LineFault> {
-    let from = SocketAddr::new(IpAddr::V4(Ipv4Addr::new(192, 0, 2, 9)), 68);
-    match word {
-        "unsent" => Ok(Turn::Unsent(Handover {
-            kind: Kind::Datagram(Port::Boot),
-            from: Some(from),
-            len: 2,
-            said: Said::Silence,
-        })),
-        "late" => Ok(Turn::Closed {
-            from,
-            cause: Close::Late,
-        }),
-        "crowded" => Ok(Turn::Closed {
-            from,
-            cause: Close::Crowded,
-        }),
-        "accepted" => Ok(Turn::Accepted {
-            from,
-            instead_of: Some(from),
-        }),
-        "quiet" => Ok(Turn::Handed(Handover {
-            kind: Kind::Quiet,
-            from: None,
-            len: 0,
-            said: Said::Silence,
-        })),
-        "nothing" => Ok(Turn::Nothing),
-        _ => Err(LineFault::Form),
+fn formatted(rest: &str) -> Result<(LogFormat, &str), CaseFault> {
+    match first(rest) {
+        ("seconds", words) => Ok((LogFormat::Seconds, words)),
+        ("utc", words) => Ok((LogFormat::Utc, words)),
+        ("json", words) => Ok((LogFormat::Json, words)),
+        _ => Err(CaseFault::Form),
     }
 }
 
-fn push_line(out: &mut CaseAnswer, line: Option<String>, none: &str) {
+// A datagram of two octets from 192.0.2.9:68 whose answer couldn't be sent, connections from there, a quiet moment.
+fn turn_of(word: &str) -> Result<Turn, CaseFault> {
+    let from = SocketAddr::new(IpAddr::V4(Ipv4Addr::new(192, 0, 2, 9)), 68);
+    let instead_of = Some(from);
+    let closed = |cause| Turn::Closed { from, cause };
+    let handed = |kind, from, len| Handover {
+        kind,
+        from,
+        len,
+        said: Said::Silence,
+    };
+    match word {
+        "unsent" => Ok(Turn::Unsent(handed(Kind::Datagram(Port::Boot), Some(from), 2))),
+        "late" => Ok(closed(Close::Late)),
+        "crowded" => Ok(closed(Close::Crowded)),
+        "accepted" => Ok(Turn::Accepted { from, instead_of }),
+        "quiet" => Ok(Turn::Handed(handed(Kind::Quiet, None, 0))),
+        "nothing" => Ok(Turn::Nothing),
+        _ => Err(CaseFault::Form),
+    }
+}
+
+fn print_line(line: Option<String>, out: &mut Out) {
     match &line {
         Some(line) => out.escaped(line.as_bytes()),
-        None => out.push(none),
+        None => out.push("none"),
     }
+    out.push("\n");
 }
 
-/// The line of a turn at the moment 1,790,000,000, `TURN` or `TURN ARRIVAL`, with the text or the members of its arrival.
-pub fn turn(
-    alloc: Global,
-    format: LogFormat,
-    rest: &str,
-    out: &mut CaseAnswer,
-) -> Result<(), LineFault> {
-    let (word, arrival) = match rest.split_once(' ') {
-        Some((word, text)) => (word, Some(text)),
-        None => (rest, None),
-    };
-    let turn = turn_of(word)?;
-    let line = turn_line(alloc, format, moment(1_790_000_000)?, &turn, arrival)?;
-    push_line(out, line, "none");
-    Ok(())
-}
-
-/// The lines of turns that failed, `MOMENT MOMENT ..`, and `none` for each turn without one.
-pub fn failures(
-    alloc: Global,
-    format: LogFormat,
-    rest: &str,
-    out: &mut CaseAnswer,
-) -> Result<(), LineFault> {
-    let mut failures = Failures::NONE;
-    for word in rest.split(' ') {
-        let line = failures.line(alloc, format, moment(number(word)?)?)?;
-        push_line(out, line, "none ");
-    }
-    Ok(())
-}
-
-/// The line that says that so many were lost before the moment 1,790,000,000, and the one where the clock begins to fail.
-pub fn lost(
-    alloc: Global,
-    format: LogFormat,
-    rest: &str,
-    out: &mut CaseAnswer,
-) -> Result<(), LineFault> {
-    let moment = Some(moment(1_790_000_000)?);
-    out.escaped(lost_line(alloc, format, moment, number(rest)?)?.as_bytes());
-    out.escaped(unstamped_line(alloc, format)?.as_bytes());
-    Ok(())
-}
-
-/// The line of a backup at the moment 1,790,000,000, `OCTETS MILLISECONDS`, or of one that failed, `failed`.
-pub fn backup(
-    alloc: Global,
-    format: LogFormat,
-    rest: &str,
-    out: &mut CaseAnswer,
-) -> Result<(), LineFault> {
-    let backup = match rest.split_once(' ') {
-        Some((octets, milliseconds)) => Backup::Made {
+fn backup(words: &str) -> Result<Backup, CaseFault> {
+    match words.split_once(' ') {
+        Some((octets, milliseconds)) => Ok(Backup::Made {
             octets: number(octets)?,
             milliseconds: number(milliseconds)?,
-        },
-        None => Backup::Failed,
+        }),
+        None => Ok(Backup::Failed),
+    }
+}
+
+/// A line at the moment 1,790,000,000: of a `turn`, `FORM TURN` or `FORM TURN ARRIVAL`, with the text or the members of its arrival; of a
+/// `backup`, `FORM OCTETS MILLISECONDS` or `FORM failed`; of so many lines that were `lost`, `FORM COUNT`; `unstamped` of a clock that fails.
+pub fn line(kind: &str, rest: &str, out: &mut Out) -> Played {
+    let (format, words) = formatted(rest)?;
+    let (alloc, now) = (out.alloc(), moment(1_790_000_000)?);
+    let line = match kind {
+        "turn" => {
+            let (word, text) = first(words);
+            let arrival = Some(text).filter(|text| !text.is_empty());
+            turn_line(alloc, format, now, &turn_of(word)?, arrival)?
+        }
+        "backup" => Some(backup_line(alloc, format, Some(now), &backup(words)?)?),
+        "lost" => Some(lost_line(alloc, format, Some(now), number(words)?)?),
+        _ => Some(unstamped_line(alloc, format)?),
     };
-    let moment = Some(moment(1_790_000_000)?);
-    out.escaped(backup_line(alloc, format, moment, &backup)?.as_bytes());
+    print_line(line, out);
+    Ok(())
+}
+
+/// The lines of turns that failed, `FORM MOMENT MOMENT ..`, and `none` for each turn without one.
+pub fn failures(rest: &str, out: &mut Out) -> Played {
+    let (format, words) = formatted(rest)?;
+    let mut failures = Failures::NONE;
+    for word in words.split(' ') {
+        let line = failures.line(out.alloc(), format, moment(number(word)?)?)?;
+        print_line(line, out);
+    }
     Ok(())
 }
 
 /// A moment in UTC.
-pub fn utc(alloc: Global, rest: &str, out: &mut CaseAnswer) -> Result<(), LineFault> {
+pub fn utc(rest: &str, out: &mut Out) -> Played {
     let moment = moment(number(rest)?)?;
-    out.push(moment_text(alloc, LogFormat::Utc, moment)?.as_str());
+    out.push(moment_text(out.alloc(), LogFormat::Utc, moment)?.as_str());
     Ok(())
 }
 
-// What a desk finds of a datagram at the DHCP server's port, if it is an unknown client's.
-fn account(alloc: Global, octets: &[u8], machines: u64, last: &str) -> Result<Account, LineFault> {
-    let view = FrameView {
-        by_mac: None,
-        by_uuid: None,
-        machines,
-        numbers: numbers(last)?,
-    };
-    let mut notes = Notes::NONE;
-    let came = match read(octets) {
-        Ok(message) => match client(alloc, &message) {
-            Ok(client) => {
-                notes.decision = Some(frame(&view, Port::Discover, &client));
-                Came::Client(client)
-            }
-            Err(cause) => Came::NotServed(cause),
-        },
-        Err(fault) => Came::Malformed(fault),
-    };
-    Ok(Account { came, notes })
-}
-
-// A DISCOVER of these octets.
-fn discover(moment: Moment, octets: Vec<u8>) -> Arrival {
-    Arrival {
-        moment,
-        fresh: Token::from([7; 16]),
-        input: Input::Datagram {
-            port: Port::Discover,
-            octets: Octets::from(octets),
-        },
+fn client_of(alloc: Global, octets: &[u8]) -> Result<Client, CaseFault> {
+    let frame = read(octets).map_err(|_| CaseFault::Form)?;
+    match client(alloc, &frame) {
+        Ok(client) => Ok(client),
+        Err(NotServed::Memory) => Err(CaseFault::Memory),
+        Err(_) => Err(CaseFault::Form),
     }
 }
 
-// What is noted of an arrival whose answer is silence.
-fn silent_text(alloc: Global, arrival: &Arrival, account: &Account) -> Result<String, AllocError> {
-    let silence = Answer::Silence;
-    let text = arrival_text(alloc, arrival, &silence, account);
-    drop(silence);
-    text
-}
-
-// What is noted of these octets, come at a moment, if the answer is silence.
-fn silence_text(
-    alloc: Global,
-    moment: Moment,
-    machines: u64,
-    last: &str,
-    octets: Vec<u8>,
-) -> Result<String, LineFault> {
-    let account = account(alloc, &octets, machines, last)?;
-    let arrival = discover(moment, octets);
-    let text = silent_text(alloc, &arrival, &account);
-    drop(arrival);
+fn print_silence(arrival: &Arrival, view: &FrameView, out: &mut Out) -> Played {
+    let Input::Datagram { port, octets } = &arrival.input else {
+        return Err(CaseFault::Form);
+    };
+    let client = client_of(out.alloc(), octets.as_slice())?;
+    let mut notes = Notes::NONE;
+    notes.decision = Some(frame(view, *port, &client));
+    let came = Came::Client(client);
+    let account = Account { came, notes };
+    let text = arrival_text(out.alloc(), arrival, &Answer::Silence, &account);
     drop(account);
-    Ok(text?)
+    out.push(text?.as_str());
+    Ok(())
 }
 
-/// What is noted of a DISCOVER of an unknown client that got silence, `MACHINES LAST, OCTETS`: how many machines the hall has, and
-/// the last number of a machine.
-pub fn unknown(alloc: Global, rest: &str, out: &mut CaseAnswer) -> Result<(), LineFault> {
-    let (words, source) = halves(rest, ", ")?;
+/// What is noted of an unknown client's datagram that got silence, `MACHINES LAST, ARRIVAL`.
+pub fn unknown(rest: &str, out: &mut Out) -> Played {
+    let (words, words_of_arrival) = halves(rest, ", ")?;
     let (machines, last) = halves(words, " ")?;
-    let moment = moment(1_000)?;
-    let machines = number(machines)?;
-    let text = silence_text(alloc, moment, machines, last, octets_of(alloc, source)?)?;
-    out.push(text.as_str());
-    Ok(())
+    let view = FrameView {
+        by_mac: None,
+        by_uuid: None,
+        machines: number(machines)?,
+        numbers: numbers(last)?,
+    };
+    print_silence(&arrival(out.alloc(), words_of_arrival)?, &view, out)
 }

@@ -1,29 +1,48 @@
-//! Plays cases of what comes to a desk and goes from it: requests, commands and their texts, responses, refusals and receipts, a run over
-//! one frame, lines of a log, readers and writers that fail.
-//! Standard input has a case a line, `KIND REST`, and standard output a line of answer for each. Comments (`#..`) and empty lines
-//! are printed as they are, so that line n of the output answers line n of the input. A line that is no case ends the run with status 1.
+//! Plays cases of what comes to a desk and goes from it, one call each: requests and commands, responses and receipts, the run over one
+//! frame, lines of a log, readers and writers that fail. What acts say, and what they print, stands at the head of each file of cases.
 #![tactic(auto)]
 
 mod answers;
-mod cases;
-mod ends;
-mod faults;
 mod logs;
-mod office;
-mod receipts;
-mod refusals;
 mod requests;
+mod runs;
 
-use cases::RequestCases;
-use play_log::play;
+use cases::{CaseFault, Out, Played, Player, play_cases};
+use play_log::first;
 use std::process::ExitCode;
 
-fn main(rt: HostRuntime) -> ExitCode {
-    match play(rt.alloc(), &RequestCases, &mut rt.stdin(), &mut rt.stdout()) {
-        Ok(()) => ExitCode::from(0),
-        Err(fault) => {
-            let _ = eprintln!(rt; "play_requests: {fault}");
-            ExitCode::from(1)
+/// The calls by which something comes to a desk or goes from it.
+#[derive(Drop)]
+struct EdgeCalls;
+
+impl Player for EdgeCalls {
+    fn play(&mut self, act: &str, out: &mut Out) -> Played {
+        let (kind, rest) = first(act);
+        match kind {
+            "request" => requests::request(rest, out),
+            "command" => requests::command(rest, out),
+            "decided" => requests::decided(rest, out),
+            "prefixes" => requests::prefixes(rest, out),
+            "answer" => answers::answered(rest, out),
+            "stored" => answers::stored(rest, out),
+            "receipt" => answers::receipt(rest, out),
+            "run" => runs::run(rest, out),
+            "cut" => runs::cut_run(rest, out),
+            "input" => runs::input(rest, out),
+            "whole" => runs::whole(rest, out),
+            "seconds" => runs::seconds(rest, out),
+            "arrival" => logs::arrival_of(rest, out),
+            "turn" | "backup" | "lost" | "unstamped" => logs::line(kind, rest, out),
+            "failures" => logs::failures(rest, out),
+            "utc" => logs::utc(rest, out),
+            "unknown" => logs::unknown(rest, out),
+            "takes" => runs::takes(rest, out),
+            "puts" => runs::puts(rest, out),
+            _ => Err(CaseFault::Act),
         }
     }
+}
+
+fn main(rt: HostRuntime) -> ExitCode {
+    play_cases(&rt, "play_requests", &mut EdgeCalls)
 }

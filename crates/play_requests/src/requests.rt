@@ -1,44 +1,30 @@
 //! Requests by HTTP.
+use cases::{Out, Played, string_of, text_of};
 use hall_events::{Event, HallCommand};
-use hall_http::{HttpFault, event_of, is_decided};
-use hall_types::{Digest, Number, Progress, RequestKey, Token};
-use play_log::{CaseAnswer, LineFault, string_of, text_of};
-use std::alloc::Global;
+use hall_http::{event_of, is_decided};
+use hall_types::{Digest, RequestKey};
+use std::fmt::Display;
 
-fn print_bearer(out: &mut CaseAnswer, bearer: &Option<Digest>) {
+type Bearer = Option<Digest>;
+
+fn print_by(what: impl Display + Drop, bearer: &Bearer, out: &mut Out) {
+    out.show(format_args!("{what} by "));
     match bearer {
-        Some(digest) => {
-            out.push(" by ");
-            out.hex(&digest.octets());
-        }
-        None => out.push(" by nobody"),
+        Some(digest) => out.hex(&digest.octets()),
+        None => out.push("nobody"),
     }
 }
 
-fn print_numbered(out: &mut CaseAnswer, word: &str, number: &Number) {
-    out.push(word);
-    out.show(number.get());
-}
-
-fn print_report(out: &mut CaseAnswer, boot: &Number, token: &Token, progress: &Progress) {
-    print_numbered(out, "report of boot ", boot);
-    out.push(" ");
-    out.hex(&token.octets());
-    out.push(" ");
-    out.push(progress.text());
-}
-
-fn print_command(alloc: Global, out: &mut CaseAnswer, key: &RequestKey, command: &HallCommand) {
+fn print_command(by: &Bearer, key: &RequestKey, command: &HallCommand, out: &mut Out) -> Played {
+    print_by("command", by, out);
     out.push(" key ");
     out.hex(&key.octets());
-    out.push(" ");
-    match &command.text(alloc) {
-        Ok(text) => out.escaped(text.as_bytes()),
-        Err(_) => out.push("out of memory"),
-    }
+    out.push("\n");
+    out.escaped(command.text(out.alloc())?.as_bytes());
+    Ok(())
 }
 
-fn print_event(alloc: Global, out: &mut CaseAnswer, event: &Event) {
+fn print_event(event: &Event, out: &mut Out) -> Played {
     match event {
         Event::Script { mac } => {
             out.push("script of ");
@@ -48,73 +34,55 @@ fn print_event(alloc: Global, out: &mut CaseAnswer, event: &Event) {
             boot,
             token,
             progress,
-        } => print_report(out, boot, token, progress),
-        Event::Orders { bearer } => {
-            out.push("orders");
-            print_bearer(out, bearer);
+        } => {
+            out.show(format_args!("report of boot {} ", boot.get()));
+            out.hex(&token.octets());
+            out.show(format_args!(" {}", progress.text()));
         }
+        Event::Orders { bearer } => print_by("orders", bearer, out),
         Event::OrderAnswer {
             bearer,
             order,
             outcome,
         } => {
-            print_numbered(out, "order ", order);
-            out.push(" ");
-            out.push(outcome.text());
-            print_bearer(out, bearer);
+            let (order, outcome) = (order.get(), outcome.text());
+            print_by(format_args!("order {order} {outcome}"), bearer, out);
         }
-        Event::Machines { bearer } => {
-            out.push("machines");
-            print_bearer(out, bearer);
-        }
+        Event::Machines { bearer } => print_by("machines", bearer, out),
         Event::OneMachine { bearer, machine } => {
-            print_numbered(out, "machine ", machine);
-            print_bearer(out, bearer);
+            print_by(format_args!("machine {}", machine.get()), bearer, out);
         }
         Event::Command {
             bearer,
             key,
             command,
-        } => {
-            out.push("command");
-            print_bearer(out, bearer);
-            print_command(alloc, out, key, command);
-        }
+        } => print_command(bearer, key, command, out)?,
         Event::Frame { .. } | Event::Quiet => out.push("no request"),
     }
+    Ok(())
 }
 
-fn print_request(alloc: Global, out: &mut CaseAnswer, octets: &[u8]) {
-    let event = event_of(alloc, octets);
-    match &event {
-        Ok(event) => print_event(alloc, out, event),
+fn print_request(octets: &[u8], out: &mut Out) -> Played {
+    match &event_of(out.alloc(), octets) {
+        Ok(event) => print_event(event, out)?,
         Err(fault) => out.fault(*fault as u8, *fault),
     }
-    drop(event);
+    Ok(())
 }
 
 /// The event of a request.
-pub fn request(alloc: Global, rest: &str, out: &mut CaseAnswer) -> Result<(), LineFault> {
-    let octets = text_of(alloc, rest)?;
-    print_request(alloc, out, octets.as_slice());
-    Ok(())
-}
-
-// The request with a command, of which this is the body.
-fn with_head(alloc: Global, body: &str) -> Option<String> {
-    let length = body.len();
-    let mut request = CaseAnswer::new(alloc);
-    request.show(format_args!("POST /commands HTTP/1.1\r\nContent-Length: {length}\r\n\r\n"));
-    request.push(body);
-    request.into_text()
+pub fn request(rest: &str, out: &mut Out) -> Played {
+    print_request(text_of(out.alloc(), rest)?.as_slice(), out)
 }
 
 /// The event of a command without a token, of which this is the body.
-pub fn command(alloc: Global, rest: &str, out: &mut CaseAnswer) -> Result<(), LineFault> {
-    let body = string_of(alloc, rest)?;
-    let request = with_head(alloc, body.as_str()).ok_or(LineFault::Memory)?;
-    print_request(alloc, out, request.as_bytes());
-    Ok(())
+pub fn command(rest: &str, out: &mut Out) -> Played {
+    let body = string_of(out.alloc(), rest)?;
+    let request = format!(in out.alloc();
+        "POST /commands HTTP/1.1\r\nContent-Length: {}\r\n\r\n{body}",
+        body.len()
+    )?;
+    print_request(request.as_bytes(), out)
 }
 
 fn decision(is_decided: bool) -> &'static str {
@@ -122,33 +90,30 @@ fn decision(is_decided: bool) -> &'static str {
 }
 
 /// Whether a request is decided by these octets.
-pub fn decided(alloc: Global, rest: &str, out: &mut CaseAnswer) -> Result<(), LineFault> {
-    let octets = text_of(alloc, rest)?;
-    out.push(decision(is_decided(alloc, octets.as_slice())?));
+pub fn decided(rest: &str, out: &mut Out) -> Played {
+    let octets = text_of(out.alloc(), rest)?;
+    out.push(decision(is_decided(out.alloc(), octets.as_slice())?));
     Ok(())
 }
 
-fn print_front(out: &mut CaseAnswer, length: usize, fault: Option<HttpFault>, is_decided: bool) {
-    let decided = decision(is_decided);
-    out.separate();
-    out.show(format_args!("from {length} {decided} "));
-    match fault {
-        Some(fault) => out.fault(fault as u8, fault),
-        None => out.push("event"),
-    }
-}
-
 /// The answer to each front of a request, from no octet to all: each length from which on it is another one.
-pub fn prefixes(alloc: Global, rest: &str, out: &mut CaseAnswer) -> Result<(), LineFault> {
+pub fn prefixes(rest: &str, out: &mut Out) -> Played {
+    let alloc = out.alloc();
     let octets = text_of(alloc, rest)?;
     let mut last = None;
     for length in 0..=octets.len() {
         let front = octets.get(..length).unwrap_or(&[]);
         let answer = (event_of(alloc, front).err(), is_decided(alloc, front)?);
-        if last != Some(answer) {
-            print_front(out, length, answer.0, answer.1);
-            last = Some(answer);
+        if last == Some(answer) {
+            continue;
         }
+        out.show(format_args!("from {length} {} ", decision(answer.1)));
+        match answer.0 {
+            Some(fault) => out.fault(fault as u8, fault),
+            None => out.push("event"),
+        }
+        out.push("\n");
+        last = Some(answer);
     }
     Ok(())
 }

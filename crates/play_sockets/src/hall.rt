@@ -1,53 +1,104 @@
-//! Halls, one after another.
-use crate::fault::Fault;
-use crate::filling::fill;
-use crate::playing::play;
-use hall_store::Probe;
-use hall_types::{Digest, Name};
-use std::io::{BufRead, BufReader};
+//! The hall of a case.
+use crate::stage::Stage;
+use cases::{CaseFault, Out, Played, Player};
+use hall_store::{HallStore, Probe};
+use hall_types::{
+    Arch, BootCount, Change, Interface, MacAddress, Machine, RowWrite, Status, Version,
+};
+use play_log::{admin, issued, name, number};
+use std::alloc::Global;
 use store_memory::MemoryStore;
 
-// SHA-256 of ada's token `abc`.
-const DIGEST: [u8; 32] = [
-    0xba, 0x78, 0x16, 0xbf, 0x8f, 0x01, 0xcf, 0xea, 0x41, 0x41, 0x40, 0xde, 0x5d, 0xae, 0x22, 0x23,
-    0xb0, 0x03, 0x61, 0xa3, 0x96, 0x17, 0x7a, 0x9c, 0xb4, 0x10, 0xff, 0x61, 0xf2, 0x00, 0x15, 0xad,
-];
+// The administrator, and the SHA-256 of the token `abc`.
+const ADMIN: &str = "ada ba7816bf8f01cfea414140de5dae2223b00361a396177a9cb410ff61f20015ad";
 
-/// A hall that a line begins.
-#[derive(Clone, Copy)]
-pub struct Begun {
-    /// How many machines it has.
-    pub machines: u64,
-    /// The call of its store that fails, the first being 1.
-    pub fails_at: Option<u64>,
+// A new machine in the pool that every hall has, and its eight interfaces, 52:54:00:HH:HH:00 to 52:54:00:HH:HH:07, where HH:HH is its number.
+fn rows_of(alloc: Global, number: u64) -> Result<Vec<RowWrite>, CaseFault> {
+    let machine = Machine {
+        id: issued(number)?,
+        arch: Arch::Uefi64,
+        uuid: None,
+        pool: name("default")?,
+        status: Status::New,
+        owner: None,
+        image: None,
+        tests: false,
+        back: None,
+        erase: None,
+        locked: false,
+        version: Version::FIRST,
+        deadline: None,
+        boot: None,
+        boots: BootCount::NONE,
+        waiting: None,
+    };
+    let mut rows = Vec::new(alloc);
+    rows.push(RowWrite::PutMachine { machine, was: None })?;
+    let [.., high, low] = number.to_be_bytes();
+    for last in 0..8 {
+        rows.push(RowWrite::PutInterface(Interface {
+            mac: MacAddress::from([0x52, 0x54, 0, high, low, last]),
+            machine: machine.id,
+        }))?;
+    }
+    Ok(rows)
 }
 
-// The only function that has the store's type: plays the lines of one hall.
-fn play_hall<R: BufRead>(
-    rt: &HostRuntime,
-    reader: &mut R,
-    hall: Begun,
-) -> Result<Option<Begun>, Fault> {
-    let Ok(admin) = Name::new("ada") else {
-        return Err(Fault::Line);
-    };
-    let mut store = MemoryStore::create(rt.alloc(), admin, Digest::from(DIGEST))?;
-    fill(rt.alloc(), &mut store, hall.machines)?;
-    play(rt, Probe::new(store, hall.fails_at), reader)
-}
-
-/// Plays a script. What stands before its first hall is played over one without machines.
-pub fn run(rt: &HostRuntime) -> Result<(), Fault> {
-    let mut reader = BufReader::new(rt.alloc(), rt.stdin())?;
-    let mut hall = Begun {
-        machines: 0,
-        fails_at: None,
-    };
-    for _ in 0..u64::MAX {
-        match play_hall(rt, &mut reader, hall)? {
-            Some(next) => hall = next,
-            None => return Ok(()),
-        }
+// Adds the machines from 1 to this one.
+fn fill<S: HallStore>(alloc: Global, store: &mut S, machines: u64) -> Played {
+    for before in 0..machines {
+        let change = Change::from(rows_of(alloc, before.saturating_add(1))?);
+        store.apply(&change).map_err(|_| CaseFault::Unavailable)?;
     }
     Ok(())
+}
+
+// A hall of memory, from the words `MACHINES` or `MACHINES CALL`.
+fn store_of(alloc: Global, words: &str) -> Result<Probe<MemoryStore>, CaseFault> {
+    let (machines, fails_at) = match words.split_once(' ') {
+        Some((machines, call)) => (number(machines)?, Some(number(call)?)),
+        None => (number(words)?, None),
+    };
+    let (admin, digest) = admin(ADMIN)?;
+    match MemoryStore::create(alloc, admin, digest) {
+        Ok(mut store) => {
+            fill(alloc, &mut store, machines)?;
+            Ok(Probe::new(store, fails_at))
+        }
+        Err(_) => Err(CaseFault::Unavailable),
+    }
+}
+
+/// What cases are played on: a hall in memory that is served, once an act has begun one.
+#[derive(Drop)]
+pub struct Hall<'a> {
+    rt: &'a HostRuntime,
+    stage: Option<Stage<'a, Probe<MemoryStore>>>,
+}
+
+impl<'a> Hall<'a> {
+    /// No hall is begun yet.
+    pub fn new(rt: &'a HostRuntime) -> Hall<'a> {
+        Hall { rt, stage: None }
+    }
+}
+
+impl<'a> Player for Hall<'a> {
+    fn play(&mut self, act: &str, out: &mut Out) -> Played {
+        if let Some(words) = act.strip_prefix("new ") {
+            let store = store_of(self.rt.alloc(), words)?;
+            self.stage = Some(Stage::new(self.rt, store)?);
+            return Ok(());
+        }
+        if act == "begin"
+            && let Some(stage) = self.stage.take()
+        {
+            self.stage = Some(stage.again());
+            return Ok(());
+        }
+        match &mut self.stage {
+            Some(stage) => stage.play(act, out),
+            None => Err(CaseFault::Act),
+        }
+    }
 }

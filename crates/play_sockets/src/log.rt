@@ -1,80 +1,28 @@
 //! The log of the service's turns.
 use crate::client::Client;
+use cases::{Out, Played};
 use desk_lines::{arrival_text, is_of_note};
 use desk_values::LogFormat;
 use hall_desk::{Account, Answer, Arrival};
 use hall_types::{Moment, Port};
 use serve_lines::turn_line;
-use serve_sockets::{Kind, Said, Turn, TurnLog};
-use std::alloc::{AllocError, Global};
+use serve_sockets::{Handover, Kind, Said, Turn, TurnLog};
+use std::alloc::Global;
 
 /// Keeps the lines of turns, and counts the turns.
 #[derive(Drop)]
 pub struct Log {
-    alloc: Global,
     // The text of the last arrival, if it's of note and its turn wasn't noted yet.
     arrival: Option<String>,
-    lines: Vec<String>,
-    // The addresses from which something was handed over, one after another.
-    handed: Vec<String>,
+    lines: Out,
+    // The addresses from which something was handed over, each with a blank after it.
+    handed: Out,
     /// How many turns there were.
     pub turns: u64,
     /// How many turns in a row moved nothing.
     pub still: u64,
     /// How many times stamps began to fail.
     pub failures: u64,
-}
-
-impl Log {
-    pub fn new(alloc: Global) -> Log {
-        Log {
-            alloc,
-            arrival: None,
-            lines: Vec::new(alloc),
-            handed: Vec::new(alloc),
-            turns: 0,
-            still: 0,
-            failures: 0,
-        }
-    }
-
-    /// Writes the names of the clients from whom something was handed over since the last call, one after another.
-    pub fn push_handed(&mut self, line: &mut String, clients: &[Client]) -> Result<(), AllocError> {
-        for address in &self.handed {
-            if !line.is_empty() {
-                line.push(' ')?;
-            }
-            line.push_str(name_of(address.as_str(), clients))?;
-        }
-        self.handed.clear();
-        Ok(())
-    }
-
-    // Keeps where it came from what was handed over.
-    fn keep_handed(&mut self, turn: &Turn) -> Result<(), AllocError> {
-        let (Turn::Handed(handover) | Turn::Unsent(handover)) = turn else {
-            return Ok(());
-        };
-        if let Some(from) = handover.from {
-            self.handed.push(from.to_string(self.alloc)?)?;
-        }
-        Ok(())
-    }
-
-    /// Writes the lines about the client with an address, without their line feeds, with clients' names in place of addresses.
-    pub fn push_about(
-        &self,
-        line: &mut String,
-        address: &str,
-        clients: &[Client],
-    ) -> Result<(), AllocError> {
-        for text in &self.lines {
-            if text.as_str().split(' ').nth(1) == Some(address) {
-                push_named(line, text.as_str().trim_end(), clients)?;
-            }
-        }
-        Ok(())
-    }
 }
 
 // A word, or the name of the client whose address it is.
@@ -87,94 +35,94 @@ fn name_of<'a>(word: &'a str, clients: &'a [Client]) -> &'a str {
     word
 }
 
-// Writes a text after those before, with clients' names in place of addresses.
-fn push_named(line: &mut String, text: &str, clients: &[Client]) -> Result<(), AllocError> {
-    if !line.is_empty() {
-        line.push_str(" |")?;
-    }
-    for word in text.split(' ') {
-        if !line.is_empty() {
-            line.push(' ')?;
+// Prints a text with clients' names in place of addresses.
+fn push_named(out: &mut Out, text: &str, clients: &[Client]) {
+    for (place, word) in text.split(' ').enumerate() {
+        if place > 0 {
+            out.push(" ");
         }
-        line.push_str(name_of(word, clients))?;
-    }
-    Ok(())
-}
-
-fn moves_nothing(turn: &Turn) -> bool {
-    match turn {
-        Turn::Handed(handover) => handover.kind == Kind::Quiet,
-        Turn::Nothing => true,
-        _ => false,
+        out.push(name_of(word, clients));
     }
 }
 
-fn kind_word(kind: Kind) -> &'static str {
-    match kind {
-        Kind::Datagram(Port::Discover) => "Datagram(Discover)",
-        Kind::Datagram(Port::Boot) => "Datagram(Boot)",
-        Kind::Request => "Request",
-        Kind::Quiet => "Quiet",
-    }
-}
-
-fn said_text(alloc: Global, said: Said) -> Result<String, AllocError> {
-    match said {
-        Said::Silence => String::from_str(alloc, "Silence"),
-        Said::Unavailable => String::from_str(alloc, "Unavailable"),
-        Said::Frame { len } => format!(in alloc; "Frame {{ len: {len} }}"),
-        Said::Response { status, len } => {
-            format!(in alloc; "Response {{ status: {status}, len: {len} }}")
+impl Log {
+    /// No turn is noted yet.
+    pub fn new(alloc: Global) -> Log {
+        Log {
+            arrival: None,
+            lines: Out::new(alloc),
+            handed: Out::new(alloc),
+            turns: 0,
+            still: 0,
+            failures: 0,
         }
     }
-}
 
-// An arrival's text, and what the turn says of it.
-fn handed_text(alloc: Global, turn: &Turn, arrival: &str) -> Result<String, AllocError> {
-    match turn {
-        Turn::Handed(handover) | Turn::Unsent(handover) => {
-            let (kind, len) = (kind_word(handover.kind), handover.len);
-            let said = said_text(alloc, handover.said)?;
-            format!(in alloc; "{arrival} ({kind} of {len}: {said})")
+    /// Prints the names of the clients from whom something was handed over since the last call.
+    pub fn push_handed(&mut self, out: &mut Out, clients: &[Client]) -> Played {
+        let handed = self.handed.take()?;
+        push_named(out, handed.as_str().trim_end(), clients);
+        Ok(())
+    }
+
+    /// Prints the lines about the client with an address, with clients' names in place of addresses.
+    pub fn push_about(&self, out: &mut Out, address: &str, clients: &[Client]) {
+        for line in self.lines.as_str().lines() {
+            if line.split(' ').nth(1) == Some(address) {
+                push_named(out, line, clients);
+                out.push("\n");
+            }
         }
-        _ => String::from_str(alloc, arrival),
     }
 }
 
-// The line of a turn, with the text of its arrival, if there is one.
-fn line_of(
-    alloc: Global,
-    moment: Moment,
-    turn: &Turn,
-    arrival: &Option<String>,
-) -> Result<Option<String>, AllocError> {
-    match arrival {
-        Some(arrival) => {
-            let text = handed_text(alloc, turn, arrival.as_str())?;
-            turn_line(alloc, LogFormat::Seconds, moment, turn, Some(text.as_str()))
-        }
-        None => turn_line(alloc, LogFormat::Seconds, moment, turn, None),
+// Prints what was handed over: its kind, how many octets it had, and what the desk said.
+fn push_handover(out: &mut Out, handover: &Handover) {
+    let kind = match handover.kind {
+        Kind::Datagram(Port::Discover) => "discover",
+        Kind::Datagram(Port::Boot) => "boot",
+        Kind::Request => "request",
+        Kind::Quiet => "quiet",
+    };
+    out.show(format_args!(" ({kind} of {} octets: ", handover.len));
+    match handover.said {
+        Said::Silence => out.push("silence)"),
+        Said::Unavailable => out.push("unavailable)"),
+        Said::Frame { len } => out.show(format_args!("a frame of {len})")),
+        Said::Response { status, len } => out.show(format_args!("{status}, {len} octets)")),
     }
 }
 
 impl TurnLog for Log {
     fn arrived(&mut self, arrival: &Arrival, answer: &Answer, account: &Account) {
         if is_of_note(arrival, answer, account) {
-            self.arrival = arrival_text(self.alloc, arrival, answer, account).ok();
+            self.arrival = arrival_text(self.lines.alloc(), arrival, answer, account).ok();
         }
     }
 
     fn note(&mut self, moment: Moment, turn: &Turn) {
         self.turns = self.turns.saturating_add(1);
-        self.still = if moves_nothing(turn) {
-            self.still.saturating_add(1)
-        } else {
-            0
+        let handover = match turn {
+            Turn::Handed(handover) | Turn::Unsent(handover) => Some(handover),
+            _ => None,
         };
-        let _ = self.keep_handed(turn);
+        self.still = match turn {
+            Turn::Nothing => self.still.saturating_add(1),
+            Turn::Handed(handover) if handover.kind == Kind::Quiet => self.still.saturating_add(1),
+            _ => 0,
+        };
+        if let Some(from) = handover.and_then(|handover| handover.from) {
+            self.handed.show(format_args!("{from} "));
+        }
         let arrival = self.arrival.take();
-        if let Ok(Some(line)) = line_of(self.alloc, moment, turn, &arrival) {
-            let _ = self.lines.push(line);
+        let arrival = arrival.as_ref().map(|text| text.as_str());
+        let (alloc, format) = (self.lines.alloc(), LogFormat::Seconds);
+        if let Ok(Some(line)) = turn_line(alloc, format, moment, turn, arrival) {
+            self.lines.push(line.as_str().trim_end());
+            if let Some(handover) = handover {
+                push_handover(&mut self.lines, handover);
+            }
+            self.lines.push("\n");
         }
     }
 

@@ -1,14 +1,12 @@
 //! A service, its log and its clock, and the clients.
-use crate::client::{Client, take_at};
-use crate::fault::Fault;
+use crate::client::Client;
 use crate::log::Log;
+use cases::CaseFault;
 use hall_desk::{Desk, Input};
 use hall_store::HallStore;
-use hall_types::{Moment, Token};
-use play_log::arrival;
-use pxe_vendor::Place;
+use hall_types::Token;
+use play_log::{arrival, moment, place};
 use serve_sockets::{Addresses, Service, Sockets, Source, Stamp};
-use std::alloc::Global;
 use std::net::{IpAddr, Ipv4Addr, SocketAddr, UdpSocket};
 
 // How long, in milliseconds, a turn waits where nothing is known to be there.
@@ -43,14 +41,16 @@ impl Source for Clock {
 
 /// A service on loopback, and its clients.
 #[derive(Drop)]
-pub struct Stage<S> {
-    pub alloc: Global,
+pub struct Stage<'a, S> {
+    pub rt: &'a HostRuntime,
     pub service: Service<S>,
     pub log: Log,
     pub clock: Clock,
     pub clients: Vec<Client>,
     /// Sends datagrams.
     pub asker: UdpSocket,
+    /// What the asker sent last.
+    pub asked: Input,
 }
 
 // An address of loopback, with a port that the system picks. The asker's is another one than the clients', which may have the same port.
@@ -59,82 +59,78 @@ fn loopback(last: u8) -> SocketAddr {
 }
 
 // A service over the store, on loopback.
-fn service<S: HallStore + Drop>(rt: &HostRuntime, store: S) -> Result<Service<S>, Fault> {
+fn service<S: HallStore + Drop>(rt: &HostRuntime, store: S) -> Result<Service<S>, CaseFault> {
+    let alloc = rt.alloc();
     let addresses = Addresses {
         discover: loopback(1),
         boot: loopback(1),
         http: loopback(1),
     };
-    let Ok(place) = Place::new(rt.alloc(), [192, 0, 2, 1], [192, 0, 2, 2], "hall.example") else {
-        return Err(Fault::Memory);
-    };
-    match Sockets::bind(rt, rt.alloc(), &addresses, PLACES) {
-        Ok(sockets) => Ok(Service::new(rt.alloc(), Desk::new(store, place), sockets)),
-        Err(_) => Err(Fault::Io),
-    }
+    let desk = Desk::new(store, place(alloc)?);
+    let sockets = Sockets::bind(rt, alloc, &addresses, PLACES).map_err(|_| CaseFault::Io)?;
+    Ok(Service::new(alloc, desk, sockets))
 }
 
 // The clock at the moment 1000.
-fn standing_clock() -> Result<Clock, Fault> {
-    let stamp = Stamp {
-        moment: Moment::new(1_000).map_err(|_| Fault::Line)?,
-        fresh: Token::from([0; 16]),
-        millis: 0,
-    };
+fn standing() -> Result<Clock, CaseFault> {
     Ok(Clock {
-        stamp,
+        stamp: Stamp {
+            moment: moment(1_000)?,
+            fresh: Token::from([0; 16]),
+            millis: 0,
+        },
         fails: false,
         pauses: 0,
     })
 }
 
-// The client that sends datagrams.
-fn asker(alloc: Global, address: SocketAddr) -> Result<Client, Fault> {
-    Ok(Client {
-        name: String::from_str(alloc, "asker")?,
-        address: address.to_string(alloc)?,
-        stream: None,
-    })
-}
-
-impl<S: HallStore + Drop> Stage<S> {
+impl<'a, S: HallStore + Drop> Stage<'a, S> {
     /// A service over the store. The moment is 1000.
-    pub fn new(rt: &HostRuntime, store: S) -> Result<Stage<S>, Fault> {
+    pub fn new(rt: &'a HostRuntime, store: S) -> Result<Stage<'a, S>, CaseFault> {
         let alloc = rt.alloc();
-        let clock = standing_clock()?;
-        let socket = UdpSocket::bind(rt, loopback(2))?;
-        socket.set_nonblocking(true)?;
-        let client = asker(alloc, socket.local_addr()?)?;
-        let clients = Vec::from_array(alloc, [client]).ok().ok_or(Fault::Memory)?;
+        let asker = UdpSocket::bind(rt, loopback(2))?;
+        asker.set_nonblocking(true)?;
+        let client = Client {
+            name: String::from_str(alloc, "asker")?,
+            address: asker.local_addr()?.to_string(alloc)?,
+            stream: None,
+        };
         Ok(Stage {
-            alloc,
+            rt,
             service: service(rt, store)?,
             log: Log::new(alloc),
-            clock,
-            clients,
-            asker: socket,
+            clock: standing()?,
+            clients: Vec::from_array(alloc, [client])?,
+            asker,
+            asked: Input::Quiet,
         })
     }
 
     /// The service begins again over its desk and sockets.
-    pub fn again(self) -> Stage<S> {
+    pub fn again(self) -> Stage<'a, S> {
         let (desk, sockets) = self.service.into_parts();
         Stage {
-            service: Service::new(self.alloc, desk, sockets),
+            service: Service::new(self.rt.alloc(), desk, sockets),
             ..self
         }
     }
 
-    /// What comes by an arrival's line. The clock is set to it.
-    pub fn arrive(&mut self, text: &str) -> Result<Input, Fault> {
-        match arrival(self.alloc, text) {
-            Ok(arrival) => {
-                self.clock.stamp.moment = arrival.moment;
-                self.clock.stamp.fresh = arrival.fresh;
-                Ok(arrival.input)
+    /// The last client of a name.
+    pub fn client(&mut self, name: &str) -> Result<&mut Client, CaseFault> {
+        for client in self.clients.iter_mut().rev() {
+            if client.name.as_str() == name {
+                return Ok(client);
             }
-            Err(_) => Err(Fault::Line),
         }
+        Err(CaseFault::Form)
+    }
+
+    /// What comes by the words of an arrival. The clock is set to it.
+    pub fn arrive(&mut self, words: &str) -> Result<Input, CaseFault> {
+        let arrival = arrival(self.rt.alloc(), words)?;
+        self.clock.stamp.moment = arrival.moment;
+        self.clock.stamp.fresh = arrival.fresh;
+        Ok(arrival.input)
     }
 
     /// Serves so many turns, or until the store is found shut: how many are left then.
@@ -154,29 +150,28 @@ impl<S: HallStore + Drop> Stage<S> {
     }
 
     /// Serves turns until 16 in a row moved nothing, and says whether it came to that.
-    pub fn settle(&mut self) -> bool {
+    pub fn settle(&mut self) -> &'static str {
         self.log.still = 0;
         for _ in 0..10_000 {
             let _ = self.turns(1);
             if self.log.still >= 16 {
-                return true;
+                return "settled";
             }
         }
-        false
+        "unsettled"
     }
 
-    /// Serves turns until a client's connection has ended or 100 turns in a row moved nothing: what came to the client, and how its
-    /// connection is then.
-    pub fn drain(&mut self, name: &str) -> Result<(Vec<u8>, &'static str), Fault> {
-        let mut octets = Vec::new(self.alloc);
+    /// Serves turns until a client's connection has ended or 100 turns in a row moved nothing: how its connection is then. What came to the
+    /// client is added to the octets.
+    pub fn drain(&mut self, name: &str, octets: &mut Vec<u8>) -> Result<&'static str, CaseFault> {
         self.log.still = 0;
         for _ in 0..10_000 {
-            let state = take_at(self.clients.as_mut_slice(), name, &mut octets)?;
+            let state = self.client(name)?.take(octets)?;
             if state != "open" || self.log.still >= 100 {
-                return Ok((octets, state));
+                return Ok(state);
             }
             let _ = self.turns(1);
         }
-        Err(Fault::Io)
+        Err(CaseFault::Io)
     }
 }

@@ -2,16 +2,17 @@
 //! is a machine of uefi64 over its row of version WAS, `-` for a new one, which may end in ` UUID` or ` UUID OWNER IMAGE`;
 //! `machine_gone ID`, `interface MAC ID`, `interface_gone MAC`, `image_gone NAME`, `numbers MACHINE BOOT ORDER`, `boot NUMBER ID`,
 //! `order NUMBER ID` and `receipt NAME KEY`.
-use crate::fault::Fault;
-use crate::words::{count, first, key, mac, moment, name, number, uuid, version};
+use crate::hall::Hall;
+use cases::{CaseFault, Out, Played};
 use hall_store::HallStore;
 use hall_types::{
-    Arch, Boot, BootCount, Change, Interface, LastIssued, Machine, MachineUuid, Name, Numbers,
-    Order, OrderKind, OrderStage, Purpose, Receipt, RowWrite, Stage, Status, Text, Token, Version,
+    Arch, Boot, BootCount, Change, Interface, LastIssued, Machine, Number, Numbers, Order,
+    OrderKind, OrderStage, Purpose, Receipt, RowWrite, Stage, Status, Text, Token, Version,
 };
+use play_log::{first, issued, key, mac, moment, name, number, uuid, version};
 use std::alloc::Global;
 
-fn status(word: &str) -> Result<Status, Fault> {
+fn status(word: &str) -> Result<Status, CaseFault> {
     match word {
         "New" => Ok(Status::New),
         "Commissioning" => Ok(Status::Commissioning),
@@ -19,157 +20,139 @@ fn status(word: &str) -> Result<Status, Fault> {
         "Deployed" => Ok(Status::Deployed),
         "Deploying" => Ok(Status::Deploying),
         "Broken" => Ok(Status::Broken),
-        _ => Err(Fault::Word),
+        _ => Err(CaseFault::Form),
     }
 }
 
-fn was(word: &str) -> Result<Option<Version>, Fault> {
-    if word == "-" {
-        return Ok(None);
+// A word, nothing where it is empty or `-`.
+fn some(word: &str) -> Option<&str> {
+    if word.is_empty() || word == "-" {
+        return None;
     }
-    Ok(Some(version(word)?))
+    Some(word)
 }
 
-fn deadline(word: &str) -> Result<Option<u64>, Fault> {
-    if word == "-" {
-        return Ok(None);
-    }
-    Ok(Some(moment(word)?.get()))
+fn version_of(word: &str) -> Result<Version, CaseFault> {
+    version(number(word)?)
 }
 
-fn some_name(word: &str) -> Result<Option<Name>, Fault> {
-    if word.is_empty() {
-        return Ok(None);
-    }
-    Ok(Some(name(word)?))
+fn deadline_of(word: &str) -> Result<u64, CaseFault> {
+    Ok(moment(number(word)?)?.get())
 }
 
-fn some_uuid(word: &str) -> Result<Option<MachineUuid>, Fault> {
-    if word.is_empty() {
-        return Ok(None);
-    }
-    Ok(Some(uuid(word)?))
+fn numbered(word: &str) -> Result<Number, CaseFault> {
+    issued(number(word)?)
 }
 
 // `ID VERSION POOL STATUS DEADLINE`, and what may stand after it.
-fn machine(id: &str, words: &str) -> Result<Machine, Fault> {
+fn machine(id: &str, words: &str) -> Result<Machine, CaseFault> {
     let (its_version, words) = first(words);
     let (pool, words) = first(words);
     let (its_status, words) = first(words);
-    let (its_deadline, words) = first(words);
+    let (deadline, words) = first(words);
     let (its_uuid, words) = first(words);
     let (owner, image) = first(words);
     Ok(Machine {
-        id: number(id)?,
+        id: numbered(id)?,
         arch: Arch::Uefi64,
-        uuid: some_uuid(its_uuid)?,
+        uuid: some(its_uuid).map(uuid).transpose()?,
         pool: name(pool)?,
         status: status(its_status)?,
-        owner: some_name(owner)?,
-        image: some_name(image)?,
+        owner: some(owner).map(name).transpose()?,
+        image: some(image).map(name).transpose()?,
         tests: false,
         back: None,
         erase: None,
         locked: false,
-        version: version(its_version)?,
-        deadline: deadline(its_deadline)?,
+        version: version_of(its_version)?,
+        deadline: some(deadline).map(deadline_of).transpose()?,
         boot: None,
         boots: BootCount::NONE,
         waiting: None,
     })
 }
 
-fn put_machine(words: &str) -> Result<RowWrite, Fault> {
-    let (id, words) = first(words);
-    let (before, words) = first(words);
-    Ok(RowWrite::PutMachine {
-        machine: machine(id, words)?,
-        was: was(before)?,
-    })
+fn last(word: &str) -> Result<LastIssued, CaseFault> {
+    LastIssued::new(number(word)?).map_err(|_| CaseFault::Form)
 }
 
-fn interface(words: &str) -> Result<RowWrite, Fault> {
-    let (address, id) = first(words);
-    Ok(RowWrite::PutInterface(Interface {
-        mac: mac(address)?,
-        machine: number(id)?,
-    }))
-}
-
-fn last(word: &str) -> Result<LastIssued, Fault> {
-    match LastIssued::new(count(word)?) {
-        Ok(last) => Ok(last),
-        Err(_) => Err(Fault::Word),
-    }
-}
-
-fn numbers(words: &str) -> Result<RowWrite, Fault> {
+fn numbers(words: &str) -> Result<Numbers, CaseFault> {
     let (machine, words) = first(words);
     let (boot, order) = first(words);
-    Ok(RowWrite::PutNumbers(Numbers {
+    Ok(Numbers {
         machine: last(machine)?,
         boot: last(boot)?,
         order: last(order)?,
-    }))
+    })
 }
 
 // An offered boot that commissions.
-fn boot(words: &str) -> Result<RowWrite, Fault> {
-    let (its_number, id) = first(words);
-    Ok(RowWrite::PutBoot(Boot {
-        number: number(its_number)?,
-        machine: number(id)?,
+fn boot(its_number: &str, id: &str) -> Result<Boot, CaseFault> {
+    Ok(Boot {
+        number: numbered(its_number)?,
+        machine: numbered(id)?,
         purpose: Purpose::Commission,
         token: Token::from([0; 16]),
         stage: Stage::Offered,
-    }))
+    })
 }
 
 // An order that waits, to cycle the power.
-fn order(words: &str) -> Result<RowWrite, Fault> {
-    let (its_number, id) = first(words);
-    Ok(RowWrite::PutOrder(Order {
-        number: number(its_number)?,
-        machine: number(id)?,
+fn order(its_number: &str, id: &str) -> Result<Order, CaseFault> {
+    Ok(Order {
+        number: numbered(its_number)?,
+        machine: numbered(id)?,
         kind: OrderKind::Cycle,
         stage: OrderStage::Waiting,
-    }))
+    })
 }
 
-fn text(alloc: Global, text: &str) -> Result<Text, Fault> {
+fn text(alloc: Global, text: &str) -> Result<Text, CaseFault> {
     Ok(Text::from(String::from_str(alloc, text)?))
 }
 
 // The receipt of a lock.
-fn receipt(alloc: Global, words: &str) -> Result<RowWrite, Fault> {
-    let (operator, its_key) = first(words);
-    Ok(RowWrite::PutReceipt(Receipt {
-        operator: name(operator)?,
-        key: key(its_key)?,
+fn receipt(alloc: Global, operator: &str, its_key: &str) -> Result<Receipt, CaseFault> {
+    let (operator, key) = (name(operator)?, key(its_key)?);
+    Ok(Receipt {
+        operator,
+        key,
         command: text(alloc, "{\"command\":\"lock\",\"machine\":1,\"version\":1}")?,
         status: 200,
         body: text(alloc, "{\"id\":1,\"status\":\"Ready\",\"version\":2}")?,
-    }))
+    })
 }
 
-fn row(alloc: Global, text: &str) -> Result<RowWrite, Fault> {
-    let (kind, words) = first(text);
+fn put_machine(id: &str, words: &str) -> Result<RowWrite, CaseFault> {
+    let (before, words) = first(words);
+    Ok(RowWrite::PutMachine {
+        machine: machine(id, words)?,
+        was: some(before).map(version_of).transpose()?,
+    })
+}
+
+fn row(alloc: Global, words: &str) -> Result<RowWrite, CaseFault> {
+    let (kind, words) = first(words);
+    let (word, rest) = first(words);
     match kind {
-        "machine" => put_machine(words),
-        "machine_gone" => Ok(RowWrite::MachineGone(number(words)?)),
-        "interface" => interface(words),
-        "interface_gone" => Ok(RowWrite::InterfaceGone(mac(words)?)),
-        "image_gone" => Ok(RowWrite::ImageGone(name(words)?)),
-        "numbers" => numbers(words),
-        "boot" => boot(words),
-        "order" => order(words),
-        "receipt" => receipt(alloc, words),
-        _ => Err(Fault::Word),
+        "machine" => put_machine(word, rest),
+        "machine_gone" => Ok(RowWrite::MachineGone(numbered(word)?)),
+        "interface" => Ok(RowWrite::PutInterface(Interface {
+            mac: mac(word)?,
+            machine: numbered(rest)?,
+        })),
+        "interface_gone" => Ok(RowWrite::InterfaceGone(mac(word)?)),
+        "image_gone" => Ok(RowWrite::ImageGone(name(word)?)),
+        "numbers" => Ok(RowWrite::PutNumbers(numbers(words)?)),
+        "boot" => Ok(RowWrite::PutBoot(boot(word, rest)?)),
+        "order" => Ok(RowWrite::PutOrder(order(word, rest)?)),
+        "receipt" => Ok(RowWrite::PutReceipt(receipt(alloc, word, rest)?)),
+        _ => Err(CaseFault::Form),
     }
 }
 
 /// The change of words.
-pub fn change(alloc: Global, words: &str) -> Result<Change, Fault> {
+pub fn change(alloc: Global, words: &str) -> Result<Change, CaseFault> {
     let mut rows = Vec::new(alloc);
     if words.is_empty() {
         return Ok(Change::from(rows));
@@ -180,18 +163,18 @@ pub fn change(alloc: Global, words: &str) -> Result<Change, Fault> {
     Ok(Change::from(rows))
 }
 
-/// Makes a change, and writes `applied`, or `refused` where the store doesn't make it.
-pub fn apply<S: HallStore>(
-    alloc: Global,
-    store: &mut S,
-    words: &str,
-    line: &mut String,
-) -> Result<(), Fault> {
-    let change = change(alloc, words)?;
-    let word = match store.apply(&change) {
-        Ok(()) => "applied\n",
-        Err(_) => "refused\n",
-    };
-    line.push_str(word)?;
-    Ok(())
+impl<S: HallStore + Drop> Hall<S> {
+    /// Makes a change, and prints `applied`, or `refused` where the store doesn't make it.
+    pub(crate) fn apply(&mut self, words: &str, out: &mut Out) -> Played {
+        let change = change(out.alloc(), words)?;
+        let mut store = self.take()?;
+        let applied = store.apply(&change);
+        self.put_back(store);
+        out.push(if applied.is_ok() {
+            "applied"
+        } else {
+            "refused"
+        });
+        Ok(())
+    }
 }

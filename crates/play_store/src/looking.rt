@@ -1,104 +1,147 @@
-//! All that a store has under some keys.
-use crate::fault::Fault;
-use crate::{finding, words};
+//! All that a store has under some keys, and what of it has changed.
+use crate::hall::Hall;
+use crate::reads::found;
+use cases::{CaseFault, Out, Played};
 use hall_store::HallStore;
-use hall_types::{Arch, Name, Number, RequestKey};
+use play_log::first;
 use std::alloc::Global;
 
-const ARCHS: [Arch; 4] = [Arch::Bios, Arch::Uefi32, Arch::Uefi64, Arch::Arm64];
+/// What is read of each name.
+const OF_NAME: [&str; 4] = ["operator", "pool", "image", "image_used"];
+
+/// What is read of the machines, boots and orders of the numbers 1 and 2, and of the hall.
+const OF_HALL: [&str; 18] = [
+    "machine 1",
+    "boot 1",
+    "order 1",
+    "interfaces_of 1",
+    "machine 2",
+    "boot 2",
+    "order 2",
+    "interfaces_of 2",
+    "live bios",
+    "live uefi32",
+    "live uefi64",
+    "live arm64",
+    "numbers",
+    "machine_count",
+    "machines",
+    "interfaces",
+    "waiting_orders",
+    "counts",
+];
+
+fn read<S: HallStore>(store: &mut S, what: &str, words: &str, out: &mut Out) -> Played {
+    let words = format!(in out.alloc(); "{what} {words}")?;
+    let _ = found(store, words.as_str(), out)?;
+    Ok(())
+}
 
 // What a name has: the operator, the pool, the image, its use, and the operator's receipt of a key.
-fn of_name<S: HallStore>(
-    alloc: Global,
-    store: &mut S,
-    name: &Name,
-    key: RequestKey,
-    line: &mut String,
-) -> Result<(), Fault> {
-    let _ = finding::operator(alloc, store, name, line)?;
-    let _ = finding::pool(store, name, line)?;
-    let _ = finding::image(alloc, store, name, line)?;
-    let _ = finding::image_used(store, name, line)?;
-    let _ = finding::receipt(alloc, store, name, key, line)?;
-    Ok(())
+fn of_name<S: HallStore>(store: &mut S, name: &str, key: &str, out: &mut Out) -> Played {
+    for what in &OF_NAME {
+        read(store, what, name, out)?;
+    }
+    let words = format!(in out.alloc(); "{name} {key}")?;
+    read(store, "receipt", words.as_str(), out)
 }
 
 // Which of the operators with these names are members of a pool.
-fn members<S: HallStore>(
-    store: &mut S,
-    pool: &str,
-    names: &str,
-    line: &mut String,
-) -> Result<(), Fault> {
-    let pool = words::name(pool)?;
-    for word in names.split(' ') {
-        let _ = finding::member(store, &pool, &words::name(word)?, line)?;
+fn members<S: HallStore>(store: &mut S, pool: &str, names: &str, out: &mut Out) -> Played {
+    for name in names.split(' ') {
+        let words = format!(in out.alloc(); "{pool} {name}")?;
+        read(store, "member", words.as_str(), out)?;
     }
     Ok(())
 }
 
-fn of_names<S: HallStore>(
-    alloc: Global,
-    store: &mut S,
-    key: RequestKey,
-    names: &str,
-    line: &mut String,
-) -> Result<(), Fault> {
-    for word in names.split(' ') {
-        of_name(alloc, store, &words::name(word)?, key, line)?;
+// All that is looked at: `KEY NAME ..` has what operators, pools and images have these names, which of them are members of which, and
+// their receipts of the key; the number of the machine whose UUID has the key's octets; and what `OF_HALL` has.
+fn all<S: HallStore>(store: &mut S, watched: &str, out: &mut Out) -> Played {
+    let (key, names) = first(watched);
+    for name in names.split(' ') {
+        of_name(store, name, key, out)?;
     }
-    for word in names.split(' ') {
-        members(store, word, names, line)?;
+    for pool in names.split(' ') {
+        members(store, pool, names, out)?;
+    }
+    read(store, "by_uuid", key, out)?;
+    for words in &OF_HALL {
+        let _ = found(store, words, out)?;
     }
     Ok(())
 }
 
-// The machine, boot and order with a number, and the machine's interfaces.
-fn of_number<S: HallStore>(
-    alloc: Global,
-    store: &mut S,
-    number: Number,
-    line: &mut String,
-) -> Result<(), Fault> {
-    let _ = finding::machine(alloc, store, number, line)?;
-    let _ = finding::boot(alloc, store, number, line)?;
-    let _ = finding::order(alloc, store, number, line)?;
-    let _ = finding::interfaces_of(alloc, store, number, line)?;
+// Prints a line that went or came.
+fn push_change(out: &mut Out, mark: &str, line: &str) {
+    out.push(mark);
+    out.line(line);
+}
+
+// Prints the lines from one place up to another one, which came.
+fn push_new(out: &mut Out, lines: &[&str], from: usize, to: usize) {
+    for line in lines.iter().take(to).skip(from) {
+        push_change(out, "+ ", line);
+    }
+}
+
+// The place of the first line, from one on, that is this one.
+fn place_of(lines: &[&str], from: usize, line: &str) -> Option<usize> {
+    let place = lines.iter().skip(from).position(|other| *other == line)?;
+    place.checked_add(from)
+}
+
+fn lines_of(alloc: Global, text: &str) -> Result<Vec<&str>, CaseFault> {
+    let mut lines = Vec::new(alloc);
+    for line in text.lines() {
+        lines.push(line)?;
+    }
+    Ok(lines)
+}
+
+// Prints which lines went and which came from a text to another one, in order.
+fn push_changes(out: &mut Out, before: &str, after: &str) -> Played {
+    let after = lines_of(out.alloc(), after)?;
+    let mut next = 0;
+    for line in before.lines() {
+        match place_of(after.as_slice(), next, line) {
+            Some(place) => {
+                push_new(out, after.as_slice(), next, place);
+                next = place.saturating_add(1);
+            }
+            None => push_change(out, "- ", line),
+        }
+    }
+    push_new(out, after.as_slice(), next, after.len());
     Ok(())
 }
 
-// The lists, the last numbers and the counts.
-fn of_hall<S: HallStore>(alloc: Global, store: &mut S, line: &mut String) -> Result<(), Fault> {
-    for arch in ARCHS {
-        let _ = finding::live(store, arch, line)?;
+impl<S: HallStore + Drop> Hall<S> {
+    /// Says what is looked at from now on.
+    pub(crate) fn watch(&mut self, words: &str, out: &mut Out) -> Played {
+        self.looked.watched = String::from_str(out.alloc(), words)?;
+        self.looked.seen = String::new(out.alloc());
+        Ok(())
     }
-    let _ = finding::numbers(alloc, store, line)?;
-    let _ = finding::machine_count(alloc, store, line)?;
-    let _ = finding::machines(alloc, store, line)?;
-    let _ = finding::interfaces(alloc, store, line)?;
-    let _ = finding::waiting_orders(alloc, store, line)?;
-    let _ = finding::counts(alloc, store, line)?;
-    Ok(())
-}
 
-/// Writes all that a store has: `look KEY NAME ..` has what operators, pools and images have these names, which of them are
-/// members of which, and their receipts of the key; the number of the machine whose UUID has the key's octets; then the machines,
-/// boots and orders of the numbers 1 and 2; and last the live images, the last numbers, the lists and the counts. Nothing is
-/// written for what isn't there.
-pub fn look<S: HallStore>(
-    alloc: Global,
-    store: &mut S,
-    rest: &str,
-    line: &mut String,
-) -> Result<(), Fault> {
-    let (key, names) = words::first(rest);
-    of_names(alloc, store, words::key(key)?, names, line)?;
-    let _ = finding::by_uuid(alloc, store, words::uuid(key)?, line)?;
-    for number in 1..3u64 {
-        let Ok(number) = Number::new(number) else {
-            return Err(Fault::Word);
-        };
-        of_number(alloc, store, number, line)?;
+    fn look_at(&mut self, words: &str, out: &mut Out) -> Played {
+        let mut store = self.take()?;
+        let looked = all(&mut store, words, out);
+        self.put_back(store);
+        looked
     }
-    of_hall(alloc, store, line)
+
+    /// Prints all that is looked at by these words; or, without words, what is another line of what is watched than at the look before.
+    pub(crate) fn look(&mut self, words: &str, out: &mut Out) -> Played {
+        if !words.is_empty() {
+            return self.look_at(words, out);
+        }
+        let watched = String::from_str(out.alloc(), self.looked.watched.as_str())?;
+        let mut now = Out::new(out.alloc());
+        let looked = self.look_at(watched.as_str(), &mut now);
+        let now = now.into_text()?;
+        push_changes(out, self.looked.seen.as_str(), now.as_str())?;
+        self.looked.seen = now;
+        looked
+    }
 }

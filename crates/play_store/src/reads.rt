@@ -1,126 +1,113 @@
 //! Reads of a store: `machine ID`, `by_mac MAC`, `by_uuid HEX`, `boot NUMBER`, `order NUMBER`, `operator NAME`, `digest HEX`,
 //! `pool NAME`, `member POOL NAME`, `image NAME`, `image_used NAME`, `live ARCH`, `receipt NAME KEY`, `numbers`,
 //! `next_expired MOMENT`, `machine_count`, `interfaces_of ID`, `interfaces`, `machines`, `waiting_orders` and `counts`. The record
-//! is written whole, a list record by record in its order; `none` where there is nothing.
-use crate::fault::Fault;
-use crate::{finding, words};
-use hall_store::HallStore;
-use std::alloc::Global;
+//! is printed whole, a list record by record in its order; `none` where there is nothing.
+use crate::hall::Hall;
+use crate::records::Row;
+use cases::{CaseFault, Out, Played};
+use hall_store::{HallStore, Unavailable};
+use play_log::{arch, digest, first, issued, key, mac, moment, name, number, uuid};
 
-// Reads by the number of a machine, of a boot or of an order.
-fn by_number<S: HallStore>(
-    alloc: Global,
-    store: &mut S,
-    what: &str,
-    word: &str,
-    line: &mut String,
-) -> Result<bool, Fault> {
-    let number = words::number(word)?;
-    match what {
-        "machine" => finding::machine(alloc, store, number, line),
-        "boot" => finding::boot(alloc, store, number, line),
-        "order" => finding::order(alloc, store, number, line),
-        "interfaces_of" => finding::interfaces_of(alloc, store, number, line),
-        _ => Err(Fault::Word),
+/// Whether something was found, and printed.
+type Found = Result<bool, CaseFault>;
+
+// Prints a record, if there is one, and says whether there is.
+fn one<T: Row + Drop>(found: Result<Option<T>, Unavailable>, out: &mut Out) -> Found {
+    match found {
+        Ok(Some(row)) => {
+            row.print(out);
+            Ok(true)
+        }
+        Ok(None) => Ok(false),
+        Err(_) => Err(CaseFault::Unavailable),
     }
 }
 
-// Reads by a name.
-fn by_name<S: HallStore>(
-    alloc: Global,
-    store: &mut S,
-    what: &str,
-    word: &str,
-    line: &mut String,
-) -> Result<bool, Fault> {
-    let name = words::name(word)?;
-    match what {
-        "operator" => finding::operator(alloc, store, &name, line),
-        "pool" => finding::pool(store, &name, line),
-        "image" => finding::image(alloc, store, &name, line),
-        "image_used" => finding::image_used(store, &name, line),
-        _ => Err(Fault::Word),
+// Prints the records of a list, and says whether there are any.
+fn all<T: Row + Drop>(found: Result<Vec<T>, Unavailable>, out: &mut Out) -> Found {
+    let Ok(rows) = found else {
+        return Err(CaseFault::Unavailable);
+    };
+    for row in rows.as_slice() {
+        row.print(out);
+    }
+    Ok(!rows.is_empty())
+}
+
+fn image_used<S: HallStore>(store: &mut S, word: &str, out: &mut Out) -> Found {
+    match store.image_used(&name(word)?) {
+        Ok(is_used) => {
+            if is_used {
+                out.show(format_args!("image {word} is used\n"));
+            }
+            Ok(is_used)
+        }
+        Err(_) => Err(CaseFault::Unavailable),
     }
 }
 
-// Reads by another word.
-fn by_word<S: HallStore>(
-    alloc: Global,
-    store: &mut S,
-    what: &str,
-    word: &str,
-    line: &mut String,
-) -> Result<bool, Fault> {
+fn next_expired<S: HallStore>(store: &mut S, word: &str, out: &mut Out) -> Found {
+    let found = store.next_expired(moment(number(word)?)?);
+    if let Ok(Some(_)) = &found {
+        out.push("expired ");
+    }
+    one(found, out)
+}
+
+// Reads by two words, and lists.
+fn list<S: HallStore>(store: &mut S, what: &str, words: &str, out: &mut Out) -> Found {
+    let alloc = out.alloc();
+    let (word, other) = first(words);
     match what {
-        "by_mac" => finding::by_mac(alloc, store, words::mac(word)?, line),
-        "by_uuid" => finding::by_uuid(alloc, store, words::uuid(word)?, line),
-        "digest" => finding::operator_by_digest(alloc, store, &words::digest(word)?, line),
-        "live" => finding::live(store, words::arch(word)?, line),
-        "next_expired" => finding::next_expired(alloc, store, words::moment(word)?, line),
-        _ => Err(Fault::Word),
+        "member" => one(store.member(&name(word)?, &name(other)?), out),
+        "receipt" => one(store.receipt(alloc, &name(word)?, key(other)?), out),
+        "interfaces_of" => all(store.interfaces_of(alloc, issued(number(word)?)?), out),
+        "interfaces" => all(store.interfaces(alloc), out),
+        "machines" => all(store.machines(alloc), out),
+        "waiting_orders" => all(store.waiting_orders(alloc), out),
+        "counts" => all(store.counts(alloc), out),
+        _ => Err(CaseFault::Form),
     }
 }
 
-// Reads by two words.
-fn by_two<S: HallStore>(
-    alloc: Global,
-    store: &mut S,
-    what: &str,
-    rest: &str,
-    line: &mut String,
-) -> Result<bool, Fault> {
-    let (one, other) = words::first(rest);
-    let name = words::name(one)?;
+// Reads by a name, and of the whole hall.
+fn named<S: HallStore>(store: &mut S, what: &str, words: &str, out: &mut Out) -> Found {
     match what {
-        "member" => finding::member(store, &name, &words::name(other)?, line),
-        "receipt" => finding::receipt(alloc, store, &name, words::key(other)?, line),
-        _ => Err(Fault::Word),
+        "operator" => one(store.operator(&name(words)?), out),
+        "digest" => one(store.operator_by_digest(&digest(words)?), out),
+        "pool" => one(store.pool(&name(words)?), out),
+        "image" => one(store.image(out.alloc(), &name(words)?), out),
+        "image_used" => image_used(store, words, out),
+        "numbers" => one(store.numbers().map(Some), out),
+        "machine_count" => one(store.machine_count().map(Some), out),
+        _ => list(store, what, words, out),
     }
 }
 
-// Reads of the whole hall.
-fn of_hall<S: HallStore>(
-    alloc: Global,
-    store: &mut S,
-    what: &str,
-    line: &mut String,
-) -> Result<bool, Fault> {
+/// Prints what a read finds, and says whether it finds something.
+pub(crate) fn found<S: HallStore>(store: &mut S, words: &str, out: &mut Out) -> Found {
+    let (what, word) = first(words);
     match what {
-        "numbers" => finding::numbers(alloc, store, line),
-        "machine_count" => finding::machine_count(alloc, store, line),
-        "interfaces" => finding::interfaces(alloc, store, line),
-        "machines" => finding::machines(alloc, store, line),
-        "waiting_orders" => finding::waiting_orders(alloc, store, line),
-        "counts" => finding::counts(alloc, store, line),
-        _ => Err(Fault::Word),
+        "machine" => one(store.machine(issued(number(word)?)?), out),
+        "boot" => one(store.boot(issued(number(word)?)?), out),
+        "order" => one(store.order(issued(number(word)?)?), out),
+        "by_mac" => one(store.by_mac(mac(word)?), out),
+        "by_uuid" => one(store.by_uuid(uuid(word)?), out),
+        "live" => one(store.live(arch(word)?), out),
+        "next_expired" => next_expired(store, word, out),
+        _ => named(store, what, word, out),
     }
 }
 
-fn found<S: HallStore>(
-    alloc: Global,
-    store: &mut S,
-    words: &str,
-    line: &mut String,
-) -> Result<bool, Fault> {
-    let (what, rest) = words::first(words);
-    match what {
-        "machine" | "boot" | "order" | "interfaces_of" => by_number(alloc, store, what, rest, line),
-        "operator" | "pool" | "image" | "image_used" => by_name(alloc, store, what, rest, line),
-        "member" | "receipt" => by_two(alloc, store, what, rest, line),
-        _ if rest.is_empty() => of_hall(alloc, store, what, line),
-        _ => by_word(alloc, store, what, rest, line),
+impl<S: HallStore + Drop> Hall<S> {
+    /// Reads what words ask for, and prints it.
+    pub(crate) fn read(&mut self, words: &str, out: &mut Out) -> Played {
+        let mut store = self.take()?;
+        let found = found(&mut store, words, out);
+        self.put_back(store);
+        if !found? {
+            out.push("none");
+        }
+        Ok(())
     }
-}
-
-/// Reads of a store what words ask for, and writes it.
-pub fn read<S: HallStore>(
-    alloc: Global,
-    store: &mut S,
-    words: &str,
-    line: &mut String,
-) -> Result<(), Fault> {
-    if !found(alloc, store, words, line)? {
-        line.push_str("none\n")?;
-    }
-    Ok(())
 }

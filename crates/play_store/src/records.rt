@@ -1,269 +1,189 @@
-//! Records as lines, each field with its name.
+//! Records as lines, each field with its name, `-` where it is absent.
+use cases::Out;
 use hall_report::ImportRow;
 use hall_store::Count;
 use hall_types::{
-    Boot, Digest, Image, Interface, Live, MacAddress, Machine, MachineUuid, Member, Name, Number,
-    Numbers, Operator, Order, OrderStage, Pool, Receipt, Stage, Status,
+    Boot, Image, Interface, Live, MacAddress, Machine, MachineUuid, Member, Number, Numbers,
+    Operator, Order, Pool, Receipt,
 };
-use ipxe_script::Word;
-use std::alloc::{AllocError, Global};
+use std::fmt::Display;
 
-// What stands for a field that is absent.
-const ABSENT: &str = "-";
+/// What is printed as a line.
+pub(crate) trait Row {
+    fn print(&self, out: &mut Out);
+}
 
 // `, NAME VALUE`.
-fn field(line: &mut String, name: &str, value: &str) -> Result<(), AllocError> {
-    line.push_str(", ")?;
-    line.push_str(name)?;
-    line.push(' ')?;
-    line.push_str(value)
+fn field(out: &mut Out, name: &str, value: impl Display + Drop) {
+    out.show(format_args!(", {name} {value}"));
 }
 
-// The first field of a line: `NAME VALUE`.
-fn head(line: &mut String, name: &str, value: &str) -> Result<(), AllocError> {
-    line.push_str(name)?;
-    line.push(' ')?;
-    line.push_str(value)
-}
-
-fn count_field(alloc: Global, line: &mut String, name: &str, n: u64) -> Result<(), AllocError> {
-    field(line, name, n.to_string(alloc)?.as_str())
-}
-
-/// `NAME NUMBER`.
-pub fn push_count(alloc: Global, line: &mut String, name: &str, n: u64) -> Result<(), AllocError> {
-    head(line, name, n.to_string(alloc)?.as_str())
-}
-
-fn some_count(
-    alloc: Global,
-    line: &mut String,
-    name: &str,
-    n: Option<u64>,
-) -> Result<(), AllocError> {
-    match n {
-        Some(n) => count_field(alloc, line, name, n),
-        None => field(line, name, ABSENT),
-    }
-}
-
-fn some_number(
-    alloc: Global,
-    line: &mut String,
-    name: &str,
-    n: Option<Number>,
-) -> Result<(), AllocError> {
-    match n {
-        Some(n) => count_field(alloc, line, name, n.get()),
-        None => field(line, name, ABSENT),
-    }
-}
-
-fn some_name(line: &mut String, name: &str, value: Option<Name>) -> Result<(), AllocError> {
+fn some(out: &mut Out, name: &str, value: Option<impl Display + Drop>) {
     match value {
-        Some(value) => field(line, name, value.text()),
-        None => field(line, name, ABSENT),
+        Some(value) => field(out, name, value),
+        None => field(out, name, "-"),
     }
 }
 
-fn octets(alloc: Global, line: &mut String, name: &str, octets: &[u8]) -> Result<(), AllocError> {
-    field(line, name, hex::encode(alloc, octets)?.as_str())
+fn octets(out: &mut Out, name: &str, octets: &[u8]) {
+    field(out, name, "");
+    out.hex(octets);
 }
 
-fn some_uuid(
-    alloc: Global,
-    line: &mut String,
-    uuid: Option<MachineUuid>,
-) -> Result<(), AllocError> {
+fn uuid(out: &mut Out, uuid: Option<MachineUuid>) {
     match uuid {
-        Some(uuid) => octets(alloc, line, "uuid", &uuid.octets()),
-        None => field(line, "uuid", ABSENT),
+        Some(uuid) => octets(out, "uuid", &uuid.octets()),
+        None => field(out, "uuid", "-"),
     }
 }
 
-fn some_status(line: &mut String, name: &str, status: Option<Status>) -> Result<(), AllocError> {
-    match status {
-        Some(status) => field(line, name, status.text()),
-        None => field(line, name, ABSENT),
+fn truth(out: &mut Out, name: &str, truth: bool) {
+    field(out, name, if truth { "yes" } else { "no" });
+}
+
+fn mac(out: &mut Out, mac: MacAddress) {
+    let [a, b, c, d, e, f] = mac.octets();
+    out.show(format_args!("{a:02x}:{b:02x}:{c:02x}:{d:02x}:{e:02x}:{f:02x}"));
+}
+
+impl Row for Number {
+    fn print(&self, out: &mut Out) {
+        out.show(format_args!("number {}\n", self.get()));
     }
 }
 
-fn truth(line: &mut String, name: &str, truth: bool) -> Result<(), AllocError> {
-    field(line, name, if truth { "yes" } else { "no" })
-}
-
-// What a machine is.
-fn push_kind(alloc: Global, line: &mut String, machine: &Machine) -> Result<(), AllocError> {
-    push_count(alloc, line, "machine", machine.id.get())?;
-    field(line, "arch", machine.arch.text())?;
-    some_uuid(alloc, line, machine.uuid)?;
-    field(line, "pool", machine.pool.text())?;
-    field(line, "status", machine.status.text())
-}
-
-// Whose it is, and what it has of its life so far.
-fn push_use(line: &mut String, machine: &Machine) -> Result<(), AllocError> {
-    some_name(line, "owner", machine.owner)?;
-    some_name(line, "image", machine.image)?;
-    truth(line, "tests", machine.tests)?;
-    some_status(line, "back", machine.back)?;
-    let erase = match machine.erase {
-        Some(erase) => erase.text(),
-        None => ABSENT,
-    };
-    field(line, "erase", erase)?;
-    truth(line, "locked", machine.locked)
-}
-
-// Its numbers.
-fn push_state(alloc: Global, line: &mut String, machine: &Machine) -> Result<(), AllocError> {
-    count_field(alloc, line, "version", machine.version.get())?;
-    some_count(alloc, line, "deadline", machine.deadline)?;
-    some_number(alloc, line, "boot", machine.boot)?;
-    count_field(alloc, line, "boots", u64::from(machine.boots.get()))?;
-    some_number(alloc, line, "waiting", machine.waiting)?;
-    line.push('\n')
-}
-
-pub fn push_machine(alloc: Global, line: &mut String, machine: &Machine) -> Result<(), AllocError> {
-    push_kind(alloc, line, machine)?;
-    push_use(line, machine)?;
-    push_state(alloc, line, machine)
-}
-
-fn stage_text(stage: Stage) -> &'static str {
-    match stage {
-        Stage::Offered => "offered",
-        Stage::Started => "started",
-        Stage::Done => "done",
-        Stage::Failed => "failed",
+// The number of machines of a hall.
+impl Row for u64 {
+    fn print(&self, out: &mut Out) {
+        out.show(format_args!("machines {self}\n"));
     }
 }
 
-pub fn push_boot(alloc: Global, line: &mut String, boot: &Boot) -> Result<(), AllocError> {
-    push_count(alloc, line, "boot", boot.number.get())?;
-    count_field(alloc, line, "machine", boot.machine.get())?;
-    field(line, "purpose", boot.purpose.text())?;
-    octets(alloc, line, "token", &boot.token.octets())?;
-    field(line, "stage", stage_text(boot.stage))?;
-    line.push('\n')
+// What a machine is, and whose.
+fn print_kind(out: &mut Out, machine: &Machine) {
+    let (id, arch) = (machine.id.get(), machine.arch.text());
+    out.show(format_args!("machine {id}, arch {arch}"));
+    uuid(out, machine.uuid);
+    let (pool, status) = (machine.pool, machine.status.text());
+    out.show(format_args!(", pool {pool}, status {status}"));
+    some(out, "owner", machine.owner);
+    some(out, "image", machine.image);
 }
 
-fn order_stage_text(stage: OrderStage) -> &'static str {
-    match stage {
-        OrderStage::Waiting => "waiting",
-        OrderStage::Done => "done",
-        OrderStage::Failed => "failed",
-        OrderStage::Withdrawn => "withdrawn",
+impl Row for Machine {
+    fn print(&self, out: &mut Out) {
+        print_kind(out, self);
+        truth(out, "tests", self.tests);
+        some(out, "back", self.back.map(|status| status.text()));
+        some(out, "erase", self.erase.map(|erase| erase.text()));
+        truth(out, "locked", self.locked);
+        field(out, "version", self.version.get());
+        some(out, "deadline", self.deadline);
+        some(out, "boot", self.boot.map(|number| number.get()));
+        field(out, "boots", self.boots.get());
+        some(out, "waiting", self.waiting.map(|number| number.get()));
+        out.push("\n");
     }
 }
 
-pub fn push_order(alloc: Global, line: &mut String, order: &Order) -> Result<(), AllocError> {
-    push_count(alloc, line, "order", order.number.get())?;
-    count_field(alloc, line, "machine", order.machine.get())?;
-    field(line, "kind", order.kind.text())?;
-    field(line, "stage", order_stage_text(order.stage))?;
-    line.push('\n')
-}
-
-pub fn push_operator(
-    alloc: Global,
-    line: &mut String,
-    operator: &Operator,
-) -> Result<(), AllocError> {
-    head(line, "operator", operator.name.text())?;
-    field(line, "role", operator.role.text())?;
-    push_digest(alloc, line, &operator.digest)?;
-    truth(line, "enabled", operator.enabled)?;
-    line.push('\n')
-}
-
-fn push_digest(alloc: Global, line: &mut String, digest: &Digest) -> Result<(), AllocError> {
-    octets(alloc, line, "digest", &digest.octets())
-}
-
-pub fn push_pool(line: &mut String, pool: &Pool) -> Result<(), AllocError> {
-    head(line, "pool", pool.name.text())?;
-    line.push('\n')
-}
-
-pub fn push_member(line: &mut String, member: &Member) -> Result<(), AllocError> {
-    head(line, "member", member.pool.text())?;
-    field(line, "operator", member.operator.text())?;
-    line.push('\n')
-}
-
-// Words, one space apart.
-fn push_args(line: &mut String, args: &[Word]) -> Result<(), AllocError> {
-    line.push_str(", args")?;
-    for arg in args {
-        line.push(' ')?;
-        line.push_str(arg.text())?;
+impl Row for Boot {
+    fn print(&self, out: &mut Out) {
+        let (number, machine) = (self.number.get(), self.machine.get());
+        let purpose = self.purpose.text();
+        out.show(format_args!("boot {number}, machine {machine}, purpose {purpose}"));
+        octets(out, "token", &self.token.octets());
+        out.show(format_args!(", stage {:?}\n", self.stage));
     }
-    Ok(())
 }
 
-pub fn push_image(line: &mut String, image: &Image) -> Result<(), AllocError> {
-    head(line, "image", image.name().text())?;
-    field(line, "arch", image.arch().text())?;
-    field(line, "kernel", image.kernel().text())?;
-    field(line, "initrd", image.initrd().text())?;
-    push_args(line, image.args())?;
-    line.push('\n')
+impl Row for Order {
+    fn print(&self, out: &mut Out) {
+        let (number, machine) = (self.number.get(), self.machine.get());
+        let (kind, stage) = (self.kind.text(), self.stage);
+        out.show(format_args!("order {number}, machine {machine}, kind {kind}, stage {stage:?}\n"));
+    }
 }
 
-pub fn push_live(line: &mut String, live: &Live) -> Result<(), AllocError> {
-    head(line, "live", live.arch.text())?;
-    field(line, "image", live.image.text())?;
-    line.push('\n')
+impl Row for Operator {
+    fn print(&self, out: &mut Out) {
+        out.show(format_args!("operator {}, role {}", self.name, self.role.text()));
+        octets(out, "digest", &self.digest.octets());
+        truth(out, "enabled", self.enabled);
+        out.push("\n");
+    }
 }
 
-pub fn push_receipt(alloc: Global, line: &mut String, receipt: &Receipt) -> Result<(), AllocError> {
-    head(line, "receipt", receipt.operator.text())?;
-    octets(alloc, line, "key", &receipt.key.octets())?;
-    count_field(alloc, line, "status", u64::from(receipt.status))?;
-    field(line, "command", receipt.command.as_str())?;
-    field(line, "body", receipt.body.as_str())?;
-    line.push('\n')
+impl Row for Pool {
+    fn print(&self, out: &mut Out) {
+        out.show(format_args!("pool {}\n", self.name));
+    }
 }
 
-pub fn push_numbers(alloc: Global, line: &mut String, numbers: &Numbers) -> Result<(), AllocError> {
-    push_count(alloc, line, "numbers machine", numbers.machine.get())?;
-    count_field(alloc, line, "boot", numbers.boot.get())?;
-    count_field(alloc, line, "order", numbers.order.get())?;
-    line.push('\n')
+impl Row for Member {
+    fn print(&self, out: &mut Out) {
+        out.show(format_args!("member {}, operator {}\n", self.pool, self.operator));
+    }
 }
 
-/// An address as `read` and `look` write it.
-pub fn push_mac(alloc: Global, line: &mut String, mac: MacAddress) -> Result<(), AllocError> {
-    line.push_str(wire_mac::print(alloc, &mac.octets())?.as_str())
+impl Row for Image {
+    fn print(&self, out: &mut Out) {
+        out.show(format_args!("image {}, arch {}", self.name(), self.arch().text()));
+        field(out, "kernel", self.kernel().text());
+        field(out, "initrd", self.initrd().text());
+        out.push(", args");
+        for arg in self.args() {
+            out.show(format_args!(" {}", arg.text()));
+        }
+        out.push("\n");
+    }
 }
 
-pub fn push_interface(
-    alloc: Global,
-    line: &mut String,
-    interface: &Interface,
-) -> Result<(), AllocError> {
-    line.push_str("interface ")?;
-    push_mac(alloc, line, interface.mac)?;
-    count_field(alloc, line, "machine", interface.machine.get())?;
-    line.push('\n')
+impl Row for Live {
+    fn print(&self, out: &mut Out) {
+        out.show(format_args!("live {}, image {}\n", self.arch.text(), self.image));
+    }
 }
 
-pub fn push_tally(alloc: Global, line: &mut String, count: &Count) -> Result<(), AllocError> {
-    head(line, "count", count.pool.text())?;
-    field(line, "status", count.status.text())?;
-    count_field(alloc, line, "machines", count.machines)?;
-    line.push('\n')
+impl Row for Receipt {
+    fn print(&self, out: &mut Out) {
+        out.show(format_args!("receipt {}", self.operator));
+        octets(out, "key", &self.key.octets());
+        field(out, "status", self.status);
+        field(out, "command", self.command.as_str());
+        out.show(format_args!(", body {}\n", self.body.as_str()));
+    }
 }
 
-/// A row of a file of new machines.
-pub fn push_row(alloc: Global, line: &mut String, row: &ImportRow) -> Result<(), AllocError> {
-    line.push_str("row ")?;
-    push_mac(alloc, line, row.mac)?;
-    octets(alloc, line, "key", &row.key.octets())?;
-    field(line, "arch", row.arch.text())?;
-    some_uuid(alloc, line, row.uuid)?;
-    field(line, "pool", row.pool.text())?;
-    line.push('\n')
+impl Row for Numbers {
+    fn print(&self, out: &mut Out) {
+        let (machine, boot, order) = (self.machine.get(), self.boot.get(), self.order.get());
+        out.show(format_args!("numbers machine {machine}, boot {boot}, order {order}\n"));
+    }
+}
+
+impl Row for Interface {
+    fn print(&self, out: &mut Out) {
+        out.push("interface ");
+        mac(out, self.mac);
+        out.show(format_args!(", machine {}\n", self.machine.get()));
+    }
+}
+
+impl Row for Count {
+    fn print(&self, out: &mut Out) {
+        let (pool, status, machines) = (self.pool, self.status.text(), self.machines);
+        out.show(format_args!("count {pool}, status {status}, machines {machines}\n"));
+    }
+}
+
+// A row of a file of new machines.
+impl Row for ImportRow {
+    fn print(&self, out: &mut Out) {
+        out.push("row ");
+        mac(out, self.mac);
+        octets(out, "key", &self.key.octets());
+        field(out, "arch", self.arch.text());
+        uuid(out, self.uuid);
+        out.show(format_args!(", pool {}\n", self.pool));
+    }
 }

@@ -1,53 +1,101 @@
-//! Reports on a hall, as a command line prints them.
-use crate::fault::Fault;
-use crate::words::number;
-use desk_operations::{export, report};
-use desk_values::What;
+//! Reports on a hall as a command line prints them, and files of new machines.
+use crate::hall::Hall;
+use crate::records::Row;
+use cases::{CaseFault, Out, Played, Short, string_of};
+use desk_operations::{Imported, export};
+use desk_values::{Fault, What};
+use hall_report::import_rows;
 use hall_store::HallStore;
+use play_log::{digest, first, issued, moment, number};
 use std::alloc::Global;
 
-/// Writes what was printed, and the fault's name after it where there is one.
-pub fn push_printed(
-    line: &mut String,
-    octets: &[u8],
-    end: Result<(), desk_values::Fault>,
-) -> Result<(), Fault> {
-    match str::from_utf8(octets) {
-        Ok(text) => line.push_str(text)?,
-        Err(_) => line.push_str("no text")?,
-    }
+/// Prints the name of the fault by which something ended.
+pub(crate) fn push_end(out: &mut Out, end: Result<(), Fault>) -> Played {
     match end {
         Ok(()) => Ok(()),
-        Err(desk_values::Fault::Unavailable) => Err(Fault::Unavailable),
-        Err(desk_values::Fault::Memory) => Err(Fault::Memory),
+        Err(Fault::Unavailable) => Err(CaseFault::Unavailable),
+        Err(Fault::Memory) => Err(CaseFault::Memory),
         Err(fault) => {
-            line.push_str(fault.name())?;
-            line.push('\n')?;
+            out.push(fault.name());
             Ok(())
         }
     }
 }
 
-/// Writes a report: `hall`, `machine-text ID`, `order-text` or `export`.
-pub fn print<S: HallStore>(
+fn push_text(out: &mut Out, octets: &[u8]) {
+    out.push(std::str::from_utf8(octets).unwrap_or("no text"));
+}
+
+// The report with this word, or none for all machines as a file.
+fn what(kind: &str, words: &str) -> Result<Option<What>, CaseFault> {
+    match kind {
+        "hall" => Ok(Some(What::Hall)),
+        "machine-text" => Ok(Some(What::Machine(issued(number(words)?)?.get()))),
+        "order-text" => Ok(Some(What::Orders)),
+        "export" => Ok(None),
+        _ => Err(CaseFault::Act),
+    }
+}
+
+fn write<S: HallStore>(
     alloc: Global,
     store: &mut S,
-    what: &str,
-    rest: &str,
-    line: &mut String,
+    octets: &mut Vec<u8>,
+    what: Option<What>,
 ) -> Result<(), Fault> {
-    let mut octets = Vec::new(alloc);
-    let end = match what {
-        "hall" => report(alloc, store, &mut octets, What::Hall),
-        "machine-text" => report(
-            alloc,
-            store,
-            &mut octets,
-            What::Machine(number(rest)?.get()),
-        ),
-        "order-text" => report(alloc, store, &mut octets, What::Orders),
-        "export" => export(alloc, store, &mut octets),
-        _ => return Err(Fault::Word),
-    };
-    push_printed(line, octets.as_slice(), end)
+    match what {
+        Some(what) => desk_operations::report(alloc, store, octets, what),
+        None => export(alloc, store, octets),
+    }
+}
+
+/// Parses a file of new machines, and prints its rows, or its fault.
+pub(crate) fn rows(words: &str, out: &mut Out) -> Played {
+    let file = string_of(out.alloc(), words)?;
+    match import_rows(out.alloc(), file.as_bytes()) {
+        Ok(rows) => {
+            if rows.is_empty() {
+                out.push("none");
+            }
+            for row in rows.as_slice() {
+                row.print(out);
+            }
+        }
+        Err(fault) => out.show(fault),
+    }
+    Ok(())
+}
+
+impl<S: HallStore + Drop> Hall<S> {
+    /// Prints a report.
+    pub(crate) fn report(&mut self, kind: &str, words: &str, out: &mut Out) -> Played {
+        let mut octets = Vec::new(out.alloc());
+        let what = what(kind, words)?;
+        let mut store = self.take()?;
+        let end = write(out.alloc(), &mut store, &mut octets, what);
+        self.put_back(store);
+        push_text(out, octets.as_slice());
+        push_end(out, end)
+    }
+
+    /// Imports a file, `MOMENT DIGEST TEXT`, and prints what is printed for its rows by a writer that takes so many octets and then fails.
+    pub(crate) fn import(&mut self, room: usize, words: &str, out: &mut Out) -> Played {
+        let alloc = out.alloc();
+        let (at, rest) = first(words);
+        let (bearer, text) = first(rest);
+        let (bearer, at) = (digest(bearer)?, moment(number(at)?)?);
+        let file = string_of(alloc, text)?;
+        let mut writer = Short::new(Vec::new(alloc), room);
+        let mut desk = self.take_desk(alloc)?;
+        let octets = file.as_bytes();
+        let end = desk_operations::import(alloc, &mut desk, &mut writer, octets, bearer, at);
+        self.put_back(desk.into_store());
+        push_text(out, writer.into_taken().as_slice());
+        match end {
+            Ok(Imported::All) => out.push("each row was accepted"),
+            Ok(Imported::NotAll) => out.push("not each row was accepted"),
+            Err(fault) => push_end(out, Err(fault))?,
+        }
+        Ok(())
+    }
 }

@@ -1,27 +1,26 @@
 //! The words of a command line.
-use std::alloc::{AllocError, Global};
-
-fn word_of(alloc: Global, word: &str) -> Result<String, AllocError> {
-    if word == "''" {
-        return Ok(String::new(alloc));
-    }
-    let mut text = String::new(alloc);
-    for character in word.chars() {
-        text.push(if character == '~' { ' ' } else { character })?;
-    }
-    Ok(text)
-}
+use cases::CaseFault;
+use hallctl_words::{Line, LineFault, read};
+use std::alloc::Global;
 
 /// The words of a command line, after the program's name.
-pub(crate) fn words_of(
-    alloc: Global,
-    program: &str,
-    line: &str,
-) -> Result<Vec<String>, AllocError> {
+pub(crate) fn words_of(alloc: Global, program: &str, line: &str) -> Result<Vec<String>, CaseFault> {
     let mut words = Vec::new(alloc);
     words.push(String::from_str(alloc, program)?)?;
-    for word in line.split(' ') {
-        words.push(word_of(alloc, word)?)?;
+    for word in line.split_ascii_whitespace() {
+        words.push(match word {
+            "''" => String::new(alloc),
+            _ => word.replace(alloc, "~", " ")?,
+        })?;
     }
     Ok(words)
+}
+
+/// What the words of hallctl say, where they are a command line.
+pub(crate) fn line_of<'a>(alloc: Global, words: &'a [String]) -> Result<Line<'a>, CaseFault> {
+    match read(alloc, words) {
+        Ok(line) => Ok(line),
+        Err(LineFault::Memory) => Err(CaseFault::Memory),
+        Err(_) => Err(CaseFault::Form),
+    }
 }

@@ -1,0 +1,152 @@
+//! Acts that are played while something stops: a disk, and then memory. `compare KEY NAME ..` says by what halls are compared, as `look` of
+//! play_store. `stop CALLS OCTETS ACT && ACT ..` plays acts over a file, from what those before them left: prints what each answers, and its
+//! repeat. Then the file's log stops after 0 calls, CALLS calls, twice as many, and so on, until it doesn't stop any more, and after it the
+//! file; what that may leave is in play_files' `stops.rt`. Then they are played over SQLite in memory and over the store in memory, where memory
+//! ends after 0 octets, OCTETS octets, twice as many, and so on, 32 times as many for SQLite, as its `budgets.rt` says; the store in memory has
+//! the hall that the first act `create` makes, and acts that end with `migrate` aren't played over it. `end OCTETS ACT && ACT ..` plays acts
+//! over these two halls alone. `halls` prints what either of them has, and `new` begins with an empty file and no hall.
+use crate::halls::Begun;
+use cases::{CaseFault, Out, Played, Player, hold_all_but};
+use play_files::{Image, Run, Tables, Which, play_in_budgets};
+use play_log::{admin, first, number};
+use play_store::{Asked, Hall, Looked, Way};
+use sqlite::{Connection, MemStore};
+use std::alloc::Global;
+use store_memory::MemoryStore;
+
+// What the acts and their hall need at most while memory ends, in blocks.
+const BLOCKS: u32 = 300;
+
+// SQLite needs more memory than the store in memory, so it ends by so many times as many octets.
+const TIMES: usize = 32;
+
+/// A file, and halls in memory, over which acts are played while something stops.
+#[derive(Drop)]
+pub struct Stops {
+    image: Image,
+    tables: Tables<MemStore>,
+    /// Absent before a hall is created.
+    hall: Option<Hall<MemoryStore>>,
+    look: String,
+}
+
+fn tables(alloc: Global) -> Result<Tables<MemStore>, CaseFault> {
+    let conn: Result<Connection<MemStore>, _> = Connection::open_in_memory(alloc);
+    match conn {
+        Ok(conn) => Ok(Tables::new(alloc, conn)),
+        Err(_) => Err(CaseFault::Memory),
+    }
+}
+
+fn hall(alloc: Global, words: &str) -> Result<Hall<MemoryStore>, CaseFault> {
+    let (name, digest) = admin(words)?;
+    let store = MemoryStore::begin(alloc, name, digest)?;
+    let looked = Looked::nothing(alloc);
+    Ok(Hall::new(store, Way::Alone, Asked::default(), looked))
+}
+
+fn print_answers(run: &Run<'_>, out: &mut Out) {
+    for (answer, repeat) in run.answers.iter().zip(run.repeats.as_slice()) {
+        out.line(answer.as_str().trim_end());
+        out.push("again: ");
+        out.line(repeat.as_str().trim_end());
+    }
+}
+
+impl Stops {
+    pub fn new(alloc: Global) -> Result<Stops, CaseFault> {
+        Ok(Stops {
+            image: Image::empty(alloc),
+            tables: tables(alloc)?,
+            hall: None,
+            look: String::new(alloc),
+        })
+    }
+
+    // Stops each of the files ever later, while acts are played over them.
+    fn stop_disks(&mut self, calls: u64, acts: &str, out: &mut Out) -> Played {
+        let alloc = out.alloc();
+        let (run, then) = Run::new(alloc, &self.image, self.look.as_str(), acts)?;
+        print_answers(&run, out);
+        let log = run.stop_at_each(alloc, &self.image, Which::Log, calls)?;
+        log.print(out, "the log that stops");
+        let file = run.stop_at_each(alloc, &self.image, Which::File, calls)?;
+        file.print(out, "the file that stops");
+        drop(run);
+        self.image = then;
+        Ok(())
+    }
+
+    fn end_memory(&mut self, octets: usize, acts: &str, out: &mut Out) -> Played {
+        let (alloc, look) = (out.alloc(), self.look.as_str());
+        let step = octets.saturating_mul(TIMES);
+        let seen = play_in_budgets(alloc, &mut self.tables, look, acts, step)?;
+        seen.print(out, "memory that ends, SQLite");
+        let Some(hall) = &mut self.hall else {
+            return Ok(());
+        };
+        if !acts.ends_with(" migrate") {
+            let seen = play_in_budgets(alloc, hall, look, acts, octets)?;
+            seen.print(out, "memory that ends, the store in memory");
+        }
+        Ok(())
+    }
+
+    // Plays acts while memory ends, and all that is left of it is held.
+    fn stop_memory(&mut self, octets: usize, acts: &str, out: &mut Out) -> Played {
+        let held = hold_all_but(out.alloc(), BLOCKS)?;
+        let ended = self.end_memory(octets, acts, out);
+        drop(held);
+        ended
+    }
+
+    fn stop(&mut self, words: &str, out: &mut Out) -> Played {
+        let (calls, words) = first(words);
+        let (octets, acts) = first(words);
+        let (calls, octets) = (number(calls)?, number(octets)? as usize);
+        self.stop_disks(calls, acts, out)?;
+        self.end(octets, acts, out)
+    }
+
+    // Plays acts while memory ends. The store in memory has the hall that the first act makes.
+    fn end(&mut self, octets: usize, acts: &str, out: &mut Out) -> Played {
+        self.stop_memory(octets, acts, out)?;
+        if let Some(words) = acts.strip_prefix("create ") {
+            self.hall = Some(hall(out.alloc(), words)?);
+        }
+        Ok(())
+    }
+
+    fn print_halls(&mut self, out: &mut Out) -> Played {
+        let look = self.look.as_str();
+        out.line("SQLite:");
+        self.tables.play(look, out)?;
+        out.line("the store in memory:");
+        match &mut self.hall {
+            Some(hall) => hall.play(look, out),
+            None => Err(CaseFault::Form),
+        }
+    }
+}
+
+impl Player for Stops {
+    fn play(&mut self, act: &str, out: &mut Out) -> Played {
+        match first(act) {
+            ("compare", words) => {
+                self.look = format!(in out.alloc(); "look {words}")?;
+                Ok(())
+            }
+            ("new", _) => {
+                *self = Stops::new(out.alloc())?;
+                Ok(())
+            }
+            ("stop", words) => self.stop(words, out),
+            ("end", words) => {
+                let (octets, acts) = first(words);
+                self.end(number(octets)? as usize, acts, out)
+            }
+            ("halls", _) => self.print_halls(out),
+            _ => Err(CaseFault::Act),
+        }
+    }
+}
