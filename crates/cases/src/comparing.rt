@@ -82,11 +82,11 @@ impl Comparison {
         self.report.take()
     }
 
-    /// `N cases, N lines, D differences`, with a line feed; the lines are those of acts.
+    /// `N cases, N lines, D differences`; the lines are those of acts.
     pub fn counts(&self) -> Result<String, CaseFault> {
         let mut out = Out::new(self.alloc);
         let (cases, acts, differences) = (self.cases, self.acts, self.differences);
-        out.show(format_args!("{cases} cases, {acts} lines, {differences} differences\n"));
+        out.show(format_args!("{cases} cases, {acts} lines, {differences} differences"));
         out.into_text()
     }
 }

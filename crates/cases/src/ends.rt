@@ -38,17 +38,13 @@ impl<'a> Read for Slow<'a> {
 /// A writer that takes so many octets and then fails.
 #[derive(Drop)]
 pub struct Short {
-    taken: Vec<u8>,
+    pub taken: Vec<u8>,
     room: usize,
 }
 
 impl Short {
     pub fn new(taken: Vec<u8>, room: usize) -> Short {
         Short { taken, room }
-    }
-
-    pub fn into_taken(self) -> Vec<u8> {
-        self.taken
     }
 }
 
@@ -58,13 +54,9 @@ impl Write for Short {
         if count == 0 && !octets.is_empty() {
             return Err(Error::from(ErrorKind::Other));
         }
-        match self.taken.extend_from_slice(octets.split_at(count).0) {
-            Ok(()) => {
-                self.room -= count;
-                Ok(count)
-            }
-            Err(_) => Err(Error::from(ErrorKind::OutOfMemory)),
-        }
+        self.taken.extend_from_slice(octets.split_at(count).0)?;
+        self.room -= count;
+        Ok(count)
     }
 
     fn flush(&mut self) -> IoResult<()> {

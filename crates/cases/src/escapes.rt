@@ -12,20 +12,14 @@ fn push_often(octets: &mut Vec<u8>, count: u32, piece: &[u8]) -> Result<(), Allo
 
 // The octet of two hexadecimal digits, and what stands after them.
 fn hex_octet(text: &str) -> Result<(u8, &str), CaseFault> {
-    let (Some(digits), Some(rest)) = (text.get(..2), text.get(2..)) else {
-        return Err(CaseFault::Form);
-    };
-    match <[u8; 1]>::from_hex(digits) {
-        Ok(octets) => Ok((octets[0], rest)),
-        Err(_) => Err(CaseFault::Form),
-    }
+    let (digits, rest) = text.split_at_checked(2).ok_or(CaseFault::Form)?;
+    let [octet] = <[u8; 1]>::from_hex(digits).map_err(|_| CaseFault::Form)?;
+    Ok((octet, rest))
 }
 
 // The octet of an escape, and what stands after it.
 fn escape(text: &str) -> Result<(u8, &str), CaseFault> {
-    let Some(rest) = text.get(1..) else {
-        return Err(CaseFault::Form);
-    };
+    let rest = text.get(1..).ok_or(CaseFault::Form)?;
     match text.as_bytes().first() {
         Some(b'n') => Ok((b'\n', rest)),
         Some(b'r') => Ok((b'\r', rest)),
@@ -38,28 +32,22 @@ fn escape(text: &str) -> Result<(u8, &str), CaseFault> {
 
 // Adds the octets of a text without repetitions.
 fn push_text(octets: &mut Vec<u8>, text: &str) -> Result<(), CaseFault> {
-    let mut is_first = true;
-    for part in text.split('\\') {
-        if is_first {
-            octets.extend_from_slice(part.as_bytes())?;
-        } else {
-            let (octet, rest) = escape(part)?;
-            octets.push(octet)?;
-            octets.extend_from_slice(rest.as_bytes())?;
-        }
-        is_first = false;
+    let mut parts = text.split('\\');
+    octets.extend_from_slice(parts.next().unwrap_or("").as_bytes())?;
+    for part in parts {
+        let (octet, rest) = escape(part)?;
+        octets.push(octet)?;
+        octets.extend_from_slice(rest.as_bytes())?;
     }
     Ok(())
 }
 
 // Adds a repetition, `N,..\)`, and what stands after it.
 fn push_repetition(alloc: Global, octets: &mut Vec<u8>, text: &str) -> Result<(), CaseFault> {
-    let (Some((count, rest)), mut piece) = (text.split_once(','), Vec::new(alloc)) else {
-        return Err(CaseFault::Form);
-    };
-    let (Ok(count), Some((repeated, rest))) = (count.parse::<u32>(), rest.split_once("\\)")) else {
-        return Err(CaseFault::Form);
-    };
+    let (count, rest) = text.split_once(',').ok_or(CaseFault::Form)?;
+    let count = count.parse::<u32>().map_err(|_| CaseFault::Form)?;
+    let (repeated, rest) = rest.split_once("\\)").ok_or(CaseFault::Form)?;
+    let mut piece = Vec::new(alloc);
     push_text(&mut piece, repeated)?;
     push_often(octets, count, piece.as_slice())?;
     push_text(octets, rest)
@@ -68,14 +56,10 @@ fn push_repetition(alloc: Global, octets: &mut Vec<u8>, text: &str) -> Result<()
 /// The octets of a text with the escapes `\n`, `\r`, `\t`, `\0` and `\xHH`, in which `\(N,..\)` repeats what stands in it N times.
 pub fn text_of(alloc: Global, source: &str) -> Result<Vec<u8>, CaseFault> {
     let mut octets = Vec::new(alloc);
-    let mut is_first = true;
-    for part in source.split("\\(") {
-        if is_first {
-            push_text(&mut octets, part)?;
-        } else {
-            push_repetition(alloc, &mut octets, part)?;
-        }
-        is_first = false;
+    let mut parts = source.split("\\(");
+    push_text(&mut octets, parts.next().unwrap_or(""))?;
+    for part in parts {
+        push_repetition(alloc, &mut octets, part)?;
     }
     Ok(octets)
 }

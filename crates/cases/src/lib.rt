@@ -32,5 +32,5 @@ pub use escapes::{octets_of, string_of, text_of};
 pub use fault::{CaseFault, Played};
 pub use lines::{CaseFile, Line, lines_of};
 pub use memory::{hold_all_but, hold_within};
-pub use playing::{Player, came_of, files_of, play_cases, play_named, print};
+pub use playing::{Player, files_of, play_cases, play_named};
 pub use printing::Out;

@@ -77,12 +77,7 @@ impl<'a> CaseFile<'a> {
 
     /// How many cases begin in the file.
     pub fn cases(&self) -> u64 {
-        let mut count = 0u64;
-        for line in self.lines {
-            if let Line::Case(_) = line {
-                count = count.saturating_add(1);
-            }
-        }
-        count
+        let lines = self.lines.iter();
+        lines.filter(|line| matches!(line, Line::Case(_))).count() as u64
     }
 }

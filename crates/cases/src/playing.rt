@@ -3,6 +3,7 @@ use crate::comparing::Comparison;
 use crate::fault::{CaseFault, Played};
 use crate::lines::{CaseFile, lines_of};
 use crate::printing::Out;
+use std::alloc::Global;
 use std::process::ExitCode;
 use std::{env, fs};
 
@@ -11,29 +12,26 @@ pub trait Player {
     /// Does what an act says, and prints what comes of it.
     fn play(&mut self, act: &str, out: &mut Out) -> Played;
 
+    /// What comes of an act: what is printed, and after it the fault, where the act isn't played to its end. Want of memory is the caller's.
+    fn came(&mut self, alloc: Global, act: &str) -> Result<String, CaseFault> {
+        let mut out = Out::new(alloc);
+        match self.play(act, &mut out) {
+            Ok(()) => {}
+            Err(CaseFault::Memory) => return Err(CaseFault::Memory),
+            Err(fault) => out.show(format_args!("fault: {fault}")),
+        }
+        out.into_text()
+    }
+
     /// Plays the acts of a file, and compares what comes of each.
     fn play_file(&mut self, file: &CaseFile<'_>, comparison: &mut Comparison) -> Played {
         for at in 0..file.lines.len() {
             if let Some(act) = file.act(at) {
-                let mut out = Out::new(comparison.alloc());
-                let played = self.play(act, &mut out);
-                comparison.compare(file, at, came_of(played, out)?.as_str());
+                let came = self.came(comparison.alloc(), act)?;
+                comparison.compare(file, at, came.as_str());
             }
         }
         Ok(())
-    }
-}
-
-/// What came of an act: what was printed, and after it the fault, where the act wasn't played to its end. Want of memory is the caller's.
-pub fn came_of(played: Played, out: Out) -> Result<String, CaseFault> {
-    let mut out = out;
-    match played {
-        Ok(()) => out.into_text(),
-        Err(CaseFault::Memory) => Err(CaseFault::Memory),
-        Err(fault) => {
-            out.show(format_args!("fault: {fault}"));
-            out.into_text()
-        }
     }
 }
 
@@ -44,24 +42,6 @@ pub fn files_of(rt: &HostRuntime) -> Result<Vec<String>, CaseFault> {
         files.push(word)?;
     }
     Ok(files)
-}
-
-/// Prints a text on standard output.
-pub fn print(rt: &HostRuntime, text: &str) -> Played {
-    Ok(print!(rt; "{text}")?)
-}
-
-fn play_lines<P: Player>(
-    rt: &HostRuntime,
-    player: &mut P,
-    file: &CaseFile<'_>,
-    comparison: &mut Comparison,
-) -> Played {
-    comparison.begin(file);
-    let played = player.play_file(file, comparison);
-    let report = comparison.take_report()?;
-    print(rt, report.as_str())?;
-    played
 }
 
 /// Plays a file, and prints what differs.
@@ -77,7 +57,11 @@ pub fn play_named<P: Player>(
         name,
         lines: lines.as_slice(),
     };
-    play_lines(rt, player, &file, comparison)
+    comparison.begin(&file);
+    let played = player.play_file(&file, comparison);
+    let report = comparison.take_report()?;
+    print!(rt; "{report}")?;
+    played
 }
 
 fn play_files<P: Player>(rt: &HostRuntime, player: &mut P) -> Played {
@@ -87,7 +71,7 @@ fn play_files<P: Player>(rt: &HostRuntime, player: &mut P) -> Played {
         play_named(rt, player, name.as_str(), &mut comparison)?;
     }
     let counts = comparison.counts()?;
-    print(rt, counts.as_str())
+    Ok(print!(rt; "{counts}\n")?)
 }
 
 /// Plays the files that the arguments name, and prints what differs and how much it was. Status 1 is of a file that can't be read, and of

@@ -48,10 +48,3 @@ pub fn named(rest: &str, out: &mut Out) -> Played {
     out.push(text.unwrap_or("none"));
     Ok(())
 }
-
-/// The status with this text.
-pub fn status(text: &str) -> Result<Status, CaseFault> {
-    let mut statuses = (0..=u8::MAX).filter_map(|number| Status::with_number(number));
-    let found = statuses.find(|status| status.text() == text);
-    found.ok_or(CaseFault::Form)
-}

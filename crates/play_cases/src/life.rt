@@ -1,5 +1,4 @@
 //! The life cycle of machines.
-use crate::kinds::status;
 use cases::{CaseFault, Out, Played};
 use hall_types::{
     Arch, BootCount, Digest, Erase, LastIssued, Machine, Moment, Name, Number, Numbers, Operator,
@@ -7,7 +6,7 @@ use hall_types::{
 };
 use life_cycle::Signal::{self, *};
 use life_cycle::{Action, Entered, Step, enter, may, next};
-use play_log::{halves, moment, name, number};
+use play_log::{halves, moment, name, number, status};
 
 const SIGNALS: [(&str, Signal); 21] = [
     ("commission", By(Action::Commission)),

@@ -1,5 +1,5 @@
 //! Halls that cases begin, over a store, and the tables of files.
-use cases::{CaseFault, CaseFile, Comparison, Out, Played, Player, came_of};
+use cases::{CaseFault, CaseFile, Comparison, Out, Played, Player};
 use hall_sql::SqlStore;
 use hall_store::HallStore;
 use hall_types::{Digest, Name};
@@ -60,6 +60,28 @@ impl<S: Begun> Halls<S> {
         self.hall = Some(Hall::new(store, self.way, self.asked(), looked));
         Ok(())
     }
+
+    // Answers the arrivals at these places by one run, and compares the answers.
+    fn run(
+        &mut self,
+        file: &CaseFile<'_>,
+        places: &[usize],
+        comparison: &mut Comparison,
+    ) -> Played {
+        let mut acts = Vec::new(comparison.alloc());
+        for at in places {
+            acts.push(file.act(*at).unwrap_or(""))?;
+        }
+        if let Some(hall) = &mut self.hall
+            && !acts.is_empty()
+        {
+            let answers = hall.run(comparison.alloc(), acts.as_slice())?;
+            for (at, answer) in places.iter().zip(answers.as_slice()) {
+                comparison.compare(file, *at, answer.as_str());
+            }
+        }
+        Ok(())
+    }
 }
 
 impl<S: Begun> Player for Halls<S> {
@@ -70,60 +92,23 @@ impl<S: Begun> Player for Halls<S> {
             (_, None) => Err(CaseFault::Form),
         }
     }
-}
-
-/// Such halls, where arrivals that stand together are answered by one run.
-#[derive(Drop)]
-pub struct Runs<S> {
-    pub halls: Halls<S>,
-}
-
-impl<S: Begun> Runs<S> {
-    // Answers the arrivals at these places by one run, and compares the answers.
-    fn run(
-        &mut self,
-        file: &CaseFile<'_>,
-        places: &[usize],
-        acts: &[&str],
-        comparison: &mut Comparison,
-    ) -> Played {
-        if let Some(hall) = &mut self.halls.hall
-            && !acts.is_empty()
-        {
-            let answers = hall.run(comparison.alloc(), acts)?;
-            for (at, answer) in places.iter().zip(answers.as_slice()) {
-                comparison.compare(file, *at, answer.as_str());
-            }
-        }
-        Ok(())
-    }
-}
-
-impl<S: Begun> Player for Runs<S> {
-    fn play(&mut self, act: &str, out: &mut Out) -> Played {
-        self.halls.play(act, out)
-    }
 
     fn play_file(&mut self, file: &CaseFile<'_>, comparison: &mut Comparison) -> Played {
         let mut places = Vec::new(comparison.alloc());
-        let mut acts = Vec::new(comparison.alloc());
         for at in 0..file.lines.len() {
             let Some(act) = file.act(at) else {
                 continue;
             };
-            if is_arrival(first(act).0) {
+            if self.way == Way::Together && is_arrival(first(act).0) {
                 places.push(at)?;
-                acts.push(act)?;
                 continue;
             }
-            self.run(file, places.as_slice(), acts.as_slice(), comparison)?;
+            self.run(file, places.as_slice(), comparison)?;
             places.clear();
-            acts.clear();
-            let mut out = Out::new(comparison.alloc());
-            let played = self.halls.play(act, &mut out);
-            comparison.compare(file, at, came_of(played, out)?.as_str());
+            let came = self.came(comparison.alloc(), act)?;
+            comparison.compare(file, at, came.as_str());
         }
-        self.run(file, places.as_slice(), acts.as_slice(), comparison)
+        self.run(file, places.as_slice(), comparison)
     }
 }
 

@@ -3,8 +3,7 @@
 //! repeat. Then the file's log stops after 0 calls, CALLS calls, twice as many, and so on, until it doesn't stop any more, and after it the
 //! file; what that may leave is in play_files' `stops.rt`. Then they are played over SQLite in memory and over the store in memory, where memory
 //! ends after 0 octets, OCTETS octets, twice as many, and so on, 32 times as many for SQLite, as its `budgets.rt` says; the store in memory has
-//! the hall that the first act `create` makes, and acts that end with `migrate` aren't played over it. `end OCTETS ACT && ACT ..` plays acts
-//! over these two halls alone. `halls` prints what either of them has, and `new` begins with an empty file and no hall.
+//! the hall that the first act `create` makes, and acts that end with `migrate` aren't played over it. `halls` prints what either of them has.
 use crate::halls::Begun;
 use cases::{CaseFault, Out, Played, Player, hold_all_but};
 use play_files::{Image, Run, Tables, Which, play_in_budgets};
@@ -32,10 +31,7 @@ pub struct Stops {
 
 fn tables(alloc: Global) -> Result<Tables<MemStore>, CaseFault> {
     let conn: Result<Connection<MemStore>, _> = Connection::open_in_memory(alloc);
-    match conn {
-        Ok(conn) => Ok(Tables::new(alloc, conn)),
-        Err(_) => Err(CaseFault::Memory),
-    }
+    Ok(Tables::new(alloc, conn.map_err(|_| CaseFault::Memory)?))
 }
 
 fn hall(alloc: Global, words: &str) -> Result<Hall<MemoryStore>, CaseFault> {
@@ -47,9 +43,8 @@ fn hall(alloc: Global, words: &str) -> Result<Hall<MemoryStore>, CaseFault> {
 
 fn print_answers(run: &Run<'_>, out: &mut Out) {
     for (answer, repeat) in run.answers.iter().zip(run.repeats.as_slice()) {
-        out.line(answer.as_str().trim_end());
-        out.push("again: ");
-        out.line(repeat.as_str().trim_end());
+        let (answer, repeat) = (answer.as_str().trim_end(), repeat.as_str().trim_end());
+        out.show(format_args!("{answer}\nagain: {repeat}\n"));
     }
 }
 
@@ -68,9 +63,9 @@ impl Stops {
         let alloc = out.alloc();
         let (run, then) = Run::new(alloc, &self.image, self.look.as_str(), acts)?;
         print_answers(&run, out);
-        let log = run.stop_at_each(alloc, &self.image, Which::Log, calls)?;
+        let log = run.stop_at_each(Which::Log, calls)?;
         log.print(out, "the log that stops");
-        let file = run.stop_at_each(alloc, &self.image, Which::File, calls)?;
+        let file = run.stop_at_each(Which::File, calls)?;
         file.print(out, "the file that stops");
         drop(run);
         self.image = then;
@@ -105,12 +100,8 @@ impl Stops {
         let (octets, acts) = first(words);
         let (calls, octets) = (number(calls)?, number(octets)? as usize);
         self.stop_disks(calls, acts, out)?;
-        self.end(octets, acts, out)
-    }
-
-    // Plays acts while memory ends. The store in memory has the hall that the first act makes.
-    fn end(&mut self, octets: usize, acts: &str, out: &mut Out) -> Played {
         self.stop_memory(octets, acts, out)?;
+        // The store in memory has the hall that the first act makes.
         if let Some(words) = acts.strip_prefix("create ") {
             self.hall = Some(hall(out.alloc(), words)?);
         }
@@ -136,15 +127,7 @@ impl Player for Stops {
                 self.look = format!(in out.alloc(); "look {words}")?;
                 Ok(())
             }
-            ("new", _) => {
-                *self = Stops::new(out.alloc())?;
-                Ok(())
-            }
             ("stop", words) => self.stop(words, out),
-            ("end", words) => {
-                let (octets, acts) = first(words);
-                self.end(number(octets)? as usize, acts, out)
-            }
             ("halls", _) => self.print_halls(out),
             _ => Err(CaseFault::Act),
         }

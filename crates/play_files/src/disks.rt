@@ -4,7 +4,6 @@ use cases::CaseFault;
 use sqlite::{Alter, Connection, FileStore, Files, Options};
 use sqlite_disk::{Crash, Disk, Fuse, Memory};
 use std::alloc::{AllocError, Global};
-use std::io;
 
 /// Files on disks that may stop.
 pub type Disks = Files<Fuse<Memory>>;
@@ -25,17 +24,12 @@ pub struct Image {
     db: Vec<u8>,
 }
 
-fn disk_with(alloc: Global, octets: &[u8], calls: u64) -> io::Result<Fuse<Memory>> {
+// A disk that stops after so many calls. Before that it wants nothing but memory.
+fn disk_with(alloc: Global, octets: &[u8], calls: u64) -> Result<Fuse<Memory>, CaseFault> {
     let mut disk = Memory::new(alloc);
-    disk.write_at(0, octets)?;
-    disk.sync()?;
+    disk.write_at(0, octets).map_err(|_| CaseFault::Memory)?;
+    disk.sync().map_err(|_| CaseFault::Memory)?;
     Ok(Fuse::new(disk, calls))
-}
-
-fn copy(alloc: Global, octets: &[u8]) -> Result<Vec<u8>, AllocError> {
-    let mut copy = Vec::new(alloc);
-    copy.extend_from_slice(octets)?;
-    Ok(copy)
 }
 
 impl Image {
@@ -49,16 +43,16 @@ impl Image {
 
     pub fn copy(&self, alloc: Global) -> Result<Image, AllocError> {
         Ok(Image {
-            log: copy(alloc, self.log.as_slice())?,
-            db: copy(alloc, self.db.as_slice())?,
+            log: Vec::from_slice(alloc, self.log.as_slice())?,
+            db: Vec::from_slice(alloc, self.db.as_slice())?,
         })
     }
 
     /// What two files hold now.
     pub fn of(alloc: Global, files: &Disks) -> Result<Image, AllocError> {
         Ok(Image {
-            log: copy(alloc, files.log.inner().bytes())?,
-            db: copy(alloc, files.db.inner().bytes())?,
+            log: Vec::from_slice(alloc, files.log.inner().bytes())?,
+            db: Vec::from_slice(alloc, files.db.inner().bytes())?,
         })
     }
 
@@ -68,13 +62,10 @@ impl Image {
             Which::Log => (calls, u64::MAX),
             Which::File => (u64::MAX, calls),
         };
-        match (
-            disk_with(alloc, self.log.as_slice(), log_calls),
-            disk_with(alloc, self.db.as_slice(), db_calls),
-        ) {
-            (Ok(log), Ok(db)) => Ok(Files { log, db }),
-            _ => Err(CaseFault::Memory),
-        }
+        Ok(Files {
+            log: disk_with(alloc, self.log.as_slice(), log_calls)?,
+            db: disk_with(alloc, self.db.as_slice(), db_calls)?,
+        })
     }
 }
 
@@ -100,7 +91,7 @@ pub trait Made: Disk + Drop {
 
 impl Made for Fuse<Memory> {
     fn made(alloc: Global) -> Result<Fuse<Memory>, CaseFault> {
-        disk_with(alloc, &[], u64::MAX).map_err(|_| CaseFault::Memory)
+        disk_with(alloc, &[], u64::MAX)
     }
 }
 
@@ -145,25 +136,10 @@ fn written_over(
     let mut left = Vec::new(alloc);
     for (at, octet) in written.iter().enumerate() {
         let lost = synced.get(at).copied().unwrap_or(0);
-        left.push(if is_written(at / SECTOR, turn) {
-            *octet
-        } else {
-            lost
-        })?;
+        let is_kept = is_written(at / SECTOR, turn);
+        left.push(if is_kept { *octet } else { lost })?;
     }
     Ok(left)
-}
-
-fn partly_lost(
-    alloc: Global,
-    synced: &Image,
-    written: &Image,
-    turn: u64,
-) -> Result<Image, AllocError> {
-    Ok(Image {
-        log: written_over(alloc, synced.log.as_slice(), written.log.as_slice(), turn)?,
-        db: written_over(alloc, synced.db.as_slice(), written.db.as_slice(), turn)?,
-    })
 }
 
 /// What a crash leaves of two files: what was synced; and, by turns, all that was written, or every other sector of it.
@@ -172,10 +148,10 @@ pub fn crash(alloc: Global, files: Disks, turn: u64) -> Result<(Image, Image), A
     let written = Image::of(alloc, &files)?;
     files.log.crash();
     files.db.crash();
-    let synced = Image::of(alloc, &files);
-    drop(files);
-    let synced = synced?;
-    let partly = partly_lost(alloc, &synced, &written, turn);
-    drop(written);
-    Ok((synced, partly?))
+    let synced = Image::of(alloc, &files)?;
+    let partly = Image {
+        log: written_over(alloc, synced.log.as_slice(), written.log.as_slice(), turn)?,
+        db: written_over(alloc, synced.db.as_slice(), written.db.as_slice(), turn)?,
+    };
+    Ok((synced, partly))
 }

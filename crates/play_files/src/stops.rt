@@ -3,7 +3,7 @@
 //! a stop, or as its repeat.
 use crate::disks::{Disks, Image, Which, close, connect, crash};
 use crate::tables::Tables;
-use cases::{CaseFault, Out, Played, Player, came_of};
+use cases::{CaseFault, Out, Played, Player};
 use sqlite::{Alter, Connection, FileStore, Files};
 use sqlite_disk::Disk;
 use std::alloc::Global;
@@ -13,6 +13,9 @@ const MAX_TURNS: u64 = 2_000;
 /// Acts that are played over one connection, and what each of them does over files that don't stop, in their order.
 #[derive(Drop)]
 pub struct Run<'a> {
+    alloc: Global,
+    /// What the files hold before them.
+    image: &'a Image,
     /// The act by which halls are compared.
     look: &'a str,
     /// What it prints of the hall before them.
@@ -54,12 +57,6 @@ struct Outcome {
     is_closed: bool,
 }
 
-fn came<P: Player>(alloc: Global, player: &mut P, act: &str) -> Result<String, CaseFault> {
-    let mut out = Out::new(alloc);
-    let played = player.play(act, &mut out);
-    came_of(played, out)
-}
-
 // Acts one after the other, up to the first that isn't answered so, where answers are given.
 fn play_acts<S: Alter + Drop>(
     alloc: Global,
@@ -69,7 +66,7 @@ fn play_acts<S: Alter + Drop>(
     outcome: &mut Outcome,
 ) -> Played {
     for (at, act) in acts.iter().enumerate() {
-        outcome.answer = came(alloc, tables, act)?;
+        outcome.answer = tables.came(alloc, act)?;
         if let Some(answer) = answers.get(at)
             && answer.as_str() != outcome.answer.as_str()
         {
@@ -137,30 +134,17 @@ fn answer_of(alloc: Global, image: &Image, act: &str) -> Result<String, CaseFaul
     Ok(answer)
 }
 
-// Adds an act, played over files that don't stop, and gives what they hold after it.
-fn push_step<'a>(
-    alloc: Global,
-    run: &mut Run<'a>,
-    image: &Image,
-    act: &'a str,
-) -> Result<Image, CaseFault> {
-    let (answer, then) = played(alloc, image, act)?;
-    run.acts.push(act)?;
-    run.answers.push(answer)?;
-    run.repeats.push(answer_of(alloc, &then, act)?)?;
-    run.halls.push(answer_of(alloc, &then, run.look)?)?;
-    Ok(then)
-}
-
 impl<'a> Run<'a> {
     /// What acts do over files that hold this, and what they hold after them. ` && ` stands between two acts.
     pub fn new(
         alloc: Global,
-        image: &Image,
+        image: &'a Image,
         look: &'a str,
         acts: &'a str,
     ) -> Result<(Run<'a>, Image), CaseFault> {
         let mut run = Run {
+            alloc,
+            image,
             look,
             before: answer_of(alloc, image, look)?,
             acts: Vec::new(alloc),
@@ -170,9 +154,19 @@ impl<'a> Run<'a> {
         };
         let mut then = image.copy(alloc)?;
         for act in acts.split(" && ") {
-            then = push_step(alloc, &mut run, &then, act)?;
+            then = run.push(&then, act)?;
         }
         Ok((run, then))
+    }
+
+    // Adds an act, played over files that don't stop, and gives what they hold after it.
+    fn push(&mut self, image: &Image, act: &'a str) -> Result<Image, CaseFault> {
+        let (answer, then) = played(self.alloc, image, act)?;
+        self.acts.push(act)?;
+        self.answers.push(answer)?;
+        self.repeats.push(answer_of(self.alloc, &then, act)?)?;
+        self.halls.push(answer_of(self.alloc, &then, self.look)?)?;
+        Ok(then)
     }
 
     // What a look at the hall after so many acts prints.
@@ -184,65 +178,46 @@ impl<'a> Run<'a> {
     }
 
     // Whether files that a crash left have the hall after so many acts, or after one more, and go on as they do without a stop.
-    fn is_right(&self, alloc: Global, image: &Image, answered: usize) -> Result<bool, CaseFault> {
-        let hall = answer_of(alloc, image, self.look)?;
+    fn is_right(&self, image: &Image, answered: usize) -> Result<bool, CaseFault> {
+        let hall = answer_of(self.alloc, image, self.look)?;
         let is_before = hall.as_str() == self.hall_after(answered);
         if answered == self.acts.len() {
             return Ok(is_before);
         }
         if hall.as_str() == self.hall_after(answered.saturating_add(1)) {
-            return self.is_answered(alloc, image, answered, self.repeats.as_slice());
+            return self.is_answered(image, answered, self.repeats.as_slice());
         }
-        Ok(is_before && self.is_answered(alloc, image, answered, self.answers.as_slice())?)
+        Ok(is_before && self.is_answered(image, answered, self.answers.as_slice())?)
     }
 
     // Whether an act over files that hold this is answered as these answers say, and leaves the hall after it.
-    fn is_answered(
-        &self,
-        alloc: Global,
-        image: &Image,
-        at: usize,
-        answers: &[String],
-    ) -> Result<bool, CaseFault> {
+    fn is_answered(&self, image: &Image, at: usize, answers: &[String]) -> Result<bool, CaseFault> {
         let (Some(act), Some(answer)) = (self.acts.get(at), answers.get(at)) else {
             return Ok(false);
         };
-        let (found, then) = played(alloc, image, act)?;
-        let hall = answer_of(alloc, &then, self.look)?;
+        let (found, then) = played(self.alloc, image, act)?;
+        let hall = answer_of(self.alloc, &then, self.look)?;
         let is_after = hall.as_str() == self.hall_after(at.saturating_add(1));
         Ok(found.as_str() == answer.as_str() && is_after)
     }
 
     // Whether what is left after a stop is right, and whether nothing stopped.
-    fn stop(
-        &self,
-        alloc: Global,
-        image: &Image,
-        which: Which,
-        calls: u64,
-    ) -> Result<(bool, bool), CaseFault> {
-        let files = image.disks(alloc, which, calls)?;
+    fn stop(&self, which: Which, calls: u64) -> Result<(bool, bool), CaseFault> {
+        let files = self.image.disks(self.alloc, which, calls)?;
         let (acts, answers) = (self.acts.as_slice(), self.answers.as_slice());
-        let (outcome, files) = play_in(alloc, files, acts, answers)?;
+        let (outcome, files) = play_in(self.alloc, files, acts, answers)?;
         let (answered, is_closed) = (outcome.answered, outcome.is_closed);
         drop(outcome);
-        let (synced, partly) = crash(alloc, files, calls)?;
-        let is_right = self.is_right(alloc, &synced, answered)?
-            && self.is_right(alloc, &partly, answered)?;
+        let (synced, partly) = crash(self.alloc, files, calls)?;
+        let is_right = self.is_right(&synced, answered)? && self.is_right(&partly, answered)?;
         Ok((is_right, is_closed && answered == self.acts.len()))
     }
 
     /// Stops ever later, until nothing stops. Where nothing stops at the first moment, that is wrong.
-    pub fn stop_at_each(
-        &self,
-        alloc: Global,
-        image: &Image,
-        which: Which,
-        step: u64,
-    ) -> Result<Seen, CaseFault> {
+    pub fn stop_at_each(&self, which: Which, step: u64) -> Result<Seen, CaseFault> {
         for turn in 0..MAX_TURNS {
             let calls = step.saturating_mul(turn);
-            let (is_right, is_ended) = self.stop(alloc, image, which, calls)?;
+            let (is_right, is_ended) = self.stop(which, calls)?;
             if !is_right || (is_ended && turn == 0) {
                 return Ok(Seen::Wrong(calls));
             }

@@ -3,7 +3,7 @@ use cases::{CaseFault, Out, Played, Player};
 use hall_sql::SqlStore;
 use play_log::{admin, first};
 use play_store::{Asked, Hall, Looked, Way};
-use sql_tables::{CreateFault, Migrated, OpenFault};
+use sql_tables::Migrated;
 use sqlite::{Alter, Connection, Error};
 use std::alloc::Global;
 use std::mem;
@@ -20,23 +20,6 @@ fn query<S: Alter>(conn: &mut Connection<S>, statement: &str) -> Result<i64, Err
     conn.query_row(statement, &[])?.get(0)
 }
 
-fn push_create_fault(out: &mut Out, fault: CreateFault) {
-    let name = match fault {
-        CreateFault::NotEmpty => "NotEmpty",
-        CreateFault::Unavailable => "Unavailable",
-    };
-    out.show(format_args!("{} {name}", fault as u8));
-}
-
-fn push_open_fault(out: &mut Out, fault: OpenFault) {
-    let name = match fault {
-        OpenFault::NotAHall => "NotAHall",
-        OpenFault::OtherVersion => "OtherVersion",
-        OpenFault::Unavailable => "Unavailable",
-    };
-    out.show(format_args!("{} {name}", fault as u8));
-}
-
 fn create<S: Alter>(conn: Connection<S>, words: &str, out: &mut Out) -> (Played, Connection<S>) {
     let (name, digest) = match admin(words) {
         Ok(admin) => admin,
@@ -48,7 +31,7 @@ fn create<S: Alter>(conn: Connection<S>, words: &str, out: &mut Out) -> (Played,
             (Ok(()), store.into_connection())
         }
         Err(refused) => {
-            push_create_fault(out, refused.fault);
+            out.fault(refused.fault as u8, refused.fault);
             (Ok(()), refused.connection)
         }
     }
@@ -61,7 +44,7 @@ fn open<S: Alter>(conn: Connection<S>, out: &mut Out) -> Connection<S> {
             store.into_connection()
         }
         Err(refused) => {
-            push_open_fault(out, refused.fault);
+            out.fault(refused.fault as u8, refused.fault);
             refused.connection
         }
     }
@@ -77,7 +60,7 @@ fn migrate<S: Alter>(conn: Connection<S>, out: &mut Out) -> Connection<S> {
             store.into_connection()
         }
         Err(refused) => {
-            push_open_fault(out, refused.fault);
+            out.fault(refused.fault as u8, refused.fault);
             refused.connection
         }
     }
@@ -103,10 +86,7 @@ impl<S: Alter + Drop> Tables<S> {
         let played = hall.play(act, out);
         let (store, looked) = hall.into_parts();
         self.looked = looked;
-        self.conn = match store {
-            Some(store) => Some(store.into_connection()),
-            None => None,
-        };
+        self.conn = store.map(SqlStore::into_connection);
         played
     }
 

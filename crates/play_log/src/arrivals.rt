@@ -50,10 +50,11 @@ fn input(alloc: Global, kind: &str, words: &str) -> Result<(Input, Token), CaseF
     let its_token = token(FRESH)?;
     match kind {
         "frame" => Ok((datagram(alloc, words)?, its_token)),
-        "request" => {
-            let octets = Octets::from(text_of(alloc, words)?);
-            Ok((Input::Request(octets), its_token))
-        }
+        "quiet" => Ok((Input::Quiet, its_token)),
+        "request" => Ok((
+            Input::Request(Octets::from(text_of(alloc, words)?)),
+            its_token,
+        )),
         "script" => {
             let (mac, fresh) = words.split_once(' ').unwrap_or((words, FRESH));
             let octets = request(alloc, kind, mac)?;
@@ -66,14 +67,10 @@ fn input(alloc: Global, kind: &str, words: &str) -> Result<(Input, Token), CaseF
 /// The arrival of words.
 pub fn arrival(alloc: Global, words: &str) -> Result<Arrival, CaseFault> {
     let (kind, rest) = halves(words, " ")?;
-    if kind == "quiet" {
-        return Ok(Arrival {
-            moment: moment_of(rest)?,
-            fresh: token(FRESH)?,
-            input: Input::Quiet,
-        });
-    }
-    let (at, rest) = halves(rest, " ")?;
+    let (at, rest) = match kind {
+        "quiet" => (rest, ""),
+        _ => halves(rest, " ")?,
+    };
     let moment = moment_of(at)?;
     let (input, fresh) = input(alloc, kind, rest)?;
     Ok(Arrival {

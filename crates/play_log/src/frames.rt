@@ -19,19 +19,9 @@ struct Fields {
     mac: [u8; 6],
 }
 
-/// Adds so many zeros.
-pub(crate) fn push_zeros(octets: &mut Vec<u8>, count: usize) -> Result<(), AllocError> {
-    for _ in 0..count {
-        octets.push(0)?;
-    }
-    Ok(())
-}
-
 fn ipv4(word: &str) -> Result<[u8; 4], CaseFault> {
-    match word.parse::<Ipv4Addr>() {
-        Ok(address) => Ok(address.octets()),
-        Err(_) => Err(CaseFault::Form),
-    }
+    let address = word.parse::<Ipv4Addr>().map_err(|_| CaseFault::Form)?;
+    Ok(address.octets())
 }
 
 fn read_fields(words: &str) -> Result<Fields, CaseFault> {
@@ -49,13 +39,13 @@ fn read_fields(words: &str) -> Result<Fields, CaseFault> {
     Ok(fields)
 }
 
-// The header: after its front ciaddr, yiaddr, siaddr and giaddr, chaddr of sixteen octets, sname and file.
+// The header: after its front ciaddr, yiaddr, siaddr and giaddr, from octet 28 on chaddr, sname and file, and at 236 the cookie.
 fn push_header(octets: &mut Vec<u8>, fields: &Fields) -> Result<(), AllocError> {
     octets.extend_from_slice(&FRONT)?;
     octets.extend_from_slice(&fields.client)?;
-    push_zeros(octets, 12)?;
+    octets.resize(28, 0)?;
     octets.extend_from_slice(&fields.mac)?;
-    push_zeros(octets, 202)?;
+    octets.resize(236, 0)?;
     octets.extend_from_slice(&COOKIE)
 }
 
@@ -76,13 +66,9 @@ fn push_option(alloc: Global, octets: &mut Vec<u8>, word: &str) -> Result<(), Ca
     }
     let (tag, text) = halves(word, "=")?;
     let value = value(alloc, text)?;
-    let (Ok(tag), Ok(len)) = (tag.parse::<u8>(), u8::try_from(value.len())) else {
-        return Err(CaseFault::Form);
-    };
-    octets.push(tag)?;
-    octets.push(len)?;
-    octets.extend_from_slice(value.as_slice())?;
-    Ok(())
+    octets.push(tag.parse::<u8>().map_err(|_| CaseFault::Form)?)?;
+    octets.push(u8::try_from(value.len()).map_err(|_| CaseFault::Form)?)?;
+    Ok(octets.extend_from_slice(value.as_slice())?)
 }
 
 /// The octets of a datagram, from the words after its port.

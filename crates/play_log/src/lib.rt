@@ -30,6 +30,6 @@ mod values;
 pub use arrivals::{admin, arrival, is_arrival};
 pub use responses::push_answer;
 pub use values::{
-    arch, digest, first, halves, issued, key, mac, moment, name, number, numbers, place, port,
-    token, uuid, version,
+    arch, digest, first, halves, issued, key, last, mac, moment, name, number, numbers, place,
+    port, status, token, uuid, version,
 };

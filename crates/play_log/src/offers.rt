@@ -1,5 +1,5 @@
 //! The words of answers to frames. They are written only where the octets that they say are those that came.
-use crate::frames::{COOKIE, push_zeros};
+use crate::frames::COOKIE;
 use cases::Out;
 use std::alloc::{AllocError, Global};
 use std::net::Ipv4Addr;
@@ -65,35 +65,25 @@ fn encoded(alloc: Global, frame: &[u8], reply: &Reply<'_>) -> Result<Vec<u8>, Al
     let mut octets = Vec::new(alloc);
     octets.extend_from_slice(&[2, 1, 6, 0])?;
     octets.extend_from_slice(frame.get(4..8).unwrap_or(&[]))?;
-    push_zeros(&mut octets, 2)?;
+    octets.resize(10, 0)?;
     octets.extend_from_slice(frame.get(10..12).unwrap_or(&[]))?;
     octets.extend_from_slice(&reply.client)?;
-    push_zeros(&mut octets, 4)?;
+    octets.resize(20, 0)?;
     octets.extend_from_slice(&reply.next)?;
     octets.extend_from_slice(frame.get(24..44).unwrap_or(&[]))?;
-    push_zeros(&mut octets, 64)?;
+    octets.resize(FILE, 0)?;
     octets.extend_from_slice(reply.file.as_bytes())?;
-    let missing = OPTIONS.saturating_sub(4).saturating_sub(octets.len());
-    push_zeros(&mut octets, missing)?;
+    octets.resize(OPTIONS - 4, 0)?;
     octets.extend_from_slice(&COOKIE)?;
     octets.extend_from_slice(reply.options)?;
     octets.push(0xff)?;
-    let missing = LEAST.saturating_sub(octets.len());
-    push_zeros(&mut octets, missing)?;
+    octets.resize(octets.len().max(LEAST), 0)?;
     Ok(octets)
 }
 
 fn is_text(value: &[u8]) -> bool {
     let is_hex = value.len() % 2 == 0 && value.iter().all(|octet| octet.is_ascii_hexdigit());
     !value.is_empty() && !is_hex && value.iter().all(|octet| octet.is_ascii_graphic())
-}
-
-fn push_value(out: &mut Out, value: &[u8]) {
-    if is_text(value) {
-        out.escaped(value);
-    } else {
-        out.hex(value);
-    }
 }
 
 fn push_options(out: &mut Out, options: &[u8]) {
@@ -104,7 +94,11 @@ fn push_options(out: &mut Out, options: &[u8]) {
         };
         let (value, after) = after.split_at(after.len().min(usize::from(*len)));
         out.show(format_args!(" {tag}="));
-        push_value(out, value);
+        if is_text(value) {
+            out.escaped(value);
+        } else {
+            out.hex(value);
+        }
         rest = after;
     }
 }
@@ -128,21 +122,16 @@ fn push_reply(out: &mut Out, word: &str, reply: &Reply<'_>, options: &[u8]) {
     push_options(out, options);
 }
 
-fn push_octets(out: &mut Out, octets: &[u8]) {
-    out.push("octets ");
-    out.hex(octets);
-}
-
 /// Prints the answer to a frame.
 pub(crate) fn push_offer(out: &mut Out, frame: &[u8], octets: &[u8]) -> Result<(), AllocError> {
-    let Some(reply) = reply_of(octets) else {
-        push_octets(out, octets);
+    if let Some(reply) = reply_of(octets)
+        && let Some((word, options)) = kind(reply.options)
+        && encoded(out.alloc(), frame, &reply)?.as_slice() == octets
+    {
+        push_reply(out, word, &reply, options);
         return Ok(());
-    };
-    let is_said = encoded(out.alloc(), frame, &reply)?.as_slice() == octets;
-    match kind(reply.options) {
-        Some((word, options)) if is_said => push_reply(out, word, &reply, options),
-        _ => push_octets(out, octets),
     }
+    out.push("octets ");
+    out.hex(octets);
     Ok(())
 }

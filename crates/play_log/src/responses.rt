@@ -11,10 +11,10 @@ const PLAIN: &str = "text/plain";
 
 // The one head that a desk writes before a body (RFC 9112 sections 4 and 6.3).
 fn head(alloc: Global, code: u16, kind: &str, length: usize) -> Result<String, AllocError> {
-    let phrase = match StatusCode::from_u16(code) {
-        Ok(status) => status.canonical_reason().unwrap_or(""),
-        Err(_) => "",
-    };
+    let status = StatusCode::from_u16(code).ok();
+    let phrase = status
+        .and_then(|status| status.canonical_reason())
+        .unwrap_or("");
     format!(in alloc;
         "HTTP/1.1 {code} {phrase}\r\nContent-Type: {kind}\r\nContent-Length: {length}\r\nConnection: close"
     )

@@ -1,8 +1,8 @@
 //! Values in cases.
 use cases::CaseFault;
 use hall_types::{
-    Arch, Digest, LastIssued, MacAddress, MachineUuid, Moment, Name, Number, Numbers, Port,
-    RequestKey, Token, Version,
+    Arch, Digest, LastIssued, MacAddress, MachineUuid, Moment, Name, Number, Numbered, Numbers,
+    Port, RequestKey, Status, Token, Version,
 };
 use hex::FromHex;
 use pxe_vendor::Place;
@@ -33,16 +33,25 @@ pub fn name(text: &str) -> Result<Name, CaseFault> {
     Name::new(text).map_err(|_| CaseFault::Form)
 }
 
+/// The last number that was issued.
+pub fn last(word: &str) -> Result<LastIssued, CaseFault> {
+    LastIssued::new(number(word)?).map_err(|_| CaseFault::Form)
+}
+
 /// The last numbers of a hall, of which the last machine's is said.
 pub fn numbers(machine: &str) -> Result<Numbers, CaseFault> {
-    match LastIssued::new(number(machine)?) {
-        Ok(machine) => Ok(Numbers {
-            machine,
-            boot: LastIssued::NONE,
-            order: LastIssued::NONE,
-        }),
-        Err(_) => Err(CaseFault::Form),
-    }
+    Ok(Numbers {
+        machine: last(machine)?,
+        boot: LastIssued::NONE,
+        order: LastIssued::NONE,
+    })
+}
+
+/// The status with this text.
+pub fn status(text: &str) -> Result<Status, CaseFault> {
+    let mut statuses = (0..=u8::MAX).filter_map(|number| Status::with_number(number));
+    let found = statuses.find(|status| status.text() == text);
+    found.ok_or(CaseFault::Form)
 }
 
 /// The port with this word.
@@ -56,10 +65,8 @@ pub fn port(word: &str) -> Result<Port, CaseFault> {
 
 /// The boot server 192.0.2.1, the next server 192.0.2.2 and the host hall.example.
 pub fn place(alloc: Global) -> Result<Place, CaseFault> {
-    match Place::new(alloc, [192, 0, 2, 1], [192, 0, 2, 2], "hall.example") {
-        Ok(place) => Ok(place),
-        Err(_) => Err(CaseFault::Memory),
-    }
+    let place = Place::new(alloc, [192, 0, 2, 1], [192, 0, 2, 2], "hall.example");
+    place.map_err(|_| CaseFault::Memory)
 }
 
 /// The two parts of a text that a separator parts.
@@ -79,10 +86,8 @@ pub fn arch(word: &str) -> Result<Arch, CaseFault> {
 
 /// The hardware address with these digits.
 pub fn mac(word: &str) -> Result<MacAddress, CaseFault> {
-    match wire_mac::read(word.as_bytes()) {
-        Some(octets) => Ok(MacAddress::from(octets)),
-        None => Err(CaseFault::Form),
-    }
+    let octets = wire_mac::read(word.as_bytes()).ok_or(CaseFault::Form)?;
+    Ok(MacAddress::from(octets))
 }
 
 // 16 octets in hexadecimal.
@@ -107,8 +112,6 @@ pub fn token(word: &str) -> Result<Token, CaseFault> {
 
 /// The digest with these 64 digits.
 pub fn digest(word: &str) -> Result<Digest, CaseFault> {
-    match <[u8; 32] as FromHex>::from_hex(word) {
-        Ok(octets) => Ok(Digest::from(octets)),
-        Err(_) => Err(CaseFault::Form),
-    }
+    let octets = <[u8; 32] as FromHex>::from_hex(word).map_err(|_| CaseFault::Form)?;
+    Ok(Digest::from(octets))
 }

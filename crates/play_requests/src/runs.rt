@@ -21,7 +21,7 @@ fn print_run(words: &str, step: usize, call: u64, room: usize, out: &mut Out) ->
         Exit::Silence => "silence",
     };
     out.show(format_args!("{} {word}\n", exit.status()));
-    out.escaped(writer.into_taken().as_slice());
+    out.escaped(writer.taken.as_slice());
     Ok(())
 }
 

@@ -1,29 +1,65 @@
-//! Arrivals at a desk over the store.
+//! Arrivals at a desk over the store: one by itself, the first octets of one, several by one run.
 use crate::hall::Hall;
-use cases::{Out, Played};
+use cases::{CaseFault, Out, Played};
 use desk_lines::{arrival_members, arrival_text, is_of_note};
-use hall_desk::{Account, Answer, Arrival};
+use hall_desk::{Answer, Arrival, Desk, Input};
 use hall_store::HallStore;
 use play_log::{arrival, push_answer};
+use pxe_vendor::Octets;
+use std::alloc::Global;
 
-// Prints what a log has for an arrival, and whether it has it.
-fn push_log(
-    out: &mut Out,
-    is_object: bool,
-    arrival: &Arrival,
-    answer: &Answer,
-    account: &Account,
-) -> Played {
-    if !is_of_note(arrival, answer, account) {
-        out.push("not in the log: ");
+/// What came.
+pub(crate) fn octets_of(input: &Input) -> &[u8] {
+    match input {
+        Input::Datagram { octets, .. } | Input::Request(octets) => octets.as_slice(),
+        Input::Quiet => &[],
     }
-    let text = if is_object {
-        arrival_members(out.alloc(), arrival, answer, account)?
-    } else {
-        arrival_text(out.alloc(), arrival, answer, account)?
-    };
-    out.push(text.as_str());
+}
+
+// What comes, cut after so many octets.
+fn cut(alloc: Global, input: &Input, len: usize) -> Result<Input, CaseFault> {
+    let front = octets_of(input).get(..len).unwrap_or(&[]);
+    let octets = Octets::from(Vec::from_slice(alloc, front)?);
+    match input {
+        Input::Datagram { port, .. } => Ok(Input::Datagram {
+            port: *port,
+            octets,
+        }),
+        Input::Request(_) => Ok(Input::Request(octets)),
+        Input::Quiet => Err(CaseFault::Form),
+    }
+}
+
+fn text_of(alloc: Global, input: &Input, answer: &Answer) -> Result<String, CaseFault> {
+    let mut out = Out::new(alloc);
+    push_answer(&mut out, input, answer)?;
+    out.into_text()
+}
+
+fn push_fronts<S: HallStore>(desk: &mut Desk<S>, arrival: &Arrival, out: &mut Out) -> Played {
+    let mut last = String::new(out.alloc());
+    for len in 0..octets_of(&arrival.input).len() {
+        let front = Arrival {
+            moment: arrival.moment,
+            fresh: arrival.fresh,
+            input: cut(out.alloc(), &arrival.input, len)?,
+        };
+        let answer = desk.answer(out.alloc(), &front);
+        let text = text_of(out.alloc(), &front.input, &answer)?;
+        if text.as_str() != last.as_str() {
+            out.show(format_args!("from {len} {text}\n"));
+            last = text;
+        }
+    }
     Ok(())
+}
+
+fn arrivals_of(alloc: Global, acts: &[&str]) -> Result<Vec<Arrival>, CaseFault> {
+    let mut arrivals = Vec::new(alloc);
+    for act in acts {
+        arrivals.push(arrival(alloc, act)?)?;
+    }
+    Ok(arrivals)
 }
 
 impl<S: HallStore + Drop> Hall<S> {
@@ -47,6 +83,38 @@ impl<S: HallStore + Drop> Hall<S> {
         }
         let (answer, account) = desk.answer_with_account(out.alloc(), &arrival);
         self.put_back(desk.into_store());
-        push_log(out, kind == "log_object", &arrival, &answer, &account)
+        if !is_of_note(&arrival, &answer, &account) {
+            out.push("not in the log: ");
+        }
+        let text = match kind {
+            "log_object" => arrival_members(out.alloc(), &arrival, &answer, &account),
+            _ => arrival_text(out.alloc(), &arrival, &answer, &account),
+        };
+        out.push(text?.as_str());
+        Ok(())
+    }
+
+    /// Answers the first octets of an arrival: none of them, one, two and so on, but never all of them. Prints each answer that isn't that
+    /// before it, after the number of octets.
+    pub(crate) fn cuts(&mut self, words: &str, out: &mut Out) -> Played {
+        let arrival = arrival(out.alloc(), words)?;
+        let mut desk = self.take_desk(out.alloc())?;
+        let pushed = push_fronts(&mut desk, &arrival, out);
+        self.put_back(desk.into_store());
+        pushed
+    }
+
+    /// Answers arrivals by one run of a desk over the store: the answers.
+    pub fn run(&mut self, alloc: Global, acts: &[&str]) -> Result<Vec<String>, CaseFault> {
+        let arrivals = arrivals_of(alloc, acts)?;
+        let mut desk = self.take_desk(alloc)?;
+        let answers = desk.run(alloc, arrivals.as_slice());
+        self.put_back(desk.into_store());
+        self.asked.note_run(acts.len());
+        let (answers, mut texts) = (answers?, Vec::new(alloc));
+        for (arrival, answer) in arrivals.iter().zip(answers.as_slice()) {
+            texts.push(text_of(alloc, &arrival.input, answer)?)?;
+        }
+        Ok(texts)
     }
 }

@@ -24,10 +24,6 @@ pub struct Asked {
     pub failed: u64,
 }
 
-fn is_listing(octets: &[u8]) -> bool {
-    octets.starts_with(b"GET /machines") || octets.starts_with(b"GET /orders")
-}
-
 /// Adds one to a count.
 pub(crate) fn count(count: &mut u64) {
     *count = count.saturating_add(1);
@@ -44,7 +40,7 @@ impl Asked {
     pub(crate) fn note<S>(&mut self, input: &Input, probe: &Probe<S>) {
         if let Input::Request(octets) = input {
             let octets = octets.as_slice();
-            if is_listing(octets) {
+            if octets.starts_with(b"GET /machines") || octets.starts_with(b"GET /orders") {
                 return;
             }
             if octets.starts_with(b"GET /ipxe/") {

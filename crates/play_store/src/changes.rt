@@ -6,30 +6,15 @@ use crate::hall::Hall;
 use cases::{CaseFault, Out, Played};
 use hall_store::HallStore;
 use hall_types::{
-    Arch, Boot, BootCount, Change, Interface, LastIssued, Machine, Number, Numbers, Order,
-    OrderKind, OrderStage, Purpose, Receipt, RowWrite, Stage, Status, Text, Token, Version,
+    Arch, Boot, BootCount, Change, Interface, Machine, Number, Numbers, Order, OrderKind,
+    OrderStage, Purpose, Receipt, RowWrite, Stage, Text, Token, Version,
 };
-use play_log::{first, issued, key, mac, moment, name, number, uuid, version};
+use play_log::{first, issued, key, last, mac, moment, name, number, status, uuid, version};
 use std::alloc::Global;
-
-fn status(word: &str) -> Result<Status, CaseFault> {
-    match word {
-        "New" => Ok(Status::New),
-        "Commissioning" => Ok(Status::Commissioning),
-        "Ready" => Ok(Status::Ready),
-        "Deployed" => Ok(Status::Deployed),
-        "Deploying" => Ok(Status::Deploying),
-        "Broken" => Ok(Status::Broken),
-        _ => Err(CaseFault::Form),
-    }
-}
 
 // A word, nothing where it is empty or `-`.
 fn some(word: &str) -> Option<&str> {
-    if word.is_empty() || word == "-" {
-        return None;
-    }
-    Some(word)
+    Some(word).filter(|word| !word.is_empty() && *word != "-")
 }
 
 fn version_of(word: &str) -> Result<Version, CaseFault> {
@@ -70,10 +55,6 @@ fn machine(id: &str, words: &str) -> Result<Machine, CaseFault> {
         boots: BootCount::NONE,
         waiting: None,
     })
-}
-
-fn last(word: &str) -> Result<LastIssued, CaseFault> {
-    LastIssued::new(number(word)?).map_err(|_| CaseFault::Form)
 }
 
 fn numbers(words: &str) -> Result<Numbers, CaseFault> {
@@ -154,10 +135,7 @@ fn row(alloc: Global, words: &str) -> Result<RowWrite, CaseFault> {
 /// The change of words.
 pub fn change(alloc: Global, words: &str) -> Result<Change, CaseFault> {
     let mut rows = Vec::new(alloc);
-    if words.is_empty() {
-        return Ok(Change::from(rows));
-    }
-    for text in words.split("; ") {
+    for text in words.split("; ").filter(|text| !text.is_empty()) {
         rows.push(row(alloc, text)?)?;
     }
     Ok(Change::from(rows))
@@ -168,13 +146,11 @@ impl<S: HallStore + Drop> Hall<S> {
     pub(crate) fn apply(&mut self, words: &str, out: &mut Out) -> Played {
         let change = change(out.alloc(), words)?;
         let mut store = self.take()?;
-        let applied = store.apply(&change);
+        match store.apply(&change) {
+            Ok(_) => out.push("applied"),
+            Err(_) => out.push("refused"),
+        }
         self.put_back(store);
-        out.push(if applied.is_ok() {
-            "applied"
-        } else {
-            "refused"
-        });
         Ok(())
     }
 }

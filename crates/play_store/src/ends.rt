@@ -1,5 +1,5 @@
 //! Requests from readers to writers, which may fail.
-use crate::cutting::octets_of;
+use crate::arrivals::octets_of;
 use crate::hall::Hall;
 use crate::reports::push_end;
 use cases::{CaseFault, Out, Played, Short, Slow};
@@ -14,42 +14,13 @@ use pxe_vendor::Octets;
 // An answer has fewer octets.
 const MAX_PLACES: usize = 10_000;
 
-/// Where a reader and a writer end.
-#[derive(Clone, Copy)]
-struct Ends {
-    /// So many octets a read at most.
-    step: usize,
-    /// The read that fails, the first being 1.
-    fails_at: Option<u64>,
-    /// So many octets are written before a write fails.
-    room: usize,
-}
+/// How a reader gives its octets: so many a read at most, and the read that fails, the first being 1.
+type Reads = (usize, Option<u64>);
 
-impl Ends {
-    /// The reader gives what it has, and the writer takes all.
-    const NOWHERE: Ends = Ends {
-        step: usize::MAX,
-        fails_at: None,
-        room: usize::MAX,
-    };
+const ALL: Reads = (usize::MAX, None);
 
-    // A reader of so many octets a read, which fails at this read, if it is said which.
-    fn of_reader(step: usize, fails_at: Option<u64>) -> Ends {
-        Ends {
-            step,
-            fails_at,
-            ..Ends::NOWHERE
-        }
-    }
-
-    // A writer that fails after so many octets.
-    fn of_writer(room: usize) -> Ends {
-        Ends {
-            room,
-            ..Ends::NOWHERE
-        }
-    }
-}
+/// How a request was served, and what was written for it.
+type Ended = Result<(Result<(), Fault>, Answer), CaseFault>;
 
 // The arrival of a request.
 fn request_of(words: &str, out: &Out) -> Result<Arrival, CaseFault> {
@@ -60,50 +31,32 @@ fn request_of(words: &str, out: &Out) -> Result<Arrival, CaseFault> {
     }
 }
 
-// Whether what was written for a request begins what was written for it after that.
-fn is_front(front: &Answer, answer: &Answer) -> bool {
-    match answer.octets().get(..front.octets().len()) {
-        Some(octets) => octets == front.octets(),
-        None => false,
-    }
-}
-
 impl<S: HallStore + Drop> Hall<S> {
-    // Serves a request, and what was written for it.
-    fn served(
-        &mut self,
-        arrival: &Arrival,
-        ends: Ends,
-        out: &Out,
-    ) -> Result<(Result<(), Fault>, Answer), CaseFault> {
-        let octets = octets_of(&arrival.input);
-        let mut reader = Noted::new(Slow::new(octets, ends.step, ends.fails_at));
-        let mut writer = Noted::new(Short::new(Vec::new(out.alloc()), ends.room));
+    // Serves a request, by a writer that fails after so many octets.
+    fn served(&mut self, arrival: &Arrival, reads: Reads, room: usize, out: &Out) -> Ended {
+        let (step, fails_at) = reads;
+        let mut reader = Noted::new(Slow::new(octets_of(&arrival.input), step, fails_at));
+        let mut writer = Noted::new(Short::new(Vec::new(out.alloc()), room));
         let mut desk = self.take_desk(out.alloc())?;
         let (alloc, moment, fresh) = (out.alloc(), arrival.moment, arrival.fresh);
         let end = request(alloc, &mut desk, &mut reader, &mut writer, moment, fresh);
         self.put_back(desk.into_store());
-        let octets = Octets::from(writer.into_inner().into_taken());
-        Ok((end, Answer::Octets(octets)))
+        Ok((end, Answer::Octets(Octets::from(writer.into_inner().taken))))
     }
 
     // Serves a request, and prints its response, or the fault's name.
-    fn serve_between(&mut self, arrival: &Arrival, ends: Ends, out: &mut Out) -> Played {
-        let (end, answer) = self.served(arrival, ends, out)?;
+    fn serve_with(&mut self, words: &str, reads: Reads, room: usize, out: &mut Out) -> Played {
+        let arrival = request_of(words, out)?;
+        let (end, answer) = self.served(&arrival, reads, room, out)?;
         if end.is_ok() {
             push_answer(out, &arrival.input, &answer)?;
         }
         push_end(out, end)
     }
 
-    fn serve_with(&mut self, words: &str, ends: Ends, out: &mut Out) -> Played {
-        let arrival = request_of(words, out)?;
-        self.serve_between(&arrival, ends, out)
-    }
-
     /// Serves a request.
     pub(crate) fn serve(&mut self, words: &str, out: &mut Out) -> Played {
-        self.serve_with(words, Ends::NOWHERE, out)
+        self.serve_with(words, ALL, usize::MAX, out)
     }
 
     /// An import or a request, `ROOM ACT`, by a writer that takes so many octets and then fails.
@@ -112,7 +65,7 @@ impl<S: HallStore + Drop> Hall<S> {
         let room = number(octets)? as usize;
         match act.strip_prefix("import ") {
             Some(words) => self.import(room, words, out),
-            None => self.serve_with(act, Ends::of_writer(room), out),
+            None => self.serve_with(act, ALL, room, out),
         }
     }
 
@@ -121,8 +74,8 @@ impl<S: HallStore + Drop> Hall<S> {
     pub(crate) fn slow(&mut self, words: &str, out: &mut Out) -> Played {
         let (step, words) = first(words);
         let (call, act) = first(words);
-        let ends = Ends::of_reader(number(step)? as usize, call.parse::<u64>().ok());
-        self.serve_with(act, ends, out)
+        let reads = (number(step)? as usize, call.parse::<u64>().ok());
+        self.serve_with(act, reads, usize::MAX, out)
     }
 
     /// Serves a request from a reader of one octet a read that fails at its first read, at its second and so on, up to that of the last
@@ -131,7 +84,7 @@ impl<S: HallStore + Drop> Hall<S> {
         let arrival = request_of(words, out)?;
         let mut failed = 0u64;
         for read in 1..=octets_of(&arrival.input).len() as u64 {
-            let (end, answer) = self.served(&arrival, Ends::of_reader(1, Some(read)), out)?;
+            let (end, answer) = self.served(&arrival, (1, Some(read)), usize::MAX, out)?;
             if end == Err(Fault::Io) && answer.octets().is_empty() {
                 failed = failed.saturating_add(1);
             } else {
@@ -148,8 +101,8 @@ impl<S: HallStore + Drop> Hall<S> {
         let arrival = request_of(words, out)?;
         let mut front = Answer::Silence;
         for room in 0..MAX_PLACES {
-            let (end, answer) = self.served(&arrival, Ends::of_writer(room), out)?;
-            if !is_front(&front, &answer) {
+            let (end, answer) = self.served(&arrival, ALL, room, out)?;
+            if !answer.octets().starts_with(front.octets()) {
                 out.show(format_args!("other octets before {room}, "));
             }
             if end == Err(Fault::Io) && answer.octets().len() == room {

@@ -15,6 +15,8 @@ const MAX_CALLS: u64 = 1_000;
 pub enum Way {
     /// Each by itself.
     Alone,
+    /// Those that stand together by one run of a desk.
+    Together,
     /// Each by itself, a request from a reader to a writer.
     Served,
     /// Each by itself, over the store that fails at its first call, then at its second and so on, until it isn't refused.
@@ -138,28 +140,18 @@ impl<S: HallStore + Drop> Hall<S> {
     }
 
     // Plays an act over the store that fails at its first call, at its second and so on, until it isn't refused or has fewer calls: how many
-    // failed. The last answer is printed.
-    fn play_each(&mut self, act: &str, out: &mut Out) -> Result<u64, CaseFault> {
+    // failed, and the last answer.
+    fn play_each(&mut self, alloc: Global, act: &str) -> Result<(u64, String), CaseFault> {
         for call in 1..MAX_CALLS {
-            let mut answer = Out::new(out.alloc());
+            let mut answer = Out::new(alloc);
             self.play_failing(call, act, &mut answer)?;
             let answer = answer.into_text()?;
             if self.calls < call || !is_refused(act, answer.as_str()) {
-                out.push(answer.as_str());
-                return Ok(call.saturating_sub(1));
+                return Ok((call.saturating_sub(1), answer));
             }
             count(&mut self.asked.failed);
         }
         Err(CaseFault::Form)
-    }
-
-    // So too, and prints before the answer at how many calls it was refused.
-    fn play_each_counted(&mut self, act: &str, out: &mut Out) -> Played {
-        let mut answer = Out::new(out.alloc());
-        let calls = self.play_each(act, &mut answer)?;
-        out.show(format_args!("{calls} refused, then "));
-        out.push(answer.into_text()?.as_str());
-        Ok(())
     }
 }
 
@@ -171,9 +163,14 @@ impl<S: HallStore + Drop> Player for Hall<S> {
                 let (call, act) = first(words);
                 self.play_failing(number(call)?, act, out)
             }
-            "each" => self.play_each_counted(words, out),
+            "each" => {
+                let (calls, answer) = self.play_each(out.alloc(), words)?;
+                out.show(format_args!("{calls} refused, then {answer}"));
+                Ok(())
+            }
             _ if self.way == Way::Failing && is_arrival(kind) => {
-                let _ = self.play_each(act, out)?;
+                let (_, answer) = self.play_each(out.alloc(), act)?;
+                out.push(answer.as_str());
                 Ok(())
             }
             _ => self.play_once(act, out),

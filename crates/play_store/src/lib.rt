@@ -27,14 +27,12 @@
 mod arrivals;
 mod asked;
 mod changes;
-mod cutting;
 mod ends;
 mod hall;
 mod looking;
 mod reads;
 mod records;
 mod reports;
-mod runs;
 
 pub use asked::Asked;
 pub use changes::change;

@@ -1,35 +1,19 @@
 //! All that a store has under some keys, and what of it has changed.
 use crate::hall::Hall;
 use crate::reads::found;
-use cases::{CaseFault, Out, Played};
+use cases::{Out, Played};
 use hall_store::HallStore;
 use play_log::first;
-use std::alloc::Global;
 
 /// What is read of each name.
 const OF_NAME: [&str; 4] = ["operator", "pool", "image", "image_used"];
 
-/// What is read of the machines, boots and orders of the numbers 1 and 2, and of the hall.
-const OF_HALL: [&str; 18] = [
-    "machine 1",
-    "boot 1",
-    "order 1",
-    "interfaces_of 1",
-    "machine 2",
-    "boot 2",
-    "order 2",
-    "interfaces_of 2",
-    "live bios",
-    "live uefi32",
-    "live uefi64",
-    "live arm64",
-    "numbers",
-    "machine_count",
-    "machines",
-    "interfaces",
-    "waiting_orders",
-    "counts",
-];
+/// What is read of the machines, boots and orders of the numbers 1 and 2.
+const OF_NUMBER: [&str; 4] = ["machine", "boot", "order", "interfaces_of"];
+
+/// What is read of the hall.
+const OF_HALL: &str = "live bios; live uefi32; live uefi64; live arm64; numbers; machine_count; \
+    machines; interfaces; waiting_orders; counts";
 
 fn read<S: HallStore>(store: &mut S, what: &str, words: &str, out: &mut Out) -> Played {
     let words = format!(in out.alloc(); "{what} {words}")?;
@@ -66,54 +50,42 @@ fn all<S: HallStore>(store: &mut S, watched: &str, out: &mut Out) -> Played {
         members(store, pool, names, out)?;
     }
     read(store, "by_uuid", key, out)?;
-    for words in &OF_HALL {
+    for number in ["1", "2"] {
+        for what in &OF_NUMBER {
+            read(store, what, number, out)?;
+        }
+    }
+    for words in OF_HALL.split("; ") {
         let _ = found(store, words, out)?;
     }
     Ok(())
 }
 
-// Prints a line that went or came.
-fn push_change(out: &mut Out, mark: &str, line: &str) {
-    out.push(mark);
-    out.line(line);
-}
-
-// Prints the lines from one place up to another one, which came.
-fn push_new(out: &mut Out, lines: &[&str], from: usize, to: usize) {
-    for line in lines.iter().take(to).skip(from) {
-        push_change(out, "+ ", line);
+// Prints so many lines of a text, from a place on, which came.
+fn push_new(out: &mut Out, text: &str, from: usize, count: usize) {
+    for line in text.lines().skip(from).take(count) {
+        out.show(format_args!("+ {line}\n"));
     }
 }
 
-// The place of the first line, from one on, that is this one.
-fn place_of(lines: &[&str], from: usize, line: &str) -> Option<usize> {
-    let place = lines.iter().skip(from).position(|other| *other == line)?;
-    place.checked_add(from)
-}
-
-fn lines_of(alloc: Global, text: &str) -> Result<Vec<&str>, CaseFault> {
-    let mut lines = Vec::new(alloc);
-    for line in text.lines() {
-        lines.push(line)?;
-    }
-    Ok(lines)
+// How many lines of a text, from a place on, stand before the first that is this one.
+fn count_before(text: &str, from: usize, line: &str) -> Option<usize> {
+    text.lines().skip(from).position(|other| other == line)
 }
 
 // Prints which lines went and which came from a text to another one, in order.
-fn push_changes(out: &mut Out, before: &str, after: &str) -> Played {
-    let after = lines_of(out.alloc(), after)?;
-    let mut next = 0;
+fn push_changes(out: &mut Out, before: &str, after: &str) {
+    let mut next = 0usize;
     for line in before.lines() {
-        match place_of(after.as_slice(), next, line) {
-            Some(place) => {
-                push_new(out, after.as_slice(), next, place);
-                next = place.saturating_add(1);
+        match count_before(after, next, line) {
+            Some(count) => {
+                push_new(out, after, next, count);
+                next = next.saturating_add(count).saturating_add(1);
             }
-            None => push_change(out, "- ", line),
+            None => out.show(format_args!("- {line}\n")),
         }
     }
-    push_new(out, after.as_slice(), next, after.len());
-    Ok(())
+    push_new(out, after, next, usize::MAX);
 }
 
 impl<S: HallStore + Drop> Hall<S> {
@@ -140,7 +112,7 @@ impl<S: HallStore + Drop> Hall<S> {
         let mut now = Out::new(out.alloc());
         let looked = self.look_at(watched.as_str(), &mut now);
         let now = now.into_text()?;
-        push_changes(out, self.looked.seen.as_str(), now.as_str())?;
+        push_changes(out, self.looked.seen.as_str(), now.as_str());
         self.looked.seen = now;
         looked
     }

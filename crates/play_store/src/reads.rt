@@ -13,21 +13,16 @@ type Found = Result<bool, CaseFault>;
 
 // Prints a record, if there is one, and says whether there is.
 fn one<T: Row + Drop>(found: Result<Option<T>, Unavailable>, out: &mut Out) -> Found {
-    match found {
-        Ok(Some(row)) => {
-            row.print(out);
-            Ok(true)
-        }
-        Ok(None) => Ok(false),
-        Err(_) => Err(CaseFault::Unavailable),
+    let found = found.map_err(|_| CaseFault::Unavailable)?;
+    if let Some(row) = &found {
+        row.print(out);
     }
+    Ok(found.is_some())
 }
 
 // Prints the records of a list, and says whether there are any.
 fn all<T: Row + Drop>(found: Result<Vec<T>, Unavailable>, out: &mut Out) -> Found {
-    let Ok(rows) = found else {
-        return Err(CaseFault::Unavailable);
-    };
+    let rows = found.map_err(|_| CaseFault::Unavailable)?;
     for row in rows.as_slice() {
         row.print(out);
     }
@@ -35,15 +30,12 @@ fn all<T: Row + Drop>(found: Result<Vec<T>, Unavailable>, out: &mut Out) -> Foun
 }
 
 fn image_used<S: HallStore>(store: &mut S, word: &str, out: &mut Out) -> Found {
-    match store.image_used(&name(word)?) {
-        Ok(is_used) => {
-            if is_used {
-                out.show(format_args!("image {word} is used\n"));
-            }
-            Ok(is_used)
-        }
-        Err(_) => Err(CaseFault::Unavailable),
+    let used = store.image_used(&name(word)?);
+    let is_used = used.map_err(|_| CaseFault::Unavailable)?;
+    if is_used {
+        out.show(format_args!("image {word} is used\n"));
     }
+    Ok(is_used)
 }
 
 fn next_expired<S: HallStore>(store: &mut S, word: &str, out: &mut Out) -> Found {
@@ -54,33 +46,21 @@ fn next_expired<S: HallStore>(store: &mut S, word: &str, out: &mut Out) -> Found
     one(found, out)
 }
 
-// Reads by two words, and lists.
+// Reads by two words, of the whole hall, and lists.
 fn list<S: HallStore>(store: &mut S, what: &str, words: &str, out: &mut Out) -> Found {
     let alloc = out.alloc();
     let (word, other) = first(words);
     match what {
         "member" => one(store.member(&name(word)?, &name(other)?), out),
         "receipt" => one(store.receipt(alloc, &name(word)?, key(other)?), out),
+        "numbers" => one(store.numbers().map(Some), out),
+        "machine_count" => one(store.machine_count().map(Some), out),
         "interfaces_of" => all(store.interfaces_of(alloc, issued(number(word)?)?), out),
         "interfaces" => all(store.interfaces(alloc), out),
         "machines" => all(store.machines(alloc), out),
         "waiting_orders" => all(store.waiting_orders(alloc), out),
         "counts" => all(store.counts(alloc), out),
         _ => Err(CaseFault::Form),
-    }
-}
-
-// Reads by a name, and of the whole hall.
-fn named<S: HallStore>(store: &mut S, what: &str, words: &str, out: &mut Out) -> Found {
-    match what {
-        "operator" => one(store.operator(&name(words)?), out),
-        "digest" => one(store.operator_by_digest(&digest(words)?), out),
-        "pool" => one(store.pool(&name(words)?), out),
-        "image" => one(store.image(out.alloc(), &name(words)?), out),
-        "image_used" => image_used(store, words, out),
-        "numbers" => one(store.numbers().map(Some), out),
-        "machine_count" => one(store.machine_count().map(Some), out),
-        _ => list(store, what, words, out),
     }
 }
 
@@ -95,7 +75,12 @@ pub(crate) fn found<S: HallStore>(store: &mut S, words: &str, out: &mut Out) -> 
         "by_uuid" => one(store.by_uuid(uuid(word)?), out),
         "live" => one(store.live(arch(word)?), out),
         "next_expired" => next_expired(store, word, out),
-        _ => named(store, what, word, out),
+        "operator" => one(store.operator(&name(word)?), out),
+        "digest" => one(store.operator_by_digest(&digest(word)?), out),
+        "pool" => one(store.pool(&name(word)?), out),
+        "image" => one(store.image(out.alloc(), &name(word)?), out),
+        "image_used" => image_used(store, word, out),
+        _ => list(store, what, word, out),
     }
 }
 

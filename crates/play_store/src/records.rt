@@ -59,20 +59,14 @@ impl Row for u64 {
     }
 }
 
-// What a machine is, and whose.
-fn print_kind(out: &mut Out, machine: &Machine) {
-    let (id, arch) = (machine.id.get(), machine.arch.text());
-    out.show(format_args!("machine {id}, arch {arch}"));
-    uuid(out, machine.uuid);
-    let (pool, status) = (machine.pool, machine.status.text());
-    out.show(format_args!(", pool {pool}, status {status}"));
-    some(out, "owner", machine.owner);
-    some(out, "image", machine.image);
-}
-
 impl Row for Machine {
     fn print(&self, out: &mut Out) {
-        print_kind(out, self);
+        out.show(format_args!("machine {}, arch {}", self.id.get(), self.arch.text()));
+        uuid(out, self.uuid);
+        field(out, "pool", self.pool);
+        field(out, "status", self.status.text());
+        some(out, "owner", self.owner);
+        some(out, "image", self.image);
         truth(out, "tests", self.tests);
         some(out, "back", self.back.map(|status| status.text()));
         some(out, "erase", self.erase.map(|erase| erase.text()));

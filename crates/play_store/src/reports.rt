@@ -7,19 +7,16 @@ use desk_values::{Fault, What};
 use hall_report::import_rows;
 use hall_store::HallStore;
 use play_log::{digest, first, issued, moment, number};
-use std::alloc::Global;
 
 /// Prints the name of the fault by which something ended.
 pub(crate) fn push_end(out: &mut Out, end: Result<(), Fault>) -> Played {
     match end {
-        Ok(()) => Ok(()),
-        Err(Fault::Unavailable) => Err(CaseFault::Unavailable),
-        Err(Fault::Memory) => Err(CaseFault::Memory),
-        Err(fault) => {
-            out.push(fault.name());
-            Ok(())
-        }
+        Ok(()) => {}
+        Err(Fault::Unavailable) => return Err(CaseFault::Unavailable),
+        Err(Fault::Memory) => return Err(CaseFault::Memory),
+        Err(fault) => out.push(fault.name()),
     }
+    Ok(())
 }
 
 fn push_text(out: &mut Out, octets: &[u8]) {
@@ -37,26 +34,12 @@ fn what(kind: &str, words: &str) -> Result<Option<What>, CaseFault> {
     }
 }
 
-fn write<S: HallStore>(
-    alloc: Global,
-    store: &mut S,
-    octets: &mut Vec<u8>,
-    what: Option<What>,
-) -> Result<(), Fault> {
-    match what {
-        Some(what) => desk_operations::report(alloc, store, octets, what),
-        None => export(alloc, store, octets),
-    }
-}
-
 /// Parses a file of new machines, and prints its rows, or its fault.
 pub(crate) fn rows(words: &str, out: &mut Out) -> Played {
     let file = string_of(out.alloc(), words)?;
     match import_rows(out.alloc(), file.as_bytes()) {
+        Ok(rows) if rows.is_empty() => out.push("none"),
         Ok(rows) => {
-            if rows.is_empty() {
-                out.push("none");
-            }
             for row in rows.as_slice() {
                 row.print(out);
             }
@@ -69,10 +52,12 @@ pub(crate) fn rows(words: &str, out: &mut Out) -> Played {
 impl<S: HallStore + Drop> Hall<S> {
     /// Prints a report.
     pub(crate) fn report(&mut self, kind: &str, words: &str, out: &mut Out) -> Played {
-        let mut octets = Vec::new(out.alloc());
-        let what = what(kind, words)?;
-        let mut store = self.take()?;
-        let end = write(out.alloc(), &mut store, &mut octets, what);
+        let (alloc, what) = (out.alloc(), what(kind, words)?);
+        let (mut octets, mut store) = (Vec::new(alloc), self.take()?);
+        let end = match what {
+            Some(what) => desk_operations::report(alloc, &mut store, &mut octets, what),
+            None => export(alloc, &mut store, &mut octets),
+        };
         self.put_back(store);
         push_text(out, octets.as_slice());
         push_end(out, end)
@@ -90,7 +75,7 @@ impl<S: HallStore + Drop> Hall<S> {
         let octets = file.as_bytes();
         let end = desk_operations::import(alloc, &mut desk, &mut writer, octets, bearer, at);
         self.put_back(desk.into_store());
-        push_text(out, writer.into_taken().as_slice());
+        push_text(out, writer.taken.as_slice());
         match end {
             Ok(Imported::All) => out.push("each row was accepted"),
             Ok(Imported::NotAll) => out.push("not each row was accepted"),
