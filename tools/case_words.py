@@ -74,6 +74,7 @@ def lists():
     silences += variants("crates/boot_desk/src/frames.rt", "Silence")
     statuses = re.findall(r'Status::\w+ => "([^"]+)"', text_of("crates/hall_types/src/status.rt"))
     commands = re.findall(r'Kind::\w+ => "(\w+)"', text_of("crates/hall_events/src/kind.rt"))
+    commands += re.findall(r'Act::\w+ => "(\w+)"', text_of("crates/hall_types/src/act.rt"))
     return [
         ("refusal", variants("crates/hall_types/src/refusal.rt", "Refusal"), r'\b\d{3} \{"refusal":"%s"', lambda case: case.wanted),
         ("silence", silences, r"\b%s\b", lambda case: [case.name] + case.notes + [it for it in case.wanted if "refusal" not in it]),

@@ -1,57 +1,12 @@
 -- Each decision leaves a sound hall sound.
-use Rattle.std.specs.Prelude.{◌≡◌, ◌≢◌, ℕ, Bool, true, false, List, [], ◌∷◌, Option, Some, None, is_some, Result, Ok, Err, if◌then◌else◌}
-use Rattle.std.specs.Str.{bytes_eq}
-use Rattle.std.proofs.Common.{refl, sym, ap, subst, inr, ◌∙◌}
-use Rattle.std.proofs.lemmas.Bool.{both_ways, eqb-true}
-use Rattle.hall_types.specs.Image.{BootImage}
-use Rattle.hall_types.specs.Kinds.{stage_after}
-use Rattle.hall_types.specs.Number.{next_number}
-use Rattle.hall_types.specs.Rows.{at, put}
-use Rattle.hall_types.specs.RowLaws.{at-put-same}
-use Rattle.hall_types.specs.Hall.{Hall, applied}
-use Rattle.hall_types.specs.declared.boot.Boot.{Boot}
-use Rattle.hall_types.specs.declared.change.RowWrite.{RowWrite}
-use Rattle.hall_types.specs.declared.change.RowWrite.TheVariants.{PutBoot, PutOrder}
-use Rattle.hall_types.specs.declared.kinds.OrderStage.{OrderStage}
+use Rattle.std.{specs.{Prelude.{◌≡◌, ◌≢◌, ℕ, Bool, true, false, List, [], ◌∷◌, Option, Some, None, is_some, Result, Ok, Err, if◌then◌else◌}, Str.bytes_eq}, proofs.{Common.{refl, sym, ap, subst, inr, ◌∙◌}, lemmas.Bool.{both_ways, eqb-true}}}
+use Rattle.hall_types.specs.{Image.BootImage, Kinds.stage_after, Number.next_number, Rows.{at, put}, RowLaws.at-put-same, Hall.{Hall, applied}, declared.{boot.Boot.Boot, change.RowWrite.{RowWrite, TheVariants.{PutBoot, PutOrder}}, kinds.{OrderStage.OrderStage, Outcome.Outcome, Progress.Progress, Purpose.Purpose, Stage.TheVariants.Started}, machine.Machine.Machine, order.Order.Order, refusal.Refusal.{Refusal, TheVariants.{NoBoot, Stale, WrongStage}}, status.Status.TheVariants.EnteringRescue}}
 use Rattle.hall_types.specs.declared.kinds.OrderStage.TheVariants as orderstage
-use Rattle.hall_types.specs.declared.kinds.Outcome.{Outcome}
 use Rattle.hall_types.specs.declared.kinds.Outcome.TheVariants as outcome
-use Rattle.hall_types.specs.declared.kinds.Progress.{Progress}
 use Rattle.hall_types.specs.declared.kinds.Progress.TheVariants as progress
-use Rattle.hall_types.specs.declared.kinds.Purpose.{Purpose}
 use Rattle.hall_types.specs.declared.kinds.Purpose.TheVariants as purpose
-use Rattle.hall_types.specs.declared.kinds.Stage.TheVariants.{Started}
-use Rattle.hall_types.specs.declared.machine.Machine.{Machine}
-use Rattle.hall_types.specs.declared.order.Order.{Order}
-use Rattle.hall_types.specs.declared.refusal.Refusal.{Refusal}
-use Rattle.hall_types.specs.declared.refusal.Refusal.TheVariants.{NoBoot, Stale, WrongStage}
-use Rattle.hall_types.specs.declared.status.Status.TheVariants.{EnteringRescue}
-use Rattle.life_cycle.specs.declared.entering.Entered.{Entered}
-use Rattle.life_cycle.specs.declared.signal.Signal.{Signal}
-use Rattle.life_cycle.specs.declared.signal.Signal.TheVariants.{Answer, Expired, FourthBoot, Report}
-use Rattle.life_cycle.specs.declared.step.Step.{Step}
-use Rattle.life_cycle.specs.Entering.{entered}
-use Rattle.life_cycle.specs.Table.{step_of}
-use Rattle.life_cycle.specs.TableLaws.{is_signal}
-use Rattle.boot_desk.specs.declared.class.ScriptClass.{ScriptClass}
-use Rattle.boot_desk.specs.declared.class.ScriptClass.TheVariants.{Local, Work, Hold}
-use Rattle.boot_desk.specs.declared.fault.Verdict.TheVariants.{Counted}
-use Rattle.boot_desk.specs.declared.reporting.Standing.{Standing}
-use Rattle.boot_desk.specs.declared.reporting.Standing.TheVariants.{Repeated, Contradicted, News}
-use Rattle.boot_desk.specs.Class.{class_in, class_of}
-use Rattle.boot_desk.specs.Expiry.{is_due, rows_or_none, swept}
-use Rattle.boot_desk.specs.Fetch.{fetched, fetched_by, image_for, is_fourth, issued, offered_boot, worked, worked_if}
-use Rattle.boot_desk.specs.Following.{answering, followed, with_entry}
-use Rattle.boot_desk.specs.OrderAnswer.{answered, answered_as, answered_with, stage_for}
-use Rattle.boot_desk.specs.Report.{counted, is_current, is_wrong_stage, judged, reported, standing_of}
-use Rattle.boot_desk.specs.Texts.{hold_script}
-use Rattle.boot_desk.specs.Views.{machine_view, order_view, order_view_of, order_view_with, report_view, report_view_of, report_view_with, row_at, view_of}
-use Rattle.boot_desk.specs.Sound.{IsSoundMachine, IsSound}
-use Rattle.boot_desk.specs.SoundLaws.{some_is, boots_same}
-use Rattle.boot_desk.specs.EntryLaws.{entry_from_sound, entry_sound, is_by, orders_answered, orders_withdrawn, waits_answered, waits_withdrawn}
-use Rattle.boot_desk.proofs.MoveLemmas.{boots_staged, idle_sound, issue_sound, start_sound}
-use Rattle.boot_desk.specs.ClassLaws.{same_purpose}
-use Rattle.boot_desk.proofs.StepLemmas.{KeptBoot, done-leads, failed-leads, may_enter}
+use Rattle.life_cycle.specs.{declared.{entering.Entered.Entered, signal.Signal.{Signal, TheVariants.{Answer, Expired, FourthBoot, Report}}, step.Step.Step}, Entering.entered, Table.step_of, TableLaws.is_signal}
+use Rattle.boot_desk.{specs.{declared.{class.ScriptClass.{ScriptClass, TheVariants.{Local, Work, Hold}}, fault.Verdict.TheVariants.Counted, reporting.Standing.{Standing, TheVariants.{Repeated, Contradicted, News}}}, Class.{class_in, class_of}, Expiry.{is_due, rows_or_none, swept}, Fetch.{fetched, fetched_by, image_for, is_fourth, issued, offered_boot, worked, worked_if}, Following.{answering, followed, with_entry}, OrderAnswer.{answered, answered_as, answered_with, stage_for}, Report.{counted, is_current, is_wrong_stage, judged, reported, standing_of}, Texts.hold_script, Views.{machine_view, order_view, order_view_of, order_view_with, report_view, report_view_of, report_view_with, row_at, view_of}, Sound.{IsSoundMachine, IsSound}, SoundLaws.{some_is, boots_same}, EntryLaws.{entry_from_sound, entry_sound, is_by, orders_answered, orders_withdrawn, waits_answered, waits_withdrawn}, ClassLaws.same_purpose}, proofs.{MoveLemmas.{boots_staged, idle_sound, issue_sound, start_sound}, StepLemmas.{KeptBoot, done-leads, failed-leads, may_enter}}}
 
 -- the rows of an answer leave the hall sound
 abbrev Keeps : {A : Type 0} → Hall → Result (List RowWrite × A) Refusal → Type 0

@@ -1,20 +1,8 @@
 -- A sound hall stays sound with a machine that a frame enlists.
-use Rattle.std.specs.Prelude.{◌≡◌, ◌<◌, ℕ, not, nat_le, Bool, true, false, Option, Some, None, option_map, if◌then◌else◌}
-use Rattle.std.proofs.Common.{refl, sym, subst}
-use Rattle.std.proofs.lemmas.Bool.{leb-false}
+use Rattle.std.{specs.Prelude.{◌≡◌, ◌<◌, ℕ, not, nat_le, Bool, true, false, Option, Some, None, option_map, if◌then◌else◌}, proofs.{Common.{refl, sym, subst}, lemmas.Bool.leb-false}}
 use Rattle.pxe_vendor.specs.declared.clients.Client.{Client}
-use Rattle.hall_types.specs.Number.{next_number}
-use Rattle.hall_types.specs.Rows.{at, size}
-use Rattle.hall_types.specs.Hall.{Hall, applied, default_pool}
-use Rattle.hall_types.specs.declared.machine.TheConstants.{MAX_MACHINES}
-use Rattle.hall_types.specs.declared.port.Port.{Port}
-use Rattle.boot_desk.specs.declared.frames.Decision.{Decision}
-use Rattle.boot_desk.specs.declared.frames.Decision.TheVariants.{Loader, ScriptUrl, Enlist, Silent}
-use Rattle.boot_desk.specs.declared.frames.FrameView.{FrameView}
-use Rattle.boot_desk.specs.declared.frames.Silence.TheVariants.{WrongPort, EchoTooLong, KnownUuid, Full}
-use Rattle.boot_desk.specs.FrameEvent.{enlisted, enlisted_as, for_address, for_unknown, frame_decision, frame_view, if_number, is_echo_long, is_port_of, is_uuid_of_other, machine_with, new_machine}
-use Rattle.boot_desk.specs.NewMachineLaws.{IsNew, blank_is_new, new_machine_sound}
-use Rattle.boot_desk.specs.Sound.{IsSound}
+use Rattle.hall_types.specs.{Number.next_number, Rows.{at, size}, Hall.{Hall, applied, default_pool}, declared.{machine.TheConstants.MAX_MACHINES, port.Port.Port}}
+use Rattle.boot_desk.specs.{declared.frames.{Decision.{Decision, TheVariants.{Loader, ScriptUrl, Enlist, Silent}}, FrameView.FrameView, Silence.TheVariants.{WrongPort, EchoTooLong, KnownUuid, Full}}, FrameEvent.{enlisted, enlisted_as, for_address, for_unknown, frame_decision, frame_view, if_number, is_echo_long, is_port_of, is_uuid_of_other, machine_with, new_machine}, NewMachineLaws.{IsNew, blank_is_new, new_machine_sound}, Sound.IsSound}
 
 none_mapped : {X Y : Type 0} (f : X → Y) (o : Option X) → option_map f o ≡ None → o ≡ None
 none_mapped f None is = refl

@@ -1,28 +1,7 @@
 -- How the rows of one machine change, except for entries: a new boot, a boot's stage, an order that waits no more.
-use Rattle.std.specs.Prelude.{◌≡◌, ◌≤◌, ◌==◌, ◌&&◌, not, ℕ, ◌+◌, Bool, true, false, List, Some, None, is_some}
-use Rattle.std.proofs.Common.{refl, sym, ap, subst, inl, inr, arith, ◌∙◌}
-use Rattle.std.proofs.lemmas.Bool.{eqb-false}
-use Rattle.std.proofs.lemmas.Option.{none-some}
-use Rattle.hall_types.specs.Number.{next_number}
-use Rattle.hall_types.specs.Rows.{numbers, Rows, at, put}
-use Rattle.hall_types.specs.RowLaws.{at-put-same, put_same}
-use Rattle.hall_types.specs.Hall.{Hall}
-use Rattle.hall_types.specs.declared.boot.Boot.{Boot}
-use Rattle.hall_types.specs.declared.kinds.Purpose.{Purpose}
-use Rattle.hall_types.specs.declared.kinds.Stage.{Stage}
-use Rattle.hall_types.specs.declared.kinds.Stage.TheVariants.{Started}
-use Rattle.hall_types.specs.declared.machine.Machine.{Machine}
-use Rattle.hall_types.specs.declared.order.Order.{Order}
-use Rattle.hall_types.specs.declared.status.Status.{Status}
-use Rattle.hall_types.specs.declared.status.Status.TheVariants.{Rescue}
-use Rattle.boot_desk.specs.declared.class.ScriptClass.TheVariants.{Work}
-use Rattle.boot_desk.specs.Class.{class_of}
-use Rattle.boot_desk.specs.Fetch.{booted, boots_after, is_fourth, is_rescue_mode, new_boot}
-use Rattle.boot_desk.specs.OrderAnswer.{idle}
-use Rattle.boot_desk.specs.Views.{row_at, view_of}
-use Rattle.boot_desk.specs.Sound.{IsSoundMachine, IsSound}
-use Rattle.boot_desk.specs.SoundLaws.{some_is, own_more, own_put, boots_same, orders_same, waits_same, OwnBoots, OwnOrders, WaitsFor, moved_to, stayed_sound}
-use Rattle.boot_desk.specs.EntryLaws.{next_is}
+use Rattle.std.{specs.Prelude.{◌≡◌, ◌≤◌, ◌==◌, ◌&&◌, not, ℕ, ◌+◌, Bool, true, false, List, Some, None, is_some}, proofs.{Common.{refl, sym, ap, subst, inl, inr, arith, ◌∙◌}, lemmas.{Bool.eqb-false, Option.none-some}}}
+use Rattle.hall_types.specs.{Number.next_number, Rows.{numbers, Rows, at, put}, RowLaws.{at-put-same, put_same}, Hall.Hall, declared.{boot.Boot.Boot, kinds.{Purpose.Purpose, Stage.{Stage, TheVariants.Started}}, machine.Machine.Machine, order.Order.Order, status.Status.{Status, TheVariants.Rescue}}}
+use Rattle.boot_desk.specs.{declared.class.ScriptClass.TheVariants.Work, Class.class_of, Fetch.{booted, boots_after, is_fourth, is_rescue_mode, new_boot}, OrderAnswer.idle, Views.{row_at, view_of}, Sound.{IsSoundMachine, IsSound}, SoundLaws.{some_is, own_more, own_put, boots_same, orders_same, waits_same, OwnBoots, OwnOrders, WaitsFor, moved_to, stayed_sound}, EntryLaws.next_is}
 
 -- before the fourth boot there is room for one more
 few_boots : (status : Status) (boots : ℕ) → boots ≤ 3 → ((boots == 3) && not (is_rescue_mode status)) ≡ false → boots_after status boots ≤ 3

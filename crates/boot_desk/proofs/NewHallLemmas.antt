@@ -1,21 +1,7 @@
 -- A new hall is sound.
-use Rattle.std.specs.Prelude.{◌≡◌, ℕ, List, Some, true, is_some}
-use Rattle.std.proofs.Common.{refl, sym, ap, inl, inr, arith, ◌∙◌}
-use Rattle.std.proofs.lemmas.Bool.{both_ways}
-use Rattle.std.proofs.lemmas.Option.{none-some}
-use Rattle.hall_types.specs.Rows.{Keys, numbers, pairs, texts, at, put, no_rows}
-use Rattle.hall_types.specs.RowLaws.{at-no_rows, at-put-same, put_cases}
-use Rattle.hall_types.specs.Hall.{Schema, default_pool, new_hall}
-use Rattle.hall_types.specs.Keyed.{StandUnder}
-use Rattle.hall_types.specs.declared.boot.Boot.{Boot}
-use Rattle.hall_types.specs.declared.kinds.Role.TheVariants.{Admin}
-use Rattle.hall_types.specs.declared.machine.Machine.{Machine}
-use Rattle.hall_types.specs.declared.operator.Operator.{Operator}
-use Rattle.hall_types.specs.declared.operator.Pool.{Pool}
-use Rattle.hall_types.specs.declared.order.Order.{Order}
-use Rattle.hall_types.specs.Lookup.{HasRow}
+use Rattle.std.{specs.Prelude.{◌≡◌, ℕ, List, Some, true, is_some}, proofs.{Common.{refl, sym, ap, inl, inr, arith, ◌∙◌}, lemmas.{Bool.both_ways, Option.none-some}}}
+use Rattle.hall_types.specs.{Rows.{Keys, numbers, pairs, texts, at, put, no_rows}, RowLaws.{at-no_rows, at-put-same, put_cases}, Hall.{Schema, default_pool, new_hall}, Keyed.StandUnder, declared.{boot.Boot.Boot, kinds.Role.TheVariants.Admin, machine.Machine.Machine, operator.{Operator.Operator, Pool.Pool}, order.Order.Order}, Lookup.HasRow, CountLaws.none_size}
 use Rattle.boot_desk.specs.Sound.{IsSound}
-use Rattle.hall_types.specs.CountLaws.{none_size}
 
 -- no number has a row
 nowhere : (X : Type 0) (number : ℕ) → HasRow (no_rows {X = X} {keys = numbers}) number → ⊥

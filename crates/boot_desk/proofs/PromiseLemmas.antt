@@ -1,34 +1,11 @@
 -- Why the desk's answers keep to what they promise.
-use Rattle.std.proofs.Common.{◌≡◌, ℕ, Bool, true, false, List, [], refl, ap, ◌∙◌}
-use Rattle.std.specs.Prelude.{Option, Some, None, Ok, Err, if◌then◌else◌}
-use Rattle.std.specs.Str.{bytes_eq}
-use Rattle.std.proofs.lemmas.Bool.{eqb-true}
-use Rattle.std.proofs.lemmas.Slice.Eq.{bytes_eq-Decides}
-use Rattle.hall_types.specs.declared.change.RowWrite.{RowWrite}
-use Rattle.hall_types.specs.declared.kinds.OrderStage.{OrderStage}
+use Rattle.std.{proofs.{Common.{◌≡◌, ℕ, Bool, true, false, List, [], refl, ap, ◌∙◌}, lemmas.{Bool.eqb-true, Slice.Eq.bytes_eq-Decides}}, specs.{Prelude.{Option, Some, None, Ok, Err, if◌then◌else◌}, Str.bytes_eq}}
+use Rattle.hall_types.specs.declared.{change.RowWrite.RowWrite, kinds.{OrderStage.OrderStage, Outcome.Outcome, Progress.Progress, Stage.Stage}, refusal.Refusal.TheVariants.{NoBoot, Stale, WrongStage}, status.Status.TheVariants.{Deployed, ExitingRescue}}
 use Rattle.hall_types.specs.declared.kinds.OrderStage.TheVariants as order
-use Rattle.hall_types.specs.declared.kinds.Outcome.{Outcome}
 use Rattle.hall_types.specs.declared.kinds.Outcome.TheVariants as outcome
-use Rattle.hall_types.specs.declared.kinds.Progress.{Progress}
 use Rattle.hall_types.specs.declared.kinds.Progress.TheVariants as report
-use Rattle.hall_types.specs.declared.kinds.Stage.{Stage}
 use Rattle.hall_types.specs.declared.kinds.Stage.TheVariants as stage
-use Rattle.hall_types.specs.declared.refusal.Refusal.TheVariants.{NoBoot, Stale, WrongStage}
-use Rattle.hall_types.specs.declared.status.Status.TheVariants.{Deployed, ExitingRescue}
-use Rattle.boot_desk.specs.declared.fault.Verdict.{Verdict}
-use Rattle.boot_desk.specs.declared.fault.Verdict.TheVariants.{Counted, Repeat}
-use Rattle.boot_desk.specs.declared.class.ScriptClass.TheVariants.{Local}
-use Rattle.boot_desk.specs.declared.reporting.Standing.{Standing}
-use Rattle.boot_desk.specs.declared.reporting.Standing.TheVariants.{Repeated, Contradicted, News}
-use Rattle.boot_desk.specs.declared.views.BootView.{BootView}
-use Rattle.boot_desk.specs.declared.views.OrderView.{OrderView}
-use Rattle.boot_desk.specs.declared.views.ReportView.{ReportView}
-use Rattle.boot_desk.specs.Class.{class_in, class_of}
-use Rattle.boot_desk.specs.Fetch.{fetched, fetched_by}
-use Rattle.boot_desk.specs.OrderAnswer.{answered, answered_as}
-use Rattle.boot_desk.specs.Promises.{CountsFor, Takes}
-use Rattle.boot_desk.specs.Report.{Judged, counted, is_current, is_wrong_stage, judged, reported, standing_of}
-use Rattle.boot_desk.specs.Texts.{local_script}
+use Rattle.boot_desk.specs.{declared.{fault.Verdict.{Verdict, TheVariants.{Counted, Repeat}}, class.ScriptClass.TheVariants.Local, reporting.Standing.{Standing, TheVariants.{Repeated, Contradicted, News}}, views.{BootView.BootView, OrderView.OrderView, ReportView.ReportView}}, Class.{class_in, class_of}, Fetch.{fetched, fetched_by}, OrderAnswer.{answered, answered_as}, Promises.{CountsFor, Takes}, Report.{Judged, counted, is_current, is_wrong_stage, judged, reported, standing_of}, Texts.local_script}
 
 -- a script of the class Local
 local : (host : List ℕ) (v : BootView) (moment : ℕ) (fresh : List ℕ) → class_of v.machine ≡ Local → fetched host v moment fresh ≡ Ok ([], local_script v.machine.arch)

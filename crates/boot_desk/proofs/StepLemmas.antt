@@ -1,36 +1,10 @@
 -- A machine may enter the status that a step leads to, if no operator gives the signal.
-use Rattle.std.specs.Prelude.{◌≡◌, ◌≢◌, ◌⊎◌, ◌&&◌, ◌||◌, not, ℕ, Bool, true, false, Option, Some, None, is_some, IsSome}
-use Rattle.std.specs.List.{list_all}
-use Rattle.std.proofs.Common.{refl, sym, ap, subst, inl, inr, ◌∙◌}
-use Rattle.std.proofs.lemmas.Bool.{and_parts, or_cases, both_ways, not-true}
-use Rattle.std.proofs.lemmas.Option.{none-some}
-use Rattle.hall_types.specs.Status.{status_number}
-use Rattle.hall_types.specs.Rows.{numbers, Rows, at}
-use Rattle.hall_types.specs.Hall.{Schema, first, second, Hall}
-use Rattle.hall_types.specs.declared.boot.Boot.{Boot}
+use Rattle.std.{specs.{Prelude.{◌≡◌, ◌≢◌, ◌⊎◌, ◌&&◌, ◌||◌, not, ℕ, Bool, true, false, Option, Some, None, is_some, IsSome}, List.list_all}, proofs.{Common.{refl, sym, ap, subst, inl, inr, ◌∙◌}, lemmas.{Bool.{and_parts, or_cases, both_ways, not-true}, Option.none-some}}}
+use Rattle.hall_types.specs.{Status.{status_number, statuses}, Rows.{numbers, Rows, at}, Hall.{Schema, first, second, Hall}, declared.{boot.Boot.Boot, kinds.{Purpose.Purpose, Stage.TheVariants.{Offered, Started}}, machine.Machine.Machine, status.Status.{Status, TheVariants.{Commissioning, Testing, Deploying, Deployed, DiskErasing, EnteringRescue, Rescue, ExitingRescue}}}}
 use Rattle.hall_types.specs.declared.kinds.Progress.TheVariants as progress
-use Rattle.hall_types.specs.declared.kinds.Purpose.{Purpose}
 use Rattle.hall_types.specs.declared.kinds.Purpose.TheVariants as purpose
-use Rattle.hall_types.specs.declared.kinds.Stage.TheVariants.{Offered, Started}
-use Rattle.hall_types.specs.declared.machine.Machine.{Machine}
-use Rattle.hall_types.specs.declared.status.Status.{Status}
-use Rattle.hall_types.specs.declared.status.Status.TheVariants.{Commissioning, Testing, Deploying, Deployed, DiskErasing, EnteringRescue, Rescue, ExitingRescue}
-use Rattle.life_cycle.specs.declared.entering.Entered.{Entered}
-use Rattle.life_cycle.specs.declared.signal.Signal.{Signal}
-use Rattle.life_cycle.specs.declared.signal.Signal.TheVariants.{Report}
-use Rattle.life_cycle.specs.declared.step.Step.{Step}
-use Rattle.life_cycle.specs.Entering.{back_after, boot_after, entered, keeps_erase, kept, machine_in}
-use Rattle.life_cycle.specs.Table.{transitions, step_of}
-use Rattle.life_cycle.specs.TableLaws.{StepTest, passes, only_if, only_if_true, is_status, is_signal, same_status, is_status-same, statuses, each_status, each_step}
-use Rattle.boot_desk.specs.declared.class.ScriptClass.{ScriptClass}
-use Rattle.boot_desk.specs.declared.class.ScriptClass.TheVariants.{Work}
-use Rattle.boot_desk.specs.Class.{class_after_rescue, class_in, class_of}
-use Rattle.boot_desk.specs.Fetch.{image_for}
-use Rattle.boot_desk.specs.Report.{fails_too_late, is_rescue_boot}
-use Rattle.boot_desk.specs.Views.{view_of}
-use Rattle.boot_desk.specs.ClassLaws.{same_purpose, works-status, works_at}
-use Rattle.boot_desk.specs.Sound.{KeepsErase, IsSoundMachine, IsSound}
-use Rattle.boot_desk.specs.EntryLaws.{MayEnter, back-remembered, boot_goes, boot_stays, deployed-order, is_by, is_some-back}
+use Rattle.life_cycle.specs.{declared.{entering.Entered.Entered, signal.Signal.{Signal, TheVariants.Report}, step.Step.Step}, Entering.{back_after, boot_after, entered, keeps_erase, kept, machine_in}, Table.{transitions, step_of}, TableLaws.{StepTest, passes, only_if, only_if_true, is_status, is_signal, same_status, is_status-same, each_status, each_step}}
+use Rattle.boot_desk.specs.{declared.class.ScriptClass.{ScriptClass, TheVariants.Work}, Class.{class_after_rescue, class_in, class_of}, Fetch.image_for, Report.{fails_too_late, is_rescue_boot}, Views.view_of, ClassLaws.{same_purpose, works-status, works_at}, Sound.{KeepsErase, IsSoundMachine, IsSound}, EntryLaws.{MayEnter, back-remembered, boot_goes, boot_stays, deployed-order, is_by, is_some-back}}
 
 -- ---- what the table says of the signals that no operator gives
 

@@ -1,37 +1,19 @@
 -- Worked sequences, computed on the definitions alone: the days of a machine that is commissioned, rescued and erased.
-use Rattle.std.proofs.Common.{◌≡◌, ℕ, true, false, List, [], ◌∷◌, Some, None, Ok, Err, refl}
-use Rattle.std.specs.Prelude.{⊤, codes}
-use Rattle.std.specs.Fmt.{digits}
+use Rattle.std.{proofs.Common.{◌≡◌, ℕ, true, false, List, [], ◌∷◌, Some, None, Ok, Err, refl}, specs.{Prelude.{⊤, codes}, Fmt.digits}}
 use Rattle.hex.proofs.OnLiterals.{hex_on_literals}
 use Rattle.pxe_vendor.specs.declared.arch.Arch.TheVariants.{Uefi64}
 use Rattle.ipxe_script.specs.Script.{spelling}
-use Rattle.hall_types.specs.Image.{BootImage}
-use Rattle.hall_types.specs.Kinds.{purpose_text, erase_text}
-use Rattle.hall_types.specs.Status.{status_number}
-use Rattle.hall_types.specs.declared.boot.Boot.{Boot}
-use Rattle.hall_types.specs.declared.change.RowWrite.TheVariants.{PutMachine, PutBoot, PutOrder, PutNumbers}
+use Rattle.hall_types.specs.{Image.BootImage, Kinds.{purpose_text, erase_text}, Status.status_number, declared.{boot.Boot.Boot, change.RowWrite.TheVariants.{PutMachine, PutBoot, PutOrder, PutNumbers}, kinds.OrderKind.TheVariants.{Cycle, Off}, machine.Machine.Machine, order.Order.Order}}
 use Rattle.hall_types.specs.declared.kinds.Erase.TheVariants as erase
-use Rattle.hall_types.specs.declared.kinds.OrderKind.TheVariants.{Cycle, Off}
 use Rattle.hall_types.specs.declared.kinds.OrderStage.TheVariants as order
 use Rattle.hall_types.specs.declared.kinds.Outcome.TheVariants as outcome
 use Rattle.hall_types.specs.declared.kinds.Progress.TheVariants as report
 use Rattle.hall_types.specs.declared.kinds.Purpose.TheVariants as purpose
 use Rattle.hall_types.specs.declared.kinds.Stage.TheVariants as stage
-use Rattle.hall_types.specs.declared.machine.Machine.{Machine}
-use Rattle.hall_types.specs.declared.order.Order.{Order}
 use Rattle.hall_types.specs.declared.refusal.Refusal.TheVariants as refusal
 use Rattle.hall_types.specs.declared.status.Status.TheVariants as status
-use Rattle.life_cycle.specs.Entering.{limit_of, keeps_owner, boot_after, is_rescue, is_origin, back_after, keeps_erase}
-use Rattle.life_cycle.specs.Table.{step_of}
-use Rattle.boot_desk.specs.Class.{class_in}
-use Rattle.boot_desk.specs.Expiry.{swept}
-use Rattle.boot_desk.specs.Fetch.{Fetched, fetched}
-use Rattle.boot_desk.specs.Following.{followed}
-use Rattle.boot_desk.specs.OrderAnswer.{answered}
-use Rattle.boot_desk.specs.Report.{reported}
-use Rattle.boot_desk.specs.Texts.{local_script, hold_script, work_script}
-use Rattle.boot_desk.specs.declared.fault.Verdict.TheVariants.{Counted, Repeat}
-use Rattle.boot_desk.specs.declared.views.BootView.{BootView}
+use Rattle.life_cycle.specs.{Entering.{limit_of, keeps_owner, boot_after, is_rescue, is_origin, back_after, keeps_erase}, Table.step_of}
+use Rattle.boot_desk.specs.{Class.class_in, Expiry.swept, Fetch.{Fetched, fetched}, Following.followed, OrderAnswer.answered, Report.reported, Texts.{local_script, hold_script, work_script}, declared.{fault.Verdict.TheVariants.{Counted, Repeat}, views.BootView.BootView}}
 
 unfoldable decisions : ⊤
 unfolding class_in swept fetched followed answered reported local_script hold_script work_script limit_of keeps_owner boot_after is_rescue is_origin back_after keeps_erase step_of status_number purpose_text erase_text digits hex_on_literals

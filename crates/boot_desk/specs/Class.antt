@@ -1,11 +1,8 @@
 -- Which script a machine is given.
 use Rattle.std.specs.Prelude.{Option, Some}
 use Rattle.hall_types.specs.declared.kinds.Purpose.TheVariants as purpose
-use Rattle.hall_types.specs.declared.status.Status.{Status}
-use Rattle.hall_types.specs.declared.status.Status.TheVariants.{Commissioning, Testing, Deploying, Deployed, DiskErasing, EnteringRescue, Rescue, ExitingRescue}
-use Rattle.hall_types.specs.declared.machine.Machine.{Machine}
-use Rattle.boot_desk.specs.declared.class.ScriptClass.{ScriptClass}
-use Rattle.boot_desk.specs.declared.class.ScriptClass.TheVariants.{Local, Work, Hold}
+use Rattle.hall_types.specs.declared.{status.Status.{Status, TheVariants.{Commissioning, Testing, Deploying, Deployed, DiskErasing, EnteringRescue, Rescue, ExitingRescue}}, machine.Machine.Machine}
+use Rattle.boot_desk.specs.declared.class.ScriptClass.{ScriptClass, TheVariants.{Local, Work, Hold}}
 
 -- a machine whose rescue ends boots its own disk if it was Deployed before
 abbrev pub class_after_rescue : Option Status → ScriptClass

@@ -1,12 +1,7 @@
 -- Laws of the classes of scripts, for the proofs of callers.
-use Rattle.std.specs.Prelude.{◌≡◌, Bool, true, false, Option, Some}
-use Rattle.std.proofs.Common.{refl, sym, ap, ◌∙◌}
-use Rattle.hall_types.specs.declared.kinds.Purpose.{Purpose}
-use Rattle.hall_types.specs.declared.status.Status.{Status}
-use Rattle.hall_types.specs.declared.status.Status.TheVariants.{Commissioning, Testing, Deploying, Deployed, DiskErasing, EnteringRescue, Rescue, ExitingRescue}
-use Rattle.boot_desk.specs.declared.class.ScriptClass.{ScriptClass}
-use Rattle.boot_desk.specs.declared.class.ScriptClass.TheVariants.{Work}
-use Rattle.boot_desk.specs.Class.{class_after_rescue, class_in}
+use Rattle.std.{specs.Prelude.{◌≡◌, Bool, true, false, Option, Some}, proofs.Common.{refl, sym, ap, ◌∙◌}}
+use Rattle.hall_types.specs.declared.{kinds.Purpose.Purpose, status.Status.{Status, TheVariants.{Commissioning, Testing, Deploying, Deployed, DiskErasing, EnteringRescue, Rescue, ExitingRescue}}}
+use Rattle.boot_desk.specs.{declared.class.ScriptClass.{ScriptClass, TheVariants.Work}, Class.{class_after_rescue, class_in}}
 
 -- the statuses in which a machine works
 abbrev pub works_at : Status → Bool

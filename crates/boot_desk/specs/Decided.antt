@@ -1,8 +1,7 @@
 -- What a call answers where a decision is defined.
 use Rattle.std.specs.Prelude.{◌≡◌, ⊤, Result, Ok, Err}
 use Rattle.hall_types.specs.declared.refusal.Refusal.{Refusal}
-use Rattle.boot_desk.specs.declared.fault.DeskFault.{DeskFault}
-use Rattle.boot_desk.specs.declared.fault.DeskFault.TheVariants.{Refused, Memory}
+use Rattle.boot_desk.specs.declared.fault.DeskFault.{DeskFault, TheVariants.{Refused, Memory}}
 
 -- the decision is given, or its refusal, or memory is wanting
 abbrev pub Decides : {D : Type 0} → Result D DeskFault → Result D Refusal → Type 0

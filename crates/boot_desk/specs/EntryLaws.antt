@@ -1,41 +1,8 @@
 -- A hall stays sound if one of its machines enters a status as it may.
-use Rattle.std.specs.Prelude.{◌≡◌, ◌≢◌, ◌⊎◌, ◌==◌, ℕ, ◌+◌, Bool, true, false, Option, Some, None, is_some, IsSome, option_map, not, if◌then◌else◌}
-use Rattle.std.specs.List.{list_all}
-use Rattle.std.proofs.Common.{refl, sym, ap, subst, inl, inr, arith, ◌∙◌}
-use Rattle.std.proofs.lemmas.Bool.{both_ways, not-true}
-use Rattle.std.proofs.lemmas.Option.{none-some}
-use Rattle.hall_types.specs.Number.{next_number, max_number}
-use Rattle.hall_types.specs.Rows.{Keys, numbers, Rows, at, put}
-use Rattle.hall_types.specs.RowLaws.{at-put-same, put_cases}
-use Rattle.hall_types.specs.Hall.{Schema, first, second, Hall, applied}
-use Rattle.hall_types.specs.declared.boot.Boot.{Boot}
-use Rattle.hall_types.specs.declared.kinds.OrderKind.{OrderKind}
-use Rattle.hall_types.specs.declared.kinds.OrderStage.TheVariants.{Waiting, Withdrawn}
-use Rattle.hall_types.specs.declared.kinds.Purpose.{Purpose}
-use Rattle.hall_types.specs.declared.kinds.Stage.TheVariants.{Offered, Started}
-use Rattle.hall_types.specs.declared.machine.Machine.{Machine}
-use Rattle.hall_types.specs.declared.number.Numbers.{Numbers}
-use Rattle.hall_types.specs.declared.order.Order.{Order}
-use Rattle.hall_types.specs.Status.{status_number}
-use Rattle.hall_types.specs.declared.status.Status.{Status}
-use Rattle.hall_types.specs.declared.status.Status.TheVariants.{Deployed, EnteringRescue, Rescue}
-use Rattle.life_cycle.specs.declared.entering.Entered.{Entered}
-use Rattle.life_cycle.specs.declared.signal.Signal.{Signal}
-use Rattle.life_cycle.specs.declared.signal.Signal.TheVariants.{By}
-use Rattle.life_cycle.specs.declared.step.Step.{Step}
-use Rattle.life_cycle.specs.Entering.{back_after, boot_after, entered, is_rescue, keeps_owner, kept, limit_of, machine_in}
-use Rattle.life_cycle.specs.Table.{transitions, step_of}
-use Rattle.life_cycle.specs.TableLaws.{StepTest, passes, only_if, only_if_true, is_status, is_status-same, each_step}
-use Rattle.life_cycle.specs.EnteringLaws.{entered_cases, entered-back, entered-status, remembered_in_rescue, remembered_statuses}
-use Rattle.life_cycle.specs.Laws.{IsRemembered}
-use Rattle.boot_desk.specs.declared.class.ScriptClass.TheVariants.{Work}
-use Rattle.boot_desk.specs.Class.{class_in}
-use Rattle.boot_desk.specs.Fetch.{image_for}
-use Rattle.boot_desk.specs.Following.{entry_rows}
-use Rattle.boot_desk.specs.Views.{row_at, view_of}
-use Rattle.hall_types.specs.Lookup.{HasRow, HasRowIf}
-use Rattle.boot_desk.specs.Sound.{KeepsErase, IsSoundMachine, IsSound}
-use Rattle.boot_desk.specs.SoundLaws.{some_is, own_more, own_put, boots_same, orders_same, waits_same, OwnBoots, OwnOrders, WaitsFor, moved_to, image_for-same, moved_sound}
+use Rattle.std.{specs.{Prelude.{◌≡◌, ◌≢◌, ◌⊎◌, ◌==◌, ℕ, ◌+◌, Bool, true, false, Option, Some, None, is_some, IsSome, option_map, not, if◌then◌else◌}, List.list_all}, proofs.{Common.{refl, sym, ap, subst, inl, inr, arith, ◌∙◌}, lemmas.{Bool.{both_ways, not-true}, Option.none-some}}}
+use Rattle.hall_types.specs.{Number.{next_number, max_number}, Rows.{Keys, numbers, Rows, at, put}, RowLaws.{at-put-same, put_cases}, Hall.{Schema, first, second, Hall, applied}, declared.{boot.Boot.Boot, kinds.{OrderKind.OrderKind, OrderStage.TheVariants.{Waiting, Withdrawn}, Purpose.Purpose, Stage.TheVariants.{Offered, Started}}, machine.Machine.Machine, number.Numbers.Numbers, order.Order.Order, status.Status.{Status, TheVariants.{Deployed, EnteringRescue, Rescue}}}, Status.status_number, Lookup.{HasRow, HasRowIf}}
+use Rattle.life_cycle.specs.{declared.{entering.Entered.Entered, signal.Signal.{Signal, TheVariants.By}, step.Step.Step}, Entering.{back_after, boot_after, entered, is_rescue, keeps_owner, kept, limit_of, machine_in}, Table.{transitions, step_of}, TableLaws.{StepTest, passes, only_if, only_if_true, is_status, is_status-same, each_step}, EnteringLaws.{entered_cases, entered-back, entered-status, remembered_in_rescue, remembered_statuses}, Laws.IsRemembered}
+use Rattle.boot_desk.specs.{declared.class.ScriptClass.TheVariants.Work, Class.class_in, Fetch.image_for, Following.entry_rows, Views.{row_at, view_of}, Sound.{KeepsErase, IsSoundMachine, IsSound}, SoundLaws.{some_is, own_more, own_put, boots_same, orders_same, waits_same, OwnBoots, OwnOrders, WaitsFor, moved_to, image_for-same, moved_sound}}
 
 -- ---- the order that waited
 

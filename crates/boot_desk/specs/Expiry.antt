@@ -1,11 +1,8 @@
 -- Which machine expires at a quiet moment, and what becomes of it.
 use Rattle.std.specs.Prelude.{ℕ, nat_le, Bool, false, List, [], Option, Some, None, Result, Ok, Err, if◌then◌else◌}
-use Rattle.hall_types.specs.declared.change.RowWrite.{RowWrite}
-use Rattle.hall_types.specs.declared.refusal.Refusal.{Refusal}
-use Rattle.life_cycle.specs.Table.{step_of}
-use Rattle.life_cycle.specs.declared.signal.Signal.TheVariants.{Expired}
-use Rattle.boot_desk.specs.declared.views.BootView.{BootView}
-use Rattle.boot_desk.specs.Following.{followed}
+use Rattle.hall_types.specs.declared.{change.RowWrite.RowWrite, refusal.Refusal.Refusal}
+use Rattle.life_cycle.specs.{Table.step_of, declared.signal.Signal.TheVariants.Expired}
+use Rattle.boot_desk.specs.{declared.views.BootView.BootView, Following.followed}
 
 -- a deadline is due once its moment has come
 abbrev pub is_due : Option ℕ → ℕ → Bool

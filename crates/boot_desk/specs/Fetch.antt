@@ -1,29 +1,10 @@
 -- What a machine is given that asks for its script.
 use Rattle.std.specs.Prelude.{ℕ, ◌==◌, ◌+◌, ◌&&◌, not, Bool, true, false, List, [], ◌∷◌, Option, Some, None, Result, Ok, Err, if◌then◌else◌}
-use Rattle.hall_types.specs.Image.{BootImage}
-use Rattle.hall_types.specs.Number.{next_number, next_version}
-use Rattle.hall_types.specs.declared.boot.Boot.{Boot}
-use Rattle.hall_types.specs.declared.boot.TheConstants.{MAX_BOOTS}
-use Rattle.hall_types.specs.declared.kinds.Purpose.{Purpose}
+use Rattle.hall_types.specs.{Image.BootImage, Number.{next_number, next_version}, declared.{boot.{Boot.Boot, TheConstants.MAX_BOOTS}, kinds.{Purpose.Purpose, Stage.{Stage, TheVariants.Offered}}, machine.Machine.Machine, status.Status.{Status, TheVariants.Rescue}, change.RowWrite.{RowWrite, TheVariants.{PutBoot, PutNumbers}}, refusal.Refusal.{Refusal, TheVariants.Exhausted}}}
 use Rattle.hall_types.specs.declared.kinds.Purpose.TheVariants as purpose
-use Rattle.hall_types.specs.declared.kinds.Stage.{Stage}
-use Rattle.hall_types.specs.declared.kinds.Stage.TheVariants.{Offered}
-use Rattle.hall_types.specs.declared.machine.Machine.{Machine}
-use Rattle.hall_types.specs.declared.status.Status.{Status}
-use Rattle.hall_types.specs.declared.status.Status.TheVariants.{Rescue}
-use Rattle.hall_types.specs.declared.change.RowWrite.{RowWrite}
-use Rattle.hall_types.specs.declared.change.RowWrite.TheVariants.{PutBoot, PutNumbers}
-use Rattle.hall_types.specs.declared.refusal.Refusal.{Refusal}
-use Rattle.hall_types.specs.declared.refusal.Refusal.TheVariants.{Exhausted}
 use Rattle.ipxe_script.specs.declared.command.Command.{Command}
-use Rattle.life_cycle.specs.Table.{step_of}
-use Rattle.life_cycle.specs.declared.signal.Signal.TheVariants.{FourthBoot}
-use Rattle.boot_desk.specs.declared.class.ScriptClass.{ScriptClass}
-use Rattle.boot_desk.specs.declared.class.ScriptClass.TheVariants.{Local, Work, Hold}
-use Rattle.boot_desk.specs.declared.views.BootView.{BootView}
-use Rattle.boot_desk.specs.Class.{class_of}
-use Rattle.boot_desk.specs.Following.{machine_row, followed, answering}
-use Rattle.boot_desk.specs.Texts.{local_script, hold_script, work_script}
+use Rattle.life_cycle.specs.{Table.step_of, declared.signal.Signal.TheVariants.FourthBoot}
+use Rattle.boot_desk.specs.{declared.{class.ScriptClass.{ScriptClass, TheVariants.{Local, Work, Hold}}, views.BootView.BootView}, Class.class_of, Following.{machine_row, followed, answering}, Texts.{local_script, hold_script, work_script}}
 
 -- the rows to write and the script to give, or a refusal
 abbrev pub Fetched : Type 0

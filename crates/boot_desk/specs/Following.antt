@@ -1,16 +1,7 @@
 -- The rows that a machine's entry into a status writes.
 use Rattle.std.specs.Prelude.{ℕ, List, [], ◌∷◌, ◌++◌, Option, Some, None, Result, Ok, Err}
-use Rattle.hall_types.specs.declared.order.Order.{Order}
-use Rattle.hall_types.specs.declared.kinds.OrderStage.TheVariants.{Withdrawn}
-use Rattle.hall_types.specs.declared.machine.Machine.{Machine}
-use Rattle.hall_types.specs.declared.number.Numbers.{Numbers}
-use Rattle.hall_types.specs.declared.change.RowWrite.{RowWrite}
-use Rattle.hall_types.specs.declared.change.RowWrite.TheVariants.{PutMachine, PutOrder, PutNumbers}
-use Rattle.hall_types.specs.declared.refusal.Refusal.{Refusal}
-use Rattle.hall_types.specs.declared.refusal.Refusal.TheVariants.{Exhausted}
-use Rattle.life_cycle.specs.declared.step.Step.{Step}
-use Rattle.life_cycle.specs.declared.entering.Entered.{Entered}
-use Rattle.life_cycle.specs.Entering.{entered}
+use Rattle.hall_types.specs.declared.{order.Order.Order, kinds.OrderStage.TheVariants.Withdrawn, machine.Machine.Machine, number.Numbers.Numbers, change.RowWrite.{RowWrite, TheVariants.{PutMachine, PutOrder, PutNumbers}}, refusal.Refusal.{Refusal, TheVariants.Exhausted}}
+use Rattle.life_cycle.specs.{declared.{step.Step.Step, entering.Entered.Entered}, Entering.entered}
 use Rattle.boot_desk.specs.declared.views.BootView.{BootView}
 
 -- a machine's row in the place of the one that it had

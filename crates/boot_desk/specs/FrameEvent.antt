@@ -1,24 +1,9 @@
 -- What a client's frame is answered (PXE 2.1).
 use Rattle.std.specs.Prelude.{ℕ, ◌==◌, nat_lt, nat_le, not, Bool, true, false, List, [], ◌∷◌, length, Option, Some, None, option_map, if◌then◌else◌}
-use Rattle.pxe_vendor.specs.declared.clients.Client.{Client}
-use Rattle.pxe_vendor.specs.declared.clients.Kind.{Kind}
-use Rattle.pxe_vendor.specs.declared.clients.Kind.TheVariants.{Discover, Request}
-use Rattle.hall_types.specs.Hall.{Hall, default_pool}
-use Rattle.hall_types.specs.Lookup.{machine_with_uuid}
-use Rattle.hall_types.specs.Number.{next_number}
-use Rattle.hall_types.specs.Rows.{at, size}
-use Rattle.hall_types.specs.declared.machine.Machine.{Machine}
-use Rattle.hall_types.specs.declared.machine.TheConstants.{MAX_MACHINES}
-use Rattle.hall_types.specs.declared.number.Numbers.{Numbers}
-use Rattle.hall_types.specs.declared.port.Port.{Port}
+use Rattle.pxe_vendor.specs.declared.clients.{Client.Client, Kind.{Kind, TheVariants.{Discover, Request}}}
+use Rattle.hall_types.specs.{Hall.{Hall, default_pool}, Lookup.machine_with_uuid, Number.next_number, Rows.{at, size}, declared.{machine.{Machine.Machine, TheConstants.MAX_MACHINES}, number.Numbers.Numbers, port.Port.Port, change.RowWrite.{RowWrite, TheVariants.{PutMachine, PutInterface, PutNumbers}}}, Machine.blank_machine}
 use Rattle.hall_types.specs.declared.port.Port.TheVariants as port
-use Rattle.hall_types.specs.declared.change.RowWrite.{RowWrite}
-use Rattle.hall_types.specs.declared.change.RowWrite.TheVariants.{PutMachine, PutInterface, PutNumbers}
-use Rattle.boot_desk.specs.declared.frames.Decision.{Decision}
-use Rattle.boot_desk.specs.declared.frames.Decision.TheVariants.{Loader, ScriptUrl, Enlist, Silent}
-use Rattle.boot_desk.specs.declared.frames.Silence.TheVariants.{WrongPort, EchoTooLong, KnownUuid, Full, Exhausted}
-use Rattle.boot_desk.specs.declared.frames.FrameView.{FrameView}
-use Rattle.boot_desk.specs.NewMachine.{blank_machine}
+use Rattle.boot_desk.specs.declared.frames.{Decision.{Decision, TheVariants.{Loader, ScriptUrl, Enlist, Silent}}, Silence.TheVariants.{WrongPort, EchoTooLong, KnownUuid, Full, Exhausted}, FrameView.FrameView}
 
 -- ---- the view
 

@@ -6,7 +6,6 @@ pub mod Expiry
 pub mod Fetch
 pub mod Following
 pub mod FrameEvent
-pub mod NewMachine
 pub mod NewMachineLaws
 pub mod OrderAnswer
 pub mod Promises

@@ -1,28 +1,9 @@
 -- A sound hall stays sound with a new machine and its interface.
-use Rattle.std.specs.Prelude.{◌≡◌, ◌≢◌, ◌<◌, ◌≤◌, ◌⊎◌, ◌==◌, ℕ, ◌+◌, List, Option, Some, None, is_some}
-use Rattle.std.proofs.Common.{refl, sym, ap, inl, inr, arith, ◌∙◌}
-use Rattle.std.proofs.lemmas.Bool.{both_ways, eq-eqb, ne_eqb}
-use Rattle.std.proofs.lemmas.Option.{none-some}
-use Rattle.std.proofs.lemmas.Slice.Eq.{bytes_eq-Decides}
+use Rattle.std.{specs.Prelude.{◌≡◌, ◌≢◌, ◌<◌, ◌≤◌, ◌⊎◌, ◌==◌, ℕ, ◌+◌, List, Option, Some, None, is_some}, proofs.{Common.{refl, sym, ap, inl, inr, arith, ◌∙◌}, lemmas.{Bool.{both_ways, eq-eqb, ne_eqb}, Option.none-some, Slice.Eq.bytes_eq-Decides}}}
 use Rattle.pxe_vendor.specs.declared.arch.Arch.{Arch}
-use Rattle.hall_types.specs.Number.{next_number}
-use Rattle.hall_types.specs.Rows.{at, put, one_if, size, how_many}
-use Rattle.hall_types.specs.RowLaws.{at-put-same, at-put-other, put_cases, size-put}
-use Rattle.hall_types.specs.CountLaws.{how_many-new, none_pass}
-use Rattle.hall_types.specs.Hall.{Schema, first, second, Hall}
-use Rattle.hall_types.specs.Lookup.{HasRow, HasRowIf, has_uuid}
-use Rattle.hall_types.specs.LookupLaws.{none_listed}
-use Rattle.hall_types.specs.declared.machine.Interface.{Interface}
-use Rattle.hall_types.specs.declared.machine.Machine.{Machine}
-use Rattle.hall_types.specs.declared.machine.TheConstants.{MAX_MACHINES, MAX_INTERFACES}
+use Rattle.hall_types.specs.{Number.next_number, Rows.{at, put, one_if, size, how_many}, RowLaws.{at-put-same, at-put-other, put_cases, size-put}, CountLaws.{how_many-new, none_pass}, Hall.{Schema, first, second, Hall}, Lookup.{HasRow, HasRowIf, has_uuid}, LookupLaws.none_listed, declared.machine.{Interface.Interface, Machine.Machine, TheConstants.{MAX_MACHINES, MAX_INTERFACES}}, Machine.blank_machine}
 use Rattle.life_cycle.specs.Entering.{limit_of, is_rescue, keeps_erase}
-use Rattle.boot_desk.specs.Class.{class_in}
-use Rattle.boot_desk.specs.FrameEvent.{machine_with}
-use Rattle.boot_desk.specs.NewMachine.{blank_machine}
-use Rattle.boot_desk.specs.Views.{view_of}
-use Rattle.boot_desk.specs.Sound.{KeepsErase, IsSoundMachine, IsSound}
-use Rattle.boot_desk.specs.SoundLaws.{some_of, has-put, stand_put, each_put, sound_among}
-use Rattle.boot_desk.specs.EntryLaws.{next_is}
+use Rattle.boot_desk.specs.{Class.class_in, FrameEvent.machine_with, Views.view_of, Sound.{KeepsErase, IsSoundMachine, IsSound}, SoundLaws.{some_of, has-put, stand_put, each_put, sound_among}, EntryLaws.next_is}
 
 -- a machine that is new to a hall, and the address of its interface
 pub record IsNew (h : Hall) (mac : List ℕ) (new : Machine) : Type 0 where

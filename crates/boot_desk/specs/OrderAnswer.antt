@@ -1,23 +1,10 @@
 -- What becomes of the power program's answer to an order.
 use Rattle.std.specs.Prelude.{ℕ, [], ◌∷◌, Option, Some, None, Ok, Err}
-use Rattle.hall_types.specs.Number.{next_version}
-use Rattle.hall_types.specs.declared.kinds.Outcome.{Outcome}
+use Rattle.hall_types.specs.{Number.next_version, declared.{kinds.{Outcome.Outcome, OrderStage.OrderStage}, machine.Machine.Machine, change.RowWrite.{RowWrite, TheVariants.PutOrder}, refusal.Refusal.TheVariants.{NoOrder, Spent, Withdrawn}}}
 use Rattle.hall_types.specs.declared.kinds.Outcome.TheVariants as outcome
-use Rattle.hall_types.specs.declared.kinds.OrderStage.{OrderStage}
 use Rattle.hall_types.specs.declared.kinds.OrderStage.TheVariants as stage
-use Rattle.hall_types.specs.declared.machine.Machine.{Machine}
-use Rattle.hall_types.specs.declared.change.RowWrite.{RowWrite}
-use Rattle.hall_types.specs.declared.change.RowWrite.TheVariants.{PutOrder}
-use Rattle.hall_types.specs.declared.refusal.Refusal.TheVariants.{NoOrder, Spent, Withdrawn}
-use Rattle.life_cycle.specs.Table.{step_of}
-use Rattle.life_cycle.specs.Entering.{entered}
-use Rattle.life_cycle.specs.declared.step.Step.{Step}
-use Rattle.life_cycle.specs.declared.signal.Signal.TheVariants.{Answer}
-use Rattle.boot_desk.specs.declared.fault.Verdict.TheVariants.{Counted, Repeat}
-use Rattle.boot_desk.specs.declared.views.BootView.{BootView}
-use Rattle.boot_desk.specs.declared.views.OrderView.{OrderView}
-use Rattle.boot_desk.specs.Following.{machine_row, with_entry, answering}
-use Rattle.boot_desk.specs.Report.{Judged}
+use Rattle.life_cycle.specs.{Table.step_of, Entering.entered, declared.{step.Step.Step, signal.Signal.TheVariants.Answer}}
+use Rattle.boot_desk.specs.{declared.{fault.Verdict.TheVariants.{Counted, Repeat}, views.{BootView.BootView, OrderView.OrderView}}, Following.{machine_row, with_entry, answering}, Report.Judged}
 
 abbrev pub stage_for : Outcome → OrderStage
 stage_for outcome.Done = stage.Done

@@ -1,9 +1,7 @@
 -- What the desk's answers keep to.
 use Rattle.std.specs.Prelude.{◌≡◌, ℕ, List, Some}
-use Rattle.hall_types.specs.declared.kinds.Progress.{Progress}
+use Rattle.hall_types.specs.declared.kinds.{Progress.Progress, Stage.{Stage, TheVariants.{Offered, Started}}}
 use Rattle.hall_types.specs.declared.kinds.Progress.TheVariants as report
-use Rattle.hall_types.specs.declared.kinds.Stage.{Stage}
-use Rattle.hall_types.specs.declared.kinds.Stage.TheVariants.{Offered, Started}
 use Rattle.boot_desk.specs.declared.views.ReportView.{ReportView}
 
 -- a boot that is offered takes every report; one that has started takes a verdict

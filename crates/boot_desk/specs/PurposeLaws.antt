@@ -1,41 +1,14 @@
 -- Laws of what kernels are told to do, for the proofs of callers.
-use Rattle.std.proofs.Common.{◌≡◌, ℕ, zero, suc, ◌⊎◌, Bool, true, false, List, [], ◌∷◌, ◌++◌, refl, sym, ap, subst, ◌∙◌, inl, inr, arith}
-use Rattle.std.specs.Prelude.{Option, Some, None, Result, Ok, Err, Contains, bytes_eq, codes, if◌then◌else◌}
-use Rattle.std.specs.List.{list_any}
-use Rattle.std.proofs.lemmas.Bool.{or_parts, both_ways}
-use Rattle.std.proofs.lemmas.List.Elements.{Contains-append_cases, Contains-append_left, Contains-append_right}
+use Rattle.std.{proofs.{Common.{◌≡◌, ℕ, zero, suc, ◌⊎◌, Bool, true, false, List, [], ◌∷◌, ◌++◌, refl, sym, ap, subst, ◌∙◌, inl, inr, arith}, lemmas.{Bool.{or_parts, both_ways}, List.Elements.{Contains-append_cases, Contains-append_left, Contains-append_right}}}, specs.{Prelude.{Option, Some, None, Result, Ok, Err, Contains, bytes_eq, codes, if◌then◌else◌}, List.list_any, Fmt.decimal}}
 use Rattle.hex.specs.Hex.{encode_lower}
-use Rattle.std.specs.Fmt.{decimal}
 use Rattle.pxe_vendor.specs.declared.arch.Arch.{Arch}
 use Rattle.pxe_vendor.specs.declared.arch.Arch.TheVariants as arch
-use Rattle.ipxe_script.specs.Purpose.{HasKernelWord, is_kernel}
-use Rattle.ipxe_script.specs.PurposeLaws.{HasKernelWord-boot, HasKernelWord-no_kernel, IsArgument-hall}
-use Rattle.ipxe_script.specs.Script.{spelling, IsScript}
-use Rattle.ipxe_script.specs.Word.{is_hall_word}
-use Rattle.ipxe_script.specs.declared.command.Command.{Command}
-use Rattle.hall_types.specs.Image.{BootImage, has_hall_word}
-use Rattle.hall_types.specs.Kinds.{erase_text, purpose_text}
-use Rattle.hall_types.specs.Number.{next_number}
-use Rattle.hall_types.specs.declared.boot.Boot.{Boot}
-use Rattle.hall_types.specs.declared.change.RowWrite.{RowWrite}
-use Rattle.hall_types.specs.declared.kinds.Erase.{Erase}
+use Rattle.ipxe_script.specs.{Purpose.{HasKernelWord, is_kernel}, PurposeLaws.{HasKernelWord-boot, HasKernelWord-no_kernel, IsArgument-hall}, Script.{spelling, IsScript}, Word.is_hall_word, declared.command.Command.Command}
+use Rattle.hall_types.specs.{Image.{BootImage, has_hall_word}, Kinds.{erase_text, purpose_text}, Number.next_number, declared.{boot.Boot.Boot, change.RowWrite.RowWrite, kinds.{Erase.Erase, Purpose.Purpose}, refusal.Refusal.Refusal, status.Status.{Status, TheVariants.{Deploying, DiskErasing, ExitingRescue}}}}
 use Rattle.hall_types.specs.declared.kinds.Erase.TheVariants as erase
-use Rattle.hall_types.specs.declared.kinds.Purpose.{Purpose}
 use Rattle.hall_types.specs.declared.kinds.Purpose.TheVariants as purpose
-use Rattle.hall_types.specs.declared.refusal.Refusal.{Refusal}
-use Rattle.hall_types.specs.declared.status.Status.{Status}
-use Rattle.hall_types.specs.declared.status.Status.TheVariants.{Deploying, DiskErasing, ExitingRescue}
-use Rattle.life_cycle.specs.Table.{step_of}
-use Rattle.life_cycle.specs.declared.signal.Signal.TheVariants.{FourthBoot}
-use Rattle.boot_desk.specs.declared.class.ScriptClass.{ScriptClass}
-use Rattle.boot_desk.specs.declared.class.ScriptClass.TheVariants.{Local, Work, Hold}
-use Rattle.boot_desk.specs.declared.views.BootView.{BootView}
-use Rattle.boot_desk.specs.ClassLaws.{is_work, works_after_rescue}
-use Rattle.boot_desk.specs.Class.{class_in, class_of, class_after_rescue}
-use Rattle.boot_desk.specs.Fetch.{Fetched, fetched, fetched_by, image_for, is_fourth, issued, new_boot, offered_boot, worked, worked_if}
-use Rattle.boot_desk.specs.Following.{answering, followed}
-use Rattle.boot_desk.specs.Purposes.{IsWork, HasNoHallWords, ErasesBy}
-use Rattle.boot_desk.specs.Texts.{desk_arguments, erase_argument, hold_script, local_script, work_script}
+use Rattle.life_cycle.specs.{Table.step_of, declared.signal.Signal.TheVariants.FourthBoot}
+use Rattle.boot_desk.specs.{declared.{class.ScriptClass.{ScriptClass, TheVariants.{Local, Work, Hold}}, views.BootView.BootView}, ClassLaws.{is_work, works_after_rescue}, Class.{class_in, class_of, class_after_rescue}, Fetch.{Fetched, fetched, fetched_by, image_for, is_fourth, issued, new_boot, offered_boot, worked, worked_if}, Following.{answering, followed}, Purposes.{IsWork, HasNoHallWords, ErasesBy}, Texts.{desk_arguments, erase_argument, hold_script, local_script, work_script}}
 
 -- ---- a script of a script request starts no kernel, or it is that of the machine's work
 

@@ -1,18 +1,8 @@
 -- What the answer to a script request has a kernel do.
 use Rattle.std.specs.Prelude.{◌≡◌, false, List, Option, Some, codes, ◌++◌, ℕ}
-use Rattle.hall_types.specs.Image.{BootImage, has_hall_word}
-use Rattle.hall_types.specs.Kinds.{erase_text}
-use Rattle.hall_types.specs.declared.boot.Boot.{Boot}
-use Rattle.hall_types.specs.declared.kinds.Erase.{Erase}
-use Rattle.hall_types.specs.declared.kinds.Purpose.{Purpose}
-use Rattle.ipxe_script.specs.Purpose.{HasKernelWord}
-use Rattle.ipxe_script.specs.Script.{spelling}
-use Rattle.ipxe_script.specs.declared.command.Command.{Command}
-use Rattle.boot_desk.specs.declared.class.ScriptClass.TheVariants.{Work}
-use Rattle.boot_desk.specs.declared.views.BootView.{BootView}
-use Rattle.boot_desk.specs.Class.{class_of}
-use Rattle.boot_desk.specs.Fetch.{image_for}
-use Rattle.boot_desk.specs.Texts.{work_script}
+use Rattle.hall_types.specs.{Image.{BootImage, has_hall_word}, Kinds.erase_text, declared.{boot.Boot.Boot, kinds.{Erase.Erase, Purpose.Purpose}}}
+use Rattle.ipxe_script.specs.{Purpose.HasKernelWord, Script.spelling, declared.command.Command.Command}
+use Rattle.boot_desk.specs.{declared.{class.ScriptClass.TheVariants.Work, views.BootView.BootView}, Class.class_of, Fetch.image_for, Texts.work_script}
 
 -- the script boots an image for the purpose that the machine works for
 pub record IsWork (host : List ℕ) (v : BootView) (purpose : Purpose) (script : List Command) : Type 0 where

@@ -1,27 +1,10 @@
 -- What becomes of a report of a boot.
-use Rattle.std.specs.Prelude.{ℕ, ◌==◌, Bool, true, false, List, [], ◌∷◌, Option, Some, None, Result, Ok, Err, if◌then◌else◌}
-use Rattle.std.specs.Str.{bytes_eq}
-use Rattle.hall_types.specs.Kinds.{stage_after}
-use Rattle.hall_types.specs.declared.kinds.Progress.{Progress}
+use Rattle.std.specs.{Prelude.{ℕ, ◌==◌, Bool, true, false, List, [], ◌∷◌, Option, Some, None, Result, Ok, Err, if◌then◌else◌}, Str.bytes_eq}
+use Rattle.hall_types.specs.{Kinds.stage_after, declared.{kinds.{Progress.Progress, Purpose.Purpose, Stage.{Stage, TheVariants.{Offered, Started, Done, Failed}}}, status.Status.{Status, TheVariants.Rescue}, change.RowWrite.{RowWrite, TheVariants.PutBoot}, refusal.Refusal.{Refusal, TheVariants.{NoBoot, Spent, Stale, WrongStage}}}}
 use Rattle.hall_types.specs.declared.kinds.Progress.TheVariants as report
-use Rattle.hall_types.specs.declared.kinds.Purpose.{Purpose}
 use Rattle.hall_types.specs.declared.kinds.Purpose.TheVariants as purpose
-use Rattle.hall_types.specs.declared.kinds.Stage.{Stage}
-use Rattle.hall_types.specs.declared.kinds.Stage.TheVariants.{Offered, Started, Done, Failed}
-use Rattle.hall_types.specs.declared.status.Status.{Status}
-use Rattle.hall_types.specs.declared.status.Status.TheVariants.{Rescue}
-use Rattle.hall_types.specs.declared.change.RowWrite.{RowWrite}
-use Rattle.hall_types.specs.declared.change.RowWrite.TheVariants.{PutBoot}
-use Rattle.hall_types.specs.declared.refusal.Refusal.{Refusal}
-use Rattle.hall_types.specs.declared.refusal.Refusal.TheVariants.{NoBoot, Spent, Stale, WrongStage}
-use Rattle.life_cycle.specs.Table.{step_of}
-use Rattle.life_cycle.specs.declared.signal.Signal.TheVariants.{Report}
-use Rattle.boot_desk.specs.declared.fault.Verdict.{Verdict}
-use Rattle.boot_desk.specs.declared.fault.Verdict.TheVariants.{Counted, Repeat}
-use Rattle.boot_desk.specs.declared.reporting.Standing.{Standing}
-use Rattle.boot_desk.specs.declared.reporting.Standing.TheVariants.{Repeated, Contradicted, News}
-use Rattle.boot_desk.specs.declared.views.ReportView.{ReportView}
-use Rattle.boot_desk.specs.Following.{followed, answering}
+use Rattle.life_cycle.specs.{Table.step_of, declared.signal.Signal.TheVariants.Report}
+use Rattle.boot_desk.specs.{declared.{fault.Verdict.{Verdict, TheVariants.{Counted, Repeat}}, reporting.Standing.{Standing, TheVariants.{Repeated, Contradicted, News}}, views.ReportView.ReportView}, Following.{followed, answering}}
 
 -- the rows to write and what is answered, or a refusal
 abbrev pub Judged : Type 0

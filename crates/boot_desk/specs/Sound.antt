@@ -1,30 +1,8 @@
 -- When a hall is sound: what its rows have to say of each other.
 use Rattle.std.specs.Prelude.{◌≡◌, ℕ, ◌≤◌, ◌⊎◌, ◌==◌, List, Some, None, is_some, IsSome, IsTrue}
-use Rattle.hall_types.specs.Rows.{at, size, how_many}
-use Rattle.hall_types.specs.Hall.{Schema, first, second, Hall, default_pool}
-use Rattle.hall_types.specs.Keyed.{IsKeyed}
-use Rattle.hall_types.specs.Lookup.{HasRow, HasRowIf}
-use Rattle.hall_types.specs.declared.boot.Boot.{Boot}
-use Rattle.hall_types.specs.declared.boot.TheConstants.{MAX_BOOTS}
-use Rattle.hall_types.specs.declared.image.Live.{Live}
-use Rattle.hall_types.specs.declared.machine.Interface.{Interface}
-use Rattle.hall_types.specs.declared.machine.Machine.{Machine}
-use Rattle.hall_types.specs.declared.machine.TheConstants.{MAX_MACHINES, MAX_INTERFACES}
-use Rattle.hall_types.specs.declared.operator.Member.{Member}
-use Rattle.hall_types.specs.declared.operator.Operator.{Operator}
-use Rattle.hall_types.specs.declared.order.Order.{Order}
-use Rattle.hall_types.specs.declared.receipt.Receipt.{Receipt}
-use Rattle.hall_types.specs.declared.kinds.OrderStage.TheVariants.{Waiting}
-use Rattle.hall_types.specs.declared.kinds.Purpose.{Purpose}
-use Rattle.hall_types.specs.declared.kinds.Stage.TheVariants.{Offered, Started}
-use Rattle.hall_types.specs.declared.status.Status.TheVariants.{Deployed, Rescue}
-use Rattle.life_cycle.specs.Entering.{limit_of, keeps_erase, is_rescue}
-use Rattle.life_cycle.specs.Laws.{IsRemembered}
-use Rattle.boot_desk.specs.declared.class.ScriptClass.TheVariants.{Work}
-use Rattle.boot_desk.specs.declared.views.BootView.{BootView}
-use Rattle.boot_desk.specs.Class.{class_of}
-use Rattle.boot_desk.specs.Fetch.{image_for}
-use Rattle.boot_desk.specs.Views.{view_of}
+use Rattle.hall_types.specs.{Rows.{at, size, how_many}, Hall.{Schema, first, second, Hall, default_pool}, Keyed.IsKeyed, Lookup.{HasRow, HasRowIf}, declared.{boot.{Boot.Boot, TheConstants.MAX_BOOTS}, image.Live.Live, machine.{Interface.Interface, Machine.Machine, TheConstants.{MAX_MACHINES, MAX_INTERFACES}}, operator.{Member.Member, Operator.Operator}, order.Order.Order, receipt.Receipt.Receipt, kinds.{OrderStage.TheVariants.Waiting, Purpose.Purpose, Stage.TheVariants.{Offered, Started}}, status.Status.TheVariants.{Deployed, Rescue}}}
+use Rattle.life_cycle.specs.{Entering.{limit_of, keeps_erase, is_rescue}, Laws.IsRemembered}
+use Rattle.boot_desk.specs.{declared.{class.ScriptClass.TheVariants.Work, views.BootView.BootView}, Class.class_of, Fetch.image_for, Views.view_of}
 
 -- how the disks are erased is kept exactly in Disk erasing and Failed disk erasing; the first schema keeps it nowhere
 abbrev pub KeepsErase : Schema → Machine → Type 0

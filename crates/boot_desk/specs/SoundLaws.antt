@@ -1,28 +1,8 @@
 -- A hall stays sound if the rows of only one machine change, and are as they have to be afterwards.
-use Rattle.std.specs.Prelude.{◌≡◌, ◌≢◌, ◌≤◌, ◌⊎◌, ◌==◌, ℕ, Bool, true, false, Option, Some, None, is_some, IsSome, IsTrue, if◌then◌else◌}
-use Rattle.std.proofs.Common.{refl, sym, ap, subst, inl, inr, arith, ◌∙◌}
-use Rattle.std.proofs.lemmas.Bool.{eqb-true, eqb-false}
-use Rattle.hall_types.specs.Rows.{Keys, numbers, Rows, at, put, size, one_if, same_key}
-use Rattle.hall_types.specs.RowLaws.{at-put, at-put-same, at-put-other, put_cases, size-put}
-use Rattle.hall_types.specs.Hall.{Schema, first, second, Hall}
-use Rattle.hall_types.specs.Keyed.{StandUnder, IsKeyed}
-use Rattle.hall_types.specs.declared.boot.Boot.{Boot}
-use Rattle.hall_types.specs.declared.boot.TheConstants.{MAX_BOOTS}
-use Rattle.hall_types.specs.declared.kinds.OrderStage.TheVariants.{Waiting}
-use Rattle.hall_types.specs.declared.kinds.Purpose.{Purpose}
+use Rattle.std.{specs.Prelude.{◌≡◌, ◌≢◌, ◌≤◌, ◌⊎◌, ◌==◌, ℕ, Bool, true, false, Option, Some, None, is_some, IsSome, IsTrue, if◌then◌else◌}, proofs.{Common.{refl, sym, ap, subst, inl, inr, arith, ◌∙◌}, lemmas.Bool.{eqb-true, eqb-false}}}
+use Rattle.hall_types.specs.{Rows.{Keys, numbers, Rows, at, put, size, one_if, same_key}, RowLaws.{at-put, at-put-same, at-put-other, put_cases, size-put}, Hall.{Schema, first, second, Hall}, Keyed.{StandUnder, IsKeyed}, declared.{boot.{Boot.Boot, TheConstants.MAX_BOOTS}, kinds.{OrderStage.TheVariants.Waiting, Purpose.Purpose, Stage.TheVariants.{Offered, Started}}, machine.Machine.Machine, number.Numbers.Numbers, order.Order.Order, status.Status.TheVariants.{Deployed, Rescue}}, Lookup.{HasRow, HasRowIf}}
 use Rattle.hall_types.specs.declared.kinds.Purpose.TheVariants as purpose
-use Rattle.hall_types.specs.declared.kinds.Stage.TheVariants.{Offered, Started}
-use Rattle.hall_types.specs.declared.machine.Machine.{Machine}
-use Rattle.hall_types.specs.declared.number.Numbers.{Numbers}
-use Rattle.hall_types.specs.declared.order.Order.{Order}
-use Rattle.hall_types.specs.declared.status.Status.TheVariants.{Deployed, Rescue}
-use Rattle.boot_desk.specs.declared.class.ScriptClass.TheVariants.{Work}
-use Rattle.boot_desk.specs.declared.views.BootView.{BootView}
-use Rattle.boot_desk.specs.Class.{class_of}
-use Rattle.boot_desk.specs.Fetch.{image_for}
-use Rattle.boot_desk.specs.Views.{row_at, view_of}
-use Rattle.hall_types.specs.Lookup.{HasRow, HasRowIf}
-use Rattle.boot_desk.specs.Sound.{KeepsErase, IsSoundMachine, IsSound}
+use Rattle.boot_desk.specs.{declared.{class.ScriptClass.TheVariants.Work, views.BootView.BootView}, Class.class_of, Fetch.image_for, Views.{row_at, view_of}, Sound.{KeepsErase, IsSoundMachine, IsSound}}
 
 pub some_is : {X : Type 0} (x y : X) → Some x ≡ Some y → x ≡ y
 some_is x y e = cc

@@ -1,29 +1,12 @@
 -- The desk's words are words of a script.
-use Rattle.std.proofs.Common.{◌≡◌, ◌≤◌, ◌/◌, ◌%◌, ◌++◌, ◌^◌, ◌<◌, ℕ, suc, Bool, true, List, [], ◌∷◌, length, slice_index, refl, ap, false, arith, append_assoc}
-use Rattle.std.specs.Prelude.{All, Option, Some, None, codes, ◌&&◌, ◌||◌, ◌==◌, nat_le, IsTrue}
-use Rattle.std.specs.Char.{is_ascii_alphanumeric}
-use Rattle.std.specs.List.{list_all}
-use Rattle.std.specs.Fmt.{decimal}
-use Rattle.std.proofs.lemmas.Bool.{agree_below_at, leb-true}
-use Rattle.hex.specs.Hex.{encode_lower, encode_with, lower_digits}
-use Rattle.hex.proofs.HexLemmas.{length-encode_with}
-use Rattle.pxe_vendor.specs.Place.{is_host, is_host_octet}
-use Rattle.pxe_vendor.specs.declared.arch.Arch.{Arch}
+use Rattle.std.{proofs.{Common.{◌≡◌, ◌≤◌, ◌/◌, ◌%◌, ◌++◌, ◌^◌, ◌<◌, ℕ, suc, Bool, true, List, [], ◌∷◌, length, slice_index, refl, ap, false, arith, append_assoc}, lemmas.{Bool.{agree_below_at, leb-true}, List.Elements.All-from_recursion}}, specs.{Prelude.{All, Option, Some, None, codes, ◌&&◌, ◌||◌, ◌==◌, nat_le, IsTrue}, Char.is_ascii_alphanumeric, List.list_all, Fmt.decimal}}
+use Rattle.hex.{specs.Hex.{encode_lower, encode_with, lower_digits}, proofs.HexLemmas.length-encode_with}
+use Rattle.pxe_vendor.specs.{Place.{is_host, is_host_octet}, declared.arch.Arch.Arch}
 use Rattle.pxe_vendor.specs.declared.arch.Arch.TheVariants as arch
-use Rattle.ipxe_script.specs.Script.{IsLine, IsScript, spelling}
-use Rattle.ipxe_script.specs.ScriptLaws.{IsScript-boot}
-use Rattle.ipxe_script.specs.declared.command.Command.TheVariants.{Kernel, Initrd, Boot, Sanboot, Exit}
-use Rattle.std.proofs.lemmas.List.Elements.{All-from_recursion}
-use Rattle.hall_types.specs.Hall.{default_pool}
-use Rattle.hall_types.specs.Name.{IsName, is_name}
+use Rattle.ipxe_script.specs.{Script.{IsLine, IsScript, spelling}, ScriptLaws.IsScript-boot, declared.command.Command.TheVariants.{Kernel, Initrd, Boot, Sanboot, Exit}, Word.{IsWord, IsUri, AreWordOctets, is_word, is_first_octet, is_word_octet}, WordLaws.{IsWord-append, IsWord-append-decimal, AreWordOctets-host}}
+use Rattle.hall_types.specs.{Hall.default_pool, Name.{IsName, is_name}, Kinds.{purpose_text, erase_text}, Octets.AreOctets, declared.kinds.{Purpose.Purpose, Erase.Erase}}
 use Rattle.boot_desk.specs.Texts.{erase_argument, local_script, hold_script}
-use Rattle.ipxe_script.specs.Word.{IsWord, IsUri, AreWordOctets, is_word, is_first_octet, is_word_octet}
-use Rattle.ipxe_script.specs.WordLaws.{IsWord-append, IsWord-append-decimal, AreWordOctets-host}
-use Rattle.hall_types.specs.Kinds.{purpose_text, erase_text}
-use Rattle.hall_types.specs.Octets.{AreOctets}
-use Rattle.hall_types.specs.declared.kinds.Purpose.{Purpose}
 use Rattle.hall_types.specs.declared.kinds.Purpose.TheVariants as purpose
-use Rattle.hall_types.specs.declared.kinds.Erase.{Erase}
 use Rattle.hall_types.specs.declared.kinds.Erase.TheVariants as erase
 
 pub purpose_word : (p : Purpose) → IsWord (codes "hall.purpose=" ++ purpose_text p)

@@ -1,21 +1,13 @@
 -- The scripts that machines are given (https://ipxe.org/cmd).
-use Rattle.std.specs.Prelude.{ℕ, List, [], ◌∷◌, ◌++◌, Option, Some, None, codes}
-use Rattle.std.specs.Fmt.{decimal}
+use Rattle.std.specs.{Prelude.{ℕ, List, [], ◌∷◌, ◌++◌, Option, Some, None, codes}, Fmt.decimal}
 use Rattle.hex.specs.Hex.{encode_lower}
 use Rattle.ipxe_script.specs.declared.command.Command.{Command}
 use Rattle.ipxe_script.specs.declared.command.Command.TheVariants as line
 use Rattle.pxe_vendor.specs.declared.arch.Arch.{Arch}
 use Rattle.pxe_vendor.specs.declared.arch.Arch.TheVariants as arch
-use Rattle.hall_types.specs.Image.{BootImage}
-use Rattle.hall_types.specs.Kinds.{purpose_text, erase_text}
-use Rattle.hall_types.specs.declared.kinds.Purpose.{Purpose}
+use Rattle.hall_types.specs.{Image.BootImage, Kinds.{purpose_text, erase_text}, declared.{kinds.{Purpose.Purpose, Erase.Erase}, boot.Boot.Boot, machine.Machine.Machine}}
 use Rattle.hall_types.specs.declared.kinds.Purpose.TheVariants as purpose
-use Rattle.hall_types.specs.declared.kinds.Erase.{Erase}
-use Rattle.hall_types.specs.declared.boot.Boot.{Boot}
-use Rattle.hall_types.specs.declared.machine.Machine.{Machine}
-use Rattle.boot_desk.specs.declared.class.ScriptClass.{ScriptClass}
-use Rattle.boot_desk.specs.declared.class.ScriptClass.TheVariants.{Local, Work, Hold}
-use Rattle.boot_desk.specs.Class.{class_of}
+use Rattle.boot_desk.specs.{declared.class.ScriptClass.{ScriptClass, TheVariants.{Local, Work, Hold}}, Class.class_of}
 
 -- a machine with a BIOS boots from its first disk by iPXE, the others by their firmware
 unfoldable pub local_script : Arch → List Command

@@ -1,17 +1,7 @@
 -- The rows of a hall that one decision needs.
 use Rattle.std.specs.Prelude.{ℕ, List, Option, Some, None}
-use Rattle.hall_types.specs.Image.{BootImage}
-use Rattle.hall_types.specs.Kinds.{arch_number}
-use Rattle.hall_types.specs.Rows.{Keys, Rows, at}
-use Rattle.hall_types.specs.Hall.{Hall}
-use Rattle.hall_types.specs.declared.boot.Boot.{Boot}
-use Rattle.hall_types.specs.declared.image.Live.{Live}
-use Rattle.hall_types.specs.declared.machine.Interface.{Interface}
-use Rattle.hall_types.specs.declared.machine.Machine.{Machine}
-use Rattle.hall_types.specs.declared.order.Order.{Order}
-use Rattle.boot_desk.specs.declared.views.BootView.{BootView}
-use Rattle.boot_desk.specs.declared.views.ReportView.{ReportView}
-use Rattle.boot_desk.specs.declared.views.OrderView.{OrderView}
+use Rattle.hall_types.specs.{Image.BootImage, Kinds.arch_number, Rows.{Keys, Rows, at}, Hall.Hall, declared.{boot.Boot.Boot, image.Live.Live, machine.{Interface.Interface, Machine.Machine}, order.Order.Order}}
+use Rattle.boot_desk.specs.declared.views.{BootView.BootView, ReportView.ReportView, OrderView.OrderView}
 
 -- the row with a key, if there is a key and a row with it
 abbrev pub row_at : {K X : Type 0} {keys : Keys K} → Rows keys X → Option K → Option X

@@ -1,35 +1,12 @@
 -- Each script that a machine is given is one within the limits, where it is made of what its types allow.
-use Rattle.std.specs.Prelude.{◌≡◌, ◌≤◌, ◌+◌, ◌++◌, ◌==◌, ℕ, Bool, true, false, List, [], ◌∷◌, Option, Some, None, Result, Ok, Err, All, IsTrue, codes, if◌then◌else◌}
-use Rattle.std.specs.Fmt.{decimal}
-use Rattle.std.proofs.Common.{refl, ap, subst, arith}
-use Rattle.std.proofs.lemmas.Bool.Decides.{nat_tests}
-use Rattle.std.proofs.lemmas.List.{length-append}
-use Rattle.std.proofs.lemmas.List.Elements.{All-append, All-from_recursion, All-nil}
+use Rattle.std.{specs.{Prelude.{◌≡◌, ◌≤◌, ◌+◌, ◌++◌, ◌==◌, ℕ, Bool, true, false, List, [], ◌∷◌, Option, Some, None, Result, Ok, Err, All, IsTrue, codes, if◌then◌else◌}, Fmt.decimal}, proofs.{Common.{refl, ap, subst, arith}, lemmas.{Bool.Decides.nat_tests, List.{length-append, Elements.{All-append, All-from_recursion, All-nil}}}}}
 use Rattle.hex.specs.Hex.{encode_lower}
 use Rattle.pxe_vendor.specs.Place.{is_host}
-use Rattle.ipxe_script.specs.Script.{IsScript}
-use Rattle.ipxe_script.specs.Word.{IsWord}
-use Rattle.ipxe_script.specs.declared.command.Command.{Command}
-use Rattle.hall_types.specs.Image.{BootImage, IsImage}
-use Rattle.hall_types.specs.Kinds.{erase_text, purpose_text}
-use Rattle.hall_types.specs.Number.{max_number, next_number}
-use Rattle.hall_types.specs.Octets.{AreOctets}
-use Rattle.hall_types.specs.declared.boot.Boot.{Boot}
-use Rattle.hall_types.specs.declared.change.RowWrite.{RowWrite}
-use Rattle.hall_types.specs.declared.kinds.Erase.{Erase}
-use Rattle.hall_types.specs.declared.kinds.Purpose.{Purpose}
+use Rattle.ipxe_script.specs.{Script.IsScript, Word.IsWord, declared.command.Command.Command}
+use Rattle.hall_types.specs.{Image.{BootImage, IsImage}, Kinds.{erase_text, purpose_text}, Number.{max_number, next_number}, Octets.AreOctets, declared.{boot.Boot.Boot, change.RowWrite.RowWrite, kinds.{Erase.Erase, Purpose.Purpose}, refusal.Refusal.Refusal}}
 use Rattle.hall_types.specs.declared.kinds.Purpose.TheVariants as purpose
-use Rattle.hall_types.specs.declared.refusal.Refusal.{Refusal}
-use Rattle.life_cycle.specs.Table.{step_of}
-use Rattle.life_cycle.specs.declared.signal.Signal.TheVariants.{FourthBoot}
-use Rattle.boot_desk.specs.Class.{class_of}
-use Rattle.boot_desk.specs.declared.class.ScriptClass.{ScriptClass}
-use Rattle.boot_desk.specs.declared.class.ScriptClass.TheVariants.{Local, Hold, Work}
-use Rattle.boot_desk.specs.declared.views.BootView.{BootView}
-use Rattle.boot_desk.specs.Fetch.{Fetched, fetched, fetched_by, image_for, is_fourth, is_offered, issued, new_boot, offered_boot, worked, worked_if}
-use Rattle.boot_desk.specs.Following.{answering, followed}
-use Rattle.boot_desk.specs.TextLaws.{boot_is_script, boot_word, desk_word, erase_word, few_erase_arguments, hold_is_script, local_is_script, purpose_word, token_word}
-use Rattle.boot_desk.specs.Texts.{desk_arguments, erase_argument, hold_script, local_script, work_script}
+use Rattle.life_cycle.specs.{Table.step_of, declared.signal.Signal.TheVariants.FourthBoot}
+use Rattle.boot_desk.specs.{Class.class_of, declared.{class.ScriptClass.{ScriptClass, TheVariants.{Local, Hold, Work}}, views.BootView.BootView}, Fetch.{Fetched, fetched, fetched_by, image_for, is_fourth, is_offered, issued, new_boot, offered_boot, worked, worked_if}, Following.{answering, followed}, TextLaws.{boot_is_script, boot_word, desk_word, erase_word, few_erase_arguments, hold_is_script, local_is_script, purpose_word, token_word}, Texts.{desk_arguments, erase_argument, hold_script, local_script, work_script}}
 
 -- a boot: a number, and a token of 16 octets
 pub record IsBoot (b : Boot) : Type 0 where

@@ -1,8 +1,6 @@
 //! What becomes of the power program's answer to an order.
-ghost use Rattle.std.specs.Prelude.{◌≡◌, [], ◌∷◌};
-ghost use Rattle.std.specs.Option.{option_copied};
-ghost use Rattle.boot_desk.specs.Decided.{Decides};
-ghost use Rattle.boot_desk.specs.OrderAnswer.{answered, answered_with, idle, stage_for};
+ghost use Rattle.std.specs.{Prelude.{◌≡◌, [], ◌∷◌}, Option.option_copied};
+ghost use Rattle.boot_desk.specs.{Decided.Decides, OrderAnswer.{answered, answered_with, idle, stage_for}};
 
 use crate::fault::{DeskFault, Verdict};
 use crate::following::{first_row, machine_row, with_entry, with_row};

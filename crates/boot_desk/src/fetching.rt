@@ -1,13 +1,8 @@
 //! What a machine is given that asks for its script.
-ghost use Rattle.std.specs.Prelude.{◌≡◌, [], ◌∷◌, false, Ok, IfOk};
-ghost use Rattle.std.specs.Option.{option_copied};
-ghost use Rattle.hall_types.specs.Number.{next_number};
-ghost use Rattle.hall_types.specs.declared.change.RowWrite.TheVariants.{PutBoot, PutNumbers};
+ghost use Rattle.std.specs.{Prelude.{◌≡◌, [], ◌∷◌, false, Ok, IfOk}, Option.option_copied};
+ghost use Rattle.hall_types.specs.{Number.next_number, declared.change.RowWrite.TheVariants.{PutBoot, PutNumbers}};
 ghost use Rattle.life_cycle.specs.Table.{step_of};
-ghost use Rattle.boot_desk.specs.Decided.{Decides};
-ghost use Rattle.boot_desk.specs.Fetch.{booted, boots_after, fetched, image_for, is_fourth, issued, new_boot, offered_boot, worked_if};
-ghost use Rattle.boot_desk.specs.Following.{answering, followed, machine_row};
-ghost use Rattle.boot_desk.specs.Texts.{hold_script as hold_commands, work_script as work_commands};
+ghost use Rattle.boot_desk.specs.{Decided.Decides, Fetch.{booted, boots_after, fetched, image_for, is_fourth, issued, new_boot, offered_boot, worked_if}, Following.{answering, followed, machine_row}, Texts.{hold_script as hold_commands, work_script as work_commands}};
 
 use crate::class::{ScriptClass, script_for};
 use crate::fault::DeskFault;

@@ -1,7 +1,6 @@
 //! The rows that a machine's entry into a status writes.
 ghost use Rattle.std.specs.Prelude.{◌≡◌, ◌++◌, [], ◌∷◌, IfOk, OnOk};
-ghost use Rattle.boot_desk.specs.Decided.{Decides};
-ghost use Rattle.boot_desk.specs.Following.{entry_rows, followed, machine_row, with_entry};
+ghost use Rattle.boot_desk.specs.{Decided.Decides, Following.{entry_rows, followed, machine_row, with_entry}};
 ghost use Rattle.life_cycle.specs.Entering.{entered};
 
 use crate::fault::DeskFault;

@@ -133,24 +133,7 @@ fn uuid_of(client: &Client) -> Option<MachineUuid>
 fn new_machine(id: Number, client: &Client) -> Machine
     ensures { result ≡ new_machine id client.now }
 {
-    Machine {
-        id,
-        arch: client.arch,
-        uuid: uuid_of(client),
-        pool: default_pool(),
-        status: Status::New,
-        owner: None,
-        image: None,
-        tests: false,
-        back: None,
-        erase: None,
-        locked: false,
-        version: Version::FIRST,
-        deadline: None,
-        boot: None,
-        boots: BootCount::NONE,
-        waiting: None,
-    }
+    Machine::new(id, client.arch, default_pool(), uuid_of(client))
 }
 
 /// The rows of an unknown client's new machine: New, in the pool `default`, with the client's architecture,

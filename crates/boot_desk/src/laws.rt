@@ -1,23 +1,9 @@
 //! What holds of halls, whatever the desk decides.
 ghost use Rattle.std.specs.Prelude.{◌≡◌, ℕ, List, Ok, Some};
 ghost use Rattle.pxe_vendor.specs.declared.clients.Client.{Client};
-ghost use Rattle.hall_types.specs.Hall.{Hall, Schema, applied, new_hall};
-ghost use Rattle.hall_types.specs.Rows.{at};
-ghost use Rattle.hall_types.specs.declared.change.RowWrite.{RowWrite};
-ghost use Rattle.hall_types.specs.declared.kinds.Outcome.{Outcome};
-ghost use Rattle.hall_types.specs.declared.kinds.Progress.{Progress};
-ghost use Rattle.hall_types.specs.declared.machine.Machine.{Machine};
-ghost use Rattle.hall_types.specs.declared.port.Port.{Port};
+ghost use Rattle.hall_types.specs.{Hall.{Hall, Schema, applied, new_hall}, Rows.at, declared.{change.RowWrite.RowWrite, kinds.{Outcome.Outcome, Progress.Progress}, machine.Machine.Machine, port.Port.Port}};
 ghost use Rattle.ipxe_script.specs.declared.command.Command.{Command};
-ghost use Rattle.boot_desk.specs.Expiry.{swept};
-ghost use Rattle.boot_desk.specs.Fetch.{fetched};
-ghost use Rattle.boot_desk.specs.FrameEvent.{enlisted, frame_decision, frame_view};
-ghost use Rattle.boot_desk.specs.OrderAnswer.{answered};
-ghost use Rattle.boot_desk.specs.Report.{reported};
-ghost use Rattle.boot_desk.specs.Sound.{IsSound};
-ghost use Rattle.boot_desk.specs.Views.{order_view, report_view, view_of};
-ghost use Rattle.boot_desk.specs.declared.fault.Verdict.{Verdict};
-ghost use Rattle.boot_desk.specs.declared.frames.Decision.TheVariants.{Enlist};
+ghost use Rattle.boot_desk.specs.{Expiry.swept, Fetch.fetched, FrameEvent.{enlisted, frame_decision, frame_view}, OrderAnswer.answered, Report.reported, Sound.IsSound, Views.{order_view, report_view, view_of}, declared.{fault.Verdict.Verdict, frames.Decision.TheVariants.Enlist}};
 
 /// A new hall is sound, in each schema.
 pub fn new_halls_are_sound()

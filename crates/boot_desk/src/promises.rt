@@ -1,25 +1,10 @@
 //! What the desk's answers keep to, whatever is recorded.
 ghost use Rattle.std.specs.Prelude.{◌≡◌, ℕ, List, [], Ok, Some};
-ghost use Rattle.ipxe_script.specs.Purpose.{IsDeploying, IsErasing};
-ghost use Rattle.ipxe_script.specs.Script.{IsScript, spelling};
-ghost use Rattle.ipxe_script.specs.declared.command.Command.{Command};
-ghost use Rattle.hall_types.specs.declared.change.RowWrite.{RowWrite};
-ghost use Rattle.hall_types.specs.declared.kinds.Erase.{Erase};
+ghost use Rattle.ipxe_script.specs.{Purpose.{IsDeploying, IsErasing}, Script.{IsScript, spelling}, declared.command.Command.Command};
+ghost use Rattle.hall_types.specs.declared.{change.RowWrite.RowWrite, kinds.{Erase.Erase, Outcome.Outcome, Progress.Progress}, status.Status.TheVariants.{Deployed, Deploying, DiskErasing, ExitingRescue}};
 ghost use Rattle.hall_types.specs.declared.kinds.OrderStage.TheVariants as order;
-ghost use Rattle.hall_types.specs.declared.kinds.Outcome.{Outcome};
-ghost use Rattle.hall_types.specs.declared.kinds.Progress.{Progress};
 ghost use Rattle.hall_types.specs.declared.kinds.Purpose.TheVariants as purpose;
-ghost use Rattle.hall_types.specs.declared.status.Status.TheVariants.{Deployed, Deploying, DiskErasing, ExitingRescue};
-ghost use Rattle.boot_desk.specs.declared.fault.Verdict.TheVariants.{Counted};
-ghost use Rattle.boot_desk.specs.declared.views.BootView.{BootView};
-ghost use Rattle.boot_desk.specs.declared.views.OrderView.{OrderView};
-ghost use Rattle.boot_desk.specs.declared.views.ReportView.{ReportView};
-ghost use Rattle.boot_desk.specs.Fetch.{fetched};
-ghost use Rattle.boot_desk.specs.OrderAnswer.{answered};
-ghost use Rattle.boot_desk.specs.Promises.{CountsFor};
-ghost use Rattle.boot_desk.specs.Purposes.{ErasesBy, HasNoHallWords, IsWork};
-ghost use Rattle.boot_desk.specs.Report.{reported};
-ghost use Rattle.boot_desk.specs.Texts.{local_script};
+ghost use Rattle.boot_desk.specs.{declared.{fault.Verdict.TheVariants.Counted, views.{BootView.BootView, OrderView.OrderView, ReportView.ReportView}}, Fetch.fetched, OrderAnswer.answered, Promises.CountsFor, Purposes.{ErasesBy, HasNoHallWords, IsWork}, Report.reported, Texts.local_script};
 
 /// A machine that is Deployed, or whose rescue from there ends, is given only the script that boots its own disk,
 /// whatever boot is still recorded, and nothing changes.

@@ -1,9 +1,6 @@
 //! What becomes of a report of a boot.
-ghost use Rattle.std.specs.Prelude.{◌≡◌};
-ghost use Rattle.std.specs.Option.{option_copied};
-ghost use Rattle.boot_desk.specs.Decided.{Decides};
-ghost use Rattle.boot_desk.specs.Report.{counted, is_current, is_wrong_stage, judged, reported, standing_of};
-ghost use Rattle.boot_desk.specs.declared.reporting.Standing.{Standing};
+ghost use Rattle.std.specs.{Prelude.◌≡◌, Option.option_copied};
+ghost use Rattle.boot_desk.specs.{Decided.Decides, Report.{counted, is_current, is_wrong_stage, judged, reported, standing_of}, declared.reporting.Standing.Standing};
 
 use crate::fault::{DeskFault, Verdict};
 use crate::following::{first_row, follow};

@@ -1,6 +1,5 @@
 //! Which machine expires at a quiet moment.
-ghost use Rattle.std.specs.Prelude.{◌≡◌, [], IfOk};
-ghost use Rattle.std.specs.Option.{option_copied};
+ghost use Rattle.std.specs.{Prelude.{◌≡◌, [], IfOk}, Option.option_copied};
 ghost use Rattle.boot_desk.specs.Expiry.{is_due, swept};
 
 use crate::fault::DeskFault;

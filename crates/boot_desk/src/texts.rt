@@ -1,9 +1,7 @@
 //! The scripts that machines are given.
-ghost use Rattle.std.specs.Prelude.{◌≡◌, ◌≤◌, ◌+◌, ◌++◌, [], ◌∷◌, List, ℕ, IfOk, OnOk, IsSome, All, length, map, option_map, string_bytes, codes};
-ghost use Rattle.std.specs.Fmt.{decimal};
+ghost use Rattle.std.specs.{Prelude.{◌≡◌, ◌≤◌, ◌+◌, ◌++◌, [], ◌∷◌, List, ℕ, IfOk, OnOk, IsSome, All, length, map, option_map, string_bytes, codes}, Fmt.decimal};
 ghost use Rattle.hex.specs.Hex.{encode_lower};
-ghost use Rattle.ipxe_script.specs.Script.{IsScript};
-ghost use Rattle.ipxe_script.specs.Word.{IsWord};
+ghost use Rattle.ipxe_script.specs.{Script.IsScript, Word.IsWord};
 ghost use Rattle.hall_types.specs.Kinds.{erase_text, purpose_text};
 ghost use Rattle.ipxe_script.specs.declared.command.Command.TheVariants as line;
 ghost use Rattle.boot_desk.specs.Texts.{desk_arguments, erase_argument, hold_script, local_script, script_of, work_script};

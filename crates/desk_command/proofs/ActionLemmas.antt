@@ -1,56 +1,22 @@
 -- A hall stays sound if a machine enters the status that an operator's action leads to.
-use Rattle.std.specs.Prelude.{◌≡◌, ◌&&◌, ◌||◌, ℕ, Bool, true, false, List, Option, Some, None, Ok, Err, is_some, IsSome, option_map}
-use Rattle.std.specs.List.{list_all}
-use Rattle.std.proofs.Common.{refl, sym, ap, subst, ◌∙◌}
-use Rattle.std.proofs.lemmas.Bool.{and_parts}
-use Rattle.std.proofs.lemmas.Option.{none-some}
-use Rattle.hall_types.specs.Hall.{Schema, second, Hall, applied}
-use Rattle.hall_types.specs.Number.{next_number}
-use Rattle.hall_types.specs.Rows.{at}
-use Rattle.hall_types.specs.Status.{status_number}
-use Rattle.hall_types.specs.declared.change.RowWrite.{RowWrite}
-use Rattle.hall_types.specs.declared.kinds.Erase.{Erase}
-use Rattle.hall_types.specs.declared.kinds.OrderKind.{OrderKind}
-use Rattle.hall_types.specs.declared.kinds.Purpose.{Purpose}
-use Rattle.hall_types.specs.declared.machine.Machine.{Machine}
-use Rattle.hall_types.specs.declared.number.Numbers.{Numbers}
-use Rattle.hall_types.specs.declared.operator.Operator.{Operator}
-use Rattle.hall_types.specs.declared.refusal.Refusal.{Refusal}
-use Rattle.hall_types.specs.declared.status.Status.{Status}
-use Rattle.hall_types.specs.declared.status.Status.TheVariants.{Commissioning, Testing, Deploying, DiskErasing, EnteringRescue}
-use Rattle.hall_events.specs.Reply.{Content}
-use Rattle.hall_events.specs.declared.command.MachineCommand.{MachineCommand}
-use Rattle.life_cycle.specs.Entering.{back_after, entered, entered_by, entered_plain, entered_queued, keeps_erase, kept, machine_in}
-use Rattle.life_cycle.specs.Table.{step_of, transitions}
-use Rattle.life_cycle.specs.TableLaws.{StepTest, each_step, is_signal, is_status, only_if, only_if_true, passes}
-use Rattle.life_cycle.specs.declared.action.Action.{Action}
+use Rattle.std.{specs.{Prelude.{◌≡◌, ◌&&◌, ◌||◌, ℕ, Bool, true, false, List, Option, Some, None, Ok, Err, is_some, IsSome, option_map}, List.list_all}, proofs.{Common.{refl, sym, ap, subst, ◌∙◌}, lemmas.{Bool.and_parts, Option.none-some}}}
+use Rattle.hall_types.specs.{Hall.{Schema, second, Hall, applied}, Number.next_number, Rows.at, Status.status_number, declared.{change.RowWrite.RowWrite, kinds.{Erase.Erase, OrderKind.OrderKind, Purpose.Purpose}, machine.Machine.Machine, number.Numbers.Numbers, operator.Operator.Operator, refusal.Refusal.Refusal, status.Status.{Status, TheVariants.{Commissioning, Testing, Deploying, DiskErasing, EnteringRescue}}}, Lookup.HasRowIf}
+use Rattle.hall_events.specs.{Reply.Content, declared.command.MachineCommand.MachineCommand}
+use Rattle.life_cycle.specs.{Entering.{back_after, entered, entered_by, entered_plain, entered_queued, keeps_erase, kept, machine_in}, Table.{step_of, transitions}, TableLaws.{StepTest, each_step, is_signal, is_status, only_if, only_if_true, passes}, declared.{action.Action.Action, entering.Entered.Entered, signal.Signal.{Signal, TheVariants.By}, step.Step.Step}}
+use Rattle.hall_types.specs.declared.act.Act.TheVariants as does
 use Rattle.life_cycle.specs.declared.action.Action.TheVariants as act
-use Rattle.life_cycle.specs.declared.entering.Entered.{Entered}
-use Rattle.life_cycle.specs.declared.signal.Signal.{Signal}
-use Rattle.life_cycle.specs.declared.signal.Signal.TheVariants.{By}
-use Rattle.life_cycle.specs.declared.step.Step.{Step}
-use Rattle.boot_desk.specs.Class.{class_in}
-use Rattle.boot_desk.specs.EntryLaws.{back-remembered, command-boot, deployed-order, entry_from_sound, is_by, is_some-back}
-use Rattle.boot_desk.specs.Fetch.{image_for}
-use Rattle.boot_desk.specs.Following.{entry_rows}
-use Rattle.hall_types.specs.Lookup.{HasRowIf}
-use Rattle.boot_desk.specs.Sound.{IsSound, IsSoundMachine, KeepsErase}
-use Rattle.boot_desk.specs.SoundLaws.{some_of}
-use Rattle.boot_desk.specs.Views.{image_named, live_image, row_at, view_of}
-use Rattle.boot_desk.specs.declared.class.ScriptClass.TheVariants.{Work}
-use Rattle.boot_desk.specs.ClassLaws.{works-status, works_at}
-use Rattle.desk_command.specs.Effect.{Effect, about, acted, entry_effect, prepared, step_effect}
-use Rattle.desk_command.specs.declared.view.CommandView.{CommandView}
+use Rattle.boot_desk.specs.{Class.class_in, EntryLaws.{back-remembered, command-boot, deployed-order, entry_from_sound, is_by, is_some-back}, Fetch.image_for, Following.entry_rows, Sound.{IsSound, IsSoundMachine, KeepsErase}, SoundLaws.some_of, Views.{image_named, live_image, row_at, view_of}, declared.class.ScriptClass.TheVariants.Work, ClassLaws.{works-status, works_at}}
+use Rattle.desk_command.specs.{Effect.{Effect, about, acted, entry_effect, prepared, step_effect}, declared.view.CommandView.CommandView}
 
 -- ---- what the table says of the actions
 
 -- the status in which an action's work begins
 abbrev pub work_of : Signal → Option Status
 work_of (By act.Commission) = Some Commissioning
-work_of (By act.Test) = Some Testing
+work_of (By (act.Act does.Test)) = Some Testing
 work_of (By act.Deploy) = Some Deploying
 work_of (By act.ReleaseErasing) = Some DiskErasing
-work_of (By act.Rescue) = Some EnteringRescue
+work_of (By (act.Act does.Rescue)) = Some EnteringRescue
 work_of other = None
 
 abbrev pub is_this : Option Status → Status → Bool
@@ -62,7 +28,7 @@ abbrev pub action_step : StepTest
 action_step signal from at order =
     only_if (is_by signal)
     (only_if (works_at at) (is_this (work_of signal) at)
-    && only_if (keeps_erase at) (is_signal signal (By act.ReleaseErasing) || (is_signal signal (By act.Abort) && keeps_erase from)))
+    && only_if (keeps_erase at) (is_signal signal (By act.ReleaseErasing) || (is_signal signal (By (act.Act does.Abort)) && keeps_erase from)))
 
 all_action_steps : list_all (passes action_step) transitions ≡ true
 unfolding status_number keeps_erase
@@ -112,7 +78,7 @@ module _ (h : Hall) (s : IsSound h) (in_second : h.schema ≡ second) (m : Machi
 
   module _ (action : Action) (step : Step) (leads : step_of m (By action) ≡ Some step) where
     facts : (only_if (works_at step.status) (is_this (work_of (By action)) step.status)
-        && only_if (keeps_erase step.status) (is_signal (By action) (By act.ReleaseErasing) || (is_signal (By action) (By act.Abort) && keeps_erase m.status))) ≡ true
+        && only_if (keeps_erase step.status) (is_signal (By action) (By act.ReleaseErasing) || (is_signal (By action) (By (act.Act does.Abort)) && keeps_erase m.status))) ≡ true
     facts = each_step action_step m (By action) step all_action_steps v.remembered leads
 
     -- the work that begins is the action's
@@ -121,7 +87,7 @@ module _ (h : Hall) (s : IsSound h) (in_second : h.schema ≡ second) (m : Machi
         only_if_true (works_at step.status) (is_this (work_of (By action)) step.status) (and_parts (only_if (works_at step.status) (is_this (work_of (By action)) step.status)) _ facts).0
         (works-status step.status back p is)
 
-    pub erasing_by : keeps_erase step.status ≡ true → (is_signal (By action) (By act.ReleaseErasing) || (is_signal (By action) (By act.Abort) && keeps_erase m.status)) ≡ true
+    pub erasing_by : keeps_erase step.status ≡ true → (is_signal (By action) (By act.ReleaseErasing) || (is_signal (By action) (By (act.Act does.Abort)) && keeps_erase m.status)) ≡ true
     erasing_by keeps =
         only_if_true (keeps_erase step.status) _ (and_parts (only_if (works_at step.status) (is_this (work_of (By action)) step.status)) _ facts).1 keeps
 

@@ -1,27 +1,17 @@
 -- Worked commands, computed on the definitions alone.
-use Rattle.std.proofs.Common.{◌≡◌, ℕ, true, false, [], ◌∷◌, Some, None, Ok, refl}
-use Rattle.std.specs.Prelude.{⊤, codes}
+use Rattle.std.{proofs.Common.{◌≡◌, ℕ, true, false, [], ◌∷◌, Some, None, Ok, refl}, specs.Prelude.{⊤, codes}}
 use Rattle.pxe_vendor.specs.declared.arch.Arch.TheVariants.{Bios, Uefi64}
-use Rattle.hall_types.specs.Kinds.{arch_number}
-use Rattle.hall_types.specs.Status.{status_number}
-use Rattle.hall_types.specs.declared.change.RowWrite.TheVariants.{PutMachine, PutOrder, PutNumbers, MachineGone}
+use Rattle.hall_types.specs.{Kinds.arch_number, Status.status_number, declared.{change.RowWrite.TheVariants.{PutMachine, PutOrder, PutNumbers, MachineGone}, kinds.OrderKind.TheVariants.{Cycle, Off}, machine.Machine.Machine, operator.Operator.Operator, order.Order.Order}, Machine.blank_machine}
 use Rattle.hall_types.specs.declared.kinds.Erase.TheVariants as erase
-use Rattle.hall_types.specs.declared.kinds.OrderKind.TheVariants.{Cycle, Off}
 use Rattle.hall_types.specs.declared.kinds.OrderStage.TheVariants as order
 use Rattle.hall_types.specs.declared.kinds.Role.TheVariants as role
-use Rattle.hall_types.specs.declared.machine.Machine.{Machine}
-use Rattle.hall_types.specs.declared.operator.Operator.{Operator}
-use Rattle.hall_types.specs.declared.order.Order.{Order}
 use Rattle.hall_types.specs.declared.refusal.Refusal.TheVariants as refusal
 use Rattle.hall_types.specs.declared.status.Status.TheVariants as status
-use Rattle.hall_events.specs.Reply.{machine_is, machine_gone, done}
-use Rattle.hall_events.specs.declared.command.HallCommand.TheVariants.{AddMachine, AddPool, DisableOperator, OnMachine}
+use Rattle.hall_events.specs.{Reply.{machine_is, machine_gone, done}, declared.command.HallCommand.TheVariants.{AddMachine, AddPool, DisableOperator, OnMachine}}
+use Rattle.hall_types.specs.declared.act.Act.TheVariants as does
 use Rattle.hall_events.specs.declared.command.MachineCommand.TheVariants as on
-use Rattle.life_cycle.specs.Entering.{limit_of, keeps_owner, boot_after, is_rescue, is_origin, back_after, keeps_erase}
-use Rattle.life_cycle.specs.Table.{step_of, who_gives}
-use Rattle.desk_command.specs.Causes.{causes, first_of}
-use Rattle.desk_command.specs.Effect.{effect}
-use Rattle.desk_command.specs.declared.view.CommandView.{CommandView}
+use Rattle.life_cycle.specs.{Entering.{limit_of, keeps_owner, boot_after, is_rescue, is_origin, back_after, keeps_erase}, Table.{step_of, who_gives}}
+use Rattle.desk_command.specs.{Causes.{causes, first_of}, Effect.effect, declared.view.CommandView.CommandView}
 
 unfoldable commands : ⊤
 unfolding causes effect limit_of keeps_owner boot_after is_rescue is_origin back_after keeps_erase step_of who_gives status_number arch_number
@@ -35,24 +25,7 @@ olga = record { name = codes "olga"; role = role.User; digest = []; enabled = tr
 
 -- machine 1, Ready in version 6
 abbrev ready : Machine
-ready = record {
-  id = 1;
-  arch = Uefi64;
-  uuid = None;
-  pool = codes "lab";
-  status = status.Ready;
-  owner = None;
-  image = None;
-  tests = true;
-  back = None;
-  erase = None;
-  locked = false;
-  version = 6;
-  deadline = None;
-  boot = None;
-  boots = 0;
-  waiting = None;
-}
+ready = record (blank_machine 1 Uefi64 (codes "lab") None) { status = status.Ready; tests = true; version = 6 }
 
 -- what is known of a command on a machine, where nothing is wanting
 abbrev known : Machine → CommandView
@@ -75,7 +48,7 @@ known m = record {
 
 -- ---- a machine is allocated, deployed, locked and released
 
-allocated_by_a_member : effect (known ready) olga (OnMachine 1 None on.Allocate) 1200
+allocated_by_a_member : effect (known ready) olga (OnMachine 1 None (on.Act does.Allocate)) 1200
     ≡ Ok (PutMachine (record ready { status = status.Allocated; owner = Some (codes "olga"); version = 7 }) (Some 6) ∷ [], machine_is 1 status.Allocated 7)
 unfolding commands
 allocated_by_a_member = refl
@@ -118,7 +91,7 @@ owner_releases_with_erasing = refl
 abbrev locked : Machine
 locked = record deployed { locked = true; version = 11 }
 
-owner_locks : effect (known deployed) olga (OnMachine 1 None on.Lock) 1400 ≡ Ok (PutMachine locked (Some 10) ∷ [], machine_is 1 status.Deployed 11)
+owner_locks : effect (known deployed) olga (OnMachine 1 None (on.Act does.Lock)) 1400 ≡ Ok (PutMachine locked (Some 10) ∷ [], machine_is 1 status.Deployed 11)
 unfolding commands
 owner_locks = refl
 
@@ -126,15 +99,15 @@ locked_machine_is_not_released : first_of (causes (known locked) olga (OnMachine
 unfolding commands
 locked_machine_is_not_released = refl
 
-stale_comes_before_locked : first_of (causes (known locked) olga (OnMachine 1 (Some 10) on.Lock)) ≡ Some refusal.StaleVersion
+stale_comes_before_locked : first_of (causes (known locked) olga (OnMachine 1 (Some 10) (on.Act does.Lock))) ≡ Some refusal.StaleVersion
 unfolding commands
 stale_comes_before_locked = refl
 
-unlocked_machine_is_not_unlocked : first_of (causes (known deployed) olga (OnMachine 1 None on.Unlock)) ≡ Some refusal.WrongStatus
+unlocked_machine_is_not_unlocked : first_of (causes (known deployed) olga (OnMachine 1 None (on.Act does.Unlock))) ≡ Some refusal.WrongStatus
 unfolding commands
 unlocked_machine_is_not_unlocked = refl
 
-last_version_is_exhausted : first_of (causes (known (record locked { version = 1000000000000000 })) olga (OnMachine 1 None on.Unlock)) ≡ Some refusal.Exhausted
+last_version_is_exhausted : first_of (causes (known (record locked { version = 1000000000000000 })) olga (OnMachine 1 None (on.Act does.Unlock))) ≡ Some refusal.Exhausted
 unfolding commands
 last_version_is_exhausted = refl
 
@@ -143,7 +116,7 @@ last_version_is_exhausted = refl
 abbrev commissioning : Machine
 commissioning = record ready { status = status.Commissioning; deadline = Some 2800; waiting = Some 1 }
 
-aborted_commissioning : effect (record (known commissioning) { order = Some (cycle 1) }) ada (OnMachine 1 None on.Abort) 1500
+aborted_commissioning : effect (record (known commissioning) { order = Some (cycle 1) }) ada (OnMachine 1 None (on.Act does.Abort)) 1500
     ≡ Ok (
       PutMachine (record commissioning { status = status.New; version = 7; deadline = None; waiting = Some 3 }) (Some 6)
           ∷ PutOrder (record (cycle 1) { stage = order.Withdrawn }) ∷ PutOrder (record (cycle 3) { kind = Off })
@@ -175,7 +148,7 @@ interface_of_another_machine : first_of (causes (record (known ready) { by_mac =
 unfolding commands
 interface_of_another_machine = refl
 
-stranger_may_not_allocate : first_of (causes (record (known ready) { is_member = false }) olga (OnMachine 1 None on.Allocate)) ≡ Some refusal.NotMember
+stranger_may_not_allocate : first_of (causes (record (known ready) { is_member = false }) olga (OnMachine 1 None (on.Act does.Allocate))) ≡ Some refusal.NotMember
 unfolding commands
 stranger_may_not_allocate = refl
 

@@ -1,20 +1,7 @@
 -- A hall stays sound without a machine: its interfaces, boots and orders go with it.
-use Rattle.std.specs.Prelude.{◌≡◌, ◌≢◌, ◌≤◌, ◌==◌, not, ℕ, true, List, Some, is_some}
-use Rattle.std.proofs.Common.{sym, ap, arith, ◌∙◌}
-use Rattle.std.proofs.lemmas.Bool.{both_ways, eqb-true, eq-eqb, ne_eqb}
-use Rattle.hall_types.specs.CountLaws.{how_many-split, none_pass}
-use Rattle.hall_types.specs.Hall.{Hall, without_machine}
-use Rattle.hall_types.specs.Rows.{Keys, Rows, at, how_many, rows_where, size}
-use Rattle.hall_types.specs.RowLaws.{at-gone-other, gone_found, size-gone, where_found, where_kept}
-use Rattle.hall_types.specs.declared.boot.Boot.{Boot}
-use Rattle.hall_types.specs.declared.kinds.OrderStage.TheVariants.{Waiting}
-use Rattle.hall_types.specs.declared.machine.Interface.{Interface}
-use Rattle.hall_types.specs.declared.machine.Machine.{Machine}
-use Rattle.hall_types.specs.declared.order.Order.{Order}
-use Rattle.hall_types.specs.Lookup.{HasRow}
-use Rattle.boot_desk.specs.Sound.{IsSoundMachine, IsSound}
-use Rattle.boot_desk.specs.SoundLaws.{some_of, sound_among}
-use Rattle.boot_desk.specs.Views.{view_of}
+use Rattle.std.{specs.Prelude.{◌≡◌, ◌≢◌, ◌≤◌, ◌==◌, not, ℕ, true, List, Some, is_some}, proofs.{Common.{sym, ap, arith, ◌∙◌}, lemmas.Bool.{both_ways, eqb-true, eq-eqb, ne_eqb}}}
+use Rattle.hall_types.specs.{CountLaws.{how_many-split, none_pass}, Hall.{Hall, without_machine}, Rows.{Keys, Rows, at, how_many, rows_where, size}, RowLaws.{at-gone-other, gone_found, size-gone, where_found, where_kept}, declared.{boot.Boot.Boot, kinds.OrderStage.TheVariants.Waiting, machine.{Interface.Interface, Machine.Machine}, order.Order.Order}, Lookup.HasRow}
+use Rattle.boot_desk.specs.{Sound.{IsSoundMachine, IsSound}, SoundLaws.{some_of, sound_among}, Views.view_of}
 
 not_eq : (a b : ℕ) → not (a == b) ≡ true → a ≢ b
 not_eq a b t e = let same = ap not (eq-eqb a b e) in both_ways (not (a == b)) same t

@@ -1,36 +1,12 @@
 -- A hall stays sound with each command that leaves a machine in its status: its lock, its pool, its interfaces.
-use Rattle.std.specs.Prelude.{◌≡◌, ◌<◌, ◌≤◌, ◌+◌, ◌==◌, nat_le, ℕ, Bool, true, false, List, [], ◌∷◌, Option, Some, None, Ok, is_some, length, option_map, if◌then◌else◌, bytes_eq}
-use Rattle.std.proofs.Common.{refl, sym, ap, subst, arith, ◌∙◌}
-use Rattle.std.proofs.lemmas.Bool.{eqb-true, leb-false}
-use Rattle.hall_types.specs.CountLaws.{how_many-new}
-use Rattle.hall_types.specs.Hall.{second, Hall, applied, written}
-use Rattle.hall_types.specs.ListLaws.{how_many-listed}
-use Rattle.hall_types.specs.Lookup.{interfaces_of}
-use Rattle.hall_types.specs.Number.{next_version}
-use Rattle.hall_types.specs.Rows.{Rows, at, gone, how_many, one_if, passes, put, texts}
-use Rattle.hall_types.specs.RowLaws.{at-put-same, gone_found, how_many-gone}
-use Rattle.hall_types.specs.Keyed.{StandUnder}
-use Rattle.hall_types.specs.declared.change.RowWrite.{RowWrite}
+use Rattle.std.{specs.Prelude.{◌≡◌, ◌<◌, ◌≤◌, ◌+◌, ◌==◌, nat_le, ℕ, Bool, true, false, List, [], ◌∷◌, Option, Some, None, Ok, is_some, length, option_map, if◌then◌else◌, bytes_eq}, proofs.{Common.{refl, sym, ap, subst, arith, ◌∙◌}, lemmas.Bool.{eqb-true, leb-false}}}
+use Rattle.hall_types.specs.{CountLaws.how_many-new, Hall.{second, Hall, applied, written}, ListLaws.how_many-listed, Lookup.{interfaces_of, HasRow}, Number.next_version, Rows.{Rows, at, gone, how_many, one_if, passes, put, texts}, RowLaws.{at-put-same, gone_found, how_many-gone}, Keyed.StandUnder, declared.{change.RowWrite.RowWrite, machine.{Interface.Interface, Machine.Machine, TheConstants.MAX_INTERFACES}, status.Status.{Status, TheVariants.Deployed}}}
 use Rattle.hall_types.specs.declared.change.RowWrite.TheVariants as write
-use Rattle.hall_types.specs.declared.machine.Interface.{Interface}
-use Rattle.hall_types.specs.declared.machine.Machine.{Machine}
-use Rattle.hall_types.specs.declared.machine.TheConstants.{MAX_INTERFACES}
 use Rattle.hall_types.specs.declared.refusal.Refusal.TheVariants as cause
-use Rattle.hall_types.specs.declared.status.Status.{Status}
-use Rattle.hall_types.specs.declared.status.Status.TheVariants.{Deployed}
 use Rattle.hall_events.specs.Reply.{Content}
 use Rattle.hall_events.specs.declared.command.MachineCommand.TheVariants as on
-use Rattle.boot_desk.specs.Following.{machine_row}
-use Rattle.hall_types.specs.Lookup.{HasRow}
-use Rattle.boot_desk.specs.Sound.{IsSoundMachine, IsSound}
-use Rattle.boot_desk.specs.SoundLaws.{boots_same, each_put, orders_same, stand_put, stayed_sound, waits_same}
-use Rattle.boot_desk.specs.Views.{view_of}
-use Rattle.desk_command.specs.Causes.{is_deployed, is_number, when}
-use Rattle.desk_command.specs.Effect.{Effect, about, edited, moved_to_pool, raised}
-use Rattle.desk_command.specs.View.{by_mac, with_interfaces}
-use Rattle.desk_command.proofs.ActionLemmas.{same_rows_of}
-use Rattle.desk_command.specs.AllowedLaws.{IsAllowed, first_none, unless_none, when_none}
-use Rattle.desk_command.proofs.OtherRowLemmas.{stand_gone}
+use Rattle.boot_desk.specs.{Following.machine_row, Sound.{IsSoundMachine, IsSound}, SoundLaws.{boots_same, each_put, orders_same, stand_put, stayed_sound, waits_same}, Views.view_of}
+use Rattle.desk_command.{specs.{Causes.{is_deployed, is_number, when}, Effect.{Effect, about, edited, moved_to_pool, raised}, View.{by_mac, with_interfaces}, AllowedLaws.{IsAllowed, first_none, unless_none, when_none}}, proofs.{ActionLemmas.same_rows_of, OtherRowLemmas.stand_gone}}
 
 -- ---- a machine's lock and pool
 

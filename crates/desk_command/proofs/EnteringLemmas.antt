@@ -1,46 +1,16 @@
 -- A hall stays sound with each command by which a machine enters a status.
-use Rattle.std.specs.Prelude.{◌≡◌, ◌&&◌, ◌||◌, not, ℕ, Bool, true, false, List, Option, Some, None, Ok, is_some, IsSome, option_map}
-use Rattle.std.proofs.Common.{refl, sym, ap, subst, ◌∙◌}
-use Rattle.std.proofs.lemmas.Bool.{both_ways}
+use Rattle.std.{specs.Prelude.{◌≡◌, ◌&&◌, ◌||◌, not, ℕ, Bool, true, false, List, Option, Some, None, Ok, is_some, IsSome, option_map}, proofs.{Common.{refl, sym, ap, subst, ◌∙◌}, lemmas.Bool.both_ways}}
 use Rattle.pxe_vendor.specs.declared.arch.Arch.{Arch}
-use Rattle.hall_types.specs.Hall.{second, Hall, applied}
-use Rattle.hall_types.specs.Image.{BootImage}
-use Rattle.hall_types.specs.Kinds.{arch_number}
-use Rattle.hall_types.specs.Rows.{at}
-use Rattle.hall_types.specs.declared.change.RowWrite.{RowWrite}
-use Rattle.hall_types.specs.declared.kinds.Erase.{Erase}
-use Rattle.hall_types.specs.declared.kinds.Purpose.{Purpose}
+use Rattle.hall_types.specs.{Hall.{second, Hall, applied}, Image.BootImage, Kinds.arch_number, Rows.at, declared.{change.RowWrite.RowWrite, kinds.{Erase.Erase, Purpose.Purpose}, machine.Machine.Machine, operator.Operator.Operator, status.Status.{Status, TheVariants.{Commissioning, Testing, Deploying, DiskErasing, EnteringRescue}}, act.Act.Act}, Lookup.{HasRow, HasRowIf}}
 use Rattle.hall_types.specs.declared.kinds.Purpose.TheVariants as purpose
-use Rattle.hall_types.specs.declared.machine.Machine.{Machine}
-use Rattle.hall_types.specs.declared.operator.Operator.{Operator}
 use Rattle.hall_types.specs.declared.refusal.Refusal.TheVariants as cause
-use Rattle.hall_types.specs.declared.status.Status.{Status}
-use Rattle.hall_types.specs.declared.status.Status.TheVariants.{Commissioning, Testing, Deploying, DiskErasing, EnteringRescue}
-use Rattle.hall_events.specs.Reply.{Content}
-use Rattle.hall_events.specs.declared.command.MachineCommand.{MachineCommand}
+use Rattle.hall_events.specs.{Reply.Content, declared.command.MachineCommand.MachineCommand}
+use Rattle.hall_types.specs.declared.act.Act.TheVariants as does
 use Rattle.hall_events.specs.declared.command.MachineCommand.TheVariants as on
-use Rattle.life_cycle.specs.Entering.{back_after, entered, keeps_erase, keeps_owner, kept, machine_in}
-use Rattle.life_cycle.specs.Table.{step_of}
-use Rattle.life_cycle.specs.TableLaws.{is_signal, same_status}
-use Rattle.life_cycle.specs.declared.action.Action.{Action}
+use Rattle.life_cycle.specs.{Entering.{back_after, entered, keeps_erase, keeps_owner, kept, machine_in}, Table.step_of, TableLaws.{is_signal, same_status}, declared.{action.Action.Action, signal.Signal.TheVariants.By, step.Step.Step}}
 use Rattle.life_cycle.specs.declared.action.Action.TheVariants as act
-use Rattle.life_cycle.specs.declared.signal.Signal.TheVariants.{By}
-use Rattle.life_cycle.specs.declared.step.Step.{Step}
-use Rattle.boot_desk.specs.Class.{class_in}
-use Rattle.boot_desk.specs.Fetch.{image_for}
-use Rattle.hall_types.specs.Lookup.{HasRow, HasRowIf}
-use Rattle.boot_desk.specs.Sound.{IsSound}
-use Rattle.boot_desk.specs.Following.{entry_rows}
-use Rattle.boot_desk.specs.Views.{row_at, view_of}
-use Rattle.boot_desk.specs.declared.class.ScriptClass.TheVariants.{Work}
-use Rattle.boot_desk.specs.declared.views.BootView.{BootView}
-use Rattle.boot_desk.specs.ClassLaws.{same_purpose}
-use Rattle.desk_command.specs.Causes.{is_arch, no_live, no_step, when}
-use Rattle.desk_command.specs.Effect.{acted, machine_effect, prepared}
-use Rattle.desk_command.specs.View.{image_arch, of_machine, with_live, machine_view}
-use Rattle.desk_command.specs.declared.view.CommandView.{CommandView}
-use Rattle.desk_command.proofs.ActionLemmas.{WorksIn, act_sound, acted_rows, begins, entering, erasing_by, has_erase, is_this, live_found, work_of}
-use Rattle.desk_command.specs.AllowedLaws.{IsAllowed, first_none, unless_none}
+use Rattle.boot_desk.specs.{Class.class_in, Fetch.image_for, Sound.IsSound, Following.entry_rows, Views.{row_at, view_of}, declared.{class.ScriptClass.TheVariants.Work, views.BootView.BootView}, ClassLaws.same_purpose}
+use Rattle.desk_command.{specs.{Causes.{is_arch, no_live, no_step, when}, Effect.{acted, machine_effect, prepared}, View.{image_arch, of_machine, with_live, machine_view}, declared.view.CommandView.CommandView, AllowedLaws.{IsAllowed, first_none, unless_none}}, proofs.ActionLemmas.{WorksIn, act_sound, acted_rows, begins, entering, erasing_by, has_erase, is_this, live_found, work_of}}
 
 -- ---- what a machine works with in its new status
 
@@ -126,10 +96,10 @@ module _ (h : Hall) (s : IsSound h) (in_second : h.schema ≡ second) (m : Machi
       q works
 
   -- an action that leads to no status which keeps how the disks are erased
-  no_erasing : (action : Action) (erase : Option Erase) → (is_signal (By action) (By act.ReleaseErasing) || (is_signal (By action) (By act.Abort) && keeps_erase m.status)) ≡ false
+  no_erasing : (action : Action) (erase : Option Erase) → (is_signal (By action) (By act.ReleaseErasing) || (is_signal (By action) (By (act.Act does.Abort)) && keeps_erase m.status)) ≡ false
       → (step : Step) → step_of m (By action) ≡ Some step → keeps_erase step.status ≡ true → is_some erase ≡ true
   no_erasing action erase never step leads keeps =
-      absurd (both_ways (is_signal (By action) (By act.ReleaseErasing) || (is_signal (By action) (By act.Abort) && keeps_erase m.status)) never
+      absurd (both_ways (is_signal (By action) (By act.ReleaseErasing) || (is_signal (By action) (By (act.Act does.Abort)) && keeps_erase m.status)) never
       (erasing_by h s in_second m was action step leads keeps))
 
   owner_has : HasRowIf h.operators m.owner
@@ -145,19 +115,19 @@ module _ (h : Hall) (s : IsSound h) (in_second : h.schema ≡ second) (m : Machi
       entering_sound (with_live h m) (on.Commission tests) act.Commission tests m.owner m.image m.erase refl refl refl a.unlocked owner_has image_has
       (no_erasing act.Commission m.erase refl) (live_work act.Commission Commissioning purpose.Commission refl works_commission (λ v. refl) live tests m.owner m.image m.erase) is
 
-  pub test_sound : IsAllowed (with_live h m) m on.Test → machine_effect (with_live h m) o m on.Test moment ≡ Ok (rows, content) → IsSound (applied rows h)
+  pub test_sound : IsAllowed (with_live h m) m (on.Act does.Test) → machine_effect (with_live h m) o m (on.Act does.Test) moment ≡ Ok (rows, content) → IsSound (applied rows h)
   test_sound a is =
-      let causes = first_none (no_step m act.Test) _ a.own in
+      let causes = first_none (no_step m (act.Act does.Test)) _ a.own in
       let live = unless_none (with_live h m).has_live cause.NoLiveImage (first_none (no_live (with_live h m)) _ causes.1).0 in
-      entering_sound (with_live h m) on.Test act.Test m.tests m.owner m.image m.erase refl refl refl a.unlocked owner_has image_has
-      (no_erasing act.Test m.erase refl) (live_work act.Test Testing purpose.Test refl works_test (λ v. refl) live m.tests m.owner m.image m.erase) is
+      entering_sound (with_live h m) (on.Act does.Test) (act.Act does.Test) m.tests m.owner m.image m.erase refl refl refl a.unlocked owner_has image_has
+      (no_erasing (act.Act does.Test) m.erase refl) (live_work (act.Act does.Test) Testing purpose.Test refl works_test (λ v. refl) live m.tests m.owner m.image m.erase) is
 
-  pub rescue_sound : IsAllowed (with_live h m) m on.Rescue → machine_effect (with_live h m) o m on.Rescue moment ≡ Ok (rows, content) → IsSound (applied rows h)
+  pub rescue_sound : IsAllowed (with_live h m) m (on.Act does.Rescue) → machine_effect (with_live h m) o m (on.Act does.Rescue) moment ≡ Ok (rows, content) → IsSound (applied rows h)
   rescue_sound a is =
-      let causes = first_none (no_step m act.Rescue) _ a.own in
+      let causes = first_none (no_step m (act.Act does.Rescue)) _ a.own in
       let live = unless_none (with_live h m).has_live cause.NoLiveImage (first_none (no_live (with_live h m)) _ causes.1).0 in
-      entering_sound (with_live h m) on.Rescue act.Rescue m.tests m.owner m.image m.erase refl refl refl a.unlocked owner_has image_has
-      (no_erasing act.Rescue m.erase refl) (live_work act.Rescue EnteringRescue purpose.Rescue refl works_rescue (λ v. refl) live m.tests m.owner m.image m.erase) is
+      entering_sound (with_live h m) (on.Act does.Rescue) (act.Act does.Rescue) m.tests m.owner m.image m.erase refl refl refl a.unlocked owner_has image_has
+      (no_erasing (act.Act does.Rescue) m.erase refl) (live_work (act.Act does.Rescue) EnteringRescue purpose.Rescue refl works_rescue (λ v. refl) live m.tests m.owner m.image m.erase) is
 
   pub release_erasing_sound : (erase : Erase) → IsAllowed (with_live h m) m (on.Release (Some erase)) → machine_effect (with_live h m) o m (on.Release (Some erase)) moment ≡ Ok (rows, content) → IsSound (applied rows h)
   release_erasing_sound erase a is =
@@ -171,36 +141,25 @@ module _ (h : Hall) (s : IsSound h) (in_second : h.schema ≡ second) (m : Machi
       entering_sound (of_machine h m) (on.Release None) act.Release m.tests m.owner m.image None refl refl refl a.unlocked owner_has image_has
       (no_erasing act.Release None refl) (no_work act.Release refl m.tests m.owner m.image None) is
 
-  pub override_sound : IsAllowed (of_machine h m) m on.Override → machine_effect (of_machine h m) o m on.Override moment ≡ Ok (rows, content) → IsSound (applied rows h)
-  override_sound a is =
-      entering_sound (of_machine h m) on.Override act.Override m.tests m.owner m.image m.erase refl refl refl a.unlocked owner_has image_has
-      (no_erasing act.Override m.erase refl) (no_work act.Override refl m.tests m.owner m.image m.erase) is
+  -- an act that needs no live image, begins no work and keeps no kind of erasing
+  pub plain_act_sound : (a : Act) → prepared (on.Act a) o m ≡ entering m m.tests m.owner m.image m.erase
+      → (is_signal (By (act.Act a)) (By act.ReleaseErasing) || (is_signal (By (act.Act a)) (By (act.Act does.Abort)) && keeps_erase m.status)) ≡ false
+      → work_of (By (act.Act a)) ≡ None → m.locked ≡ false
+      → acted (of_machine h m) o m (on.Act a) moment (act.Act a) ≡ Ok (rows, content) → IsSound (applied rows h)
+  plain_act_sound a sets never none unlocked is =
+      entering_sound (of_machine h m) (on.Act a) (act.Act a) m.tests m.owner m.image m.erase refl refl sets unlocked owner_has image_has
+      (no_erasing (act.Act a) m.erase never) (no_work (act.Act a) none m.tests m.owner m.image m.erase) is
 
-  pub fix_sound : IsAllowed (of_machine h m) m on.Fix → machine_effect (of_machine h m) o m on.Fix moment ≡ Ok (rows, content) → IsSound (applied rows h)
-  fix_sound a is =
-      entering_sound (of_machine h m) on.Fix act.Fix m.tests m.owner m.image m.erase refl refl refl a.unlocked owner_has image_has
-      (no_erasing act.Fix m.erase refl) (no_work act.Fix refl m.tests m.owner m.image m.erase) is
-
-  pub exit_rescue_sound : IsAllowed (of_machine h m) m on.ExitRescue → machine_effect (of_machine h m) o m on.ExitRescue moment ≡ Ok (rows, content) → IsSound (applied rows h)
-  exit_rescue_sound a is =
-      entering_sound (of_machine h m) on.ExitRescue act.ExitRescue m.tests m.owner m.image m.erase refl refl refl a.unlocked owner_has image_has
-      (no_erasing act.ExitRescue m.erase refl) (no_work act.ExitRescue refl m.tests m.owner m.image m.erase) is
-
-  pub break_sound : IsAllowed (of_machine h m) m on.Break → machine_effect (of_machine h m) o m on.Break moment ≡ Ok (rows, content) → IsSound (applied rows h)
-  break_sound a is =
-      entering_sound (of_machine h m) on.Break act.Break m.tests m.owner m.image m.erase refl refl refl a.unlocked owner_has image_has
-      (no_erasing act.Break m.erase refl) (no_work act.Break refl m.tests m.owner m.image m.erase) is
-
-  pub abort_sound : IsAllowed (of_machine h m) m on.Abort → machine_effect (of_machine h m) o m on.Abort moment ≡ Ok (rows, content) → IsSound (applied rows h)
+  pub abort_sound : IsAllowed (of_machine h m) m (on.Act does.Abort) → machine_effect (of_machine h m) o m (on.Act does.Abort) moment ≡ Ok (rows, content) → IsSound (applied rows h)
   abort_sound a is =
-      entering_sound (of_machine h m) on.Abort act.Abort m.tests m.owner m.image m.erase refl refl refl a.unlocked owner_has image_has
-      (λ step leads keeps. has_erase h s in_second m was (erasing_by h s in_second m was act.Abort step leads keeps)) (no_work act.Abort refl m.tests m.owner m.image m.erase) is
+      entering_sound (of_machine h m) (on.Act does.Abort) (act.Act does.Abort) m.tests m.owner m.image m.erase refl refl refl a.unlocked owner_has image_has
+      (λ step leads keeps. has_erase h s in_second m was (erasing_by h s in_second m was (act.Act does.Abort) step leads keeps)) (no_work (act.Act does.Abort) refl m.tests m.owner m.image m.erase) is
 
-  pub allocate_sound : (v : CommandView) → v ≡ machine_view h o m on.Allocate → IsAllowed v m on.Allocate → machine_effect v o m on.Allocate moment ≡ Ok (rows, content) → IsSound (applied rows h)
+  pub allocate_sound : (v : CommandView) → v ≡ machine_view h o m (on.Act does.Allocate) → IsAllowed v m (on.Act does.Allocate) → machine_effect v o m (on.Act does.Allocate) moment ≡ Ok (rows, content) → IsSound (applied rows h)
   allocate_sound v view a is =
-      entering_sound v on.Allocate act.Allocate m.tests (Some o.name) m.image m.erase (ap (λ x. x.order) view) (ap (λ x. x.numbers) view) refl a.unlocked
+      entering_sound v (on.Act does.Allocate) (act.Act does.Allocate) m.tests (Some o.name) m.image m.erase (ap (λ x. x.order) view) (ap (λ x. x.numbers) view) refl a.unlocked
       (λ key its. given (HasRow h.operators) o.name key known its) image_has
-      (no_erasing act.Allocate m.erase refl) (no_work act.Allocate refl m.tests (Some o.name) m.image m.erase) is
+      (no_erasing (act.Act does.Allocate) m.erase refl) (no_work (act.Act does.Allocate) refl m.tests (Some o.name) m.image m.erase) is
 
   pub deploy_sound : (image : List ℕ) (v : CommandView) → v ≡ machine_view h o m (on.Deploy image) → IsAllowed v m (on.Deploy image) → machine_effect v o m (on.Deploy image) moment ≡ Ok (rows, content) → IsSound (applied rows h)
   deploy_sound image v view a is =

@@ -7,3 +7,4 @@ pub mod EnteringLemmas
 pub mod OtherRowLemmas
 pub mod PlainLemmas
 pub mod SoundLemmas
+pub mod ClientLemmas

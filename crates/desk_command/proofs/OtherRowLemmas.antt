@@ -1,27 +1,10 @@
 -- A hall stays sound if only its operators, pools, members, images, live images and receipts change, and still have
 -- what its machines refer to.
-use Rattle.std.specs.Prelude.{◌≡◌, ◌≢◌, ◌⊎◌, ⊤, ℕ, List, Option, Some, None, is_some, IsSome}
-use Rattle.std.proofs.Common.{refl, sym, ap, subst, inl, inr, ◌∙◌}
-use Rattle.hall_types.specs.Hall.{Hall, default_pool, pair, written}
-use Rattle.hall_types.specs.Image.{BootImage}
-use Rattle.hall_types.specs.Keyed.{StandUnder}
-use Rattle.hall_types.specs.Kinds.{arch_number}
-use Rattle.hall_types.specs.Rows.{Keys, numbers, pairs, texts, Rows, at, put, gone}
-use Rattle.hall_types.specs.RowLaws.{at-gone-other, gone_found, put_cases}
+use Rattle.std.{specs.Prelude.{◌≡◌, ◌≢◌, ◌⊎◌, ⊤, ℕ, List, Option, Some, None, is_some, IsSome}, proofs.Common.{refl, sym, ap, subst, inl, inr, ◌∙◌}}
+use Rattle.hall_types.specs.{Hall.{Hall, default_pool, pair, written}, Image.BootImage, Keyed.StandUnder, Kinds.arch_number, Rows.{Keys, numbers, pairs, texts, Rows, at, put, gone}, RowLaws.{at-gone-other, gone_found, put_cases}, declared.{image.Live.Live, kinds.Purpose.Purpose, machine.Machine.Machine, operator.{Member.Member, Operator.Operator, Pool.Pool}, receipt.Receipt.Receipt}, Lookup.{HasRow, HasRowIf}}
 use Rattle.hall_types.specs.declared.change.RowWrite.TheVariants as write
-use Rattle.hall_types.specs.declared.image.Live.{Live}
-use Rattle.hall_types.specs.declared.kinds.Purpose.{Purpose}
 use Rattle.hall_types.specs.declared.kinds.Purpose.TheVariants as purpose
-use Rattle.hall_types.specs.declared.machine.Machine.{Machine}
-use Rattle.hall_types.specs.declared.operator.Member.{Member}
-use Rattle.hall_types.specs.declared.operator.Operator.{Operator}
-use Rattle.hall_types.specs.declared.operator.Pool.{Pool}
-use Rattle.hall_types.specs.declared.receipt.Receipt.{Receipt}
-use Rattle.boot_desk.specs.Fetch.{image_for}
-use Rattle.hall_types.specs.Lookup.{HasRow, HasRowIf}
-use Rattle.boot_desk.specs.Sound.{IsSoundMachine, IsSound}
-use Rattle.boot_desk.specs.SoundLaws.{has-put, some_of, stand_put}
-use Rattle.boot_desk.specs.Views.{image_named, live_image, row_at, view_of}
+use Rattle.boot_desk.specs.{Fetch.image_for, Sound.{IsSoundMachine, IsSound}, SoundLaws.{has-put, some_of, stand_put}, Views.{image_named, live_image, row_at, view_of}}
 
 -- ---- rows that stay or grow
 

@@ -1,30 +1,11 @@
 -- A hall stays sound with each command that names no machine, except for a new machine.
-use Rattle.std.specs.Prelude.{◌≡◌, ◌||◌, ℕ, Bool, true, false, List, [], ◌∷◌, Option, Some, None, Ok, is_some, option_map, if◌then◌else◌}
-use Rattle.std.specs.List.{AllByRecursion, list_any}
-use Rattle.std.proofs.Common.{refl, ap, subst, ◌∙◌}
-use Rattle.std.proofs.lemmas.Bool.{both_ways}
-use Rattle.std.proofs.lemmas.List.Elements.{All-contains, All-from_recursion}
-use Rattle.std.proofs.lemmas.Slice.Eq.{bytes_eq-Decides}
-use Rattle.std.specs.Str.{bytes_eq}
-use Rattle.hall_types.specs.Hall.{Hall, applied}
-use Rattle.hall_types.specs.Image.{BootImage}
-use Rattle.hall_types.specs.ListLaws.{Contains-listed}
-use Rattle.hall_types.specs.Lookup.{is_image_used, is_named, operator_with_digest}
-use Rattle.hall_types.specs.LookupLaws.{none_listed}
-use Rattle.hall_types.specs.Rows.{Keys, Rows, at, listed}
-use Rattle.hall_types.specs.declared.change.RowWrite.{RowWrite}
+use Rattle.std.{specs.{Prelude.{◌≡◌, ◌||◌, ℕ, Bool, true, false, List, [], ◌∷◌, Option, Some, None, Ok, is_some, option_map, if◌then◌else◌}, List.{AllByRecursion, list_any}, Str.bytes_eq}, proofs.{Common.{refl, ap, subst, ◌∙◌}, lemmas.{Bool.both_ways, List.Elements.{All-contains, All-from_recursion}, Slice.Eq.bytes_eq-Decides}}}
+use Rattle.hall_types.specs.{Hall.{Hall, applied}, Image.BootImage, ListLaws.Contains-listed, Lookup.{is_image_used, is_named, operator_with_digest}, LookupLaws.none_listed, Rows.{Keys, Rows, at, listed}, declared.{change.RowWrite.RowWrite, image.Live.Live, kinds.Role.Role, machine.Machine.Machine, operator.Operator.Operator}}
 use Rattle.hall_types.specs.declared.change.RowWrite.TheVariants as write
-use Rattle.hall_types.specs.declared.image.Live.{Live}
-use Rattle.hall_types.specs.declared.kinds.Role.{Role}
-use Rattle.hall_types.specs.declared.machine.Machine.{Machine}
-use Rattle.hall_types.specs.declared.operator.Operator.{Operator}
 use Rattle.hall_types.specs.declared.refusal.Refusal.TheVariants as cause
 use Rattle.hall_events.specs.Reply.{Content, done}
 use Rattle.boot_desk.specs.Sound.{IsSound}
-use Rattle.desk_command.specs.Effect.{Effect, disabled, live_image}
-use Rattle.desk_command.specs.View.{image_arch}
-use Rattle.desk_command.proofs.ActionLemmas.{refused_never, same_rows_of}
-use Rattle.desk_command.proofs.OtherRowLemmas.{image_gone_sound, live_sound, operator_sound}
+use Rattle.desk_command.{specs.{Effect.{Effect, disabled, live_image}, View.image_arch}, proofs.{ActionLemmas.{refused_never, same_rows_of}, OtherRowLemmas.{image_gone_sound, live_sound, operator_sound}}}
 
 -- where neither of two holds
 pub or_false : (a b : Bool) → (a || b) ≡ false → (a ≡ false) × (b ≡ false)

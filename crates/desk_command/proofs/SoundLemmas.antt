@@ -1,41 +1,13 @@
 -- A sound hall stays sound when the rows of a command are written.
-use Rattle.std.specs.Prelude.{◌≡◌, ◌++◌, ◌||◌, not, ℕ, Bool, true, false, List, [], ◌∷◌, Option, Some, None, Ok, Err, is_some, if◌then◌else◌}
-use Rattle.std.specs.Str.{bytes_eq}
-use Rattle.std.proofs.Common.{refl, sym, ap, subst, ◌∙◌}
-use Rattle.hall_types.specs.Hall.{second, Hall, applied, pair, written}
-use Rattle.hall_types.specs.Lookup.{is_image_used, operator_with_digest}
-use Rattle.hall_types.specs.LookupLaws.{found_listed}
-use Rattle.hall_types.specs.Rows.{at}
-use Rattle.hall_types.specs.declared.change.RowWrite.{RowWrite}
+use Rattle.std.{specs.{Prelude.{◌≡◌, ◌++◌, ◌||◌, not, ℕ, Bool, true, false, List, [], ◌∷◌, Option, Some, None, Ok, Err, is_some, if◌then◌else◌}, Str.bytes_eq}, proofs.Common.{refl, sym, ap, subst, ◌∙◌}}
+use Rattle.hall_types.specs.{Hall.{second, Hall, applied, pair, written}, Lookup.{is_image_used, operator_with_digest, HasRow}, LookupLaws.found_listed, Rows.at, declared.{change.RowWrite.RowWrite, machine.Machine.Machine, operator.Operator.Operator, receipt.Receipt.Receipt, refusal.Refusal.Refusal}, ChangeLaws.applied_append}
 use Rattle.hall_types.specs.declared.change.RowWrite.TheVariants as write
-use Rattle.hall_types.specs.declared.machine.Machine.{Machine}
-use Rattle.hall_types.specs.declared.operator.Operator.{Operator}
-use Rattle.hall_types.specs.declared.receipt.Receipt.{Receipt}
-use Rattle.hall_types.specs.declared.refusal.Refusal.{Refusal}
 use Rattle.hall_types.specs.declared.refusal.Refusal.TheVariants as cause
-use Rattle.hall_types.specs.ChangeLaws.{applied_append}
-use Rattle.hall_events.specs.Command.{command_text}
-use Rattle.hall_events.specs.Reply.{Content, done, machine_gone, stored}
-use Rattle.hall_events.specs.declared.command.HallCommand.{HallCommand}
-use Rattle.hall_events.specs.declared.command.HallCommand.TheVariants.{AddOperator, DisableOperator, AddPool, Grant, AddImage, DeleteImage, SetLive, AddMachine, OnMachine}
-use Rattle.hall_events.specs.declared.command.MachineCommand.{MachineCommand}
+use Rattle.hall_events.specs.{Command.command_text, Reply.{Content, done, machine_gone, stored}, declared.command.{HallCommand.{HallCommand, TheVariants.{AddOperator, DisableOperator, AddPool, Grant, AddImage, DeleteImage, SetLive, AddMachine, OnMachine}}, MachineCommand.MachineCommand}}
+use Rattle.hall_types.specs.declared.act.Act.TheVariants as does
 use Rattle.hall_events.specs.declared.command.MachineCommand.TheVariants as on
-use Rattle.boot_desk.specs.Following.{machine_row}
-use Rattle.hall_types.specs.Lookup.{HasRow}
-use Rattle.boot_desk.specs.Sound.{IsSound}
-use Rattle.boot_desk.specs.SoundLaws.{has-put}
-use Rattle.desk_command.specs.Causes.{causes, causes_at, first_of, is_deployed, when}
-use Rattle.desk_command.specs.Command.{command_decision, commanded, keyed, may_send, needs_admin, of_sender, receipt_of, unless, with_receipt}
-use Rattle.desk_command.specs.Effect.{Effect, about, effect, machine_effect, machine_effect_if, raised}
-use Rattle.desk_command.specs.View.{command_view, has_pool, image_arch, machine_view, machine_view_if}
-use Rattle.desk_command.proofs.ActionLemmas.{refused_never, same_rows_of}
-use Rattle.desk_command.proofs.AddMachineLemmas.{add_machine_sound}
-use Rattle.desk_command.specs.AllowedLaws.{IsAllowed, allowed, first_none, unless_none, when_none}
-use Rattle.desk_command.proofs.DeleteLemmas.{without_machine_sound}
-use Rattle.desk_command.proofs.EditLemmas.{add_interface_sound, lock_sound, pool_set_sound, remove_interface_sound, unlock_sound}
-use Rattle.desk_command.proofs.EnteringLemmas.{abort_sound, allocate_sound, break_sound, commission_sound, deploy_sound, exit_rescue_sound, fix_sound, override_sound, release_erasing_sound, release_sound, rescue_sound, test_sound}
-use Rattle.desk_command.proofs.OtherRowLemmas.{image_sound, member_sound, pool_sound, receipt_sound}
-use Rattle.desk_command.proofs.PlainLemmas.{add_operator_sound, delete_image_sound, disable_sound, or_false, set_live_sound}
+use Rattle.boot_desk.specs.{Following.machine_row, Sound.IsSound, SoundLaws.has-put}
+use Rattle.desk_command.{specs.{Causes.{causes, causes_at, first_of, is_deployed, when}, Command.{command_decision, commanded, keyed, may_send, needs_admin, of_sender, receipt_of, unless, with_receipt}, Effect.{Effect, about, effect, machine_effect, machine_effect_if, raised}, View.{command_view, has_pool, image_arch, machine_view, machine_view_if}, AllowedLaws.{IsAllowed, allowed, first_none, unless_none, when_none}}, proofs.{ActionLemmas.{refused_never, same_rows_of}, AddMachineLemmas.add_machine_sound, DeleteLemmas.without_machine_sound, EditLemmas.{add_interface_sound, lock_sound, pool_set_sound, remove_interface_sound, unlock_sound}, EnteringLemmas.{abort_sound, allocate_sound, commission_sound, deploy_sound, plain_act_sound, release_erasing_sound, release_sound, rescue_sound, test_sound}, OtherRowLemmas.{image_sound, member_sound, pool_sound, receipt_sound}, PlainLemmas.{add_operator_sound, delete_image_sound, disable_sound, or_false, set_live_sound}}}
 
 -- ---- commands on a machine
 
@@ -52,23 +24,20 @@ module _ (h : Hall) (s : IsSound h) (in_second : h.schema ≡ second) (o : Opera
   machine_keeps m was (on.SetPool pool) a is =
       pool_set_sound h s in_second m was pool (unless_none (has_pool h pool) cause.NoPool a.found) rows content is
   machine_keeps m was (on.Commission tests) a is = commission_sound h s in_second m was o known moment rows content tests a is
-  machine_keeps m was on.Test a is = test_sound h s in_second m was o known moment rows content a is
-  machine_keeps m was on.Override a is = override_sound h s in_second m was o known moment rows content a is
-  machine_keeps m was on.Fix a is = fix_sound h s in_second m was o known moment rows content a is
+  machine_keeps m was (on.Act does.Test) a is = test_sound h s in_second m was o known moment rows content a is
   machine_keeps m was on.Delete a is = as_rows (write.MachineGone m.id ∷ [], machine_gone m.id) is (without_machine_sound h s m.id)
-  machine_keeps m was on.Allocate a is = allocate_sound h s in_second m was o known moment rows content (machine_view h o m on.Allocate) refl a is
+  machine_keeps m was (on.Act does.Allocate) a is = allocate_sound h s in_second m was o known moment rows content (machine_view h o m (on.Act does.Allocate)) refl a is
   machine_keeps m was (on.Deploy image) a is = deploy_sound h s in_second m was o known moment rows content image (machine_view h o m (on.Deploy image)) refl a is
   machine_keeps m was (on.Release None) a is = release_sound h s in_second m was o known moment rows content a is
   machine_keeps m was (on.Release (Some erase)) a is = release_erasing_sound h s in_second m was o known moment rows content erase a is
-  machine_keeps m was on.Rescue a is = rescue_sound h s in_second m was o known moment rows content a is
-  machine_keeps m was on.Abort a is = abort_sound h s in_second m was o known moment rows content a is
-  machine_keeps m was on.Lock a is =
+  machine_keeps m was (on.Act does.Rescue) a is = rescue_sound h s in_second m was o known moment rows content a is
+  machine_keeps m was (on.Act does.Abort) a is = abort_sound h s in_second m was o known moment rows content a is
+  machine_keeps m was (on.Act does.Lock) a is =
       as_rows (machine_row m (record (raised m) { locked = true }) ∷ [], about (record (raised m) { locked = true })) is
       (lock_sound h s in_second m was (unless_none (is_deployed m.status) cause.WrongStatus (first_none (when (not (is_deployed m.status)) cause.WrongStatus) [] a.own).0))
-  machine_keeps m was on.Unlock a is =
+  machine_keeps m was (on.Act does.Unlock) a is =
       as_rows (machine_row m (record (raised m) { locked = false }) ∷ [], about (record (raised m) { locked = false })) is (unlock_sound h s in_second m was)
-  machine_keeps m was on.ExitRescue a is = exit_rescue_sound h s in_second m was o known moment rows content a is
-  machine_keeps m was on.Break a is = break_sound h s in_second m was o known moment rows content a is
+  machine_keeps m was (on.Act one) a is = plain_act_sound h s in_second m was o known moment rows content one refl refl refl a.unlocked is
 
   -- the machine of a command's view
   view_machine : (m : Machine) (command : MachineCommand) → (machine_view h o m command).machine ≡ Some m
@@ -79,6 +48,7 @@ module _ (h : Hall) (s : IsSound h) (in_second : h.schema ≡ second) (o : Opera
   view_machine m (on.SetPool pool) = refl
   view_machine m (on.Commission tests) = refl
   view_machine m (on.Deploy image) = refl
+  view_machine m (on.Act does.Test) = refl
   view_machine m other = refl
 
   on_machine : (id : ℕ) (version : Option ℕ) (command : MachineCommand) (found : Option Machine) → at h.machines id ≡ found

@@ -1,13 +1,9 @@
 -- What follows for a command from the absence of each cause to refuse it.
-use Rattle.std.specs.Prelude.{◌≡◌, not, ℕ, Bool, true, false, List, ◌∷◌, Option, Some, None}
-use Rattle.std.proofs.Common.{refl}
-use Rattle.hall_types.specs.declared.machine.Machine.{Machine}
-use Rattle.hall_types.specs.declared.operator.Operator.{Operator}
-use Rattle.hall_types.specs.declared.refusal.Refusal.{Refusal}
+use Rattle.std.{specs.Prelude.{◌≡◌, not, ℕ, Bool, true, false, List, ◌∷◌, Option, Some, None}, proofs.Common.refl}
+use Rattle.hall_types.specs.declared.{machine.Machine.Machine, operator.Operator.Operator, refusal.Refusal.Refusal}
 use Rattle.hall_types.specs.declared.refusal.Refusal.TheVariants as cause
 use Rattle.hall_events.specs.declared.command.MachineCommand.{MachineCommand}
-use Rattle.desk_command.specs.Causes.{action_of, causes_at, first_of, forbidden, is_barred, is_stale, missing, own, when}
-use Rattle.desk_command.specs.declared.view.CommandView.{CommandView}
+use Rattle.desk_command.specs.{Causes.{action_of, causes_at, first_of, forbidden, is_barred, is_stale, missing, own, when}, declared.view.CommandView.CommandView}
 
 -- where there is no first cause, there is neither this one nor one after it
 pub first_none : (c : Option Refusal) (cs : List (Option Refusal)) → first_of (c ∷ cs) ≡ None → (c ≡ None) × (first_of cs ≡ None)

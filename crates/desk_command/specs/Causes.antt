@@ -1,26 +1,13 @@
 -- Why a command is refused: each cause that its refusals have, in the order in which they are looked for.
-use Rattle.std.specs.Prelude.{ℕ, ◌==◌, nat_le, not, Bool, true, false, ◌||◌, List, [], ◌∷◌, Option, Some, None, is_some}
-use Rattle.std.specs.Str.{bytes_eq}
+use Rattle.std.specs.{Prelude.{ℕ, ◌==◌, nat_le, not, Bool, true, false, ◌||◌, List, [], ◌∷◌, Option, Some, None, is_some}, Str.bytes_eq}
 use Rattle.pxe_vendor.specs.declared.arch.Arch.{Arch}
-use Rattle.hall_types.specs.Kinds.{arch_number}
-use Rattle.hall_types.specs.Number.{max_number, next_number}
-use Rattle.hall_types.specs.declared.kinds.Erase.{Erase}
-use Rattle.hall_types.specs.declared.machine.Machine.{Machine}
-use Rattle.hall_types.specs.declared.machine.TheConstants.{MAX_INTERFACES, MAX_MACHINES}
-use Rattle.hall_types.specs.declared.operator.Operator.{Operator}
-use Rattle.hall_types.specs.declared.refusal.Refusal.{Refusal}
+use Rattle.hall_types.specs.{Kinds.arch_number, Number.{max_number, next_number}, declared.{act.Act.Act, kinds.Erase.Erase, machine.{Machine.Machine, TheConstants.{MAX_INTERFACES, MAX_MACHINES}}, operator.Operator.Operator, refusal.Refusal.Refusal, status.Status.{Status, TheVariants.{New, Ready, Broken, FailedCommissioning, FailedTesting, Deployed}}}}
+use Rattle.hall_types.specs.declared.act.Act.TheVariants as does
 use Rattle.hall_types.specs.declared.refusal.Refusal.TheVariants as cause
-use Rattle.hall_types.specs.declared.status.Status.{Status}
-use Rattle.hall_types.specs.declared.status.Status.TheVariants.{New, Ready, Broken, FailedCommissioning, FailedTesting, Deployed}
-use Rattle.hall_events.specs.declared.command.HallCommand.{HallCommand}
-use Rattle.hall_events.specs.declared.command.HallCommand.TheVariants.{AddOperator, DisableOperator, AddPool, Grant, AddImage, DeleteImage, SetLive, AddMachine, OnMachine}
-use Rattle.hall_events.specs.declared.command.MachineCommand.{MachineCommand}
+use Rattle.hall_events.specs.declared.command.{HallCommand.{HallCommand, TheVariants.{AddOperator, DisableOperator, AddPool, Grant, AddImage, DeleteImage, SetLive, AddMachine, OnMachine}}, MachineCommand.MachineCommand}
 use Rattle.hall_events.specs.declared.command.MachineCommand.TheVariants as on
-use Rattle.life_cycle.specs.Permission.{permission_for, who_acts}
-use Rattle.life_cycle.specs.Table.{step_of}
-use Rattle.life_cycle.specs.declared.action.Action.{Action}
+use Rattle.life_cycle.specs.{Permission.{permission_for, who_acts}, Table.step_of, declared.{action.Action.Action, signal.Signal.TheVariants.By}}
 use Rattle.life_cycle.specs.declared.action.Action.TheVariants as act
-use Rattle.life_cycle.specs.declared.signal.Signal.TheVariants.{By}
 use Rattle.desk_command.specs.declared.view.CommandView.{CommandView}
 
 abbrev pub when : Bool → Refusal → Option Refusal
@@ -41,23 +28,11 @@ release_action (Some erase) = act.ReleaseErasing
 
 -- the action of the life cycle that a command is
 abbrev pub action_of : MachineCommand → Option Action
-action_of (on.AddInterface mac) = None
-action_of (on.RemoveInterface mac) = None
-action_of (on.SetPool pool) = None
 action_of (on.Commission tests) = Some act.Commission
-action_of on.Test = Some act.Test
-action_of on.Override = Some act.Override
-action_of on.Fix = Some act.Fix
-action_of on.Delete = None
-action_of on.Allocate = Some act.Allocate
 action_of (on.Deploy image) = Some act.Deploy
 action_of (on.Release erase) = Some (release_action erase)
-action_of on.Rescue = Some act.Rescue
-action_of on.Abort = Some act.Abort
-action_of on.Lock = Some act.Lock
-action_of on.Unlock = Some act.Unlock
-action_of on.ExitRescue = Some act.ExitRescue
-action_of on.Break = Some act.Break
+action_of (on.Act a) = Some (act.Act a)
+action_of other = None
 
 abbrev pub is_number : Option ℕ → ℕ → Bool
 is_number None id = false
@@ -82,7 +57,7 @@ is_stale (Some wanted) its = not (wanted == its)
 
 -- a locked machine can only be unlocked
 abbrev pub is_barred : Machine → MachineCommand → Bool
-is_barred m on.Unlock = false
+is_barred m (on.Act does.Unlock) = false
 is_barred m other = m.locked
 
 -- in these statuses a machine can be deleted, or put into another pool
@@ -113,25 +88,24 @@ abbrev pub is_deployed : Status → Bool
 is_deployed Deployed = true
 is_deployed other = false
 
+-- the causes that are an act's own
+abbrev pub own_of_act : CommandView → Machine → Act → List (Option Refusal)
+own_of_act v m does.Lock = when (not (is_deployed m.status)) cause.WrongStatus ∷ []
+own_of_act v m does.Unlock = when (not m.locked) cause.WrongStatus ∷ []
+own_of_act v m does.Test = no_step m (act.Act does.Test) ∷ no_live v ∷ []
+own_of_act v m does.Rescue = no_step m (act.Act does.Rescue) ∷ no_live v ∷ []
+own_of_act v m other = no_step m (act.Act other) ∷ []
+
 -- the causes that are the command's own
 abbrev pub own : CommandView → Machine → MachineCommand → List (Option Refusal)
 own v m (on.AddInterface mac) = when (is_some v.by_mac) cause.Taken ∷ when (nat_le MAX_INTERFACES v.interfaces) cause.Full ∷ []
 own v m (on.RemoveInterface mac) = when (nat_le v.interfaces 1) cause.LastInterface ∷ []
 own v m (on.SetPool pool) = when (not (is_idle m.status)) cause.WrongStatus ∷ []
 own v m (on.Commission tests) = no_step m act.Commission ∷ no_live v ∷ []
-own v m on.Test = no_step m act.Test ∷ no_live v ∷ []
-own v m on.Override = no_step m act.Override ∷ []
-own v m on.Fix = no_step m act.Fix ∷ []
 own v m on.Delete = when (not (is_idle m.status)) cause.WrongStatus ∷ []
-own v m on.Allocate = no_step m act.Allocate ∷ []
 own v m (on.Deploy image) = no_step m act.Deploy ∷ when (not (is_arch v.image m.arch)) cause.WrongArch ∷ []
 own v m (on.Release erase) = no_step m (release_action erase) ∷ no_live_if v erase ∷ []
-own v m on.Rescue = no_step m act.Rescue ∷ no_live v ∷ []
-own v m on.Abort = no_step m act.Abort ∷ []
-own v m on.Lock = when (not (is_deployed m.status)) cause.WrongStatus ∷ []
-own v m on.Unlock = when (not m.locked) cause.WrongStatus ∷ []
-own v m on.ExitRescue = no_step m act.ExitRescue ∷ []
-own v m on.Break = no_step m act.Break ∷ []
+own v m (on.Act a) = own_of_act v m a
 
 -- the machine has its last version
 abbrev pub is_exhausted : Machine → Bool

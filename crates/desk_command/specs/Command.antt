@@ -1,35 +1,16 @@
 -- What an operator's command is answered.
-use Rattle.std.specs.Prelude.{ℕ, Bool, true, false, List, [], ◌∷◌, ◌++◌, Option, Some, None, Result, Ok, Err, if◌then◌else◌}
-use Rattle.std.specs.Str.{bytes_eq}
-use Rattle.hall_types.specs.Hall.{Hall, second, pair}
-use Rattle.hall_types.specs.Lookup.{operator_with_digest}
-use Rattle.hall_types.specs.Rows.{at}
-use Rattle.hall_types.specs.declared.change.RowWrite.{RowWrite}
-use Rattle.hall_types.specs.declared.change.RowWrite.TheVariants.{PutReceipt}
-use Rattle.hall_types.specs.declared.kinds.Role.{Role}
+use Rattle.std.specs.{Prelude.{ℕ, Bool, true, false, List, [], ◌∷◌, ◌++◌, Option, Some, None, Result, Ok, Err, if◌then◌else◌}, Str.bytes_eq}
+use Rattle.hall_types.specs.{Hall.{Hall, second, pair}, Lookup.operator_with_digest, Rows.at, declared.{change.RowWrite.{RowWrite, TheVariants.PutReceipt}, kinds.Role.Role, operator.Operator.Operator, receipt.Receipt.Receipt, refusal.Refusal.Refusal}}
 use Rattle.hall_types.specs.declared.kinds.Role.TheVariants as role
-use Rattle.hall_types.specs.declared.operator.Operator.{Operator}
-use Rattle.hall_types.specs.declared.receipt.Receipt.{Receipt}
-use Rattle.hall_types.specs.declared.refusal.Refusal.{Refusal}
 use Rattle.hall_types.specs.declared.refusal.Refusal.TheVariants as cause
-use Rattle.hall_events.specs.Command.{command_text}
-use Rattle.hall_events.specs.Reply.{Content, reply_of, stored}
-use Rattle.hall_events.specs.declared.command.HallCommand.{HallCommand}
-use Rattle.hall_events.specs.declared.command.HallCommand.TheVariants.{OnMachine}
-use Rattle.hall_events.specs.declared.reply.Reply.{Reply}
-use Rattle.hall_events.specs.declared.reply.Reply.TheVariants.{Http}
-use Rattle.life_cycle.specs.Permission.{who_acts}
-use Rattle.life_cycle.specs.Table.{Who, admin}
-use Rattle.desk_command.specs.Causes.{action_of, causes, first_of}
-use Rattle.desk_command.specs.Effect.{Effect, effect}
-use Rattle.desk_command.specs.View.{command_view}
-use Rattle.desk_command.specs.declared.view.CommandView.{CommandView}
-use Rattle.life_cycle.specs.declared.action.Action.{Action}
+use Rattle.hall_events.specs.{Command.command_text, Reply.{Content, reply_of, stored}, declared.{command.HallCommand.{HallCommand, TheVariants.OnMachine}, reply.Reply.{Reply, TheVariants.Http}}}
+use Rattle.life_cycle.specs.{Permission.who_acts, declared.action.{Who.{Who, TheVariants.Admin}, Action.Action}}
+use Rattle.desk_command.specs.{Causes.{action_of, causes, first_of}, Effect.{Effect, effect}, View.command_view, declared.view.CommandView.CommandView}
 
 -- ---- who may send it
 
 abbrev pub is_admin_alone : Who → Bool
-is_admin_alone admin = true
+is_admin_alone Admin = true
 is_admin_alone other = false
 
 -- a command on a machine that is no action is an admin's

@@ -1,34 +1,16 @@
 -- What a command that isn't refused makes of a hall, and what it answers.
-use Rattle.std.specs.Prelude.{◌≡◌, ⊤, ℕ, true, false, List, [], ◌∷◌, Option, Some, None, Result, Ok, Err, if◌then◌else◌}
-use Rattle.std.specs.Str.{bytes_eq}
+use Rattle.std.specs.{Prelude.{◌≡◌, ⊤, ℕ, true, false, List, [], ◌∷◌, Option, Some, None, Result, Ok, Err, if◌then◌else◌}, Str.bytes_eq}
 use Rattle.pxe_vendor.specs.declared.arch.Arch.{Arch}
-use Rattle.hall_types.specs.Number.{next_number, next_version}
-use Rattle.hall_types.specs.declared.change.RowWrite.{RowWrite}
-use Rattle.hall_types.specs.declared.change.RowWrite.TheVariants.{PutOperator, PutPool, PutMember, PutImage, ImageGone, PutLive, PutMachine, MachineGone, PutInterface, InterfaceGone, PutNumbers}
-use Rattle.hall_types.specs.declared.machine.Machine.{Machine}
-use Rattle.hall_types.specs.declared.operator.Operator.{Operator}
-use Rattle.hall_types.specs.declared.refusal.Refusal.{Refusal}
+use Rattle.hall_types.specs.{Number.{next_number, next_version}, declared.{change.RowWrite.{RowWrite, TheVariants.{PutOperator, PutPool, PutMember, PutImage, ImageGone, PutLive, PutMachine, MachineGone, PutInterface, InterfaceGone, PutNumbers}}, machine.Machine.Machine, operator.Operator.Operator, refusal.Refusal.Refusal}, Machine.blank_machine}
+use Rattle.hall_types.specs.declared.act.Act.TheVariants as does
 use Rattle.hall_types.specs.declared.refusal.Refusal.TheVariants as cause
-use Rattle.hall_events.specs.Reply.{Content, machine_is, machine_gone, done}
-use Rattle.hall_events.specs.declared.command.HallCommand.{HallCommand}
-use Rattle.hall_events.specs.declared.command.HallCommand.TheVariants.{AddOperator, DisableOperator, AddPool, Grant, AddImage, DeleteImage, SetLive, AddMachine, OnMachine}
-use Rattle.hall_events.specs.declared.command.MachineCommand.{MachineCommand}
+use Rattle.hall_events.specs.{Reply.{Content, machine_is, machine_gone, done}, declared.command.{HallCommand.{HallCommand, TheVariants.{AddOperator, DisableOperator, AddPool, Grant, AddImage, DeleteImage, SetLive, AddMachine, OnMachine}}, MachineCommand.MachineCommand}}
 use Rattle.hall_events.specs.declared.command.MachineCommand.TheVariants as on
-use Rattle.life_cycle.specs.Entering.{entered}
-use Rattle.life_cycle.specs.Table.{step_of}
-use Rattle.life_cycle.specs.declared.action.Action.{Action}
+use Rattle.life_cycle.specs.{Entering.entered, Table.step_of, declared.{action.Action.Action, entering.Entered.Entered, signal.Signal.TheVariants.By, step.Step.Step}}
 use Rattle.life_cycle.specs.declared.action.Action.TheVariants as act
-use Rattle.life_cycle.specs.declared.entering.Entered.{Entered}
-use Rattle.life_cycle.specs.declared.signal.Signal.TheVariants.{By}
-use Rattle.life_cycle.specs.declared.step.Step.{Step}
-use Rattle.boot_desk.specs.Following.{entry_rows, machine_row}
-use Rattle.boot_desk.specs.NewMachine.{blank_machine}
-use Rattle.boot_desk.specs.declared.fault.DeskFault.{DeskFault}
-use Rattle.boot_desk.specs.declared.fault.DeskFault.TheVariants.{Refused, Memory}
-use Rattle.desk_command.specs.Causes.{release_action}
-use Rattle.desk_command.specs.declared.effects.Subject.{Subject}
+use Rattle.boot_desk.specs.{Following.{entry_rows, machine_row}, declared.fault.DeskFault.{DeskFault, TheVariants.{Refused, Memory}}}
+use Rattle.desk_command.specs.{Causes.release_action, declared.{effects.Subject.Subject, view.CommandView.CommandView}}
 use Rattle.desk_command.specs.declared.effects.Subject.TheVariants as subject
-use Rattle.desk_command.specs.declared.view.CommandView.{CommandView}
 
 -- the rows to write and what is answered, or a refusal
 abbrev pub Effect : Type 0
@@ -43,7 +25,7 @@ about m = machine_is m.id m.status m.version
 -- what the command sets before the machine enters its status
 abbrev pub prepared : MachineCommand → Operator → Machine → Machine
 prepared (on.Commission tests) o m = record m { tests = tests }
-prepared on.Allocate o m = record m { owner = Some o.name }
+prepared (on.Act does.Allocate) o m = record m { owner = Some o.name }
 prepared (on.Deploy image) o m = record m { image = Some image }
 prepared (on.Release erase) o m = record m { erase = erase }
 prepared other o m = m
@@ -82,19 +64,12 @@ machine_effect v o m (on.AddInterface mac) moment =
 machine_effect v o m (on.RemoveInterface mac) moment = edited m (raised m) (InterfaceGone mac ∷ [])
 machine_effect v o m (on.SetPool pool) moment = moved_to_pool m pool
 machine_effect v o m (on.Commission tests) moment = acted v o m (on.Commission tests) moment act.Commission
-machine_effect v o m on.Test moment = acted v o m on.Test moment act.Test
-machine_effect v o m on.Override moment = acted v o m on.Override moment act.Override
-machine_effect v o m on.Fix moment = acted v o m on.Fix moment act.Fix
 machine_effect v o m on.Delete moment = Ok (MachineGone m.id ∷ [], machine_gone m.id)
-machine_effect v o m on.Allocate moment = acted v o m on.Allocate moment act.Allocate
 machine_effect v o m (on.Deploy image) moment = acted v o m (on.Deploy image) moment act.Deploy
 machine_effect v o m (on.Release erase) moment = acted v o m (on.Release erase) moment (release_action erase)
-machine_effect v o m on.Rescue moment = acted v o m on.Rescue moment act.Rescue
-machine_effect v o m on.Abort moment = acted v o m on.Abort moment act.Abort
-machine_effect v o m on.Lock moment = edited m (record (raised m) { locked = true }) []
-machine_effect v o m on.Unlock moment = edited m (record (raised m) { locked = false }) []
-machine_effect v o m on.ExitRescue moment = acted v o m on.ExitRescue moment act.ExitRescue
-machine_effect v o m on.Break moment = acted v o m on.Break moment act.Break
+machine_effect v o m (on.Act does.Lock) moment = edited m (record (raised m) { locked = true }) []
+machine_effect v o m (on.Act does.Unlock) moment = edited m (record (raised m) { locked = false }) []
+machine_effect v o m (on.Act a) moment = acted v o m (on.Act a) moment (act.Act a)
 
 abbrev pub machine_effect_if : Option Machine → CommandView → Operator → MachineCommand → ℕ → Effect
 machine_effect_if None v o command moment = Err cause.NoMachine
@@ -102,20 +77,16 @@ machine_effect_if (Some m) v o command moment = machine_effect v o m command mom
 
 -- ---- other commands
 
--- a machine that an operator adds is New
-abbrev pub added_machine : ℕ → Arch → List ℕ → Option (List ℕ) → Machine
-added_machine id arch pool uuid = blank_machine id arch pool uuid
-
--- it has one interface, and the next number
+-- a machine that an operator adds is New, with one interface and the next number
 abbrev pub added : CommandView → List ℕ → Arch → List ℕ → Option (List ℕ) → Option ℕ → Effect
 added v mac arch pool uuid None = Err cause.Exhausted
 added v mac arch pool uuid (Some id) =
     Ok (
-      PutMachine (added_machine id arch pool uuid) None
+      PutMachine (blank_machine id arch pool uuid) None
           ∷ PutInterface (record { mac = mac; machine = id })
           ∷ PutNumbers (record v.numbers { machine = id })
           ∷ [],
-      about (added_machine id arch pool uuid),
+      about (blank_machine id arch pool uuid),
     )
 
 -- an operator that is disabled already stays as it is

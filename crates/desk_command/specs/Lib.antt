@@ -3,3 +3,5 @@ pub mod Causes
 pub mod Command
 pub mod Effect
 pub mod View
+pub mod Client
+pub mod Look

@@ -1,17 +1,9 @@
 -- What a hall has of a command: the rows that the command names.
 use Rattle.std.specs.Prelude.{ℕ, Bool, false, List, length, Option, Some, None, is_some, option_map, option_and_then}
 use Rattle.pxe_vendor.specs.declared.arch.Arch.{Arch}
-use Rattle.hall_types.specs.Hall.{Hall, pair}
-use Rattle.hall_types.specs.Image.{BootImage}
-use Rattle.hall_types.specs.Kinds.{arch_number}
-use Rattle.hall_types.specs.Lookup.{interfaces_of, is_image_used, machine_with_uuid, operator_with_digest}
-use Rattle.hall_types.specs.Rows.{at, size}
-use Rattle.hall_types.specs.declared.kinds.Erase.{Erase}
-use Rattle.hall_types.specs.declared.machine.Machine.{Machine}
-use Rattle.hall_types.specs.declared.operator.Operator.{Operator}
-use Rattle.hall_events.specs.declared.command.HallCommand.{HallCommand}
-use Rattle.hall_events.specs.declared.command.HallCommand.TheVariants.{AddOperator, DisableOperator, AddPool, Grant, AddImage, DeleteImage, SetLive, AddMachine, OnMachine}
-use Rattle.hall_events.specs.declared.command.MachineCommand.{MachineCommand}
+use Rattle.hall_types.specs.{Hall.{Hall, pair}, Image.BootImage, Kinds.arch_number, Lookup.{interfaces_of, is_image_used, machine_with_uuid, operator_with_digest}, Rows.{at, size}, declared.{kinds.Erase.Erase, machine.Machine.Machine, operator.Operator.Operator}}
+use Rattle.hall_types.specs.declared.act.Act.TheVariants as does
+use Rattle.hall_events.specs.declared.command.{HallCommand.{HallCommand, TheVariants.{AddOperator, DisableOperator, AddPool, Grant, AddImage, DeleteImage, SetLive, AddMachine, OnMachine}}, MachineCommand.MachineCommand}
 use Rattle.hall_events.specs.declared.command.MachineCommand.TheVariants as on
 use Rattle.boot_desk.specs.Views.{row_at}
 use Rattle.desk_command.specs.declared.view.CommandView.{CommandView}
@@ -73,11 +65,11 @@ machine_view h o m (on.AddInterface mac) = with_interfaces h m mac
 machine_view h o m (on.RemoveInterface mac) = with_interfaces h m mac
 machine_view h o m (on.SetPool pool) = record (of_machine h m) { has_pool = has_pool h pool }
 machine_view h o m (on.Commission tests) = with_live h m
-machine_view h o m on.Test = with_live h m
-machine_view h o m on.Allocate = record (of_machine h m) { is_member = has_member h m.pool o.name }
+machine_view h o m (on.Act does.Test) = with_live h m
+machine_view h o m (on.Act does.Allocate) = record (of_machine h m) { is_member = has_member h m.pool o.name }
 machine_view h o m (on.Deploy image) = record (of_machine h m) { image = image_arch h image }
 machine_view h o m (on.Release erase) = with_live_if h m erase
-machine_view h o m on.Rescue = with_live h m
+machine_view h o m (on.Act does.Rescue) = with_live h m
 machine_view h o m other = of_machine h m
 
 abbrev pub machine_view_if : Hall → Operator → Option Machine → MachineCommand → CommandView

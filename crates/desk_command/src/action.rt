@@ -20,22 +20,10 @@ pub(crate) fn action_of(command: &MachineCommand) -> Option<Action>
     ensures { result ≡ action_of command.now }
 {
     match *command {
-        MachineCommand::AddInterface { .. }
-        | MachineCommand::RemoveInterface { .. }
-        | MachineCommand::SetPool { .. }
-        | MachineCommand::Delete => None,
         MachineCommand::Commission { .. } => Some(Action::Commission),
-        MachineCommand::Test => Some(Action::Test),
-        MachineCommand::Override => Some(Action::Override),
-        MachineCommand::Fix => Some(Action::Fix),
-        MachineCommand::Allocate => Some(Action::Allocate),
         MachineCommand::Deploy { .. } => Some(Action::Deploy),
         MachineCommand::Release { erase } => Some(release_action(erase)),
-        MachineCommand::Rescue => Some(Action::Rescue),
-        MachineCommand::Abort => Some(Action::Abort),
-        MachineCommand::Lock => Some(Action::Lock),
-        MachineCommand::Unlock => Some(Action::Unlock),
-        MachineCommand::ExitRescue => Some(Action::ExitRescue),
-        MachineCommand::Break => Some(Action::Break),
+        MachineCommand::Act(act) => Some(Action::Act(act)),
+        _ => None,
     }
 }

@@ -1,16 +1,14 @@
 //! Why commands are refused.
-ghost use Rattle.std.specs.Prelude.{◌≡◌, ◌∷◌, ◌||◌, [], nat_le, not, is_some, if◌then◌else◌, Some};
-ghost use Rattle.std.specs.Str.{bytes_eq};
-ghost use Rattle.hall_types.specs.Number.{next_number};
-ghost use Rattle.hall_types.specs.declared.machine.TheConstants.{MAX_INTERFACES, MAX_MACHINES};
+ghost use Rattle.std.specs.{Prelude.{◌≡◌, ◌∷◌, ◌||◌, [], nat_le, not, is_some, if◌then◌else◌, Some}, Str.bytes_eq};
+ghost use Rattle.hall_types.specs.{Number.next_number, declared.machine.TheConstants.{MAX_INTERFACES, MAX_MACHINES}};
 ghost use Rattle.hall_types.specs.declared.refusal.Refusal.TheVariants as cause;
-ghost use Rattle.desk_command.specs.Causes.{action_of, causes, causes_at, first_of, forbidden, is_arch, is_barred, is_deployed, is_idle, is_number, is_stale, missing, no_live, no_live_if, no_step, own, when};
+ghost use Rattle.desk_command.specs.Causes.{action_of, causes, causes_at, first_of, forbidden, is_arch, is_barred, is_deployed, is_idle, is_number, is_stale, missing, no_live, no_live_if, no_step, own, own_of_act, when};
 
 use crate::action::{action_of, release_action};
 use crate::view::CommandView;
 use hall_events::{HallCommand, MachineCommand};
 use hall_types::{
-    Arch, Erase, MAX_INTERFACES, MAX_MACHINES, MAX_NUMBER, Machine, Name, Number, Operator,
+    Act, Arch, Erase, MAX_INTERFACES, MAX_MACHINES, MAX_NUMBER, Machine, Name, Number, Operator,
     Refusal, Status, Version, arch_number,
 };
 use life_cycle::{Action, Signal, may, next};
@@ -73,7 +71,7 @@ fn is_barred(machine: &Machine, command: &MachineCommand) -> bool
     ensures { result ≡ is_barred machine.now command.now }
 {
     match command {
-        MachineCommand::Unlock => false,
+        MachineCommand::Act(Act::Unlock) => false,
         _ => machine.locked,
     }
 }
@@ -153,6 +151,18 @@ fn is_deployed(status: Status) -> bool
     matches!(status, Status::Deployed)
 }
 
+// The first of the causes that are an act's own.
+fn own_of_act(view: &CommandView, machine: &Machine, act: Act) -> Option<Refusal>
+    ensures { result ≡ first_of (own_of_act view.now machine.now act) }
+{
+    match act {
+        Act::Lock => when(!is_deployed(machine.status), Refusal::WrongStatus),
+        Act::Unlock => when(!machine.locked, Refusal::WrongStatus),
+        Act::Test | Act::Rescue => or(no_step(machine, Action::Act(act)), no_live(view)),
+        _ => no_step(machine, Action::Act(act)),
+    }
+}
+
 // The first of the causes that are the command's own.
 fn own(view: &CommandView, machine: &Machine, command: &MachineCommand) -> Option<Refusal>
     ensures { result ≡ first_of (own view.now machine.now command.now) }
@@ -166,10 +176,6 @@ fn own(view: &CommandView, machine: &Machine, command: &MachineCommand) -> Optio
         MachineCommand::Commission { .. } => {
             or(no_step(machine, Action::Commission), no_live(view))
         }
-        MachineCommand::Test => or(no_step(machine, Action::Test), no_live(view)),
-        MachineCommand::Override => no_step(machine, Action::Override),
-        MachineCommand::Fix => no_step(machine, Action::Fix),
-        MachineCommand::Allocate => no_step(machine, Action::Allocate),
         MachineCommand::Deploy { .. } => or(
             no_step(machine, Action::Deploy),
             when(!is_arch(view.image, machine.arch), Refusal::WrongArch),
@@ -178,12 +184,7 @@ fn own(view: &CommandView, machine: &Machine, command: &MachineCommand) -> Optio
             no_step(machine, release_action(erase)),
             no_live_if(view, erase),
         ),
-        MachineCommand::Rescue => or(no_step(machine, Action::Rescue), no_live(view)),
-        MachineCommand::Abort => no_step(machine, Action::Abort),
-        MachineCommand::Lock => when(!is_deployed(machine.status), Refusal::WrongStatus),
-        MachineCommand::Unlock => when(!machine.locked, Refusal::WrongStatus),
-        MachineCommand::ExitRescue => no_step(machine, Action::ExitRescue),
-        MachineCommand::Break => no_step(machine, Action::Break),
+        MachineCommand::Act(act) => own_of_act(view, machine, act),
     }
 }
 

@@ -1,18 +1,18 @@
 //! What commands make of a hall.
 ghost use Rattle.std.specs.Prelude.{◌≡◌, [], ◌∷◌, IfOk, IfErr, Ok, None};
-ghost use Rattle.hall_types.specs.declared.change.RowWrite.TheVariants.{PutImage, PutInterface, PutMachine, PutNumbers};
+ghost use Rattle.hall_types.specs.{declared.change.RowWrite.TheVariants.{PutImage, PutInterface, PutMachine, PutNumbers}, Number.next_number};
 ghost use Rattle.hall_events.specs.Reply.{done};
-ghost use Rattle.hall_types.specs.Number.{next_number};
 ghost use Rattle.desk_command.specs.declared.effects.Subject.TheVariants as subject;
-ghost use Rattle.desk_command.specs.Effect.{Effects, acted, added, added_machine, disabled, edited, effect, live_image, machine_effect, moved_to_pool, prepared, raised};
+ghost use Rattle.desk_command.specs.Effect.{Effects, acted, added, disabled, edited, effect, live_image, machine_effect, moved_to_pool, prepared, raised};
 
 use crate::action::release_action;
 use crate::view::CommandView;
 use boot_desk::{DeskFault, entry_rows, machine_row};
 use hall_events::{HallCommand, MachineCommand};
 use hall_types::{
-    Arch, BootCount, Change, Image, Interface, LastIssued, Live, MacAddress, Machine, MachineUuid,
-    Member, Moment, Name, Number, Numbers, Operator, Pool, Refusal, RowWrite, Status, Version,
+    Act, Arch, BootCount, Change, Image, Interface, LastIssued, Live, MacAddress, Machine,
+    MachineUuid, Member, Moment, Name, Number, Numbers, Operator, Pool, Refusal, RowWrite, Status,
+    Version,
 };
 use life_cycle::{Action, Signal, enter, next};
 use std::alloc::{AllocError, Global};
@@ -35,7 +35,7 @@ fn prepared(command: &MachineCommand, by: &Operator, machine: &Machine) -> Machi
 {
     match *command {
         MachineCommand::Commission { tests } => Machine { tests, ..*machine },
-        MachineCommand::Allocate => Machine {
+        MachineCommand::Act(Act::Allocate) => Machine {
             owner: Some(by.name),
             ..*machine
         },
@@ -178,44 +178,14 @@ fn machine_effect(
             let rows = one(alloc, RowWrite::MachineGone(machine.id))?;
             return Ok((rows, Subject::Gone(machine.id)));
         }
-        MachineCommand::Lock => return locked(alloc, machine, true),
-        MachineCommand::Unlock => return locked(alloc, machine, false),
+        MachineCommand::Act(Act::Lock) => return locked(alloc, machine, true),
+        MachineCommand::Act(Act::Unlock) => return locked(alloc, machine, false),
         MachineCommand::Commission { .. } => Action::Commission,
-        MachineCommand::Test => Action::Test,
-        MachineCommand::Override => Action::Override,
-        MachineCommand::Fix => Action::Fix,
-        MachineCommand::Allocate => Action::Allocate,
         MachineCommand::Deploy { .. } => Action::Deploy,
         MachineCommand::Release { erase } => release_action(erase),
-        MachineCommand::Rescue => Action::Rescue,
-        MachineCommand::Abort => Action::Abort,
-        MachineCommand::ExitRescue => Action::ExitRescue,
-        MachineCommand::Break => Action::Break,
+        MachineCommand::Act(act) => Action::Act(act),
     };
     acted(alloc, view, by, machine, command, moment, action)
-}
-
-fn added_machine(id: Number, arch: Arch, pool: Name, uuid: Option<MachineUuid>) -> Machine
-    ensures { result ≡ added_machine id arch pool uuid }
-{
-    Machine {
-        id,
-        arch,
-        uuid,
-        pool,
-        status: Status::New,
-        owner: None,
-        image: None,
-        tests: false,
-        back: None,
-        erase: None,
-        locked: false,
-        version: Version::FIRST,
-        deadline: None,
-        boot: None,
-        boots: BootCount::NONE,
-        waiting: None,
-    }
 }
 
 fn added_rows(
@@ -255,7 +225,7 @@ fn added(
     let Some(id) = view.numbers.machine.next() else {
         return Err(DeskFault::Refused(Refusal::Exhausted));
     };
-    let machine = added_machine(id, arch, pool, uuid);
+    let machine = Machine::new(id, arch, pool, uuid);
     let subject = about(&machine);
     match added_rows(alloc, machine, mac, view.numbers) {
         Ok(rows) => Ok((Change::from(rows), subject)),

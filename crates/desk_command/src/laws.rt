@@ -1,9 +1,7 @@
 //! What holds of halls, whatever operators command.
 ghost use Rattle.std.specs.Prelude.{◌≡◌, ℕ, List, Ok, Option};
-ghost use Rattle.hall_types.specs.Hall.{Hall, applied, second};
-ghost use Rattle.hall_types.specs.declared.change.RowWrite.{RowWrite};
-ghost use Rattle.hall_events.specs.Reply.{Content};
-ghost use Rattle.hall_events.specs.declared.command.HallCommand.{HallCommand};
+ghost use Rattle.hall_types.specs.{Hall.{Hall, applied, second}, declared.change.RowWrite.RowWrite};
+ghost use Rattle.hall_events.specs.{Reply.Content, declared.command.HallCommand.HallCommand};
 ghost use Rattle.boot_desk.specs.Sound.{IsSound};
 ghost use Rattle.desk_command.specs.Command.{command_decision};
 

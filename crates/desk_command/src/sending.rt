@@ -1,32 +1,11 @@
 //! Who may send a command.
 ghost use Rattle.std.specs.Prelude.{◌≡◌};
-ghost use Rattle.life_cycle.specs.Permission.{who_acts};
-ghost use Rattle.desk_command.specs.Command.{is_admin_action, is_admin_alone, may_send, needs_admin};
+ghost use Rattle.desk_command.specs.Command.{may_send, needs_admin};
 
 use crate::action::action_of;
 use hall_events::HallCommand;
 use hall_types::Role;
-use life_cycle::Action;
-
-// Whether only an admin may act so.
-#[tactic(auto, unfolding(life_cycle::specs::Table::who_gives))]
-fn is_admin_alone(action: Action) -> bool
-    ensures { result ≡ is_admin_alone (who_acts action) }
-{
-    match action {
-        Action::Commission | Action::Test | Action::Override | Action::Fix => true,
-        Action::Allocate
-        | Action::Deploy
-        | Action::Release
-        | Action::ReleaseErasing
-        | Action::Abort
-        | Action::Rescue
-        | Action::ExitRescue
-        | Action::Break
-        | Action::Lock
-        | Action::Unlock => false,
-    }
-}
+use life_cycle::Who;
 
 fn needs_admin(command: &HallCommand) -> bool
     ensures { result ≡ needs_admin command.now }
@@ -35,7 +14,7 @@ fn needs_admin(command: &HallCommand) -> bool
         return true;
     };
     match action_of(command) {
-        Some(action) => is_admin_alone(action),
+        Some(action) => matches!(action.who(), Who::Admin),
         None => true,
     }
 }

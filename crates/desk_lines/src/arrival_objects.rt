@@ -1,6 +1,5 @@
 //! What came, how it was answered and which machine it moved, as members of an object of JSON for a log. No token, key or digest
 //! is in them. Names are those of the Elastic Common Schema where it has one; those that begin `hall.` are the desk's own.
-use crate::addresses::address_text;
 use crate::arrival_texts::arrival_text;
 use crate::command_texts::command_text;
 use crate::frame_texts::{file_text, kind_word, port_word, silence_words};
@@ -13,7 +12,7 @@ use pxe_vendor::Client;
 use std::alloc::{AllocError, Global};
 
 fn push_address(alloc: Global, members: &mut Members, address: &[u8; 6]) -> Result<(), AllocError> {
-    let text = address_text(alloc, address)?;
+    let text = pxe_vendor::print_mac(alloc, address)?;
     members.push_text("client.mac", text.as_str())
 }
 

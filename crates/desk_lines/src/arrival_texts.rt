@@ -1,8 +1,7 @@
 //! What came, how it was answered and which machine it moved, in words for a log. No token, key or digest is in them.
 use crate::frame_texts::datagram_text;
-use crate::move_texts::move_text;
 use crate::request_texts::exchange_text;
-use hall_desk::{Account, Answer, Arrival, Input};
+use hall_desk::{Account, Answer, Arrival, Input, Moved};
 use std::alloc::{AllocError, Global};
 
 fn answered_text(
@@ -27,6 +26,18 @@ pub fn is_of_note(arrival: &Arrival, answer: &Answer, account: &Account) -> bool
         (Input::Quiet, _) => account.notes.moved.is_some(),
         _ => true,
     }
+}
+
+// `machine 5: Ready to Allocated`, `machine 5: new, New` or `machine 5: Broken, gone`.
+fn move_text(alloc: Global, moved: &Moved) -> Result<String, AllocError> {
+    let id = moved.machine.get();
+    let (from, between, to) = match (moved.from, moved.to) {
+        (Some(from), Some(to)) => (from.text(), " to ", to.text()),
+        (None, Some(to)) => ("new", ", ", to.text()),
+        (Some(from), None) => (from.text(), ", ", "gone"),
+        (None, None) => ("", "", "gone"),
+    };
+    format!(in alloc; "machine {id}: {from}{between}{to}")
 }
 
 /// What came and how it was answered, a client's silence with its cause, and then the machine whose status was changed:

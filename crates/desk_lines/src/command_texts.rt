@@ -1,5 +1,4 @@
 //! A command in words for a log: its word, and what it is about.
-use crate::addresses::address_text;
 use hall_events::{HallCommand, MachineCommand};
 use std::alloc::{AllocError, Global};
 
@@ -7,7 +6,7 @@ use std::alloc::{AllocError, Global};
 fn machine_object(alloc: Global, command: &MachineCommand) -> Result<String, AllocError> {
     match command {
         MachineCommand::AddInterface { mac } | MachineCommand::RemoveInterface { mac } => {
-            address_text(alloc, &mac.octets())
+            pxe_vendor::print_mac(alloc, &mac.octets())
         }
         MachineCommand::SetPool { pool } => String::from_str(alloc, pool.text()),
         MachineCommand::Deploy { image } => String::from_str(alloc, image.text()),
@@ -29,7 +28,7 @@ fn object(alloc: Global, command: &HallCommand) -> Result<String, AllocError> {
         HallCommand::DeleteImage { image } | HallCommand::SetLive { image } => {
             String::from_str(alloc, image.text())
         }
-        HallCommand::AddMachine { mac, .. } => address_text(alloc, &mac.octets()),
+        HallCommand::AddMachine { mac, .. } => pxe_vendor::print_mac(alloc, &mac.octets()),
         HallCommand::OnMachine {
             machine,
             command,

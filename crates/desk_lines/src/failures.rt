@@ -1,6 +1,6 @@
 //! Sockets that fail again and again, of which a log has a line a minute.
 use crate::event_lines::event_line;
-use desk_values::LogFormat;
+use hall_report::LogFormat;
 use hall_types::Moment;
 use std::alloc::{AllocError, Global};
 

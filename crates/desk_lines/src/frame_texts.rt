@@ -1,5 +1,4 @@
 //! A client's frame and its answer, in words for a log.
-use crate::addresses::address_text;
 use boot_desk::{Decision, Silence};
 use hall_desk::{Account, Answer, Came, Notes};
 use hall_types::Port;
@@ -24,7 +23,7 @@ pub(crate) fn port_word(port: Port) -> &'static str {
 
 fn client_text(alloc: Global, client: &Client) -> Result<String, AllocError> {
     let kind = kind_word(client.kind);
-    let mac = address_text(alloc, &client.mac)?;
+    let mac = pxe_vendor::print_mac(alloc, &client.mac)?;
     let arch = client.arch.text();
     let by = if client.ipxe { " by iPXE" } else { "" };
     format!(in alloc; "{kind} {mac} {arch}{by}")

@@ -1,5 +1,4 @@
 //! A request and its response, in words for a log.
-use crate::addresses::address_text;
 use crate::command_texts::command_text;
 use crate::refused_texts::refused_text;
 use hall_desk::{Account, Answer, Came};
@@ -13,7 +12,7 @@ pub(crate) const MAX_BODY: usize = 100;
 pub(crate) fn path_text(alloc: Global, event: &Event) -> Result<String, AllocError> {
     match event {
         Event::Script { mac } => {
-            let mac = address_text(alloc, &mac.octets())?;
+            let mac = pxe_vendor::print_mac(alloc, &mac.octets())?;
             format!(in alloc; "/ipxe/{mac}")
         }
         Event::Report { boot, .. } => {

@@ -1,21 +1,8 @@
 -- The program `understood` finds the addresses and the octets in an input.
-use Rattle.std.proofs.Common.{◌≡◌, ℕ, ◌≤◌, ◌==◌, true, false, List, [], ◌∷◌, ◌++◌, length, Option, Some, None, Result, Ok, Err, refl, sym, ap, subst, ◌∙◌, arith, inl, inr}
-use Rattle.std.specs.Prelude.{option_map, All}
-use Rattle.std.specs.List.{join_with_byte}
-use Rattle.std.specs.Result.{result_ok}
-use Rattle.std.proofs.lemmas.Bool.{cases_eq, eq-eqb, ne_eqb}
-use Rattle.std.proofs.lemmas.Bool.Decides.{nat_tests}
-use Rattle.std.proofs.lemmas.List.{append-nil, append_assoc, nil_from_length}
-use Rattle.std.proofs.lemmas.List.Elements.{All-weaker}
-use Rattle.std.proofs.lemmas.List.Splits.{join_with_byte-slice_split}
-use Rattle.std.proofs.lemmas.Option.{same_Some}
-use Rattle.hex.specs.Hex.{decode_of, is_hex_digit}
-use Rattle.hex.specs.declared.error.FromHexError.{FromHexError}
-use Rattle.hex.proofs.HexLemmas.{decode_of-ok}
-use Rattle.wire_mac.specs.MacText.{IsMacText, mac_of}
-use Rattle.wire_mac.specs.MacLaws.{mac_of-from_IsMacText, IsMacText-from_mac_of, IsMacText-high}
-use Rattle.desk_operations.specs.FrameInput.{IsHexLine, ended, open_ended, IsInput, frame, address, Understood, lines_of, only_line, hex_octets, framed, listed, listed_then, understood_lines, understood}
-use Rattle.desk_operations.proofs.LineLemmas.{lines_of-line, lines_of-last}
+use Rattle.std.{proofs.{Common.{◌≡◌, ℕ, ◌≤◌, ◌==◌, true, false, List, [], ◌∷◌, ◌++◌, length, Option, Some, None, Result, Ok, Err, refl, sym, ap, subst, ◌∙◌, arith, inl, inr}, lemmas.{Bool.{cases_eq, eq-eqb, ne_eqb, Decides.nat_tests}, List.{append-nil, append_assoc, nil_from_length, Elements.All-weaker, Splits.join_with_byte-slice_split}, Option.same_Some}}, specs.{Prelude.{option_map, All}, List.join_with_byte, Result.result_ok}}
+use Rattle.hex.{specs.{Hex.{decode_of, is_hex_digit}, declared.error.FromHexError.FromHexError}, proofs.HexLemmas.decode_of-ok}
+use Rattle.pxe_vendor.specs.{MacText.{IsMacText, mac_of}, MacLaws.{mac_of-from_IsMacText, IsMacText-from_mac_of, IsMacText-high}}
+use Rattle.desk_operations.{specs.FrameInput.{IsHexLine, ended, open_ended, IsInput, frame, address, Understood, lines_of, only_line, hex_octets, framed, listed, listed_then, understood_lines, understood}, proofs.LineLemmas.{lines_of-line, lines_of-last}}
 
 -- ---- characters that are no line feed
 

@@ -1,27 +1,11 @@
 -- A run finds the answer to the frame in its input.
-use Rattle.std.proofs.Common.{◌≡◌, ℕ, ◌≤◌, Bool, true, false, List, [], length, arith, refl, Option, Some, None, Result, Ok, Err, sym, subst, ◌∙◌, inl, inr}
-use Rattle.std.specs.Prelude.{◌⊎◌, IfSome, IsTrue, unwrap_or}
-use Rattle.std.specs.Prelude.{not, if◌then◌else◌}
-use Rattle.std.proofs.lemmas.Bool.{false≢true}
-use Rattle.std.proofs.lemmas.Bool.Decides.{nat_tests}
-use Rattle.std.specs.Io.KnownBytes.{Appends}
-use Rattle.dhcp_frame.specs.Message.{Message, IsFrame}
-use Rattle.dhcp_frame.specs.declared.fault.FrameFault.{FrameFault}
-use Rattle.pxe_vendor.specs.Client.{IsClient}
-use Rattle.pxe_vendor.specs.Place.{Site}
-use Rattle.pxe_vendor.specs.declared.clients.Client.{Client}
-use Rattle.pxe_vendor.specs.declared.serve.NotServed.{NotServed}
-use Rattle.pxe_vendor.specs.declared.serve.NotServed.TheVariants.{Memory}
+use Rattle.std.{proofs.{Common.{◌≡◌, ℕ, ◌≤◌, Bool, true, false, List, [], length, arith, refl, Option, Some, None, Result, Ok, Err, sym, subst, ◌∙◌, inl, inr}, lemmas.Bool.{false≢true, Decides.nat_tests}}, specs.{Prelude.{◌⊎◌, IfSome, IsTrue, unwrap_or, not, if◌then◌else◌}, Io.KnownBytes.Appends}}
+use Rattle.dhcp_frame.specs.{Message.{Message, IsFrame}, declared.fault.FrameFault.FrameFault}
+use Rattle.pxe_vendor.specs.{Client.IsClient, Place.Site, declared.{clients.Client.Client, serve.NotServed.{NotServed, TheVariants.Memory}}}
 use Rattle.hall_types.specs.declared.port.Port.{Port}
-use Rattle.boot_desk.specs.FrameEvent.{frame_decision, is_echo_long, is_port_of, is_uuid_of_other, for_address}
-use Rattle.boot_desk.specs.declared.frames.Decision.TheVariants.{Silent}
-use Rattle.boot_desk.specs.declared.frames.FrameView.{FrameView}
-use Rattle.boot_desk.specs.declared.frames.Silence.TheVariants.{WrongPort, EchoTooLong, KnownUuid}
-use Rattle.desk_operations.specs.FrameInput.{Understood, understood}
-use Rattle.desk_operations.specs.Frame.{is_answer, is_served, IsReply, IsGood, IsAnswer, IsBad}
-use Rattle.desk_values.specs.declared.fault.Fault.{Fault}
-use Rattle.desk_values.specs.declared.fault.Fault.TheVariants.{BadInput, Memory as NoMemory}
-use Rattle.desk_operations.proofs.FrameInputLemmas.{IsInput-from_understood, understood-from_IsInput}
+use Rattle.boot_desk.specs.{FrameEvent.{frame_decision, is_echo_long, is_port_of, is_uuid_of_other, for_address}, declared.frames.{Decision.TheVariants.Silent, FrameView.FrameView, Silence.TheVariants.{WrongPort, EchoTooLong, KnownUuid}}}
+use Rattle.desk_operations.{specs.{FrameInput.{Understood, understood}, Frame.{is_answer, is_served, IsReply, IsGood, IsAnswer, IsBad}}, proofs.FrameInputLemmas.{IsInput-from_understood, understood-from_IsInput}}
+use Rattle.hall_report.specs.declared.task_fault.Fault.{Fault, TheVariants.{BadInput, Memory as NoMemory}}
 
 -- ---- there is no answer
 

@@ -1,32 +1,14 @@
 -- An import goes on by one row.
-use Rattle.std.proofs.Common.{◌≡◌, ◌≢◌, ◌+◌, ◌<◌, ◌==◌, ◌&&◌, ℕ, Bool, true, false, List, [], ◌∷◌, ◌++◌, Option, Result, Ok, Err, IfErr, IsErrAnd, if◌then◌else◌, length, drop, map, take, get_or, refl, sym, ap, subst, ◌∙◌, suc, append-nil, append_assoc, add-zero, arith}
-use Rattle.std.proofs.KnownBytes.{Appends-nil, Appends-trans}
-use Rattle.std.proofs.lemmas.List.{length-map, map-append, take-append-drop, take_more}
-use Rattle.std.proofs.lemmas.List.Folds.{list_all-append}
-use Rattle.std.proofs.lemmas.List.Sums.{fold-append}
-use Rattle.std.specs.Prelude.{replicate}
-use Rattle.std.specs.Io.KnownBytes.{Appends}
-use Rattle.std.specs.List.{AllByRecursion, enumerate_from, flat_map, fold, list_all, scan}
+use Rattle.std.{proofs.{Common.{◌≡◌, ◌≢◌, ◌+◌, ◌<◌, ◌==◌, ◌&&◌, ℕ, Bool, true, false, List, [], ◌∷◌, ◌++◌, Option, Result, Ok, Err, IfErr, IsErrAnd, if◌then◌else◌, length, drop, map, take, get_or, refl, sym, ap, subst, ◌∙◌, suc, append-nil, append_assoc, add-zero, arith}, KnownBytes.{Appends-nil, Appends-trans}, lemmas.List.{length-map, map-append, take-append-drop, take_more, Folds.list_all-append, Sums.fold-append}}, specs.{Prelude.replicate, Io.KnownBytes.Appends, List.{AllByRecursion, enumerate_from, flat_map, fold, list_all, scan}}}
 use Rattle.pxe_vendor.specs.Place.{Site}
 use Rattle.boot_desk.specs.Sound.{IsSound}
 use Rattle.hall_types.specs.Hall.{Hall, applied, second}
-use Rattle.hall_events.specs.Reply.{reply_of}
-use Rattle.hall_events.specs.declared.event.Event.{Event}
-use Rattle.hall_events.specs.declared.reply.BodyKind.{BodyKind}
-use Rattle.hall_events.specs.declared.reply.Reply.{Reply}
-use Rattle.hall_events.specs.declared.reply.Reply.TheVariants.{Http}
-use Rattle.hall_store.specs.Rules.{AllKeep}
-use Rattle.hall_store.specs.declared.store.Unavailable.{Unavailable}
-use Rattle.laws_model.specs.Decision.{decision_of}
-use Rattle.hall_report.specs.declared.row.ImportRow.{ImportRow}
-use Rattle.hall_desk.specs.Headline.{HasHistory}
-use Rattle.hall_desk.specs.History.{Item, Origin, carried_out}
-use Rattle.hall_desk.specs.Plan.{IsCarriedOut}
-use Rattle.desk_operations.specs.Import.{IsImported, IsRowAnswered, IsRowDone, IsRowItem, IsRowStopped, IsStopped, GoOn, after_row, after_rows, end_of, event_of, is_ok, line_of, lines_of, replies_to, reply_to, row_line, unavailable}
-use Rattle.desk_values.specs.declared.fault.Fault.{Fault}
-use Rattle.desk_values.specs.declared.fault.Fault.TheVariants.{Io}
-use Rattle.desk_operations.specs.declared.imports.Imported.{Imported}
-use Rattle.desk_operations.specs.declared.imports.Imported.TheVariants.{All, NotAll}
+use Rattle.hall_events.specs.{Reply.reply_of, declared.{event.Event.Event, reply.{BodyKind.BodyKind, Reply.{Reply, TheVariants.Http}}}}
+use Rattle.hall_store.specs.{Rules.AllKeep, declared.store.{HallStore.Ghosts, Unavailable.Unavailable}}
+use Rattle.hall_laws.specs.Decision.{decision_of}
+use Rattle.hall_report.specs.declared.{row.ImportRow.ImportRow, task_fault.Fault.{Fault, TheVariants.Io}}
+use Rattle.hall_desk.specs.{Headline.HasHistory, History.{Item, Origin, carried_out}, Plan.IsCarriedOut}
+use Rattle.desk_operations.specs.{Import.{IsImported, IsRowAnswered, IsRowDone, IsRowItem, IsRowStopped, IsStopped, GoOn, after_row, after_rows, end_of, event_of, is_ok, line_of, lines_of, replies_to, reply_to, row_line, unavailable}, declared.imports.Imported.{Imported, TheVariants.{All, NotAll}}}
 
 -- ---- lists with one more element
 
@@ -67,18 +49,18 @@ pub if_err_of : {A : Type 0} (r : Result A Fault) (fault : Fault) (P : Fault →
 if_err_of (Ok a) fault P is it = tt
 if_err_of (Err given) fault P is it = subst P (sym is) it
 
-module _ {S : Type 0} (holds : S → Hall → Type 0) (leaves : S → List Hall → Type 0) (site : Site) (bearer : List ℕ) (moment : ℕ) where
+module _ {S : Type 0} (g : Ghosts S) (site : Site) (bearer : List ℕ) (moment : ℕ) where
   -- the desk carried a row's command out
   pub row_carried : ((site : Site) (h : Hall) (e : Event) (moment : ℕ) (fresh : List ℕ) → IsSound h → h.schema ≡ second → AllKeep (decision_of site h e moment fresh).rows h)
       → ((site : Site) (h : Hall) (e : Event) (moment : ℕ) (fresh : List ℕ) → IsSound h → h.schema ≡ second → IsSound (applied (decision_of site h e moment fresh).rows h))
-      → ((store : S) (h : Hall) → holds store h → h.schema ≡ second)
+      → ((store : S) (h : Hall) → g.holds store h → h.schema ≡ second)
       → (old new : S) (row : ImportRow) (e : Event) (fresh : List ℕ) → e ≡ event_of bearer row → fresh ≡ replicate 16 0 → (reply : Reply)
-      → IsCarriedOut holds leaves old new {E = Unavailable} (Ok reply) (λ h. (decision_of site h e moment fresh).rows) (λ h reply. reply ≡ reply_of second (decision_of site h e moment fresh).content)
-      → (h : Hall) → holds old h → IsSound h → IsRowAnswered holds new site bearer moment h row reply
+      → IsCarriedOut g old new {E = Unavailable} (Ok reply) (λ h. (decision_of site h e moment fresh).rows) (λ h reply. reply ≡ reply_of second (decision_of site h e moment fresh).content)
+      → (h : Hall) → g.holds old h → IsSound h → IsRowAnswered g new site bearer moment h row reply
   row_carried keeps stays schema old new row e fresh e_is fresh_is reply carried h held sound =
       let made = carried.made h held (keeps site h e moment fresh sound (schema old h held)) in
       let stayed = stays site h e moment fresh sound (schema old h held) in
-      let Held : Event → List ℕ → Type 0 = λ e fresh. holds new (applied (decision_of site h e moment fresh).rows h) in
+      let Held : Event → List ℕ → Type 0 = λ e fresh. g.holds new (applied (decision_of site h e moment fresh).rows h) in
       let Sound : Event → List ℕ → Type 0 = λ e fresh. IsSound (applied (decision_of site h e moment fresh).rows h) in
       let reply_for : Event → List ℕ → Reply = λ e fresh. reply_of second (decision_of site h e moment fresh).content in
       record {
@@ -89,13 +71,13 @@ module _ {S : Type 0} (holds : S → Hall → Type 0) (leaves : S → List Hall 
       }
 
   -- the store couldn't answer, and the row counts as not having come
-  pub row_missed : (new : S) (row : ImportRow) (reply : Reply) → reply ≡ unavailable → (h : Hall) → holds new h → IsSound h → IsRowAnswered holds new site bearer moment h row reply
+  pub row_missed : (new : S) (row : ImportRow) (reply : Reply) → reply ≡ unavailable → (h : Hall) → g.holds new h → IsSound h → IsRowAnswered g new site bearer moment h row reply
   row_missed new row reply is h held sound = record { came = false; held = held; sound = sound; is = is }
 
   -- the row's line was written
   pub row_done : (new : S) (row : ImportRow) (reply : Reply) (status : ℕ) (kind : BodyKind) (body : List ℕ) → reply ≡ Http status kind body
       → (number : ℕ) (before after : Option (List ℕ)) (text : List ℕ) → text ≡ row_line number status body → Appends before after text
-      → (h : Hall) → IsRowAnswered holds new site bearer moment h row reply → IsRowDone holds new site bearer moment h number row (status == 200) before after
+      → (h : Hall) → IsRowAnswered g new site bearer moment h row reply → IsRowDone g new site bearer moment h number row (status == 200) before after
   row_done new row reply status kind body reply_is number before after text text_is written h it =
       let same : Http status kind body ≡ reply_to site bearer moment h (row, it.came) = sym reply_is ∙ it.is in
       record {
@@ -108,12 +90,12 @@ module _ {S : Type 0} (holds : S → Hall → Type 0) (leaves : S → List Hall 
 
   -- or it wasn't
   pub row_stopped : (new : S) (row : ImportRow) (reply : Reply) (fault : Fault) (before after : Option (List ℕ)) → (fault ≢ Io → Appends before after [])
-      → (h : Hall) → IsRowAnswered holds new site bearer moment h row reply → IsRowStopped holds new site bearer moment h row fault before after
+      → (h : Hall) → IsRowAnswered g new site bearer moment h row reply → IsRowStopped g new site bearer moment h row fault before after
   row_stopped new row reply fault before after written h it = record { came = it.came; held = it.held; sound = it.sound; written = written }
 
   -- a row that wasn't answered
-  pub row_refused : (store : S) (h : Hall) (row : ImportRow) (fault : Fault) (contents : Option (List ℕ)) → holds store h → IsSound h
-      → IsRowStopped holds store site bearer moment h row fault contents contents
+  pub row_refused : (store : S) (h : Hall) (row : ImportRow) (fault : Fault) (contents : Option (List ℕ)) → g.holds store h → IsSound h
+      → IsRowStopped g store site bearer moment h row fault contents contents
   row_refused store h row fault contents held sound = record { came = false; held = held; sound = sound; written = λ other. Appends-nil contents }
 
   -- ---- one row after the other
@@ -129,16 +111,16 @@ module _ {S : Type 0} (holds : S → Hall → Type 0) (leaves : S → List Hall 
   rows_more asked one rows all = map-append row_of asked (one ∷ []) ∙ ap (λ some. some ++ one.0 ∷ []) all
 
   -- no row yet
-  pub imported_none : (store : S) (h : Hall) (contents : Option (List ℕ)) → holds store h → IsSound h
-      → IsImported holds store site bearer moment h [] All contents contents
+  pub imported_none : (store : S) (h : Hall) (contents : Option (List ℕ)) → g.holds store h → IsSound h
+      → IsImported g store site bearer moment h [] All contents contents
   imported_none store h contents held sound = record { asked = []; all = refl; held = held; sound = sound; written = Appends-nil contents; ended = refl }
 
   -- one more row
   imported_more : (old new : S) (h : Hall) (rows : List ImportRow) (row : ImportRow) (number : ℕ) (was_ok : Bool) (end next : Imported) (before mid after : Option (List ℕ))
       → number ≡ 1 + length rows → next ≡ (if was_ok then end else NotAll)
-      → (so_far : IsImported holds old site bearer moment h rows end before mid)
-      → IsRowDone holds new site bearer moment (after_rows site bearer moment h so_far.asked) number row was_ok mid after
-      → IsImported holds new site bearer moment h (rows ++ row ∷ []) next before after
+      → (so_far : IsImported g old site bearer moment h rows end before mid)
+      → IsRowDone g new site bearer moment (after_rows site bearer moment h so_far.asked) number row was_ok mid after
+      → IsImported g new site bearer moment h (rows ++ row ∷ []) next before after
   imported_more old new h rows row number was_ok end next before mid after counted is so_far done =
       let asked = so_far.asked in
       let one : ImportRow × Bool = (row, done.came) in
@@ -154,7 +136,7 @@ module _ {S : Type 0} (holds : S → Hall → Type 0) (leaves : S → List Hall 
       record {
         asked = asked ++ one ∷ [];
         all = rows_more asked one rows so_far.all;
-        held = subst (holds new) (sym reached) done.held;
+        held = subst (g.holds new) (sym reached) done.held;
         sound = subst IsSound (sym reached) done.sound;
         written = subst (Appends before after) (sym (ap lines_of replied ∙ lines)) (Appends-trans before mid after (lines_of replies) (line_of number reply) so_far.written done.written);
         ended = is ∙ chosen ∙ end_of-more replies reply end so_far.ended ∙ ap end_of (sym replied);
@@ -164,31 +146,31 @@ module _ {S : Type 0} (holds : S → Hall → Type 0) (leaves : S → List Hall 
   pub imported_next : (from : Site) → from ≡ site
       → (old new : S) (h : Hall) (rows : List ImportRow) (row : ImportRow) (number : ℕ) (was_ok : Bool) (end next : Imported) (before mid after : Option (List ℕ))
       → number ≡ 1 + length rows → next ≡ (if was_ok then end else NotAll)
-      → IsImported holds old site bearer moment h rows end before mid
-      → ((h : Hall) → holds old h → IsSound h → IsRowDone holds new from bearer moment h number row was_ok mid after)
-      → IsImported holds new site bearer moment h (rows ++ row ∷ []) next before after
+      → IsImported g old site bearer moment h rows end before mid
+      → ((h : Hall) → g.holds old h → IsSound h → IsRowDone g new from bearer moment h number row was_ok mid after)
+      → IsImported g new site bearer moment h (rows ++ row ∷ []) next before after
   imported_next from same old new h rows row number was_ok end next before mid after counted is so_far done =
       let here = after_rows site bearer moment h so_far.asked in
       imported_more old new h rows row number was_ok end next before mid after counted is so_far
-      (subst (λ (at : Site). IsRowDone holds new at bearer moment here number row was_ok mid after) same (done here so_far.held so_far.sound))
+      (subst (λ (at : Site). IsRowDone g new at bearer moment here number row was_ok mid after) same (done here so_far.held so_far.sound))
 
   -- ---- an import that stops
 
-  pub stopped_none : (store : S) (h : Hall) (rows : List ImportRow) (fault : Fault) (contents : Option (List ℕ)) → holds store h → IsSound h
-      → IsStopped holds store site bearer moment h rows fault contents contents
+  pub stopped_none : (store : S) (h : Hall) (rows : List ImportRow) (fault : Fault) (contents : Option (List ℕ)) → g.holds store h → IsSound h
+      → IsStopped g store site bearer moment h rows fault contents contents
   stopped_none store h rows fault contents held sound =
       record { asked = []; last = []; others = rows; one = grind (arith); all = refl; held = held; sound = sound; written = λ other. Appends-nil contents }
 
   pub stopped_next : (from : Site) → from ≡ site
       → (old new : S) (h : Hall) (rows : List ImportRow) (place : ℕ) (row : ImportRow) (end : Imported) (fault : Fault) (before mid after : Option (List ℕ)) → place < length rows → row ≡ get_or rows place row
-      → IsImported holds old site bearer moment h (take place rows) end before mid
-      → ((h : Hall) → holds old h → IsSound h → IsRowStopped holds new from bearer moment h row fault mid after)
-      → IsStopped holds new site bearer moment h rows fault before after
+      → IsImported g old site bearer moment h (take place rows) end before mid
+      → ((h : Hall) → g.holds old h → IsSound h → IsRowStopped g new from bearer moment h row fault mid after)
+      → IsStopped g new site bearer moment h rows fault before after
   stopped_next from same old new h rows place row end fault before mid after here at so_far tried =
       let asked = so_far.asked in
       let first = after_rows site bearer moment h asked in
       let lines = lines_of (replies_to site bearer moment h asked) in
-      let stop = subst (λ (at : Site). IsRowStopped holds new at bearer moment first row fault mid after) same (tried first so_far.held so_far.sound) in
+      let stop = subst (λ (at : Site). IsRowStopped g new at bearer moment first row fault mid after) same (tried first so_far.held so_far.sound) in
       let one : ImportRow × Bool = (row, stop.came) in
       let reached = after_more h asked one in
       let front : map row_of (asked ++ one ∷ []) ≡ take (place + 1) rows =
@@ -199,7 +181,7 @@ module _ {S : Type 0} (holds : S → Hall → Type 0) (leaves : S → List Hall 
         others = drop (place + 1) rows;
         one = grind (arith);
         all = ap (λ some. some ++ drop (place + 1) rows) front ∙ take-append-drop (place + 1) rows;
-        held = subst (holds new) (sym reached) stop.held;
+        held = subst (g.holds new) (sym reached) stop.held;
         sound = subst IsSound (sym reached) stop.sound;
         written = λ other. subst (Appends before after) (append-nil lines) (Appends-trans before mid after lines [] so_far.written (stop.written other));
       }
@@ -210,28 +192,28 @@ all_more : {X : Type 0} (P : X → Type 0) (xs ys : List X) → AllByRecursion P
 all_more P [] ys a b = b
 all_more P (x ∷ xs) ys a b = (a.0, all_more P xs ys a.1 b)
 
-module _ {S : Type 0} (holds : S → Hall → Type 0) (site : Site) (bearer : List ℕ) (moment : ℕ) where
+module _ {S : Type 0} (g : Ghosts S) (site : Site) (bearer : List ℕ) (moment : ℕ) where
   -- what keeps a hall goes on
-  pub kept_on : (old new : S) → ((h : Hall) → holds old h → holds new h) → GoOn holds old new site bearer moment
+  pub kept_on : (old new : S) → ((h : Hall) → g.holds old h → g.holds new h) → GoOn g old new site bearer moment
   kept_on old new same origin past was = (
     [],
     tt,
-    subst (HasHistory holds new origin) (sym (append-nil past)) (record { end = was.end; held = same was.end was.held; headline = was.headline }),
+    subst (HasHistory g new origin) (sym (append-nil past)) (record { end = was.end; held = same was.end was.held; headline = was.headline }),
   )
 
-  pub more_on : (from : Site) → from ≡ site → (a b c : S) → GoOn holds a b site bearer moment → GoOn holds b c from bearer moment → GoOn holds a c site bearer moment
+  pub more_on : (from : Site) → from ≡ site → (a b c : S) → GoOn g a b site bearer moment → GoOn g b c from bearer moment → GoOn g a c site bearer moment
   more_on from same a b c one two origin past was =
       let first = one origin past was in
-      let next = subst (λ at. GoOn holds b c at bearer moment) same two origin (past ++ first.0) first.2 in (
+      let next = subst (λ at. GoOn g b c at bearer moment) same two origin (past ++ first.0) first.2 in (
         first.0 ++ next.0,
         all_more (IsRowItem site bearer moment) first.0 next.0 first.1 next.1,
-        subst (HasHistory holds c origin) (append_assoc past first.0 next.0) next.2,
+        subst (HasHistory g c origin) (append_assoc past first.0 next.0) next.2,
       )
 
   -- a row's command is carried out
   pub carried_on : (old new : S) (row : ImportRow) (e : Event) (fresh : List ℕ) (reply : Reply) → e ≡ event_of bearer row → fresh ≡ replicate 16 0
-      → ((origin : Origin) (past : List Item) → HasHistory holds old origin past → HasHistory holds new origin (past ++ carried_out site e moment fresh reply ∷ []))
-      → GoOn holds old new site bearer moment
+      → ((origin : Origin) (past : List Item) → HasHistory g old origin past → HasHistory g new origin (past ++ carried_out site e moment fresh reply ∷ []))
+      → GoOn g old new site bearer moment
   carried_on old new row e fresh reply e_is fresh_is history origin past was = (
     carried_out site e moment fresh reply ∷ [],
     ((row, reply, ap (λ e. carried_out site e moment fresh reply) e_is ∙ ap (λ f. carried_out site (event_of bearer row) moment f reply) fresh_is), tt),

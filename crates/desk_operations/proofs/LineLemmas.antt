@@ -1,11 +1,5 @@
 -- The lines of a text, from its first line feed on.
-use Rattle.std.proofs.Common.{◌≡◌, ℕ, ◌+◌, ◌<◌, ◌≤◌, ◌==◌, Bool, true, false, cond, List, [], ◌∷◌, ◌++◌, length, take, drop, Some, None, refl, ap, ◌∙◌, arith, inl, inr}
-use Rattle.std.specs.Prelude.{position, All}
-use Rattle.std.specs.List.{position_or_len, slice_split, onto_first, join_with_byte}
-use Rattle.std.proofs.lemmas.Bool.{ltb-true, ltb-false, cases_Bool, eq-eqb, ne_eqb}
-use Rattle.std.proofs.lemmas.List.{nil_from_length}
-use Rattle.std.proofs.lemmas.Option.{cond_some}
-use Rattle.std.proofs.lemmas.List.Splits.{slice_split_first, slice_split_none, slice_split_at, slice_split-cons_no, length-slice_split, join_with_byte-slice_split}
+use Rattle.std.{proofs.{Common.{◌≡◌, ℕ, ◌+◌, ◌<◌, ◌≤◌, ◌==◌, Bool, true, false, cond, List, [], ◌∷◌, ◌++◌, length, take, drop, Some, None, refl, ap, ◌∙◌, arith, inl, inr}, lemmas.{Bool.{ltb-true, ltb-false, cases_Bool, eq-eqb, ne_eqb}, List.{nil_from_length, Splits.{slice_split_first, slice_split_none, slice_split_at, slice_split-cons_no, length-slice_split, join_with_byte-slice_split}}, Option.cond_some}}, specs.{Prelude.{position, All}, List.{position_or_len, slice_split, onto_first, join_with_byte}}}
 use Rattle.desk_operations.specs.FrameInput.{lines_of, only_line}
 
 abbrev is_feed : ℕ → Bool

@@ -1,25 +1,12 @@
 -- The answer of the program to its input.
-use Rattle.std.specs.Prelude.{◌≡◌, ◌≤◌, ℕ, suc, nat_le, Bool, true, false, List, [], ◌∷◌, ◌++◌, length, position, Option, Some, None, option_and_then, if◌then◌else◌, IsTrue, ⊤}
-use Rattle.std.specs.Str.{bytes_eq}
+use Rattle.std.specs.{Prelude.{◌≡◌, ◌≤◌, ℕ, suc, nat_le, Bool, true, false, List, [], ◌∷◌, ◌++◌, length, position, Option, Some, None, option_and_then, if◌then◌else◌, IsTrue, ⊤}, Str.bytes_eq}
 use Rattle.hex.specs.Hex.{encode_lower}
-use Rattle.dhcp_frame.specs.Message.{Message, IsFrame}
-use Rattle.dhcp_frame.specs.Reply.{reply_octets}
-use Rattle.pxe_vendor.specs.Answer.{answer_to}
-use Rattle.pxe_vendor.specs.BootFile.{boot_file_of}
-use Rattle.pxe_vendor.specs.Client.{IsClient}
-use Rattle.pxe_vendor.specs.Place.{Site}
-use Rattle.pxe_vendor.specs.declared.clients.Client.{Client}
-use Rattle.hall_types.specs.Number.{max_number}
-use Rattle.hall_types.specs.declared.port.Port.{Port}
-use Rattle.boot_desk.specs.FrameEvent.{frame_decision}
-use Rattle.boot_desk.specs.declared.frames.Decision.{Decision}
-use Rattle.boot_desk.specs.declared.frames.Decision.TheVariants.{Loader, ScriptUrl}
-use Rattle.boot_desk.specs.declared.frames.FrameView.{FrameView}
-use Rattle.desk_operations.specs.declared.frame_input.TheConstants.{MAX_OCTETS}
-use Rattle.desk_values.specs.Fault.{IsFrameFault}
-use Rattle.desk_operations.specs.FrameInput.{IsInput}
-use Rattle.desk_operations.specs.declared.frames.Exit.{Exit}
-use Rattle.desk_operations.specs.declared.frames.Exit.TheVariants.{Done, Fault as Failed, NotAll, Silence}
+use Rattle.dhcp_frame.specs.{Message.{Message, IsFrame}, Reply.reply_octets}
+use Rattle.pxe_vendor.specs.{Answer.answer_to, BootFile.boot_file_of, Client.IsClient, Place.Site, declared.clients.Client.Client}
+use Rattle.hall_types.specs.{Number.max_number, declared.port.Port.Port}
+use Rattle.boot_desk.specs.{FrameEvent.frame_decision, declared.frames.{Decision.{Decision, TheVariants.{Loader, ScriptUrl}}, FrameView.FrameView}}
+use Rattle.desk_operations.specs.{declared.{frame_input.TheConstants.MAX_OCTETS, frames.Exit.{Exit, TheVariants.{Done, Fault as Failed, NotAll, Silence}}}, FrameInput.IsInput}
+use Rattle.hall_report.specs.Fault.{IsFrameFault}
 
 -- a machine's number
 abbrev pub numbered : ℕ → Option ℕ

@@ -1,26 +1,15 @@
 -- What an import does to a hall, and what it writes.
-use Rattle.std.specs.Prelude.{◌≡◌, ◌≢◌, ◌≤◌, ◌==◌, ℕ, Bool, true, false, List, [], ◌∷◌, ◌++◌, Option, Some, length, map, replicate, if◌then◌else◌}
-use Rattle.std.specs.Fmt.{decimal}
-use Rattle.std.specs.Io.KnownBytes.{Appends}
-use Rattle.std.specs.List.{AllByRecursion, enumerate_from, flat_map, fold, list_all, scan}
+use Rattle.std.specs.{Prelude.{◌≡◌, ◌≢◌, ◌≤◌, ◌==◌, ℕ, Bool, true, false, List, [], ◌∷◌, ◌++◌, Option, Some, length, map, replicate, if◌then◌else◌}, Fmt.decimal, Io.KnownBytes.Appends, List.{AllByRecursion, enumerate_from, flat_map, fold, list_all, scan}}
 use Rattle.pxe_vendor.specs.Place.{Site}
 use Rattle.boot_desk.specs.Sound.{IsSound}
 use Rattle.hall_types.specs.Hall.{Hall, applied, second}
 use Rattle.hall_types.specs.declared.refusal.Refusal.TheVariants as cause
-use Rattle.hall_events.specs.Reply.{refused, reply_of}
-use Rattle.hall_events.specs.declared.command.HallCommand.TheVariants.{AddMachine}
-use Rattle.hall_events.specs.declared.event.Event.{Event}
-use Rattle.hall_events.specs.declared.event.Event.TheVariants.{Command}
-use Rattle.hall_events.specs.declared.reply.Reply.{Reply}
-use Rattle.hall_events.specs.declared.reply.Reply.TheVariants.{Http}
-use Rattle.laws_model.specs.Decision.{Decided, decision_of}
-use Rattle.hall_desk.specs.Headline.{HasHistory}
-use Rattle.hall_desk.specs.History.{Item, Origin, carried_out}
-use Rattle.hall_report.specs.declared.row.ImportRow.{ImportRow}
-use Rattle.desk_values.specs.declared.fault.Fault.{Fault}
-use Rattle.desk_values.specs.declared.fault.Fault.TheVariants.{Io}
-use Rattle.desk_operations.specs.declared.imports.Imported.{Imported}
-use Rattle.desk_operations.specs.declared.imports.Imported.TheVariants.{All, NotAll}
+use Rattle.hall_events.specs.{Reply.{refused, reply_of}, declared.{command.HallCommand.TheVariants.AddMachine, event.Event.{Event, TheVariants.Command}, reply.Reply.{Reply, TheVariants.Http}}}
+use Rattle.hall_laws.specs.Decision.{Decided, decision_of}
+use Rattle.hall_desk.specs.{Headline.HasHistory, History.{Item, Origin, carried_out}}
+use Rattle.hall_report.specs.declared.{row.ImportRow.ImportRow, task_fault.Fault.{Fault, TheVariants.Io}}
+use Rattle.desk_operations.specs.declared.imports.Imported.{Imported, TheVariants.{All, NotAll}}
+use Rattle.hall_store.specs.declared.store.HallStore.{Ghosts}
 
 -- ---- lines
 
@@ -82,18 +71,18 @@ module _ (site : Site) (bearer : List ℕ) (moment : ℕ) where
   replies_to h asked = scan after_row reply_to h asked
 
 -- `holds` says which hall a store has
-module _ {S : Type 0} (holds : S → Hall → Type 0) (store : S) (site : Site) (bearer : List ℕ) (moment : ℕ) (h : Hall) where
+module _ {S : Type 0} (g : Ghosts S) (store : S) (site : Site) (bearer : List ℕ) (moment : ℕ) (h : Hall) where
   -- a row came or not, and is answered so
   pub record IsRowAnswered (row : ImportRow) (reply : Reply) : Type 0 where
     pub came : Bool
-    pub held : holds store (after_row site bearer moment h (row, came))
+    pub held : g.holds store (after_row site bearer moment h (row, came))
     pub sound : IsSound (after_row site bearer moment h (row, came))
     pub is : reply ≡ reply_to site bearer moment h (row, came)
 
   -- a row came or not, and its line is written
   pub record IsRowDone (number : ℕ) (row : ImportRow) (was_ok : Bool) (before after : Option (List ℕ)) : Type 0 where
     pub came : Bool
-    pub held : holds store (after_row site bearer moment h (row, came))
+    pub held : g.holds store (after_row site bearer moment h (row, came))
     pub sound : IsSound (after_row site bearer moment h (row, came))
     pub written : Appends before after (line_of number (reply_to site bearer moment h (row, came)))
     pub ok : was_ok ≡ is_ok (reply_to site bearer moment h (row, came))
@@ -102,7 +91,7 @@ module _ {S : Type 0} (holds : S → Hall → Type 0) (store : S) (site : Site) 
   pub record IsImported (rows : List ImportRow) (end : Imported) (before after : Option (List ℕ)) : Type 0 where
     pub asked : List (ImportRow × Bool)
     pub all : map (λ row. row.0) asked ≡ rows
-    pub held : holds store (after_rows site bearer moment h asked)
+    pub held : g.holds store (after_rows site bearer moment h asked)
     pub sound : IsSound (after_rows site bearer moment h asked)
     pub written : Appends before after (lines_of (replies_to site bearer moment h asked))
     pub ended : end ≡ end_of (replies_to site bearer moment h asked)
@@ -110,7 +99,7 @@ module _ {S : Type 0} (holds : S → Hall → Type 0) (store : S) (site : Site) 
   -- a row came or not, and its line isn't written; a write that failed may have written anything
   pub record IsRowStopped (row : ImportRow) (fault : Fault) (before after : Option (List ℕ)) : Type 0 where
     pub came : Bool
-    pub held : holds store (after_row site bearer moment h (row, came))
+    pub held : g.holds store (after_row site bearer moment h (row, came))
     pub sound : IsSound (after_row site bearer moment h (row, came))
     pub written : fault ≢ Io → Appends before after []
 
@@ -122,7 +111,7 @@ module _ {S : Type 0} (holds : S → Hall → Type 0) (store : S) (site : Site) 
     pub others : List ImportRow
     pub one : length last ≤ 1
     pub all : map (λ row. row.0) (asked ++ last) ++ others ≡ rows
-    pub held : holds store (after_rows site bearer moment h (asked ++ last))
+    pub held : g.holds store (after_rows site bearer moment h (asked ++ last))
     pub sound : IsSound (after_rows site bearer moment h (asked ++ last))
     pub written : fault ≢ Io → Appends before after (lines_of (replies_to site bearer moment h asked))
 
@@ -133,7 +122,7 @@ abbrev pub IsRowItem : Site → List ℕ → ℕ → Item → Type 0
 IsRowItem site bearer moment item = (row : ImportRow) × (reply : Reply) × (item ≡ carried_out site (event_of bearer row) moment (replicate 16 0) reply)
 
 -- the rows that came go on from the hall's history
-abbrev pub GoOn : {S : Type 0} → (S → Hall → Type 0) → S → S → Site → List ℕ → ℕ → Type 0
-GoOn holds old new site bearer moment =
-    (origin : Origin) (past : List Item) → HasHistory holds old origin past
-    → (items : List Item) × AllByRecursion (IsRowItem site bearer moment) items × HasHistory holds new origin (past ++ items)
+abbrev pub GoOn : {S : Type 0} → Ghosts S → S → S → Site → List ℕ → ℕ → Type 0
+GoOn g old new site bearer moment =
+    (origin : Origin) (past : List Item) → HasHistory g old origin past
+    → (items : List Item) × AllByRecursion (IsRowItem site bearer moment) items × HasHistory g new origin (past ++ items)

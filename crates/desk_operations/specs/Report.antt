@@ -1,10 +1,8 @@
 -- What is written for each report on a hall.
 use Rattle.std.specs.Prelude.{◌≡◌, ℕ, List, Some, None}
-use Rattle.hall_types.specs.Hall.{Hall}
-use Rattle.hall_types.specs.Number.{IsNumber}
-use Rattle.hall_report.specs.Lines.{IsHallText, machine_text, order_text}
-use Rattle.desk_values.specs.declared.what.What.{What}
-use Rattle.desk_values.specs.declared.what.What.TheVariants as what
+use Rattle.hall_types.specs.{Hall.Hall, Number.IsNumber}
+use Rattle.hall_report.specs.{Lines.{IsHallText, machine_text, order_text}, declared.values.What.What}
+use Rattle.hall_report.specs.declared.values.What.TheVariants as what
 
 -- the text is the report on the hall
 abbrev pub IsReport : What → Hall → List ℕ → Type 0

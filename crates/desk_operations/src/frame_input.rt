@@ -1,12 +1,9 @@
 //! The input of a frame's run: Ethernet addresses, each on a line, an empty line, and one line of hexadecimal.
-ghost use Rattle.std.specs.Prelude.{◌≡◌, ◌≤◌, ◌<◌, ◌↔◌, ◌⊎◌, ◌∷◌, [], List, ℕ, None, Some, length, option_map, option_copied, position, ◌==◌, Contains, IsTrue, IfOk, IfErr, IfSome, IsErrOf, MatchOption, vec_len};
-ghost use Rattle.desk_operations.specs.FrameInput.{IsInput, Understood, hex_octets, lines_of, only_line, understood};
-ghost use Rattle.std.specs.Prelude.{suc};
-ghost use Rattle.desk_values.specs.Fault.{IsFrameFault};
-ghost use Rattle.std.specs.Str.{bytes_eq};
-ghost use Rattle.desk_operations.specs.Frame.{line_number, numbered};
+ghost use Rattle.std.specs.{Prelude.{◌≡◌, ◌≤◌, ◌<◌, ◌↔◌, ◌⊎◌, ◌∷◌, [], List, ℕ, None, Some, length, option_map, option_copied, position, ◌==◌, Contains, IsTrue, IfOk, IfErr, IfSome, IsErrOf, MatchOption, vec_len, suc}, Str.bytes_eq};
+ghost use Rattle.desk_operations.specs.{FrameInput.{IsInput, Understood, hex_octets, lines_of, only_line, understood}, Frame.{line_number, numbered}};
+ghost use Rattle.hall_report.specs.Fault.{IsFrameFault};
 
-use desk_values::Fault;
+use hall_report::Fault;
 use hall_types::Number;
 use hex::FromHexError;
 use std::alloc::{AllocError, Global};
@@ -129,7 +126,7 @@ fn parse_inner(alloc: Global, input: &[u8]) -> Result<Option<Input>, AllocError>
             };
             return Ok(Some(Input { addresses, octets }));
         }
-        let Some(address) = wire_mac::read(line) else {
+        let Some(address) = pxe_vendor::read_mac(line) else {
             return Ok(None);
         };
         addresses.push(address)?;

@@ -1,23 +1,19 @@
 //! The import of new machines.
-ghost use Rattle.std.specs.Prelude.{◌≡◌, ◌≢◌, ◌⊎◌, ℕ, List, [], ◌∷◌, Ok, Err, IfErr, IfOk, IsErr, OnErr, if◌then◌else◌};
+ghost use Rattle.std.specs.Prelude.{◌≡◌, ◌≢◌, ◌⊎◌, ℕ, List, [], ◌∷◌, Ok, Err, IfErr, IfOk, IsErr, OnErr, if◌then◌else◌, string_bytes};
 ghost use Rattle.hall_types.specs.Hall.{Hall};
 ghost use Rattle.boot_desk.specs.Sound.{IsSound};
 ghost use Rattle.hall_desk.specs.Desk.{site_of, store_of};
-ghost use Rattle.hall_report.specs.Import.{import_in};
+ghost use Rattle.hall_report.specs.{Import.import_in, declared.row.ImportRow.ImportRow, Fault.{IsImportFault, IsStoreFault}};
 ghost use Rattle.hall_report.specs.declared.fault.ImportFault.TheVariants as cause;
-ghost use Rattle.hall_report.specs.declared.row.ImportRow.{ImportRow};
-ghost use Rattle.desk_values.specs.Fault.{IsImportFault, IsStoreFault};
-ghost use Rattle.desk_operations.specs.Import.{GoOn, IsImported, IsRowAnswered, IsRowDone, IsRowStopped, IsStopped, event_of};
+ghost use Rattle.desk_operations.specs.Import.{GoOn, IsImported, IsRowAnswered, IsRowDone, IsRowStopped, IsStopped, event_of, row_line};
 
-use crate::import_line::row_line;
 use crate::writing::write_text;
-use desk_values::Fault;
 use hall_desk::Desk;
 use hall_events::{Event, HallCommand, Reply};
-use hall_report::{ImportRow, import_rows};
+use hall_laws::{decisions_keep_the_rules, steps_keep_halls_sound};
+use hall_report::{Fault, ImportRow, import_rows};
 use hall_store::{HallStore, Unavailable};
 use hall_types::{Digest, Moment, Refusal, Token};
-use laws_steps::{decisions_keep_the_rules, steps_keep_halls_sound};
 use std::alloc::{AllocError, Global};
 use std::io::Write;
 
@@ -28,6 +24,19 @@ pub enum Imported {
     All,
     /// A row was answered with another status.
     NotAll,
+}
+
+// The number of a row, the status and the body of its answer, one space apart, and a line feed.
+fn row_line(alloc: Global, number: u64, status: u16, body: &str) -> Result<String, AllocError>
+    ensures { IfOk result (λ text. string_bytes text ≡ row_line number status body.now) }
+{
+    let mut text = number.to_string(alloc)?;
+    text.push(' ')?;
+    text.push_str(status.to_string(alloc)?.as_str())?;
+    text.push(' ')?;
+    text.push_str(body)?;
+    text.push('\n')?;
+    Ok(text)
 }
 
 // No boot is issued for a command, so its fresh octets are of no use.
@@ -59,8 +68,8 @@ fn answer_row<S: HallStore>(
     ensures clean { S.HallStore.is_clean (store_of desk.new) → S.HallStore.is_clean (store_of desk.old) }
     ensures site { site_of desk.new ≡ site_of desk.old }
     ensures answered { S.HallStore.is_clean (store_of desk.new) → IfOk result (λ reply. (h : Hall) → S.HallStore.holds (store_of desk.old) h → IsSound h
-        → IsRowAnswered S.HallStore.holds (store_of desk.new) (site_of desk.old) bearer moment h row.now reply) }
-    ensures history { S.HallStore.is_clean (store_of desk.new) → GoOn S.HallStore.holds (store_of desk.old) (store_of desk.new) (site_of desk.old) bearer moment }
+        → IsRowAnswered S.HallStore (store_of desk.new) (site_of desk.old) bearer moment h row.now reply) }
+    ensures history { S.HallStore.is_clean (store_of desk.new) → GoOn S.HallStore (store_of desk.old) (store_of desk.new) (site_of desk.old) bearer moment }
     ensures missed { S.HallStore.is_clean (store_of desk.new) → OnErr result ((h : Hall) → S.HallStore.holds (store_of desk.old) h → S.HallStore.holds (store_of desk.new) h) }
 {
     steps_keep_halls_sound();
@@ -88,10 +97,10 @@ fn add_row<S: HallStore, W: Write>(
     ensures clean { S.HallStore.is_clean (store_of desk.new) → S.HallStore.is_clean (store_of desk.old) }
     ensures site { site_of desk.new ≡ site_of desk.old }
     ensures done { S.HallStore.is_clean (store_of desk.new) → IfOk result (λ was_ok. (h : Hall) → S.HallStore.holds (store_of desk.old) h → IsSound h
-        → IsRowDone S.HallStore.holds (store_of desk.new) (site_of desk.old) bearer moment h number row.now was_ok (W.contents writer.old) (W.contents writer.new)) }
+        → IsRowDone S.HallStore (store_of desk.new) (site_of desk.old) bearer moment h number row.now was_ok (W.contents writer.old) (W.contents writer.new)) }
     ensures stopped { S.HallStore.is_clean (store_of desk.new) → IfErr result (λ fault. (h : Hall) → S.HallStore.holds (store_of desk.old) h → IsSound h
-        → IsRowStopped S.HallStore.holds (store_of desk.new) (site_of desk.old) bearer moment h row.now fault (W.contents writer.old) (W.contents writer.new)) }
-    ensures history { S.HallStore.is_clean (store_of desk.new) → GoOn S.HallStore.holds (store_of desk.old) (store_of desk.new) (site_of desk.old) bearer moment }
+        → IsRowStopped S.HallStore (store_of desk.new) (site_of desk.old) bearer moment h row.now fault (W.contents writer.old) (W.contents writer.new)) }
+    ensures history { S.HallStore.is_clean (store_of desk.new) → GoOn S.HallStore (store_of desk.old) (store_of desk.new) (site_of desk.old) bearer moment }
     ensures fault { IfErr result IsStoreFault }
 {
     let reply = answer_row(alloc, desk, row, bearer, moment)?;
@@ -121,10 +130,10 @@ fn add_rows<S: HallStore, W: Write>(
     ensures clean { S.HallStore.is_clean (store_of desk.new) → S.HallStore.is_clean (store_of desk.old) }
     ensures site { site_of desk.new ≡ site_of desk.old }
     ensures imported { S.HallStore.is_clean (store_of desk.new) → IfOk result (λ end. (h : Hall) → S.HallStore.holds (store_of desk.old) h → IsSound h
-        → IsImported S.HallStore.holds (store_of desk.new) (site_of desk.old) bearer moment h rows.now end (W.contents writer.old) (W.contents writer.new)) }
+        → IsImported S.HallStore (store_of desk.new) (site_of desk.old) bearer moment h rows.now end (W.contents writer.old) (W.contents writer.new)) }
     ensures stopped { S.HallStore.is_clean (store_of desk.new) → IfErr result (λ fault. (h : Hall) → S.HallStore.holds (store_of desk.old) h → IsSound h
-        → IsStopped S.HallStore.holds (store_of desk.new) (site_of desk.old) bearer moment h rows.now fault (W.contents writer.old) (W.contents writer.new)) }
-    ensures history { S.HallStore.is_clean (store_of desk.new) → GoOn S.HallStore.holds (store_of desk.old) (store_of desk.new) (site_of desk.old) bearer moment }
+        → IsStopped S.HallStore (store_of desk.new) (site_of desk.old) bearer moment h rows.now fault (W.contents writer.old) (W.contents writer.new)) }
+    ensures history { S.HallStore.is_clean (store_of desk.new) → GoOn S.HallStore (store_of desk.old) (store_of desk.new) (site_of desk.old) bearer moment }
     ensures fault { IfErr result IsStoreFault }
 {
     let mut end = Imported::All;
@@ -158,10 +167,10 @@ pub fn import<S: HallStore, W: Write>(
     ensures clean { S.HallStore.is_clean (store_of desk.new) → S.HallStore.is_clean (store_of desk.old) }
     ensures site { site_of desk.new ≡ site_of desk.old }
     ensures imported { S.HallStore.is_clean (store_of desk.new) → IfOk result (λ end. (rows : List ImportRow) × (import_in octets.now ≡ Ok rows) × ((h : Hall) → S.HallStore.holds (store_of desk.old) h → IsSound h
-        → IsImported S.HallStore.holds (store_of desk.new) (site_of desk.old) bearer moment h rows end (W.contents writer.old) (W.contents writer.new))) }
+        → IsImported S.HallStore (store_of desk.new) (site_of desk.old) bearer moment h rows end (W.contents writer.old) (W.contents writer.new))) }
     ensures stopped { S.HallStore.is_clean (store_of desk.new) → IfErr result (λ fault. (rows : List ImportRow) → import_in octets.now ≡ Ok rows → (h : Hall) → S.HallStore.holds (store_of desk.old) h → IsSound h
-        → IsStopped S.HallStore.holds (store_of desk.new) (site_of desk.old) bearer moment h rows fault (W.contents writer.old) (W.contents writer.new)) }
-    ensures history { S.HallStore.is_clean (store_of desk.new) → GoOn S.HallStore.holds (store_of desk.old) (store_of desk.new) (site_of desk.old) bearer moment }
+        → IsStopped S.HallStore (store_of desk.new) (site_of desk.old) bearer moment h rows fault (W.contents writer.old) (W.contents writer.new)) }
+    ensures history { S.HallStore.is_clean (store_of desk.new) → GoOn S.HallStore (store_of desk.old) (store_of desk.new) (site_of desk.old) bearer moment }
     ensures fault { IfErr result IsImportFault }
     ensures bad_header { result ≡ Err Fault.BadHeader → import_in octets.now ≡ Err cause.BadHeader }
     ensures bad_row { result ≡ Err Fault.BadRow → (n : ℕ) × (import_in octets.now ≡ Err (cause.BadRow n)) }

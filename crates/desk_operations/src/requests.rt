@@ -1,15 +1,12 @@
 //! One request, from a reader to a writer.
 ghost use Rattle.std.specs.Prelude.{◌≡◌, ◌⊎◌, List, true, false, IfErr, IfSome};
 ghost use Rattle.hall_http.specs.Noted.{failed_of, inner_of, takes_of};
-ghost use Rattle.hall_desk.specs.Desk.{site_of, store_of};
-ghost use Rattle.hall_desk.specs.Headline.{HasHistory, HasSomeRequest};
-ghost use Rattle.hall_desk.specs.History.{Item, Origin};
-ghost use Rattle.hall_desk.specs.Stops.{IsLeft, IsSettled, OrSomeRequest};
+ghost use Rattle.hall_desk.specs.{Desk.{site_of, store_of}, Headline.{HasHistory, HasSomeRequest}, History.{Item, Origin}, Stops.{IsLeft, IsSettled, OrSomeRequest}};
 ghost use Rattle.desk_operations.specs.Request.{HasServed};
 
-use desk_values::Fault;
 use hall_desk::{Desk, Served};
 use hall_http::Noted;
+use hall_report::Fault;
 use hall_store::HallStore;
 use hall_types::{Moment, Token};
 use std::alloc::Global;
@@ -36,11 +33,11 @@ pub fn request<S: HallStore, R: Read, W: Write>(
     ensures clean { S.HallStore.is_clean (store_of desk.new) → S.HallStore.is_clean (store_of desk.old) }
     ensures site { site_of desk.new ≡ site_of desk.old }
     ensures served { S.HallStore.is_clean (store_of desk.new) → IfSome (R.remaining (inner_of reader.old)) (λ octets. IfSome (W.contents (inner_of writer.old)) (λ before.
-        HasServed S.HallStore.holds S.HallStore.leaves (store_of desk.old) (store_of desk.new) (site_of desk.old) moment fresh octets before result (W.contents (inner_of writer.new)))) }
-    ensures goes_on { S.HallStore.is_clean (store_of desk.new) → (origin : Origin) (past : List Item) → HasHistory S.HallStore.holds (store_of desk.old) origin past
-        → HasSomeRequest S.HallStore.holds (store_of desk.new) origin past (site_of desk.old) moment fresh }
-    ensures stop { S.HallStore.is_clean (store_of desk.new) → (origin : Origin) (past : List Item) → IsSettled S.HallStore.holds S.HallStore.leaves (store_of desk.old) origin past
-        → IsLeft S.HallStore.leaves (store_of desk.new) origin (OrSomeRequest past (site_of desk.old) moment fresh) }
+        HasServed S.HallStore (store_of desk.old) (store_of desk.new) (site_of desk.old) moment fresh octets before result (W.contents (inner_of writer.new)))) }
+    ensures goes_on { S.HallStore.is_clean (store_of desk.new) → (origin : Origin) (past : List Item) → HasHistory S.HallStore (store_of desk.old) origin past
+        → HasSomeRequest S.HallStore (store_of desk.new) origin past (site_of desk.old) moment fresh }
+    ensures stop { S.HallStore.is_clean (store_of desk.new) → (origin : Origin) (past : List Item) → IsSettled S.HallStore (store_of desk.old) origin past
+        → IsLeft S.HallStore (store_of desk.new) origin (OrSomeRequest past (site_of desk.old) moment fresh) }
     ensures fault { IfErr result (λ fault. fault ≡ Fault.Io) }
     // A read failed, or 4,096 reads gave octets, or a write failed.
     ensures failed { IfErr result (λ _. (failed_of reader.new ≡ true) ⊎ ((takes_of reader.new ≡ 4096) ⊎ (failed_of writer.new ≡ true))) }

@@ -1,8 +1,7 @@
 //! Writing a text.
-ghost use Rattle.std.specs.Prelude.{◌≡◌, IfErr, OnOk};
-ghost use Rattle.std.specs.Io.KnownBytes.{Appends};
+ghost use Rattle.std.specs.{Prelude.{◌≡◌, IfErr, OnOk}, Io.KnownBytes.Appends};
 
-use desk_values::Fault;
+use hall_report::Fault;
 use std::io::Write;
 
 /// Writes a text. A write that fails is `Io`.

@@ -1,10 +1,6 @@
 -- One step through an option area, whole areas, and values of a code.
-use Rattle.std.proofs.Common.{◌≡◌, ◌≢◌, ℕ, ◌<◌, List, [], ◌∷◌, ◌++◌, length, Some, None, refl, sym, ap, ◌∙◌, arith}
-use Rattle.std.specs.Prelude.{unwrap_or}
-use Rattle.std.proofs.lemmas.Bool.{eq-eqb, ne_eqb, lt-ltb}
-use Rattle.std.proofs.lemmas.List.{append-nil}
-use Rattle.dhcp_frame.specs.Area.{Entry, reading, entries_of, IsWhole, AreWhole, value_of}
-use Rattle.dhcp_frame.specs.AreaLaws.{reading-nothing, reading-padding, reading-end, reading-option}
+use Rattle.std.{proofs.{Common.{◌≡◌, ◌≢◌, ℕ, ◌<◌, List, [], ◌∷◌, ◌++◌, length, Some, None, refl, sym, ap, ◌∙◌, arith}, lemmas.{Bool.{eq-eqb, ne_eqb, lt-ltb}, List.append-nil}}, specs.Prelude.unwrap_or}
+use Rattle.dhcp_frame.specs.{Area.{Entry, reading, entries_of, IsWhole, AreWhole, value_of}, AreaLaws.{reading-nothing, reading-padding, reading-end, reading-option}}
 
 pub reading-empty : (octets : List ℕ) → length octets ≡ 0 → reading octets ≡ Some []
 reading-empty [] h = reading-nothing

@@ -1,16 +1,6 @@
 -- The program `understood` finds the message that a frame carries, where the octets are one.
-use Rattle.std.proofs.Common.{◌≡◌, ℕ, ◌≤◌, Bool, true, false, List, [], ◌∷◌, ◌++◌, length, Option, Some, None, Result, Ok, Err, refl, sym, ap, ◌∙◌, arith}
-use Rattle.std.specs.Prelude.{slice_index, slice_range, IfOk, ok_or}
-use Rattle.std.proofs.lemmas.Bool.Decides.{nat_tests}
-use Rattle.std.specs.Cmp.Lexicographic.{bytes_decides}
-use Rattle.dhcp_frame.specs.Area.{Entry, reading, value_of}
-use Rattle.dhcp_frame.specs.Message.{Message, HasHeader, ReadsIf, IsFrame, message_of, options_area, file_area, sname_area}
-use Rattle.dhcp_frame.specs.Overload.{overload_of}
-use Rattle.dhcp_frame.specs.Understood.{◌>>=◌, has_cookie, header, options_in, options_if, understood}
-use Rattle.dhcp_frame.specs.declared.overload.Overload.{Overload}
-use Rattle.dhcp_frame.specs.declared.fault.FrameFault.{FrameFault}
-use Rattle.dhcp_frame.specs.declared.fault.FrameFault.TheVariants.{BadOverload}
-use Rattle.dhcp_frame.specs.AreaLaws.{reading-from_Reads, Reads-from_reading}
+use Rattle.std.{proofs.{Common.{◌≡◌, ℕ, ◌≤◌, Bool, true, false, List, [], ◌∷◌, ◌++◌, length, Option, Some, None, Result, Ok, Err, refl, sym, ap, ◌∙◌, arith}, lemmas.Bool.Decides.nat_tests}, specs.{Prelude.{slice_index, slice_range, IfOk, ok_or}, Cmp.Lexicographic.bytes_decides}}
+use Rattle.dhcp_frame.specs.{Area.{Entry, reading, value_of}, Message.{Message, HasHeader, ReadsIf, IsFrame, message_of, options_area, file_area, sname_area}, Overload.overload_of, Understood.{◌>>=◌, has_cookie, header, options_in, options_if, understood}, declared.{overload.Overload.Overload, fault.FrameFault.{FrameFault, TheVariants.BadOverload}}, AreaLaws.{reading-from_Reads, Reads-from_reading}}
 
 -- ---- the header
 

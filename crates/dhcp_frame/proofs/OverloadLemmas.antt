@@ -1,10 +1,6 @@
 -- Joining the values of option 52 one after the other.
-use Rattle.std.proofs.Common.{◌≡◌, ℕ, List, [], ◌∷◌, ◌++◌, Option, Some, None, refl}
-use Rattle.std.specs.Prelude.{unwrap_or}
-use Rattle.dhcp_frame.specs.declared.overload.Start.{Start}
-use Rattle.dhcp_frame.specs.declared.overload.Start.TheVariants.{Absent, Empty, One, Long}
-use Rattle.dhcp_frame.specs.Start.{start_of, start_with}
-use Rattle.dhcp_frame.proofs.AreaLemmas.{AreWhole-one, entries_of-one, value_of-same, value_of-other}
+use Rattle.std.{proofs.Common.{◌≡◌, ℕ, List, [], ◌∷◌, ◌++◌, Option, Some, None, refl}, specs.Prelude.unwrap_or}
+use Rattle.dhcp_frame.{specs.{declared.overload.Start.{Start, TheVariants.{Absent, Empty, One, Long}}, Start.{start_of, start_with}}, proofs.AreaLemmas.{AreWhole-one, entries_of-one, value_of-same, value_of-other}}
 
 pub start_with-absent : (more : Option (List ℕ)) → start_with Absent more ≡ start_of more
 unfolding start_with

@@ -1,15 +1,6 @@
 -- A reply's octets read as what was written: its options field as the options, its file field as the file.
-use Rattle.std.proofs.Common.{◌≡◌, ◌≢◌, ℕ, suc, ◌-◌, ◌≤◌, ◌<◌, List, [], ◌∷◌, ◌++◌, length, take, drop, get_or, Result, Ok, Err, refl, sym, ap, subst, ◌∙◌, arith, append_assoc, length-append}
-use Rattle.std.specs.Prelude.{◌==◌, All, slice_range, OnOk, is_ok, if◌then◌else◌}
-use Rattle.std.specs.List.{flat_map, before_first}
-use Rattle.std.proofs.lemmas.Bool.{ne_eqb}
-use Rattle.std.proofs.lemmas.List.{take_at, drop_at, length-replicate, get_or_append_left}
-use Rattle.std.proofs.lemmas.List.Sums.{position_or_len_is}
-use Rattle.std.proofs.Math.Seq.{get_or-append_seam}
-use Rattle.dhcp_frame.specs.Area.{Entry, Reads, end, option}
-use Rattle.dhcp_frame.specs.Reply.{Reply, option_octets, area_octets, header_octets, reply_octets, zeros, AreOptions, start_octets, address_octets, name_octets, file_name}
-use Rattle.dhcp_frame.specs.Message.{file_area}
-use Rattle.dhcp_frame.specs.declared.layout.TheConstants.{MAGIC_COOKIE}
+use Rattle.std.{proofs.{Common.{◌≡◌, ◌≢◌, ℕ, suc, ◌-◌, ◌≤◌, ◌<◌, List, [], ◌∷◌, ◌++◌, length, take, drop, get_or, Result, Ok, Err, refl, sym, ap, subst, ◌∙◌, arith, append_assoc, length-append}, lemmas.{Bool.ne_eqb, List.{take_at, drop_at, length-replicate, get_or_append_left, Sums.position_or_len_is}}, Math.Seq.get_or-append_seam}, specs.{Prelude.{◌==◌, All, slice_range, OnOk, is_ok, if◌then◌else◌}, List.{flat_map, before_first}}}
+use Rattle.dhcp_frame.specs.{Area.{Entry, Reads, end, option}, Reply.{Reply, option_octets, area_octets, header_octets, reply_octets, zeros, AreOptions, start_octets, address_octets, name_octets, file_name}, Message.file_area, declared.layout.TheConstants.MAGIC_COOKIE}
 
 -- the octets after the end octet don't matter
 pub Reads-area_octets : (es : List Entry) (rest : List ℕ) → AreOptions es → Reads (area_octets es ++ rest) es

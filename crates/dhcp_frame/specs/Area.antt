@@ -1,6 +1,5 @@
 -- Option areas (RFC 2132 section 2): the options that a list of octets holds.
-use Rattle.std.specs.Prelude.{◌≡◌, ◌≢◌, ℕ, zero, suc, List, [], ◌∷◌, ◌++◌, length, take, drop, Option, Some, None, unwrap_or, nat_lt, ◌==◌, if◌then◌else◌}
-use Rattle.std.specs.Option.{option_map}
+use Rattle.std.specs.{Prelude.{◌≡◌, ◌≢◌, ℕ, zero, suc, List, [], ◌∷◌, ◌++◌, length, take, drop, Option, Some, None, unwrap_or, nat_lt, ◌==◌, if◌then◌else◌}, Option.option_map}
 use Rattle.dhcp_frame.specs.declared.option_codes.TheConstants.{PAD, END}
 
 -- an option: its code and its value

@@ -1,10 +1,5 @@
 -- Laws of option areas: the program `reading` finds the options of an area, and there are no others.
-use Rattle.std.proofs.Common.{◌≡◌, ◌≢◌, ℕ, zero, suc, ◌≤◌, List, [], ◌∷◌, ◌++◌, length, take, drop, Option, Some, None, refl, sym, ap, subst, ◌∙◌, arith, inl, inr, length-append, length-drop}
-use Rattle.std.specs.Prelude.{◌==◌, nat_lt, if◌then◌else◌}
-use Rattle.std.specs.Option.{option_map}
-use Rattle.std.proofs.lemmas.Bool.{le-ltb, cases_eq, eq-eqb, ne_eqb, cases_lt, lt-ltb}
-use Rattle.std.proofs.lemmas.Option.{same_Some}
-use Rattle.std.proofs.lemmas.List.{take_at, drop_at, take-append-drop, length-take-le}
+use Rattle.std.{proofs.{Common.{◌≡◌, ◌≢◌, ℕ, zero, suc, ◌≤◌, List, [], ◌∷◌, ◌++◌, length, take, drop, Option, Some, None, refl, sym, ap, subst, ◌∙◌, arith, inl, inr, length-append, length-drop}, lemmas.{Bool.{le-ltb, cases_eq, eq-eqb, ne_eqb, cases_lt, lt-ltb}, Option.same_Some, List.{take_at, drop_at, take-append-drop, length-take-le}}}, specs.{Prelude.{◌==◌, nat_lt, if◌then◌else◌}, Option.option_map}}
 use Rattle.dhcp_frame.specs.Area.{Entry, Reads, nothing, padding, end, option, reading, reading_within, option_then}
 
 -- the options after an option are read from fewer octets

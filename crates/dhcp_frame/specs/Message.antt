@@ -1,11 +1,7 @@
 -- A client's DHCP message (RFC 2131 section 2): its fields, and its options in order.
 use Rattle.std.specs.Prelude.{◌≡◌, ◌≤◌, ℕ, Bool, true, false, List, [], ◌∷◌, ◌++◌, drop, length, Some, slice_index, slice_range}
 use Rattle.byteorder.specs.Endian.{big_number}
-use Rattle.dhcp_frame.specs.Area.{Entry, Reads, value_of}
-use Rattle.dhcp_frame.specs.Overload.{overload_of}
-use Rattle.dhcp_frame.specs.declared.overload.Overload.{Overload}
-use Rattle.dhcp_frame.specs.declared.option_codes.TheConstants.{OVERLOAD}
-use Rattle.dhcp_frame.specs.declared.layout.TheConstants.{OP, HTYPE, HLEN, XID, SECS, FLAGS, CIADDR, YIADDR, GIADDR, CHADDR, SNAME, FILE, COOKIE, OPTIONS, BOOT_REQUEST, ETHERNET, ETHERNET_LEN, MAGIC_COOKIE}
+use Rattle.dhcp_frame.specs.{Area.{Entry, Reads, value_of}, Overload.overload_of, declared.{overload.Overload.Overload, option_codes.TheConstants.OVERLOAD, layout.TheConstants.{OP, HTYPE, HLEN, XID, SECS, FLAGS, CIADDR, YIADDR, GIADDR, CHADDR, SNAME, FILE, COOKIE, OPTIONS, BOOT_REQUEST, ETHERNET, ETHERNET_LEN, MAGIC_COOKIE}}}
 
 -- a message: the fields that are read, and the options in order
 pub record Message : Type 0 where

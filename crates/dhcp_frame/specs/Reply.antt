@@ -1,14 +1,7 @@
 -- A server's reply (RFC 2131 section 2): its fields and options, and its octets.
-use Rattle.std.specs.Prelude.{◌≢◌, ℕ, ◌-◌, ◌==◌, List, [], ◌∷◌, ◌++◌, length, map, replicate}
-use Rattle.std.specs.List.{flat_map, before_first, AllByRecursion}
+use Rattle.std.specs.{Prelude.{◌≢◌, ℕ, ◌-◌, ◌==◌, List, [], ◌∷◌, ◌++◌, length, map, replicate}, List.{flat_map, before_first, AllByRecursion}}
 use Rattle.byteorder.specs.Endian.{big_bytes}
-use Rattle.dhcp_frame.specs.Area.{Entry}
-use Rattle.dhcp_frame.specs.Message.{file_area}
-use Rattle.dhcp_frame.specs.declared.layout.TheConstants.{YIADDR, SIADDR, SNAME, FILE, COOKIE, BOOT_REPLY, ETHERNET, ETHERNET_LEN, MAGIC_COOKIE}
-use Rattle.dhcp_frame.specs.declared.option_codes.TheConstants.{PAD, END}
-use Rattle.dhcp_frame.specs.declared.reply.TheConstants.{MIN_REPLY_LEN}
-use Rattle.dhcp_frame.specs.declared.reply.ReplyFields.{ReplyFields}
-use Rattle.dhcp_frame.specs.declared.reply.DhcpOption.{DhcpOption}
+use Rattle.dhcp_frame.specs.{Area.Entry, Message.file_area, declared.{layout.TheConstants.{YIADDR, SIADDR, SNAME, FILE, COOKIE, BOOT_REPLY, ETHERNET, ETHERNET_LEN, MAGIC_COOKIE}, option_codes.TheConstants.{PAD, END}, reply.{TheConstants.MIN_REPLY_LEN, ReplyFields.ReplyFields, DhcpOption.DhcpOption}}}
 
 -- the code and the value of an option
 abbrev pub entry_of : DhcpOption → Entry

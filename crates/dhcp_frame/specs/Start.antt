@@ -1,7 +1,6 @@
 -- The start of a joined value: its first octet if it has one octet, and else how many there are.
 use Rattle.std.specs.Prelude.{ℕ, List, [], ◌∷◌, Option, Some, None, unwrap_or}
-use Rattle.dhcp_frame.specs.declared.overload.Start.{Start}
-use Rattle.dhcp_frame.specs.declared.overload.Start.TheVariants.{Absent, Empty, One, Long}
+use Rattle.dhcp_frame.specs.declared.overload.Start.{Start, TheVariants.{Absent, Empty, One, Long}}
 
 -- the start of this value
 unfoldable pub start_of : Option (List ℕ) → Start

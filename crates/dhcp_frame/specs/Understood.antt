@@ -1,13 +1,6 @@
 -- Reading a frame up to its first fault: the program for `IsFrame`.
-use Rattle.std.specs.Cmp.Lexicographic.{pointwise}
-use Rattle.std.specs.Prelude.{ℕ, nat_eq, slice_range, Bool, true, false, List, [], ◌++◌, length, Result, Ok, Err, ok_or, nat_lt, not, ◌==◌, ◌&&◌, if◌then◌else◌, slice_index}
-use Rattle.dhcp_frame.specs.Area.{Entry, reading, value_of}
-use Rattle.dhcp_frame.specs.Overload.{overload_of}
-use Rattle.dhcp_frame.specs.Message.{Message, message_of, options_area, file_area, sname_area}
-use Rattle.dhcp_frame.specs.declared.layout.TheConstants.{OP, HTYPE, HLEN, COOKIE, OPTIONS, BOOT_REQUEST, ETHERNET, ETHERNET_LEN, MAGIC_COOKIE}
-use Rattle.dhcp_frame.specs.declared.option_codes.TheConstants.{OVERLOAD}
-use Rattle.dhcp_frame.specs.declared.fault.FrameFault.{FrameFault}
-use Rattle.dhcp_frame.specs.declared.fault.FrameFault.TheVariants.{Short, NotRequest, NotEthernet, NoCookie, BadOverload, CutOption}
+use Rattle.std.specs.{Cmp.Lexicographic.pointwise, Prelude.{ℕ, nat_eq, slice_range, Bool, true, false, List, [], ◌++◌, length, Result, Ok, Err, ok_or, nat_lt, not, ◌==◌, ◌&&◌, if◌then◌else◌, slice_index}}
+use Rattle.dhcp_frame.specs.{Area.{Entry, reading, value_of}, Overload.overload_of, Message.{Message, message_of, options_area, file_area, sname_area}, declared.{layout.TheConstants.{OP, HTYPE, HLEN, COOKIE, OPTIONS, BOOT_REQUEST, ETHERNET, ETHERNET_LEN, MAGIC_COOKIE}, option_codes.TheConstants.OVERLOAD, fault.FrameFault.{FrameFault, TheVariants.{Short, NotRequest, NotEthernet, NoCookie, BadOverload, CutOption}}}}
 
 -- a step, and then another one, up to the first fault
 infixl 10 ◌>>=◌

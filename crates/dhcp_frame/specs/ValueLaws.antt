@@ -1,6 +1,5 @@
 -- Laws of joined values: they can be joined one by one (RFC 3396 section 5).
-use Rattle.std.proofs.Common.{◌≡◌, ℕ, List, [], ◌++◌, Option, Some, None, refl, ap, append_assoc, append-nil}
-use Rattle.std.specs.Prelude.{unwrap_or}
+use Rattle.std.{proofs.Common.{◌≡◌, ℕ, List, [], ◌++◌, Option, Some, None, refl, ap, append_assoc, append-nil}, specs.Prelude.unwrap_or}
 
 -- the values joined so far, and then the joined values of the rest
 unfoldable pub joined_then : Option (List ℕ) → Option (List ℕ) → Option (List ℕ)

@@ -1,7 +1,6 @@
 //! Option areas (RFC 2132 section 2), and the options in them.
 ghost use Rattle.std.specs.Prelude.{◌≡◌, ◌≢◌, ◌∷◌, ◌++◌, List, ℕ, Some, ◌↔◌, None, MatchBool};
-ghost use Rattle.dhcp_frame.specs.Area.{Entry, Reads, reading, entries_of, IsWhole, AreWhole};
-ghost use Rattle.dhcp_frame.specs.Front.{BeginsWith};
+ghost use Rattle.dhcp_frame.specs.{Area.{Entry, Reads, reading, entries_of, IsWhole, AreWhole}, Front.BeginsWith};
 
 use crate::option_codes::{END, PAD};
 use std::marker::Model;

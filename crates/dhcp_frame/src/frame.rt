@@ -1,8 +1,6 @@
 //! A client's frame, read from its octets.
 ghost use Rattle.std.specs.Prelude.{◌≡◌, ◌≤◌, None, Some, Ok, Err, IsOk, IfOk, MatchResult, option_map, length, take};
-ghost use Rattle.dhcp_frame.specs.Area.{value_of, entries_of, IsWhole};
-ghost use Rattle.dhcp_frame.specs.Message.{Message, IsFrame};
-ghost use Rattle.dhcp_frame.specs.Understood.{has_cookie, header, options_if, understood};
+ghost use Rattle.dhcp_frame.specs.{Area.{value_of, entries_of, IsWhole}, Message.{Message, IsFrame}, Understood.{has_cookie, header, options_if, understood}};
 
 use crate::area::{OptionIter, is_whole};
 use crate::fault::FrameFault;
@@ -29,9 +27,7 @@ pub struct Frame<'a> {
 
 impl<'a> Model for Frame<'a> {
     ghost use Rattle.std.specs.Prelude.{◌++◌, ◌≤◌, length};
-    ghost use Rattle.dhcp_frame.specs.Area.{entries_of, AreWhole};
-    ghost use Rattle.dhcp_frame.specs.Message.{Message, message_of};
-    ghost use Rattle.dhcp_frame.specs.declared.layout.TheConstants.{OPTIONS};
+    ghost use Rattle.dhcp_frame.specs.{Area.{entries_of, AreWhole}, Message.{Message, message_of}, declared.layout.TheConstants.OPTIONS};
 
     ghost Value = { Message };
 

@@ -1,6 +1,5 @@
 //! The values of the options with one code, joined.
-ghost use Rattle.std.specs.Prelude.{◌≡◌, ◌++◌, [], None, Some, OnOk, OnErr, IfOk, option_map, option_copied, unwrap_or};
-ghost use Rattle.std.specs.Cow.{cow_slice_items};
+ghost use Rattle.std.specs.{Prelude.{◌≡◌, ◌++◌, [], None, Some, OnOk, OnErr, IfOk, option_map, option_copied, unwrap_or}, Cow.cow_slice_items};
 
 use std::alloc::{AllocError, Global};
 use std::borrow::CowSlice;
@@ -15,8 +14,7 @@ pub struct JoinedValue<'a> {
 }
 
 impl<'a> Model for JoinedValue<'a> {
-    ghost use Rattle.std.specs.Prelude.{List, ℕ, Option, option_map};
-    ghost use Rattle.std.specs.Cow.{cow_slice_items};
+    ghost use Rattle.std.specs.{Prelude.{List, ℕ, Option, option_map}, Cow.cow_slice_items};
 
     ghost Value = { Option (List ℕ) };
 

@@ -1,8 +1,6 @@
 //! Option 52, option overload (RFC 2132 section 9.3): which fields hold options after the options field.
 ghost use Rattle.std.specs.Prelude.{◌≡◌, Option, Some, List, ℕ};
-ghost use Rattle.dhcp_frame.specs.Area.{value_of, entries_of, IsWhole};
-ghost use Rattle.dhcp_frame.specs.Overload.{overload_of};
-ghost use Rattle.dhcp_frame.specs.Start.{start_of, start_with};
+ghost use Rattle.dhcp_frame.specs.{Area.{value_of, entries_of, IsWhole}, Overload.overload_of, Start.{start_of, start_with}};
 
 use crate::area::OptionIter;
 use crate::option_codes::OVERLOAD;

@@ -1,8 +1,6 @@
 //! Writing a server's reply.
 ghost use Rattle.std.specs.Prelude.{◌≡◌, ◌≢◌, ◌≤◌, ◌<◌, ◌+◌, ◌↔◌, ◌++◌, ℕ, List, map, length, drop, OnOk, IfOk, IsErrOf, MatchBool, All, Any};
-ghost use Rattle.dhcp_frame.specs.Area.{Reads};
-ghost use Rattle.dhcp_frame.specs.Message.{options_area};
-ghost use Rattle.dhcp_frame.specs.Reply.{reply_of, entry_of, option_octets, start_octets, address_octets, name_octets, header_octets, reply_octets, AreOptions, padded, area_octets, zeros, file_name};
+ghost use Rattle.dhcp_frame.specs.{Area.Reads, Message.options_area, Reply.{reply_of, entry_of, option_octets, start_octets, address_octets, name_octets, header_octets, reply_octets, AreOptions, padded, area_octets, zeros, file_name}};
 
 use crate::fault::WriteFault;
 use crate::layout::{

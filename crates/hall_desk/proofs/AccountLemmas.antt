@@ -1,26 +1,13 @@
 -- What is noted of a client's frame.
-use Rattle.std.proofs.Common.{◌≡◌, ◌∙◌, ℕ, List, None, Result, Ok, Err, ap}
-use Rattle.std.specs.Prelude.{IfOk, OnErr, OnOk}
+use Rattle.std.{proofs.Common.{◌≡◌, ◌∙◌, ℕ, List, None, Result, Ok, Err, ap}, specs.Prelude.{IfOk, OnErr, OnOk}}
 use Rattle.dhcp_frame.specs.Message.{Message}
-use Rattle.pxe_vendor.specs.Place.{Site}
-use Rattle.pxe_vendor.specs.declared.clients.Client.{Client}
-use Rattle.hall_types.specs.Hall.{Hall}
-use Rattle.hall_types.specs.declared.change.RowWrite.{RowWrite}
-use Rattle.hall_types.specs.declared.port.Port.{Port}
+use Rattle.pxe_vendor.specs.{Place.Site, declared.clients.Client.Client}
+use Rattle.hall_types.specs.{Hall.Hall, declared.{change.RowWrite.RowWrite, port.Port.Port}}
 use Rattle.hall_events.specs.declared.event.Event.TheVariants.{Frame}
-use Rattle.boot_desk.specs.FrameEvent.{frame_decision, frame_view}
-use Rattle.boot_desk.specs.declared.frames.Decision.{Decision}
-use Rattle.boot_desk.specs.declared.frames.Decision.TheVariants.{Enlist, Loader, ScriptUrl, Silent}
+use Rattle.boot_desk.specs.{FrameEvent.{frame_decision, frame_view}, declared.frames.Decision.{Decision, TheVariants.{Enlist, Loader, ScriptUrl, Silent}}}
 use Rattle.hall_store.specs.declared.store.Unavailable.{Unavailable as Refusing}
-use Rattle.laws_model.specs.Decision.{decision_of, framed}
-use Rattle.hall_desk.specs.Account.{IsMoved, given_or_missed, nothing_noted}
-use Rattle.hall_desk.specs.Moved.{moved_by}
-use Rattle.hall_desk.specs.Octets.{frame_answer}
-use Rattle.hall_desk.specs.declared.account.Notes.{Notes}
-use Rattle.hall_desk.specs.declared.arrival.Answer.{Answer}
-use Rattle.hall_desk.specs.declared.arrival.Answer.TheVariants.{Octets, Silence, Unavailable}
-use Rattle.hall_desk.specs.declared.arrival.Input.TheVariants.{Datagram}
-use Rattle.hall_desk.proofs.StopLemmas.{frame_rows}
+use Rattle.hall_laws.specs.Decision.{decision_of, framed}
+use Rattle.hall_desk.{specs.{Account.{IsMoved, given_or_missed, nothing_noted}, Moved.moved_by, Octets.frame_answer, declared.{account.Notes.Notes, arrival.{Answer.{Answer, TheVariants.{Octets, Silence, Unavailable}}, Input.TheVariants.Datagram}}}, proofs.StopLemmas.frame_rows}
 
 not_unavailable : (site : Site) (h : Hall) (message : Message) (client : Client) (d : Decision) → Unavailable ≡ frame_answer site message client (framed d site h client).content → ⊥
 not_unavailable site h message client Loader is = cc

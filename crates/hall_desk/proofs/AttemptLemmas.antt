@@ -1,31 +1,14 @@
 -- Attempts: what is carried out, what is answered without the hall, and what is missed.
-use Rattle.std.proofs.Common.{◌≡◌, ◌∙◌, ℕ, List, ◌∷◌, Result, Ok, Err, refl, sym, subst, inl, inr}
-use Rattle.std.specs.Prelude.{◌≢◌, ◌⊎◌, IfOk}
-use Rattle.dhcp_frame.specs.Message.{Message, IsFrame}
-use Rattle.dhcp_frame.specs.declared.fault.FrameFault.{FrameFault}
-use Rattle.pxe_vendor.specs.Client.{IsClient}
-use Rattle.pxe_vendor.specs.Place.{Site}
-use Rattle.pxe_vendor.specs.declared.clients.Client.{Client}
-use Rattle.pxe_vendor.specs.declared.serve.NotServed.{NotServed}
-use Rattle.pxe_vendor.specs.declared.serve.NotServed.TheVariants.{Memory}
+use Rattle.std.{proofs.Common.{◌≡◌, ◌∙◌, ℕ, List, ◌∷◌, Result, Ok, Err, refl, sym, subst, inl, inr}, specs.Prelude.{◌≢◌, ◌⊎◌, IfOk}}
+use Rattle.dhcp_frame.specs.{Message.{Message, IsFrame}, declared.fault.FrameFault.FrameFault}
+use Rattle.pxe_vendor.specs.{Client.IsClient, Place.Site, declared.{clients.Client.Client, serve.NotServed.{NotServed, TheVariants.Memory}}}
 use Rattle.hall_types.specs.Hall.{Hall, applied, second}
-use Rattle.hall_events.specs.Reply.{Content, script, refused, counted, repeated, machine_is, machine_gone, done, waiting_orders, machine_list, one_machine, stored, boot_file, nothing}
-use Rattle.hall_events.specs.declared.event.Event.{Event}
+use Rattle.hall_events.specs.{Reply.{Content, script, refused, counted, repeated, machine_is, machine_gone, done, waiting_orders, machine_list, one_machine, stored, boot_file, nothing}, declared.event.Event.Event}
 use Rattle.boot_desk.specs.Sound.{IsSound}
-use Rattle.laws_model.specs.Decision.{decision_of}
-use Rattle.laws_model.specs.Step.{IsTyped}
-use Rattle.http_requests.specs.Request.{IsEvent}
-use Rattle.http_requests.specs.declared.fault.HttpFault.{HttpFault}
-use Rattle.http_requests.specs.declared.fault.HttpFault.TheVariants.{Memory as NoMemory}
-use Rattle.hall_store.specs.Rules.{AllKeep}
-use Rattle.hall_desk.specs.Attempt.{IsAnswered, IsAttempt}
-use Rattle.hall_desk.specs.Octets.{asks, answered, frame_answer, IsFrom, Means, missed_answer, refusal_of, response_answer}
-use Rattle.hall_desk.specs.Plan.{IsCarriedOut}
-use Rattle.hall_desk.specs.declared.arrival.Answer.{Answer}
-use Rattle.hall_desk.specs.declared.arrival.Answer.TheVariants.{Unavailable}
-use Rattle.hall_desk.specs.declared.arrival.Input.{Input}
-use Rattle.hall_desk.specs.declared.arrival.Input.TheVariants.{Datagram, Quiet, Request}
-use Rattle.hall_store.specs.declared.store.Unavailable.{Unavailable as Refusing}
+use Rattle.hall_laws.specs.{Decision.decision_of, Step.IsTyped}
+use Rattle.hall_http.specs.{Request.IsEvent, declared.fault.HttpFault.{HttpFault, TheVariants.Memory as NoMemory}}
+use Rattle.hall_store.specs.{Rules.AllKeep, declared.store.{HallStore.Ghosts, Unavailable.Unavailable as Refusing}}
+use Rattle.hall_desk.specs.{Attempt.{IsAnswered, IsAttempt}, Octets.{asks, answered, frame_answer, IsFrom, Means, missed_answer, refusal_of, response_answer}, Plan.IsCarriedOut, declared.arrival.{Answer.{Answer, TheVariants.Unavailable}, Input.{Input, TheVariants.{Datagram, Quiet, Request}}}}
 
 -- the rows of every decision keep the tables' rules and a sound hall
 pub record AreRules : Type 0 where
@@ -54,13 +37,13 @@ module _ (site : Site) where
   said_available (Request octets) e say means c is = let gone = subst (λ (f : Content → Answer). f c ≡ Unavailable) means.1 is in cc
   said_available Quiet e say means c is = let gone = subst (λ (f : Content → Answer). f c ≡ Unavailable) means.1 is in cc
 
-module _ {S : Type 0} (holds : S → Hall → Type 0) (leaves : S → List Hall → Type 0) where
+module _ {S : Type 0} (g : Ghosts S) where
   -- an arrival that asks the hall
-  pub attempt_asked : AreRules → ((s : S) (h : Hall) → holds s h → h.schema ≡ second)
+  pub attempt_asked : AreRules → ((s : S) (h : Hall) → g.holds s h → h.schema ≡ second)
       → (old new : S) (site : Site) (input : Input) (moment : ℕ) (fresh : List ℕ) (e : Event) (say : Content → Answer) → Means site input (asks e say) → IsTyped site e fresh
       → (r : Result Answer Refusing)
-      → IsCarriedOut holds leaves old new r (λ h. (decision_of site h e moment fresh).rows) (λ h a. a ≡ say (decision_of site h e moment fresh).content)
-      → IsAttempt holds leaves old new site input moment fresh r
+      → IsCarriedOut g old new r (λ h. (decision_of site h e moment fresh).rows) (λ h a. a ≡ say (decision_of site h e moment fresh).content)
+      → IsAttempt g old new site input moment fresh r
   attempt_asked rules schema old new site input moment fresh e say means typed (Ok a) c = record {
     came = λ h held sound. record {
       next = applied (decision_of site h e moment fresh).rows h;
@@ -73,7 +56,7 @@ module _ {S : Type 0} (holds : S → Hall → Type 0) (leaves : S → List Hall 
     unavailable = λ is h held. absurd (said_available site input e say means _ (sym (c.answer h held) ∙ is));
     idle = λ h held none.
         let no_rows = none (asks e say) means in
-        subst (λ rows. holds new (applied rows h)) no_rows (c.made h held (subst (λ rows. AllKeep rows h) (sym no_rows) tt));
+        subst (λ rows. g.holds new (applied rows h)) no_rows (c.made h held (subst (λ rows. AllKeep rows h) (sym no_rows) tt));
     still = λ h held none. c.still h held (none (asks e say) means);
     crash = λ h held sound hs left. record {
       next = applied (decision_of site h e moment fresh).rows h;
@@ -96,10 +79,10 @@ module _ {S : Type 0} (holds : S → Hall → Type 0) (leaves : S → List Hall 
     };
   }
 
-  module _ (wider : (s : S) (h : Hall) (hs : List Hall) → leaves s hs → leaves s (h ∷ hs)) (s : S) (site : Site) (input : Input) (moment : ℕ) (fresh : List ℕ) where
+  module _ (wider : (s : S) (h : Hall) (hs : List Hall) → g.leaves s hs → g.leaves s (h ∷ hs)) (s : S) (site : Site) (input : Input) (moment : ℕ) (fresh : List ℕ) where
     -- one that is answered without the hall
     pub attempt_answered : (a : Answer) → Means site input (answered a)
-        → IsAttempt holds leaves s s site input moment fresh {E = Refusing} (Ok a)
+        → IsAttempt g s s site input moment fresh {E = Refusing} (Ok a)
     attempt_answered a means = record {
       came = λ h held sound. record {
         next = h;
@@ -121,7 +104,7 @@ module _ {S : Type 0} (holds : S → Hall → Type 0) (leaves : S → List Hall 
     }
 
     -- one that counts as not having come
-    pub attempt_missed : (e : Refusing) → IsAttempt holds leaves s s site input moment fresh (Err e)
+    pub attempt_missed : (e : Refusing) → IsAttempt g s s site input moment fresh (Err e)
     attempt_missed e = record {
       came = tt;
       missed = λ h held. held;
@@ -137,10 +120,10 @@ module _ {S : Type 0} (holds : S → Hall → Type 0) (leaves : S → List Hall 
     }
 
   -- a request that makes no event
-  pub attempt_refused : (wider : (s : S) (h : Hall) (hs : List Hall) → leaves s hs → leaves s (h ∷ hs))
+  pub attempt_refused : (wider : (s : S) (h : Hall) (hs : List Hall) → g.leaves s hs → g.leaves s (h ∷ hs))
       → (s : S) (site : Site) (octets : List ℕ) (moment : ℕ) (fresh : List ℕ) (fault : HttpFault) → IsEvent octets (Err fault) → fault ≢ NoMemory
       → (r : Result Answer Refusing) → IfOk r (λ a. a ≡ response_answer (refused (refusal_of fault)))
-      → IsAttempt holds leaves s s site (Request octets) moment fresh r
+      → IsAttempt g s s site (Request octets) moment fresh r
   attempt_refused wider s site octets moment fresh fault first known (Ok a) is =
       attempt_answered wider s site (Request octets) moment fresh a (record { why = fault; first = first; known = known; answer = is })
   attempt_refused wider s site octets moment fresh fault first known (Err error) is = attempt_missed wider s site (Request octets) moment fresh error
@@ -171,12 +154,12 @@ no_client octets read cause only clients other message client is =
 
 -- ---- answers
 
-module _ {S : Type 0} (holds : S → Hall → Type 0) (leaves : S → List Hall → Type 0) (old new : S) (site : Site) (input : Input) (moment : ℕ) (fresh : List ℕ) where
-  pub answered_ok : (a : Answer) → IsAttempt holds leaves old new site input moment fresh {E = Refusing} (Ok a) → IsAnswered holds leaves old new site input moment fresh a
+module _ {S : Type 0} (g : Ghosts S) (old new : S) (site : Site) (input : Input) (moment : ℕ) (fresh : List ℕ) where
+  pub answered_ok : (a : Answer) → IsAttempt g old new site input moment fresh {E = Refusing} (Ok a) → IsAnswered g old new site input moment fresh a
   answered_ok a it = record { step = λ h held sound. inl (it.came h held sound); idle = it.idle; still = it.still; unavailable = it.unavailable; crash = it.crash }
 
-  pub answered_err : (e : Refusing) (a : Answer) → a ≡ missed_answer input → IsAttempt holds leaves old new site input moment fresh (Err e)
-      → IsAnswered holds leaves old new site input moment fresh a
+  pub answered_err : (e : Refusing) (a : Answer) → a ≡ missed_answer input → IsAttempt g old new site input moment fresh (Err e)
+      → IsAnswered g old new site input moment fresh a
   answered_err e a is it = record {
     step = λ h held sound. inr (record { answer = is; same = refl }, it.missed h held);
     idle = it.idle;

@@ -1,19 +1,11 @@
 -- A client's frame is planned as the whole hall has it planned.
-use Rattle.std.specs.Prelude.{◌≡◌, List, [], false}
-use Rattle.std.proofs.Common.{refl, sym, ap, ◌∙◌}
-use Rattle.pxe_vendor.specs.Place.{Site}
-use Rattle.pxe_vendor.specs.declared.clients.Client.{Client}
-use Rattle.hall_types.specs.Hall.{Hall}
-use Rattle.hall_types.specs.declared.change.RowWrite.{RowWrite}
-use Rattle.hall_types.specs.declared.port.Port.{Port}
-use Rattle.boot_desk.specs.FrameEvent.{enlisted, frame_decision, frame_view}
-use Rattle.boot_desk.specs.declared.frames.Decision.{Decision}
-use Rattle.boot_desk.specs.declared.frames.Decision.TheVariants.{Loader, ScriptUrl, Enlist, Silent}
-use Rattle.boot_desk.specs.declared.frames.FrameView.{FrameView}
-use Rattle.laws_model.specs.Decision.{framed}
-use Rattle.desk_views.specs.Client.{IsEnough}
-use Rattle.hall_desk.specs.Account.{is_unlisted}
-use Rattle.hall_desk.specs.Plan.{rows_for}
+use Rattle.std.{specs.Prelude.{◌≡◌, List, [], false}, proofs.Common.{refl, sym, ap, ◌∙◌}}
+use Rattle.pxe_vendor.specs.{Place.Site, declared.clients.Client.Client}
+use Rattle.hall_types.specs.{Hall.Hall, declared.{change.RowWrite.RowWrite, port.Port.Port}}
+use Rattle.boot_desk.specs.{FrameEvent.{enlisted, frame_decision, frame_view}, declared.frames.{Decision.{Decision, TheVariants.{Loader, ScriptUrl, Enlist, Silent}}, FrameView.FrameView}}
+use Rattle.hall_laws.specs.Decision.{framed}
+use Rattle.desk_command.specs.Client.{IsEnough}
+use Rattle.hall_desk.specs.{Account.is_unlisted, Plan.rows_for}
 
 -- a view that is enough leads to the decision on the hall, and to its rows
 pub enough_plans : (h : Hall) (client : Client) (port : Port) (v : FrameView) → IsEnough h client v

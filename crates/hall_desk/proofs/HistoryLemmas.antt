@@ -1,28 +1,14 @@
 -- What came as steps of the model, and how a history goes on.
-use Rattle.std.proofs.Common.{◌≡◌, ◌⊎◌, ℕ, List, [], ◌∷◌, ◌++◌, Result, Ok, Err, Option, Some, None, refl, sym, subst, inl, inr}
-use Rattle.std.specs.Prelude.{IfOk, IfSome}
+use Rattle.std.{proofs.Common.{◌≡◌, ◌⊎◌, ℕ, List, [], ◌∷◌, ◌++◌, Result, Ok, Err, Option, Some, None, refl, sym, subst, inl, inr}, specs.Prelude.{IfOk, IfSome}}
 use Rattle.pxe_vendor.specs.Place.{Site}
 use Rattle.hall_types.specs.Hall.{Hall, applied, second}
 use Rattle.boot_desk.specs.Sound.{IsSound}
-use Rattle.laws_model.specs.Decision.{decision_of}
-use Rattle.hall_events.specs.Reply.{reply_of}
-use Rattle.hall_events.specs.declared.reply.Reply.{Reply}
-use Rattle.hall_store.specs.Rules.{AllKeep}
-use Rattle.hall_store.specs.declared.store.Unavailable.{Unavailable as Refusing}
-use Rattle.hall_desk.specs.Plan.{IsCarriedOut}
-use Rattle.laws_model.specs.Step.{Arrival as MachineArrival, IsRun, IsTyped, IsTypedStep, Step}
-use Rattle.hall_desk.specs.Attempt.{IsAnswered, IsKept, IsRan}
-use Rattle.hall_desk.specs.Octets.{HasMissed, IsArrivalRun, IsOfType, Leads, Meaning, Means, answered, asks}
-use Rattle.hall_desk.specs.declared.arrival.Answer.{Answer}
-use Rattle.hall_desk.specs.declared.arrival.Arrival.{Arrival}
+use Rattle.hall_laws.specs.{Decision.decision_of, Step.{Arrival as MachineArrival, IsRun, IsTyped, IsTypedStep, Step}, Laws.AreTyped}
+use Rattle.hall_events.specs.{Reply.reply_of, declared.{reply.Reply.Reply, event.Event.Event}}
+use Rattle.hall_store.specs.{Rules.AllKeep, declared.store.{HallStore.Ghosts, Unavailable.Unavailable as Refusing}}
+use Rattle.hall_desk.specs.{Plan.IsCarriedOut, Attempt.{IsAnswered, IsKept, IsRan}, Octets.{HasMissed, IsArrivalRun, IsOfType, Leads, Meaning, Means, answered, asks}, declared.{arrival.{Answer.Answer, Arrival.Arrival}, serving.Served.Served}, Served.IsServed, Headline.{HasHistory, HasServed, Headline}, History.{AllLead, AreStepsOf, BeginsWith, Carried, Exchange, IsAside, IsCarried, IsStepOf, Item, ItemLeads, Origin, Unanswered, Unreplied, carried, carried_out, exchange, exchanged, exchanges, replied_by, unanswered, unreplied}}
 use Rattle.hall_desk.specs.declared.arrival.Input.TheVariants as input
-use Rattle.hall_desk.specs.Served.{IsServed}
-use Rattle.hall_desk.specs.declared.serving.Served.{Served}
 use Rattle.hall_desk.specs.declared.serving.Served.TheVariants as serving
-use Rattle.hall_events.specs.declared.event.Event.{Event}
-use Rattle.laws_past.specs.Laws.{AreTyped}
-use Rattle.hall_desk.specs.Headline.{HasHistory, HasServed, Headline}
-use Rattle.hall_desk.specs.History.{AllLead, AreStepsOf, BeginsWith, Carried, Exchange, IsAside, IsCarried, IsStepOf, Item, ItemLeads, Origin, Unanswered, Unreplied, carried, carried_out, exchange, exchanged, exchanges, replied_by, unanswered, unreplied}
 
 put_aside : (item : Item) (items : List Item) (steps : List Step) → IsAside item → AreStepsOf items steps → AreStepsOf (item ∷ items) steps
 put_aside item items [] aside are = (aside, are)
@@ -150,9 +136,9 @@ are_typed (x ∷ items) (s ∷ steps) (inr it) = are_typed items (s ∷ steps) i
 pub record AreHistoryLaws : Type 0 where
   pub laws : (origin : Origin) (begin : Hall) (items : List Item) (end : Hall) → BeginsWith origin begin → AllLead begin items end → Headline origin items end
 
-module _ (its : AreHistoryLaws) {S : Type 0} (holds : S → Hall → Type 0) (leaves : S → List Hall → Type 0) (old new : S) (site : Site) (origin : Origin) (past : List Item) (was : HasHistory holds old origin past) where
-  pub after_run : (arrivals : List Arrival) (answers : List Answer) → ((h : Hall) → holds old h → IsSound h → IsRan holds new site h arrivals answers)
-      → HasHistory holds new origin (past ++ exchanges site arrivals answers)
+module _ (its : AreHistoryLaws) {S : Type 0} (g : Ghosts S) (old new : S) (site : Site) (origin : Origin) (past : List Item) (was : HasHistory g old origin past) where
+  pub after_run : (arrivals : List Arrival) (answers : List Answer) → ((h : Hall) → g.holds old h → IsSound h → IsRan g new site h arrivals answers)
+      → HasHistory g new origin (past ++ exchanges site arrivals answers)
   after_run arrivals answers ran =
       let r = ran was.end was.held was.headline.laws.sound in
       record {
@@ -161,54 +147,54 @@ module _ (its : AreHistoryLaws) {S : Type 0} (holds : S → Hall → Type 0) (le
         headline = its.laws origin was.headline.begin (past ++ exchanges site arrivals answers) r.end was.headline.begins (goes_on was.headline.begin past was.end was.headline.led site arrivals answers r.end r.run);
       }
 
-  after_item : (item : Item) (next : Hall) → holds new next → ItemLeads was.end item next → HasHistory holds new origin (past ++ item ∷ [])
+  after_item : (item : Item) (next : Hall) → g.holds new next → ItemLeads was.end item next → HasHistory g new origin (past ++ item ∷ [])
   after_item item next held leads = record {
     end = next;
     held = held;
     headline = its.laws origin was.headline.begin (past ++ item ∷ []) next was.headline.begins (item_on was.headline.begin past was.end was.headline.led item next leads);
   }
 
-  pub after_answer : (arrival : Arrival) (a : Answer) → IsAnswered holds leaves old new site arrival.input arrival.moment arrival.fresh a
-      → HasHistory holds new origin (past ++ exchanged site arrival a ∷ [])
+  pub after_answer : (arrival : Arrival) (a : Answer) → IsAnswered g old new site arrival.input arrival.moment arrival.fresh a
+      → HasHistory g new origin (past ++ exchanged site arrival a ∷ [])
   after_answer arrival a it = by (it.step was.end was.held was.headline.laws.sound)
     where
-      by : IsKept holds leaves old new site arrival.input arrival.moment arrival.fresh was.end a ⊎ (HasMissed was.end arrival.input a was.end × holds new was.end)
-          → HasHistory holds new origin (past ++ exchanged site arrival a ∷ [])
+      by : IsKept g old new site arrival.input arrival.moment arrival.fresh was.end a ⊎ (HasMissed was.end arrival.input a was.end × g.holds new was.end)
+          → HasHistory g new origin (past ++ exchanged site arrival a ∷ [])
       by (inl kept) = after_item (exchanged site arrival a) kept.next kept.held (inl kept.come)
       by (inr missed) = after_item (exchanged site arrival a) was.end missed.1 (inr missed.0)
 
-  pub after_serving : (octets before : List ℕ) (moment : ℕ) (fresh : List ℕ) (served : Served) (after : Option (List ℕ)) → IsServed holds leaves old new site moment fresh octets before served after
-      → HasServed holds new origin past site octets moment fresh before served after
+  pub after_serving : (octets before : List ℕ) (moment : ℕ) (fresh : List ℕ) (served : Served) (after : Option (List ℕ)) → IsServed g old new site moment fresh octets before served after
+      → HasServed g new origin past site octets moment fresh before served after
   after_serving octets before moment fresh serving.Answered after it =
       (it.0, it.2, after_answer (record { moment = moment; fresh = fresh; input = input.Request octets }) it.0 it.1)
   after_serving octets before moment fresh serving.ReadFailed after it =
-      (it.1, subst (λ store. HasHistory holds store origin past) (sym it.0) was)
+      (it.1, subst (λ store. HasHistory g store origin past) (sym it.0) was)
   after_serving octets before moment fresh (serving.WriteFailed count) after it =
       (it.0, it.2, it.3, after_answer (record { moment = moment; fresh = fresh; input = input.Request octets }) it.0 it.1)
 
   -- an event that was carried out
   pub after_event : (e : Event) (moment : ℕ) (fresh : List ℕ) (reply : Reply) → IsTyped site e fresh
-      → ((h : Hall) → IsSound h → h.schema ≡ second → AllKeep (decision_of site h e moment fresh).rows h) → ((store : S) (h : Hall) → holds store h → h.schema ≡ second)
-      → IsCarriedOut holds leaves old new {E = Refusing} (Ok reply) (λ h. (decision_of site h e moment fresh).rows) (λ h reply. reply ≡ reply_of second (decision_of site h e moment fresh).content)
-      → HasHistory holds new origin (past ++ carried_out site e moment fresh reply ∷ [])
+      → ((h : Hall) → IsSound h → h.schema ≡ second → AllKeep (decision_of site h e moment fresh).rows h) → ((store : S) (h : Hall) → g.holds store h → h.schema ≡ second)
+      → IsCarriedOut g old new {E = Refusing} (Ok reply) (λ h. (decision_of site h e moment fresh).rows) (λ h reply. reply ≡ reply_of second (decision_of site h e moment fresh).content)
+      → HasHistory g new origin (past ++ carried_out site e moment fresh reply ∷ [])
   after_event e moment fresh reply typed keep schema it =
       after_item (carried_out site e moment fresh reply) (applied (decision_of site was.end e moment fresh).rows was.end)
       (it.made was.end was.held (keep was.end was.headline.laws.sound (schema old was.end was.held)))
       (record { reply = it.answer was.end was.held; after = refl; typed = typed })
 
-pub after_served : AreHistoryLaws → {S : Type 0} (holds : S → Hall → Type 0) (leaves : S → List Hall → Type 0) (old new : S) (site : Site) (moment : ℕ) (fresh : List ℕ) (served : Served) (octets before after : Option (List ℕ))
-    → IfSome octets (λ octets. IfSome before (λ before. IsServed holds leaves old new site moment fresh octets before served after))
-    → IfSome octets (λ octets. IfSome before (λ before. (origin : Origin) (past : List Item) → HasHistory holds old origin past
-    → HasServed holds new origin past site octets moment fresh before served after))
-after_served its holds leaves old new site moment fresh served None before after it = tt
-after_served its holds leaves old new site moment fresh served (Some octets) None after it = tt
-after_served its holds leaves old new site moment fresh served (Some octets) (Some before) after it =
-    λ origin past was. after_serving its holds leaves old new site origin past was octets before moment fresh served after it
+pub after_served : AreHistoryLaws → {S : Type 0} (g : Ghosts S) (old new : S) (site : Site) (moment : ℕ) (fresh : List ℕ) (served : Served) (octets before after : Option (List ℕ))
+    → IfSome octets (λ octets. IfSome before (λ before. IsServed g old new site moment fresh octets before served after))
+    → IfSome octets (λ octets. IfSome before (λ before. (origin : Origin) (past : List Item) → HasHistory g old origin past
+    → HasServed g new origin past site octets moment fresh before served after))
+after_served its g old new site moment fresh served None before after it = tt
+after_served its g old new site moment fresh served (Some octets) None after it = tt
+after_served its g old new site moment fresh served (Some octets) (Some before) after it =
+    λ origin past was. after_serving its g old new site origin past was octets before moment fresh served after it
 
-pub after_events : AreHistoryLaws → {S : Type 0} (holds : S → Hall → Type 0) (leaves : S → List Hall → Type 0) (old new : S) (site : Site) (e : Event) (moment : ℕ) (fresh : List ℕ) (r : Result Reply Refusing) → IsTyped site e fresh
-    → ((h : Hall) → IsSound h → h.schema ≡ second → AllKeep (decision_of site h e moment fresh).rows h) → ((store : S) (h : Hall) → holds store h → h.schema ≡ second)
-    → IsCarriedOut holds leaves old new r (λ h. (decision_of site h e moment fresh).rows) (λ h reply. reply ≡ reply_of second (decision_of site h e moment fresh).content)
-    → IfOk r (λ reply. (origin : Origin) (past : List Item) → HasHistory holds old origin past → HasHistory holds new origin (past ++ carried_out site e moment fresh reply ∷ []))
-after_events its holds leaves old new site e moment fresh (Ok reply) typed keep schema it =
-    λ origin past was. after_event its holds leaves old new site origin past was e moment fresh reply typed keep schema it
-after_events its holds leaves old new site e moment fresh (Err error) typed keep schema it = tt
+pub after_events : AreHistoryLaws → {S : Type 0} (g : Ghosts S) (old new : S) (site : Site) (e : Event) (moment : ℕ) (fresh : List ℕ) (r : Result Reply Refusing) → IsTyped site e fresh
+    → ((h : Hall) → IsSound h → h.schema ≡ second → AllKeep (decision_of site h e moment fresh).rows h) → ((store : S) (h : Hall) → g.holds store h → h.schema ≡ second)
+    → IsCarriedOut g old new r (λ h. (decision_of site h e moment fresh).rows) (λ h reply. reply ≡ reply_of second (decision_of site h e moment fresh).content)
+    → IfOk r (λ reply. (origin : Origin) (past : List Item) → HasHistory g old origin past → HasHistory g new origin (past ++ carried_out site e moment fresh reply ∷ []))
+after_events its g old new site e moment fresh (Ok reply) typed keep schema it =
+    λ origin past was. after_event its g old new site origin past was e moment fresh reply typed keep schema it
+after_events its g old new site e moment fresh (Err error) typed keep schema it = tt

@@ -1,17 +1,10 @@
 -- The list of all machines, each with its own interfaces.
-use Rattle.std.proofs.Common.{◌≡◌, ℕ, List, [], ◌∷◌, refl, sym, ap, ◌∙◌}
-use Rattle.std.specs.declared.alloc.AllocError.{AllocError}
+use Rattle.std.{proofs.Common.{◌≡◌, ℕ, List, [], ◌∷◌, refl, sym, ap, ◌∙◌}, specs.{declared.alloc.AllocError.AllocError, Prelude.{filter, map, Result, Ok, Err, IfOk, ◌==◌}}}
 use Rattle.hall_desk.specs.Plan.{Plans}
-use Rattle.hall_events.specs.Reply.{ListedMachine, listed, machine_list, reply_of}
-use Rattle.hall_events.specs.declared.reply.Reply.{Reply}
+use Rattle.hall_events.specs.{Reply.{ListedMachine, listed, machine_list, reply_of}, declared.reply.Reply.Reply}
 use Rattle.hall_store.specs.declared.store.Unavailable.{Unavailable}
-use Rattle.hall_types.specs.declared.change.RowWrite.{RowWrite}
-use Rattle.laws_model.specs.Decision.{listed_of, says}
-use Rattle.hall_types.specs.Hall.{Hall, second}
-use Rattle.hall_types.specs.Rows.{listed as rows_of}
-use Rattle.hall_types.specs.declared.machine.Interface.{Interface}
-use Rattle.hall_types.specs.declared.machine.Machine.{Machine}
-use Rattle.std.specs.Prelude.{filter, map, Result, Ok, Err, IfOk, ◌==◌}
+use Rattle.hall_types.specs.{declared.{change.RowWrite.RowWrite, machine.{Interface.Interface, Machine.Machine}}, Hall.{Hall, second}, Rows.listed as rows_of}
+use Rattle.hall_laws.specs.Decision.{listed_of, says}
 
 -- machines with the interfaces that are theirs in either of two lists
 pub listed_same : (ms : List Machine) (xs ys : List Interface) → ((id : ℕ) → filter (λ i. i.machine == id) ys ≡ filter (λ i. i.machine == id) xs)

@@ -1,9 +1,7 @@
 -- No more is read than a request needs, but for one last read.
-use Rattle.std.proofs.Common.{◌≡◌, ◌⊎◌, ◌≤◌, ℕ, List, [], ◌++◌, length, Option, Some, None, refl, sym, ◌∙◌, ap, append-nil, arith}
-use Rattle.std.specs.Io.KnownBytes.{Consumes, Keeps}
-use Rattle.http_requests.specs.Decided.{Ends}
-use Rattle.hall_desk.specs.Served.{IsReadInTime}
-use Rattle.hall_desk.proofs.ServedLemmas.{consumes_then}
+use Rattle.std.{proofs.Common.{◌≡◌, ◌⊎◌, ◌≤◌, ℕ, List, [], ◌++◌, length, Option, Some, None, refl, sym, ◌∙◌, ap, append-nil, arith}, specs.Io.KnownBytes.{Consumes, Keeps}}
+use Rattle.hall_http.specs.Decided.{Ends}
+use Rattle.hall_desk.{specs.Served.IsReadInTime, proofs.ServedLemmas.consumes_then}
 
 consumes_kept : (a b c : Option (List ℕ)) (xs : List ℕ) → Consumes a b xs → Keeps b c → Consumes a c (xs ++ [])
 consumes_kept None b c xs f k = tt

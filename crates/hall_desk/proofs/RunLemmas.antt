@@ -1,18 +1,10 @@
 -- A run goes on by one arrival.
-use Rattle.std.proofs.Common.{◌≡◌, ◌<◌, ◌+◌, ◌∙◌, ℕ, List, [], ◌∷◌, ◌++◌, length, drop, drop-cons, get_or, suc, add-one, ap, refl, sym, subst, inl, inr}
-use Rattle.std.specs.List.{AllByRecursion}
-use Rattle.std.specs.Prelude.{◌⊎◌, ⊤}
+use Rattle.std.{proofs.Common.{◌≡◌, ◌<◌, ◌+◌, ◌∙◌, ℕ, List, [], ◌∷◌, ◌++◌, length, drop, drop-cons, get_or, suc, add-one, ap, refl, sym, subst, inl, inr}, specs.{List.AllByRecursion, Prelude.{◌⊎◌, ⊤}}}
 use Rattle.pxe_vendor.specs.Place.{Site}
 use Rattle.hall_types.specs.Hall.{Hall}
 use Rattle.boot_desk.specs.Sound.{IsSound}
-use Rattle.hall_desk.proofs.HistoryLemmas.{item_on, of_run}
-use Rattle.hall_desk.proofs.StopLemmas.{silent_idle}
-use Rattle.hall_desk.specs.Attempt.{ChangeNothing, IsAnswered, IsKept, IsTorn}
-use Rattle.hall_desk.specs.History.{AllLead, IsCutRun, Item, came_unanswered, exchanges}
-use Rattle.hall_desk.specs.Octets.{HasMissed, IsArrivalRun, IsArrivalStep, IsGiven}
-use Rattle.hall_desk.specs.Stops.{AreAnswered, AreGiven, HasRun, IsCutEnd}
-use Rattle.hall_desk.specs.declared.arrival.Answer.{Answer}
-use Rattle.hall_desk.specs.declared.arrival.Arrival.{Arrival}
+use Rattle.hall_desk.{proofs.{HistoryLemmas.{item_on, of_run}, StopLemmas.silent_idle}, specs.{Attempt.{ChangeNothing, IsAnswered, IsKept, IsTorn}, History.{AllLead, IsCutRun, Item, came_unanswered, exchanges}, Octets.{HasMissed, IsArrivalRun, IsArrivalStep, IsGiven}, Stops.{AreAnswered, AreGiven, HasRun, IsCutEnd}, declared.arrival.{Answer.Answer, Arrival.Arrival}}}
+use Rattle.hall_store.specs.declared.store.HallStore.{Ghosts}
 
 run_push : (site : Site) (arrivals : List Arrival) (answers : List Answer) (h mid next : Hall) (arrival : Arrival) (a : Answer)
     → IsArrivalRun site h arrivals answers mid → IsArrivalStep site mid arrival.input arrival.moment arrival.fresh a next
@@ -86,8 +78,8 @@ answered_given site h (x ∷ arrivals) (a ∷ answers) all = (inl all.0, λ next
 next_arrival : (arrivals : List Arrival) (i : ℕ) (arrival : Arrival) → i < length arrivals → arrival ≡ get_or arrivals i arrival → drop i arrivals ≡ arrival ∷ drop (i + 1) arrivals
 next_arrival arrivals i arrival low is = drop-cons arrivals i arrival low ∙ ap (λ y. y ∷ drop (suc i) arrivals) (sym is) ∙ ap (λ j. arrival ∷ drop j arrivals) (sym (add-one i))
 
-module _ {S : Type 0} (holds : S → Hall → Type 0) (leaves : S → List Hall → Type 0) (site : Site) where
-  pub ran_none : (store : S) (h : Hall) → holds store h → IsSound h → HasRun holds leaves store store site h [] []
+module _ {S : Type 0} (g : Ghosts S) (site : Site) where
+  pub ran_none : (store : S) (h : Hall) → g.holds store h → IsSound h → HasRun g store store site h [] []
   ran_none store h held sound = record {
     ran = record { end = h; run = refl; held = held; sound = sound };
     settled = λ left all. left;
@@ -95,16 +87,16 @@ module _ {S : Type 0} (holds : S → Hall → Type 0) (leaves : S → List Hall 
   }
 
   module _ (old mid new : S) (h : Hall) (arrivals : List Arrival) (answers : List Answer) (arrival : Arrival) (a : Answer)
-      (before : HasRun holds leaves old mid site h arrivals answers) (it : IsAnswered holds leaves mid new site arrival.input arrival.moment arrival.fresh a) where
+      (before : HasRun g old mid site h arrivals answers) (it : IsAnswered g mid new site arrival.input arrival.moment arrival.fresh a) where
     -- what a stop may leave, once one more arrival came
-    stop_more : (hs : List Hall) → leaves old hs
-        → (more : List Hall) × leaves new (more ++ hs) × AllByRecursion (IsCutEnd site h (arrivals ++ arrival ∷ []) (answers ++ a ∷ [])) more
+    stop_more : (hs : List Hall) → g.leaves old hs
+        → (more : List Hall) × g.leaves new (more ++ hs) × AllByRecursion (IsCutEnd site h (arrivals ++ arrival ∷ []) (answers ++ a ∷ [])) more
     stop_more hs left = (torn.next ∷ was.0, torn.left, (new_end torn.step, later was.0 was.2))
       where
-        was : (more : List Hall) × leaves mid (more ++ hs) × AllByRecursion (IsCutEnd site h arrivals answers) more
+        was : (more : List Hall) × g.leaves mid (more ++ hs) × AllByRecursion (IsCutEnd site h arrivals answers) more
         was = before.stop hs left
 
-        torn : IsTorn holds leaves mid new site arrival.input arrival.moment arrival.fresh before.ran.end (was.0 ++ hs)
+        torn : IsTorn g mid new site arrival.input arrival.moment arrival.fresh before.ran.end (was.0 ++ hs)
         torn = it.crash before.ran.end before.ran.held before.ran.sound (was.0 ++ hs) was.1
 
         new_end : IsArrivalStep site before.ran.end arrival.input arrival.moment arrival.fresh torn.answer torn.next
@@ -125,17 +117,17 @@ module _ {S : Type 0} (holds : S → Hall → Type 0) (leaves : S → List Hall 
         later (x ∷ halls) all = ((all.0.0, cut_more site arrivals answers arrival a all.0.0 all.0.1, all.0.2), later halls all.1)
 
     -- what counts as not having come, and is silence that the hall gives, leaves a stop as it was
-    still : (HasMissed before.ran.end arrival.input a before.ran.end × holds new before.ran.end) → IsGiven site before.ran.end arrival.input arrival.moment arrival.fresh a
-        → leaves mid (before.ran.end ∷ []) → leaves new (before.ran.end ∷ [])
+    still : (HasMissed before.ran.end arrival.input a before.ran.end × g.holds new before.ran.end) → IsGiven site before.ran.end arrival.input arrival.moment arrival.fresh a
+        → g.leaves mid (before.ran.end ∷ []) → g.leaves new (before.ran.end ∷ [])
     still missed (inl given) left = absurd (given missed.0.answer)
     still missed (inr silent) left =
         it.still before.ran.end before.ran.held (silent_idle site before.ran.end arrival.input arrival.moment arrival.fresh silent) (before.ran.end ∷ []) left
 
-    run_more : HasRun holds leaves old new site h (arrivals ++ arrival ∷ []) (answers ++ a ∷ [])
+    run_more : HasRun g old new site h (arrivals ++ arrival ∷ []) (answers ++ a ∷ [])
     run_more = by (it.step before.ran.end before.ran.held before.ran.sound)
       where
-        by : IsKept holds leaves mid new site arrival.input arrival.moment arrival.fresh before.ran.end a ⊎ (HasMissed before.ran.end arrival.input a before.ran.end × holds new before.ran.end)
-            → HasRun holds leaves old new site h (arrivals ++ arrival ∷ []) (answers ++ a ∷ [])
+        by : IsKept g mid new site arrival.input arrival.moment arrival.fresh before.ran.end a ⊎ (HasMissed before.ran.end arrival.input a before.ran.end × g.holds new before.ran.end)
+            → HasRun g old new site h (arrivals ++ arrival ∷ []) (answers ++ a ∷ [])
         by (inl kept) = record {
           ran = record {
             end = kept.next;
@@ -160,17 +152,17 @@ module _ {S : Type 0} (holds : S → Hall → Type 0) (leaves : S → List Hall 
         }
 
   pub ran_more : (from : Site) → from ≡ site → (old mid new : S) (h : Hall) (arrivals : List Arrival) (answers : List Answer) (arrival : Arrival) (a : Answer)
-      → HasRun holds leaves old mid site h arrivals answers → IsAnswered holds leaves mid new from arrival.input arrival.moment arrival.fresh a
-      → HasRun holds leaves old new site h (arrivals ++ arrival ∷ []) (answers ++ a ∷ [])
+      → HasRun g old mid site h arrivals answers → IsAnswered g mid new from arrival.input arrival.moment arrival.fresh a
+      → HasRun g old new site h (arrivals ++ arrival ∷ []) (answers ++ a ∷ [])
   ran_more from same old mid new h arrivals answers arrival a before it =
-      run_more old mid new h arrivals answers arrival a before (subst (λ (at : Site). IsAnswered holds leaves mid new at arrival.input arrival.moment arrival.fresh a) same it)
+      run_more old mid new h arrivals answers arrival a before (subst (λ (at : Site). IsAnswered g mid new at arrival.input arrival.moment arrival.fresh a) same it)
 
   -- one more arrival that changes nothing leaves the hall
   pub idle_more : (from : Site) → from ≡ site → (old new : S) (h : Hall) (arrivals : List Arrival) (index : ℕ) (arrival : Arrival) (a : Answer)
       → index < length arrivals → arrival ≡ get_or arrivals index arrival
-      → IsAnswered holds leaves old new from arrival.input arrival.moment arrival.fresh a
-      → holds old h × ChangeNothing site h (drop index arrivals) → holds new h × ChangeNothing site h (drop (index + 1) arrivals)
+      → IsAnswered g old new from arrival.input arrival.moment arrival.fresh a
+      → g.holds old h × ChangeNothing site h (drop index arrivals) → g.holds new h × ChangeNothing site h (drop (index + 1) arrivals)
   idle_more from same old new h arrivals index arrival a low is it was =
-      let here = subst (λ (at : Site). IsAnswered holds leaves old new at arrival.input arrival.moment arrival.fresh a) same it in
+      let here = subst (λ (at : Site). IsAnswered g old new at arrival.input arrival.moment arrival.fresh a) same it in
       let rest = subst (ChangeNothing site h) (next_arrival arrivals index arrival low is) was.1 in
       (here.idle h was.0 rest.0, rest.1)

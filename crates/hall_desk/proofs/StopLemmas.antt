@@ -1,36 +1,15 @@
 -- What a stop may leave of a hall to which a history led.
-use Rattle.std.proofs.Common.{◌≡◌, ◌⊎◌, ◌∙◌, ℕ, List, [], ◌∷◌, ◌++◌, Result, Ok, Err, append-nil, refl, sym, subst, ap, inl, inr}
-use Rattle.std.specs.Prelude.{IfOk}
-use Rattle.std.specs.List.{AllByRecursion}
+use Rattle.std.{proofs.Common.{◌≡◌, ◌⊎◌, ◌∙◌, ℕ, List, [], ◌∷◌, ◌++◌, Result, Ok, Err, append-nil, refl, sym, subst, ap, inl, inr}, specs.{Prelude.IfOk, List.AllByRecursion}}
 use Rattle.dhcp_frame.specs.Message.{Message}
-use Rattle.pxe_vendor.specs.Place.{Site}
-use Rattle.pxe_vendor.specs.declared.clients.Client.{Client}
-use Rattle.hall_types.specs.Hall.{Hall, applied, second}
-use Rattle.hall_types.specs.declared.port.Port.{Port}
-use Rattle.hall_events.specs.Reply.{reply_of}
-use Rattle.hall_events.specs.declared.event.Event.{Event}
+use Rattle.pxe_vendor.specs.{Place.Site, declared.clients.Client.Client}
+use Rattle.hall_types.specs.{Hall.{Hall, applied, second}, declared.port.Port.Port}
+use Rattle.hall_events.specs.{Reply.reply_of, declared.{event.Event.Event, reply.Reply.Reply}}
 use Rattle.hall_events.specs.declared.event.Event.TheVariants as event
-use Rattle.hall_events.specs.declared.reply.Reply.{Reply}
-use Rattle.boot_desk.specs.FrameEvent.{frame_decision, frame_view}
-use Rattle.boot_desk.specs.Sound.{IsSound}
-use Rattle.boot_desk.specs.declared.frames.Decision.{Decision}
-use Rattle.boot_desk.specs.declared.frames.Decision.TheVariants.{Enlist, Loader, ScriptUrl, Silent}
-use Rattle.hall_store.specs.Rules.{AllKeep}
-use Rattle.hall_store.specs.declared.store.Unavailable.{Unavailable as Refusing}
-use Rattle.laws_model.specs.Decision.{decision_of, framed}
-use Rattle.laws_model.specs.Step.{IsTyped}
-use Rattle.hall_desk.specs.Attempt.{IsAnswered, IsKept, IsTorn}
-use Rattle.hall_desk.specs.Headline.{Headline, requested}
-use Rattle.hall_desk.specs.History.{AllLead, BeginsWith, Item, ItemLeads, Origin, came_unanswered, came_unreplied, carried_out, exchanged, exchanges}
-use Rattle.hall_desk.specs.Octets.{HasMissed, IsArrivalStep, IsGiven, IsIdle, IsSilent, answered, asks, frame_answer}
-use Rattle.hall_desk.specs.Plan.{IsCarriedOut}
-use Rattle.hall_desk.specs.Stops.{AndCutRun, AreGiven, HasRun, IsCutEnd, IsEnd, IsLeft, IsSettled, OrSomeRequest, OrUnanswered, OrUnreplied}
-use Rattle.hall_desk.specs.declared.arrival.Answer.{Answer}
-use Rattle.hall_desk.specs.declared.arrival.Answer.TheVariants.{Silence}
-use Rattle.hall_desk.specs.declared.arrival.Arrival.{Arrival}
-use Rattle.hall_desk.specs.declared.arrival.Input.{Input}
+use Rattle.boot_desk.specs.{FrameEvent.{frame_decision, frame_view}, Sound.IsSound, declared.frames.Decision.{Decision, TheVariants.{Enlist, Loader, ScriptUrl, Silent}}}
+use Rattle.hall_store.specs.{Rules.AllKeep, declared.store.{HallStore.Ghosts, Unavailable.Unavailable as Refusing}}
+use Rattle.hall_laws.specs.{Decision.{decision_of, framed}, Step.IsTyped}
+use Rattle.hall_desk.{specs.{Attempt.{IsAnswered, IsKept, IsTorn}, Headline.{Headline, requested}, History.{AllLead, BeginsWith, Item, ItemLeads, Origin, came_unanswered, came_unreplied, carried_out, exchanged, exchanges}, Octets.{HasMissed, IsArrivalStep, IsGiven, IsIdle, IsSilent, answered, asks, frame_answer}, Plan.IsCarriedOut, Stops.{AndCutRun, AreGiven, HasRun, IsCutEnd, IsEnd, IsLeft, IsSettled, OrSomeRequest, OrUnanswered, OrUnreplied}, declared.arrival.{Answer.{Answer, TheVariants.Silence}, Arrival.Arrival, Input.Input}}, proofs.HistoryLemmas.{AreHistoryLaws, all_on, goes_on, item_on}}
 use Rattle.hall_desk.specs.declared.arrival.Input.TheVariants as input
-use Rattle.hall_desk.proofs.HistoryLemmas.{AreHistoryLaws, all_on, goes_on, item_on}
 
 -- ---- silence changes nothing
 
@@ -61,8 +40,8 @@ all_append : (P : Hall → Type 0) (xs ys : List Hall) → AllByRecursion P xs �
 all_append P [] ys a b = b
 all_append P (x ∷ xs) ys a b = (a.0, all_append P xs ys a.1 b)
 
-module _ (its : AreHistoryLaws) {S : Type 0} (holds : S → Hall → Type 0) (leaves : S → List Hall → Type 0) (old new : S) (site : Site) (origin : Origin) (past : List Item)
-    (was : IsSettled holds leaves old origin past) where
+module _ (its : AreHistoryLaws) {S : Type 0} (g : Ghosts S) (old new : S) (site : Site) (origin : Origin) (past : List Item)
+    (was : IsSettled g old origin past) where
   abbrev end : Hall
   end = was.history.end
 
@@ -83,16 +62,16 @@ module _ (its : AreHistoryLaws) {S : Type 0} (holds : S → Hall → Type 0) (le
   with_item : (item : Item) (next : Hall) → ItemLeads end item next → Headline origin (past ++ item ∷ []) next
   with_item item next leads = its.laws origin begin (past ++ item ∷ []) next begins (item_on begin past end led item next leads)
 
-  settled_item : (item : Item) (next : Hall) → ItemLeads end item next → holds new next → leaves new (next ∷ []) → IsSettled holds leaves new origin (past ++ item ∷ [])
+  settled_item : (item : Item) (next : Hall) → ItemLeads end item next → g.holds new next → g.leaves new (next ∷ []) → IsSettled g new origin (past ++ item ∷ [])
   settled_item item next leads held left = record { history = record { end = next; held = held; headline = with_item item next leads }; settled = left }
 
   -- an arrival that is answered
-  pub after_given : (arrival : Arrival) (a : Answer) → IsAnswered holds leaves old new site arrival.input arrival.moment arrival.fresh a
-      → IsGiven site end arrival.input arrival.moment arrival.fresh a → IsSettled holds leaves new origin (past ++ exchanged site arrival a ∷ [])
+  pub after_given : (arrival : Arrival) (a : Answer) → IsAnswered g old new site arrival.input arrival.moment arrival.fresh a
+      → IsGiven site end arrival.input arrival.moment arrival.fresh a → IsSettled g new origin (past ++ exchanged site arrival a ∷ [])
   after_given arrival a it given = by (it.step end was.history.held was.history.headline.laws.sound) given
     where
-      by : IsKept holds leaves old new site arrival.input arrival.moment arrival.fresh end a ⊎ (HasMissed end arrival.input a end × holds new end)
-          → IsGiven site end arrival.input arrival.moment arrival.fresh a → IsSettled holds leaves new origin (past ++ exchanged site arrival a ∷ [])
+      by : IsKept g old new site arrival.input arrival.moment arrival.fresh end a ⊎ (HasMissed end arrival.input a end × g.holds new end)
+          → IsGiven site end arrival.input arrival.moment arrival.fresh a → IsSettled g new origin (past ++ exchanged site arrival a ∷ [])
       by (inl kept) given = settled_item (exchanged site arrival a) kept.next (inl kept.come) kept.held (kept.settled was.settled)
       by (inr missed) (inl given) = absurd (given missed.0.answer)
       by (inr missed) (inr silent) =
@@ -100,15 +79,15 @@ module _ (its : AreHistoryLaws) {S : Type 0} (holds : S → Hall → Type 0) (le
           (it.still end was.history.held (silent_idle site end arrival.input arrival.moment arrival.fresh silent) (end ∷ []) was.settled)
 
   -- a stop while an arrival is answered
-  pub after_stop : (arrival : Arrival) (a : Answer) → IsAnswered holds leaves old new site arrival.input arrival.moment arrival.fresh a
-      → IsLeft leaves new origin (OrUnanswered past site arrival)
+  pub after_stop : (arrival : Arrival) (a : Answer) → IsAnswered g old new site arrival.input arrival.moment arrival.fresh a
+      → IsLeft g new origin (OrUnanswered past site arrival)
   after_stop arrival a it = record {
     halls = torn.next ∷ end ∷ [];
     left = torn.left;
     each = (by torn.step, (as_before (OrUnanswered past site arrival) (inl refl), tt));
   }
     where
-      torn : IsTorn holds leaves old new site arrival.input arrival.moment arrival.fresh end (end ∷ [])
+      torn : IsTorn g old new site arrival.input arrival.moment arrival.fresh end (end ∷ [])
       torn = it.crash end was.history.held was.history.headline.laws.sound (end ∷ []) was.settled
 
       by : IsArrivalStep site end arrival.input arrival.moment arrival.fresh torn.answer torn.next → IsEnd origin (OrUnanswered past site arrival) torn.next
@@ -116,12 +95,12 @@ module _ (its : AreHistoryLaws) {S : Type 0} (holds : S → Hall → Type 0) (le
       by (inr missed) = (past, inl refl, subst (Headline origin past) (sym missed.same) was.history.headline)
 
   -- nothing came
-  pub nothing_came : (IsOne : List Item → Type 0) → IsOne past → IsLeft leaves old origin IsOne
+  pub nothing_came : (IsOne : List Item → Type 0) → IsOne past → IsLeft g old origin IsOne
   nothing_came IsOne is = record { halls = end ∷ []; left = was.settled; each = (as_before IsOne is, tt) }
 
   -- some request came, at a moment and with fresh octets, and was answered
-  pub request_stop : (octets : List ℕ) (moment : ℕ) (fresh : List ℕ) (a : Answer) → IsAnswered holds leaves old new site (input.Request octets) moment fresh a
-      → IsLeft leaves new origin (OrSomeRequest past site moment fresh)
+  pub request_stop : (octets : List ℕ) (moment : ℕ) (fresh : List ℕ) (a : Answer) → IsAnswered g old new site (input.Request octets) moment fresh a
+      → IsLeft g new origin (OrSomeRequest past site moment fresh)
   request_stop octets moment fresh a it =
       let some = after_stop (requested octets moment fresh) a it in
       record { halls = some.halls; left = some.left; each = ends some.halls some.each }
@@ -136,8 +115,8 @@ module _ (its : AreHistoryLaws) {S : Type 0} (holds : S → Hall → Type 0) (le
       ends (x ∷ halls) all = ((all.0.0, one all.0.0 all.0.1, all.0.2), ends halls all.1)
 
   -- arrivals that are answered
-  pub run_given : (arrivals : List Arrival) (answers : List Answer) → ((h : Hall) → holds old h → IsSound h → HasRun holds leaves old new site h arrivals answers)
-      → AreGiven site end arrivals answers → IsSettled holds leaves new origin (past ++ exchanges site arrivals answers)
+  pub run_given : (arrivals : List Arrival) (answers : List Answer) → ((h : Hall) → g.holds old h → IsSound h → HasRun g old new site h arrivals answers)
+      → AreGiven site end arrivals answers → IsSettled g new origin (past ++ exchanges site arrivals answers)
   run_given arrivals answers has all =
       let run = has end was.history.held was.history.headline.laws.sound in
       record {
@@ -150,8 +129,8 @@ module _ (its : AreHistoryLaws) {S : Type 0} (holds : S → Hall → Type 0) (le
       }
 
   -- a stop while arrivals are answered
-  pub run_stop : (arrivals : List Arrival) (answers : List Answer) → ((h : Hall) → holds old h → IsSound h → HasRun holds leaves old new site h arrivals answers)
-      → IsLeft leaves new origin (AndCutRun past site arrivals answers)
+  pub run_stop : (arrivals : List Arrival) (answers : List Answer) → ((h : Hall) → g.holds old h → IsSound h → HasRun g old new site h arrivals answers)
+      → IsLeft g new origin (AndCutRun past site arrivals answers)
   run_stop arrivals answers has = record {
     halls = found.0 ++ end ∷ [];
     left = found.1;
@@ -159,7 +138,7 @@ module _ (its : AreHistoryLaws) {S : Type 0} (holds : S → Hall → Type 0) (le
         (as_before (AndCutRun past site arrivals answers) ([], tt, sym (append-nil past)), tt);
   }
     where
-      found : (more : List Hall) × leaves new (more ++ end ∷ []) × AllByRecursion (IsCutEnd site end arrivals answers) more
+      found : (more : List Hall) × g.leaves new (more ++ end ∷ []) × AllByRecursion (IsCutEnd site end arrivals answers) more
       found = (has end was.history.held was.history.headline.laws.sound).stop (end ∷ []) was.settled
 
       ends : (halls : List Hall) → AllByRecursion (IsCutEnd site end arrivals answers) halls → AllByRecursion (IsEnd origin (AndCutRun past site arrivals answers)) halls
@@ -175,22 +154,22 @@ module _ (its : AreHistoryLaws) {S : Type 0} (holds : S → Hall → Type 0) (le
           )
 
   module _ (e : Event) (moment : ℕ) (fresh : List ℕ) (typed : IsTyped site e fresh)
-      (keep : (h : Hall) → IsSound h → h.schema ≡ second → AllKeep (decision_of site h e moment fresh).rows h) (schema : (store : S) (h : Hall) → holds store h → h.schema ≡ second) where
+      (keep : (h : Hall) → IsSound h → h.schema ≡ second → AllKeep (decision_of site h e moment fresh).rows h) (schema : (store : S) (h : Hall) → g.holds store h → h.schema ≡ second) where
     abbrev Carries : Result Reply Refusing → Type 0
-    Carries r = IsCarriedOut holds leaves old new r (λ h. (decision_of site h e moment fresh).rows) (λ h reply. reply ≡ reply_of second (decision_of site h e moment fresh).content)
+    Carries r = IsCarriedOut g old new r (λ h. (decision_of site h e moment fresh).rows) (λ h reply. reply ≡ reply_of second (decision_of site h e moment fresh).content)
 
     kept : AllKeep (decision_of site end e moment fresh).rows end
     kept = keep end was.history.headline.laws.sound (schema old end was.history.held)
 
     -- an event that is carried out
-    pub event_given : (reply : Reply) → Carries (Ok reply) → IsSettled holds leaves new origin (past ++ carried_out site e moment fresh reply ∷ [])
+    pub event_given : (reply : Reply) → Carries (Ok reply) → IsSettled g new origin (past ++ carried_out site e moment fresh reply ∷ [])
     event_given reply it =
         settled_item (carried_out site e moment fresh reply) (applied (decision_of site end e moment fresh).rows end)
         (record { reply = it.answer end was.history.held; after = refl; typed = typed })
         (it.made end was.history.held kept) (it.settled end was.history.held kept was.settled)
 
     -- a stop while an event is carried out
-    pub event_stop : (r : Result Reply Refusing) → Carries r → IsLeft leaves new origin (OrUnreplied past site e moment fresh)
+    pub event_stop : (r : Result Reply Refusing) → Carries r → IsLeft g new origin (OrUnreplied past site e moment fresh)
     event_stop r it = record {
       halls = applied (decision_of site end e moment fresh).rows end ∷ end ∷ [];
       left = it.crash end was.history.held kept (end ∷ []) was.settled;
@@ -205,10 +184,10 @@ module _ (its : AreHistoryLaws) {S : Type 0} (holds : S → Hall → Type 0) (le
       );
     }
 
-pub events_given : AreHistoryLaws → {S : Type 0} (holds : S → Hall → Type 0) (leaves : S → List Hall → Type 0) (old new : S) (site : Site) (e : Event) (moment : ℕ) (fresh : List ℕ) (r : Result Reply Refusing) → IsTyped site e fresh
-    → ((h : Hall) → IsSound h → h.schema ≡ second → AllKeep (decision_of site h e moment fresh).rows h) → ((store : S) (h : Hall) → holds store h → h.schema ≡ second)
-    → IsCarriedOut holds leaves old new r (λ h. (decision_of site h e moment fresh).rows) (λ h reply. reply ≡ reply_of second (decision_of site h e moment fresh).content)
-    → IfOk r (λ reply. (origin : Origin) (past : List Item) → IsSettled holds leaves old origin past → IsSettled holds leaves new origin (past ++ carried_out site e moment fresh reply ∷ []))
-events_given its holds leaves old new site e moment fresh (Ok reply) typed keep schema it =
-    λ origin past was. event_given its holds leaves old new site origin past was e moment fresh typed keep schema reply it
-events_given its holds leaves old new site e moment fresh (Err error) typed keep schema it = tt
+pub events_given : AreHistoryLaws → {S : Type 0} (g : Ghosts S) (old new : S) (site : Site) (e : Event) (moment : ℕ) (fresh : List ℕ) (r : Result Reply Refusing) → IsTyped site e fresh
+    → ((h : Hall) → IsSound h → h.schema ≡ second → AllKeep (decision_of site h e moment fresh).rows h) → ((store : S) (h : Hall) → g.holds store h → h.schema ≡ second)
+    → IsCarriedOut g old new r (λ h. (decision_of site h e moment fresh).rows) (λ h reply. reply ≡ reply_of second (decision_of site h e moment fresh).content)
+    → IfOk r (λ reply. (origin : Origin) (past : List Item) → IsSettled g old origin past → IsSettled g new origin (past ++ carried_out site e moment fresh reply ∷ []))
+events_given its g old new site e moment fresh (Ok reply) typed keep schema it =
+    λ origin past was. event_given its g old new site origin past was e moment fresh typed keep schema reply it
+events_given its g old new site e moment fresh (Err error) typed keep schema it = tt

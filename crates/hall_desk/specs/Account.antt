@@ -1,40 +1,17 @@
 -- What an account of an arrival says.
 use Rattle.std.specs.Prelude.{◌≡◌, ⊤, ℕ, Bool, false, not, List, Option, None, Some, Result, Ok, Err, IfSome, option_map, if◌then◌else◌}
-use Rattle.dhcp_frame.specs.Message.{Message}
-use Rattle.dhcp_frame.specs.Understood.{understood}
-use Rattle.pxe_vendor.specs.Place.{Site}
-use Rattle.pxe_vendor.specs.Served.{Answers, client_of}
-use Rattle.pxe_vendor.specs.declared.clients.Client.{Client}
-use Rattle.pxe_vendor.specs.declared.serve.NotServed.{NotServed}
-use Rattle.hall_types.specs.Hall.{Hall, pair}
-use Rattle.hall_types.specs.Lookup.{next_expired}
-use Rattle.hall_types.specs.Rows.{at}
-use Rattle.hall_types.specs.declared.change.RowWrite.{RowWrite}
-use Rattle.hall_types.specs.declared.kinds.Role.{Role}
-use Rattle.hall_types.specs.declared.machine.Machine.{Machine}
-use Rattle.hall_types.specs.declared.operator.Operator.{Operator}
-use Rattle.hall_types.specs.declared.port.Port.{Port}
-use Rattle.hall_types.specs.declared.receipt.Receipt.{Receipt}
-use Rattle.hall_events.specs.declared.command.HallCommand.{HallCommand}
-use Rattle.hall_events.specs.declared.event.Event.{Event}
+use Rattle.dhcp_frame.specs.{Message.Message, Understood.understood}
+use Rattle.pxe_vendor.specs.{Place.Site, Served.{Answers, client_of}, declared.{clients.Client.Client, serve.NotServed.NotServed}}
+use Rattle.hall_types.specs.{Hall.{Hall, pair}, Lookup.next_expired, Rows.at, declared.{change.RowWrite.RowWrite, kinds.Role.Role, machine.Machine.Machine, operator.Operator.Operator, port.Port.Port, receipt.Receipt.Receipt}}
+use Rattle.hall_events.specs.declared.{command.HallCommand.HallCommand, event.Event.Event}
 use Rattle.hall_events.specs.declared.event.Event.TheVariants as event
-use Rattle.boot_desk.specs.FrameEvent.{frame_decision, frame_view}
-use Rattle.boot_desk.specs.declared.frames.Decision.{Decision}
-use Rattle.boot_desk.specs.declared.frames.Decision.TheVariants.{Loader, ScriptUrl, Enlist, Silent}
-use Rattle.boot_desk.specs.Views.{machine_view, order_view, report_view, view_at}
-use Rattle.desk_command.specs.Command.{may_send, needs_admin, sender}
-use Rattle.desk_command.specs.View.{command_view}
-use Rattle.http_requests.specs.Request.{IsEvent}
-use Rattle.laws_model.specs.Decision.{decision_of, may_answer}
-use Rattle.hall_desk.specs.Moved.{moved_by}
-use Rattle.hall_desk.specs.Octets.{IsFrom, missed_answer}
-use Rattle.hall_desk.specs.declared.account.Account.{Account}
-use Rattle.hall_desk.specs.declared.account.Came.{Came}
+use Rattle.boot_desk.specs.{FrameEvent.{frame_decision, frame_view}, declared.frames.Decision.{Decision, TheVariants.{Loader, ScriptUrl, Enlist, Silent}}, Views.{machine_view, order_view, report_view, view_at}}
+use Rattle.desk_command.specs.{Command.{may_send, needs_admin, sender}, View.command_view}
+use Rattle.hall_http.specs.Request.{IsEvent}
+use Rattle.hall_laws.specs.Decision.{decision_of, may_answer}
+use Rattle.hall_desk.specs.{Moved.moved_by, Octets.{IsFrom, missed_answer}, declared.{account.{Account.Account, Came.Came, Notes.Notes}, arrival.{Answer.Answer, Input.Input}}}
 use Rattle.hall_desk.specs.declared.account.Came.TheVariants as came
-use Rattle.hall_desk.specs.declared.account.Notes.{Notes}
-use Rattle.hall_desk.specs.declared.arrival.Answer.{Answer}
 use Rattle.hall_desk.specs.declared.arrival.Answer.TheVariants as answer
-use Rattle.hall_desk.specs.declared.arrival.Input.{Input}
 use Rattle.hall_desk.specs.declared.arrival.Input.TheVariants as input
 
 -- a message came in these octets, and this is the first cause not to answer it, unless memory ran out

@@ -1,71 +1,66 @@
 -- What carrying an arrival out promises, over any store.
-use Rattle.std.specs.Prelude.{◌≡◌, ◌⊎◌, ℕ, List, [], ◌∷◌, Result, IfOk, OnErr}
-use Rattle.std.specs.List.{AllByRecursion}
+use Rattle.std.specs.{Prelude.{◌≡◌, ◌⊎◌, ℕ, List, [], ◌∷◌, Result, IfOk, OnErr}, List.AllByRecursion}
 use Rattle.pxe_vendor.specs.Place.{Site}
 use Rattle.hall_types.specs.Hall.{Hall}
 use Rattle.boot_desk.specs.Sound.{IsSound}
-use Rattle.hall_desk.specs.Octets.{HasCome, HasMissed, IsArrivalStep, IsArrivalRun, IsIdle}
-use Rattle.hall_desk.specs.declared.arrival.Answer.{Answer}
-use Rattle.hall_desk.specs.declared.arrival.Answer.TheVariants.{Unavailable}
-use Rattle.hall_desk.specs.declared.arrival.Arrival.{Arrival}
-use Rattle.hall_desk.specs.declared.arrival.Input.{Input}
+use Rattle.hall_desk.specs.{Octets.{HasCome, HasMissed, IsArrivalStep, IsArrivalRun, IsIdle}, declared.arrival.{Answer.{Answer, TheVariants.Unavailable}, Arrival.Arrival, Input.Input}}
+use Rattle.hall_store.specs.declared.store.HallStore.{Ghosts}
 
--- `holds` says which hall a store has, and `leaves` that a stop leaves one of these halls
-module _ {S : Type 0} (holds : S → Hall → Type 0) (leaves : S → List Hall → Type 0) (old new : S) (site : Site) (input : Input) (moment : ℕ) (fresh : List ℕ) where
+module _ {S : Type 0} (g : Ghosts S) (old new : S) (site : Site) (input : Input) (moment : ℕ) (fresh : List ℕ) where
   -- what came is in the store: the next hall is sound, and if a stop left the hall before alone, it leaves that one alone
   pub record IsKept (h : Hall) (a : Answer) : Type 0 where
     pub next : Hall
     pub come : HasCome site h input moment fresh a next
-    pub held : holds new next
+    pub held : g.holds new next
     pub sound : IsSound next
-    pub settled : leaves old (h ∷ []) → leaves new (next ∷ [])
+    pub settled : g.leaves old (h ∷ []) → g.leaves new (next ∷ [])
 
   -- a stop leaves what it left before, or the hall that one step leads to, whatever was answered
   pub record IsTorn (h : Hall) (hs : List Hall) : Type 0 where
     pub next : Hall
     pub answer : Answer
     pub step : IsArrivalStep site h input moment fresh answer next
-    pub left : leaves new (next ∷ hs)
+    pub left : g.leaves new (next ∷ hs)
 
   -- An arrival is carried out, and its answer given; or it counts as not having come.
   pub record IsAttempt {E : Type 0} (r : Result Answer E) : Type 0 where
-    pub came : IfOk r (λ a. (h : Hall) → holds old h → IsSound h → IsKept h a)
-    pub missed : OnErr r ((h : Hall) → holds old h → holds new h)
-    pub unavailable : IfOk r (λ a. a ≡ Unavailable → (h : Hall) → holds old h → holds new h)
-    pub idle : (h : Hall) → holds old h → IsIdle site h input moment fresh → holds new h
-    pub still : (h : Hall) → holds old h → IsIdle site h input moment fresh → (hs : List Hall) → leaves old hs → leaves new hs
-    pub crash : (h : Hall) → holds old h → IsSound h → (hs : List Hall) → leaves old hs → IsTorn h hs
+    pub came : IfOk r (λ a. (h : Hall) → g.holds old h → IsSound h → IsKept h a)
+    pub missed : OnErr r ((h : Hall) → g.holds old h → g.holds new h)
+    pub unavailable : IfOk r (λ a. a ≡ Unavailable → (h : Hall) → g.holds old h → g.holds new h)
+    pub idle : (h : Hall) → g.holds old h → IsIdle site h input moment fresh → g.holds new h
+    pub still : (h : Hall) → g.holds old h → IsIdle site h input moment fresh → (hs : List Hall) → g.leaves old hs → g.leaves new hs
+    pub crash : (h : Hall) → g.holds old h → IsSound h → (hs : List Hall) → g.leaves old hs → IsTorn h hs
 
   -- An arrival is answered.
   pub record IsAnswered (a : Answer) : Type 0 where
-    pub step : (h : Hall) → holds old h → IsSound h → IsKept h a ⊎ (HasMissed h input a h × holds new h)
+    pub step : (h : Hall) → g.holds old h → IsSound h → IsKept h a ⊎ (HasMissed h input a h × g.holds new h)
     -- a hall stays, sound or not, that what came doesn't change, and what a stop may leave stays too
-    pub idle : (h : Hall) → holds old h → IsIdle site h input moment fresh → holds new h
-    pub still : (h : Hall) → holds old h → IsIdle site h input moment fresh → (hs : List Hall) → leaves old hs → leaves new hs
+    pub idle : (h : Hall) → g.holds old h → IsIdle site h input moment fresh → g.holds new h
+    pub still : (h : Hall) → g.holds old h → IsIdle site h input moment fresh → (hs : List Hall) → g.leaves old hs → g.leaves new hs
     -- and each hall stays where the answer is Unavailable
-    pub unavailable : a ≡ Unavailable → (h : Hall) → holds old h → holds new h
-    pub crash : (h : Hall) → holds old h → IsSound h → (hs : List Hall) → leaves old hs → IsTorn h hs
+    pub unavailable : a ≡ Unavailable → (h : Hall) → g.holds old h → g.holds new h
+    pub crash : (h : Hall) → g.holds old h → IsSound h → (hs : List Hall) → g.leaves old hs → IsTorn h hs
 
 -- Where a store took no wrong answer of a disk for a right one (`clean`), it took none before, and this was attempted, or answered.
-module _ {S : Type 0} (clean : S → Type 0) (holds : S → Hall → Type 0) (leaves : S → List Hall → Type 0) (old new : S) (site : Site) (input : Input) (moment : ℕ) (fresh : List ℕ) where
+module _ {S : Type 0} (g : Ghosts S) (old new : S) (site : Site) (input : Input) (moment : ℕ) (fresh : List ℕ) where
   abbrev pub Attempts : {E : Type 0} → Result Answer E → Type 0
-  Attempts r = clean new → clean old × IsAttempt holds leaves old new site input moment fresh r
+  Attempts r = g.is_clean new → g.is_clean old × IsAttempt g old new site input moment fresh r
 
   abbrev pub GivesAnswer : Answer → Type 0
-  GivesAnswer a = clean new → clean old × IsAnswered holds leaves old new site input moment fresh a
+  GivesAnswer a = g.is_clean new → g.is_clean old × IsAnswered g old new site input moment fresh a
 
 -- a store was only read: it has each hall that it had, and a stop leaves what it left before
-pub record IsOnlyRead {S : Type 0} (holds : S → Hall → Type 0) (leaves : S → List Hall → Type 0) (old new : S) : Type 0 where
-  pub same : (h : Hall) → holds old h → holds new h
-  pub stop : (h : Hall) → holds old h → (hs : List Hall) → leaves old hs → leaves new hs
+pub record IsOnlyRead {S : Type 0} (g : Ghosts S) (old new : S) : Type 0 where
+  pub same : (h : Hall) → g.holds old h → g.holds new h
+  pub stop : (h : Hall) → g.holds old h → (hs : List Hall) → g.leaves old hs → g.leaves new hs
 
 -- none of the arrivals changes this hall
 abbrev pub ChangeNothing : Site → Hall → List Arrival → Type 0
 ChangeNothing site h arrivals = AllByRecursion (λ arrival. IsIdle site h arrival.input arrival.moment arrival.fresh) arrivals
 
 -- A run leads from this hall, each arrival with its answer, to a sound one that the store has.
-pub record IsRan {S : Type 0} (holds : S → Hall → Type 0) (store : S) (site : Site) (h : Hall) (arrivals : List Arrival) (answers : List Answer) : Type 0 where
+pub record IsRan {S : Type 0} (g : Ghosts S) (store : S) (site : Site) (h : Hall) (arrivals : List Arrival) (answers : List Answer) : Type 0 where
   pub end : Hall
   pub run : IsArrivalRun site h arrivals answers end
-  pub held : holds store end
+  pub held : g.holds store end
   pub sound : IsSound end

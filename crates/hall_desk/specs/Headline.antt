@@ -11,16 +11,9 @@
 use Rattle.std.specs.Prelude.{◌≡◌, ◌<◌, ◌⊎◌, ℕ, List, [], ◌∷◌, ◌++◌, take, length, Option, Some}
 use Rattle.pxe_vendor.specs.Place.{Site}
 use Rattle.hall_types.specs.Hall.{Hall}
-use Rattle.laws_model.specs.Step.{IsRun, Step}
-use Rattle.laws_migration.specs.Later.{KeepsLaws}
-use Rattle.laws_migration.specs.Origin.{first_steps}
-use Rattle.hall_desk.specs.History.{AllLead, AreStepsOf, BeginsWith, Item, Origin, exchanged}
-use Rattle.hall_desk.specs.Octets.{octets_of}
-use Rattle.hall_desk.specs.declared.arrival.Answer.{Answer}
-use Rattle.hall_desk.specs.declared.arrival.Arrival.{Arrival}
-use Rattle.hall_desk.specs.declared.arrival.Input.TheVariants.{Request}
-use Rattle.hall_desk.specs.declared.serving.Served.{Served}
-use Rattle.hall_desk.specs.declared.serving.Served.TheVariants.{Answered, ReadFailed, WriteFailed}
+use Rattle.hall_laws.specs.{Step.{IsRun, Step}, Later.KeepsLaws, Origin.first_steps}
+use Rattle.hall_desk.specs.{History.{AllLead, AreStepsOf, BeginsWith, Item, Origin, exchanged}, Octets.octets_of, declared.{arrival.{Answer.Answer, Arrival.Arrival, Input.TheVariants.Request}, serving.Served.{Served, TheVariants.{Answered, ReadFailed, WriteFailed}}}}
+use Rattle.hall_store.specs.declared.store.HallStore.{Ghosts}
 
 -- What came to a hall of this origin, until it was the last one.
 pub record Headline (origin : Origin) (items : List Item) (end : Hall) : Type 0 where
@@ -39,11 +32,11 @@ abbrev pub requested : List ℕ → ℕ → List ℕ → Arrival
 requested octets moment fresh = record { moment = moment; fresh = fresh; input = Request octets }
 
 -- `holds` says which hall a store has
-module _ {S : Type 0} (holds : S → Hall → Type 0) (store : S) (origin : Origin) where
+module _ {S : Type 0} (g : Ghosts S) (store : S) (origin : Origin) where
   -- the store has a hall to which this history leads
   pub record HasHistory (items : List Item) : Type 0 where
     pub end : Hall
-    pub held : holds store end
+    pub held : g.holds store end
     pub headline : Headline origin items end
 
   module _ (past : List Item) (site : Site) (octets : List ℕ) (moment : ℕ) (fresh : List ℕ) (before : List ℕ) where

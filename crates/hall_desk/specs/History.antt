@@ -2,15 +2,10 @@
 use Rattle.std.specs.Prelude.{◌≡◌, ◌⊎◌, ⊤, ℕ, List, [], ◌∷◌, Some}
 use Rattle.pxe_vendor.specs.Place.{Site}
 use Rattle.hall_types.specs.Hall.{Hall, applied, second}
-use Rattle.hall_events.specs.Reply.{Content, reply_of}
-use Rattle.hall_events.specs.declared.event.Event.{Event}
-use Rattle.hall_events.specs.declared.reply.Reply.{Reply}
-use Rattle.laws_model.specs.Decision.{decision_of}
-use Rattle.laws_model.specs.Step.{IsTyped, Step}
-pub use Rattle.laws_migration.specs.Origin.{BeginsWith, Origin}
-use Rattle.hall_desk.specs.Octets.{HasCome, IsArrivalStep, Means, answered, asks, missed_answer}
-use Rattle.hall_desk.specs.declared.arrival.Answer.{Answer}
-use Rattle.hall_desk.specs.declared.arrival.Arrival.{Arrival}
+use Rattle.hall_events.specs.{Reply.{Content, reply_of}, declared.{event.Event.Event, reply.Reply.Reply}}
+use Rattle.hall_laws.specs.{Decision.decision_of, Step.{IsTyped, Step}}
+pub use Rattle.hall_laws.specs.Origin.{BeginsWith, Origin}
+use Rattle.hall_desk.specs.{Octets.{HasCome, IsArrivalStep, Means, answered, asks, missed_answer}, declared.arrival.{Answer.Answer, Arrival.Arrival}}
 
 -- ---- items
 

@@ -1,4 +1,5 @@
 pub mod Account
+pub mod Answering
 pub mod Attempt
 pub mod AttemptLaws
 pub mod Desk

@@ -1,29 +1,16 @@
 -- Arrivals and answers in octets, and what they mean to the model.
 use Rattle.std.specs.Prelude.{◌≡◌, ◌≢◌, ◌⊎◌, ℕ, List, [], ◌∷◌, Ok, Err, ⊤}
-use Rattle.dhcp_frame.specs.Message.{Message, IsFrame}
-use Rattle.dhcp_frame.specs.Reply.{reply_octets}
-use Rattle.pxe_vendor.specs.Answer.{answer_to}
-use Rattle.pxe_vendor.specs.Client.{IsClient}
-use Rattle.pxe_vendor.specs.Place.{Site}
-use Rattle.pxe_vendor.specs.declared.clients.Client.{Client}
-use Rattle.hall_types.specs.Hall.{Hall, applied, second}
-use Rattle.hall_types.specs.declared.port.Port.{Port}
-use Rattle.hall_types.specs.declared.refusal.Refusal.{Refusal}
+use Rattle.dhcp_frame.specs.{Message.{Message, IsFrame}, Reply.reply_octets}
+use Rattle.pxe_vendor.specs.{Answer.answer_to, Client.IsClient, Place.Site, declared.clients.Client.Client}
+use Rattle.hall_types.specs.{Hall.{Hall, applied, second}, declared.{port.Port.Port, refusal.Refusal.Refusal}}
 use Rattle.hall_types.specs.declared.refusal.Refusal.TheVariants as cause
-use Rattle.hall_events.specs.Reply.{Content, refused, boot_file, reply_of}
-use Rattle.hall_events.specs.declared.event.Event.{Event}
+use Rattle.hall_events.specs.{Reply.{Content, refused, boot_file, reply_of}, declared.event.Event.Event}
 use Rattle.hall_events.specs.declared.event.Event.TheVariants as event
-use Rattle.http_requests.specs.Request.{IsEvent}
-use Rattle.http_requests.specs.declared.fault.HttpFault.{HttpFault}
-use Rattle.http_requests.specs.declared.fault.HttpFault.TheVariants as fault
-use Rattle.hall_http.specs.Response.{response_of}
-use Rattle.hall_http.specs.declared.response.TheConstants.{UNAVAILABLE}
-use Rattle.laws_model.specs.Decision.{decision_of}
-use Rattle.laws_model.specs.Step.{IsTyped}
-use Rattle.hall_desk.specs.declared.arrival.Answer.{Answer}
+use Rattle.hall_http.specs.{Request.IsEvent, declared.{fault.HttpFault.HttpFault, response.TheConstants.UNAVAILABLE}, Response.response_of}
+use Rattle.hall_http.specs.declared.fault.HttpFault.TheVariants as fault
+use Rattle.hall_laws.specs.{Decision.decision_of, Step.IsTyped}
+use Rattle.hall_desk.specs.declared.arrival.{Answer.Answer, Arrival.Arrival, Input.Input}
 use Rattle.hall_desk.specs.declared.arrival.Answer.TheVariants as answer
-use Rattle.hall_desk.specs.declared.arrival.Arrival.{Arrival}
-use Rattle.hall_desk.specs.declared.arrival.Input.{Input}
 use Rattle.hall_desk.specs.declared.arrival.Input.TheVariants as input
 
 -- the octets that are sent for an answer

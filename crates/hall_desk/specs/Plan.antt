@@ -1,16 +1,11 @@
 -- What is planned for an event, and what writing it promises, over any store.
 use Rattle.std.specs.Prelude.{◌≡◌, List, [], ◌∷◌, Result, IfOk, OnOk, OnErr}
 use Rattle.pxe_vendor.specs.declared.clients.Client.{Client}
-use Rattle.hall_types.specs.Hall.{Hall, applied, second}
-use Rattle.hall_types.specs.declared.change.RowWrite.{RowWrite}
-use Rattle.hall_types.specs.declared.number.Numbers.{Numbers}
-use Rattle.boot_desk.specs.FrameEvent.{enlisted}
-use Rattle.boot_desk.specs.declared.frames.Decision.{Decision}
-use Rattle.boot_desk.specs.declared.frames.Decision.TheVariants.{Enlist}
-use Rattle.hall_events.specs.Reply.{reply_of}
-use Rattle.hall_events.specs.declared.reply.Reply.{Reply}
-use Rattle.hall_store.specs.Rules.{AllKeep}
-use Rattle.laws_model.specs.Decision.{Decided}
+use Rattle.hall_types.specs.{Hall.{Hall, applied, second}, declared.{change.RowWrite.RowWrite, number.Numbers.Numbers}}
+use Rattle.boot_desk.specs.{FrameEvent.enlisted, declared.frames.Decision.{Decision, TheVariants.Enlist}}
+use Rattle.hall_events.specs.{Reply.reply_of, declared.reply.Reply.Reply}
+use Rattle.hall_store.specs.{Rules.AllKeep, declared.store.HallStore.Ghosts}
+use Rattle.hall_laws.specs.Decision.{Decided}
 
 -- the rows and the answer are those of the decision
 pub record IsPlanOf (decided : Decided) (rows : List RowWrite) (reply : Reply) : Type 0 where
@@ -25,24 +20,23 @@ abbrev pub rows_for : Decision → Client → Numbers → List RowWrite
 rows_for Enlist client numbers = enlisted client numbers
 rows_for other client numbers = []
 
--- `holds` says which hall a store has, and `leaves` that a stop leaves one of these halls
-module _ {S : Type 0} (holds : S → Hall → Type 0) (leaves : S → List Hall → Type 0) (old new : S) {Y E : Type 0} (r : Result Y E) where
+module _ {S : Type 0} (g : Ghosts S) (old new : S) {Y E : Type 0} (r : Result Y E) where
   -- Reads, and then a write of these rows if there are any. An answer is right for the hall before.
   pub record IsCarriedOut (rows : Hall → List RowWrite) (Right : Hall → Y → Type 0) : Type 0 where
     -- the answer is right for the hall that the store had
-    pub answer : IfOk r (λ y. (h : Hall) → holds old h → Right h y)
+    pub answer : IfOk r (λ y. (h : Hall) → g.holds old h → Right h y)
     -- once it is answered, all of the rows are written, if they keep the tables' rules
-    pub made : OnOk r ((h : Hall) → holds old h → AllKeep (rows h) h → holds new (applied (rows h) h))
+    pub made : OnOk r ((h : Hall) → g.holds old h → AllKeep (rows h) h → g.holds new (applied (rows h) h))
     -- a refusal writes none
-    pub same : OnErr r ((h : Hall) → holds old h → holds new h)
+    pub same : OnErr r ((h : Hall) → g.holds old h → g.holds new h)
     -- a stop leaves what it left before, or the hall with all of the rows
-    pub crash : (h : Hall) → holds old h → AllKeep (rows h) h → (hs : List Hall) → leaves old hs → leaves new (applied (rows h) h ∷ hs)
+    pub crash : (h : Hall) → g.holds old h → AllKeep (rows h) h → (hs : List Hall) → g.leaves old hs → g.leaves new (applied (rows h) h ∷ hs)
     -- once it is answered, a stop leaves the hall with all of the rows alone, if it left the hall before alone
-    pub settled : OnOk r ((h : Hall) → holds old h → AllKeep (rows h) h → leaves old (h ∷ []) → leaves new (applied (rows h) h ∷ []))
+    pub settled : OnOk r ((h : Hall) → g.holds old h → AllKeep (rows h) h → g.leaves old (h ∷ []) → g.leaves new (applied (rows h) h ∷ []))
     -- where there is no row, a stop leaves what it left before
-    pub still : (h : Hall) → holds old h → rows h ≡ [] → (hs : List Hall) → leaves old hs → leaves new hs
+    pub still : (h : Hall) → g.holds old h → rows h ≡ [] → (hs : List Hall) → g.leaves old hs → g.leaves new hs
 
 -- Where a store took no wrong answer of a disk for a right one (`clean`), it took none before, and this was carried out.
-module _ {S : Type 0} (clean : S → Type 0) (holds : S → Hall → Type 0) (leaves : S → List Hall → Type 0) (old new : S) {Y E : Type 0} (r : Result Y E) where
+module _ {S : Type 0} (g : Ghosts S) (old new : S) {Y E : Type 0} (r : Result Y E) where
   abbrev pub CarriesOut : (Hall → List RowWrite) → (Hall → Y → Type 0) → Type 0
-  CarriesOut rows Right = clean new → clean old × IsCarriedOut holds leaves old new r rows Right
+  CarriesOut rows Right = g.is_clean new → g.is_clean old × IsCarriedOut g old new r rows Right

@@ -1,27 +1,21 @@
 -- What serving one request over a reader and a writer did.
-use Rattle.std.specs.Prelude.{◌≡◌, ◌<◌, ◌≤◌, ◌⊎◌, ℕ, List, [], ◌++◌, take, length, Option, Some, Bool, true}
-use Rattle.std.specs.Io.KnownBytes.{Consumes, IsAtEnd}
+use Rattle.std.specs.{Prelude.{◌≡◌, ◌<◌, ◌≤◌, ◌⊎◌, ℕ, List, [], ◌++◌, take, length, Option, Some, Bool, true}, Io.KnownBytes.{Consumes, IsAtEnd}}
 use Rattle.pxe_vendor.specs.Place.{Site}
 use Rattle.hall_types.specs.Hall.{Hall}
-use Rattle.http_requests.specs.Decided.{Ends, IsDecided}
-use Rattle.hall_desk.specs.Attempt.{IsAnswered}
-use Rattle.hall_desk.specs.Octets.{octets_of}
-use Rattle.hall_desk.specs.declared.arrival.Answer.{Answer}
-use Rattle.hall_desk.specs.declared.arrival.Input.TheVariants.{Request}
-use Rattle.hall_desk.specs.declared.reading.Reading.{Reading}
+use Rattle.hall_http.specs.Decided.{Ends, IsDecided}
+use Rattle.hall_desk.specs.{Attempt.IsAnswered, Octets.octets_of, declared.{arrival.{Answer.Answer, Input.TheVariants.Request}, reading.Reading.Reading, serving.Served.{Served, TheVariants.{Answered, ReadFailed, WriteFailed}}}}
 use Rattle.hall_desk.specs.declared.reading.Reading.TheVariants as reading
-use Rattle.hall_desk.specs.declared.serving.Served.{Served}
-use Rattle.hall_desk.specs.declared.serving.Served.TheVariants.{Answered, ReadFailed, WriteFailed}
+use Rattle.hall_store.specs.declared.store.HallStore.{Ghosts}
 
 -- `before` is what the writer held before, and `after` what it holds then
-module _ {S : Type 0} (holds : S → Hall → Type 0) (leaves : S → List Hall → Type 0) (old new : S) (site : Site) (moment : ℕ) (fresh : List ℕ) where
+module _ {S : Type 0} (g : Ghosts S) (old new : S) (site : Site) (moment : ℕ) (fresh : List ℕ) where
   -- the request that the input is was answered, and the answer was written, or its first octets; or nothing was changed or written
   abbrev pub IsServed : List ℕ → List ℕ → Served → Option (List ℕ) → Type 0
   IsServed input before Answered after =
-      (a : Answer) × IsAnswered holds leaves old new site (Request input) moment fresh a × (after ≡ Some (before ++ octets_of a))
+      (a : Answer) × IsAnswered g old new site (Request input) moment fresh a × (after ≡ Some (before ++ octets_of a))
   IsServed input before ReadFailed after = (new ≡ old) × (after ≡ Some before)
   IsServed input before (WriteFailed n) after =
-      (a : Answer) × IsAnswered holds leaves old new site (Request input) moment fresh a × (n < length (octets_of a)) × (after ≡ Some (before ++ take n (octets_of a)))
+      (a : Answer) × IsAnswered g old new site (Request input) moment fresh a × (n < length (octets_of a)) × (after ≡ Some (before ++ take n (octets_of a)))
 
 -- a read failed, or 4,096 reads gave octets
 abbrev pub IfReadFailed : Served → Bool → ℕ → Type 0

@@ -1,15 +1,10 @@
 -- What a stop of a desk may leave: halls to which histories lead.
-use Rattle.std.specs.Prelude.{◌≡◌, ◌≢◌, ◌⊎◌, ℕ, List, [], ◌∷◌, ◌++◌}
-use Rattle.std.specs.List.{AllByRecursion}
+use Rattle.std.specs.{Prelude.{◌≡◌, ◌≢◌, ◌⊎◌, ℕ, List, [], ◌∷◌, ◌++◌}, List.AllByRecursion}
 use Rattle.pxe_vendor.specs.Place.{Site}
 use Rattle.hall_types.specs.Hall.{Hall}
 use Rattle.hall_events.specs.declared.event.Event.{Event}
-use Rattle.hall_desk.specs.Attempt.{IsRan}
-use Rattle.hall_desk.specs.Headline.{HasHistory, Headline, requested}
-use Rattle.hall_desk.specs.History.{AllLead, IsCutRun, Item, Origin, came_unanswered, came_unreplied}
-use Rattle.hall_desk.specs.Octets.{IsArrivalStep, IsGiven, missed_answer}
-use Rattle.hall_desk.specs.declared.arrival.Answer.{Answer}
-use Rattle.hall_desk.specs.declared.arrival.Arrival.{Arrival}
+use Rattle.hall_desk.specs.{Attempt.IsRan, Headline.{HasHistory, Headline, requested}, History.{AllLead, IsCutRun, Item, Origin, came_unanswered, came_unreplied}, Octets.{IsArrivalStep, IsGiven, missed_answer}, declared.arrival.{Answer.Answer, Arrival.Arrival}}
+use Rattle.hall_store.specs.declared.store.HallStore.{Ghosts}
 
 -- each arrival was answered, and none by what is said where it counts as not having come
 abbrev pub AreAnswered : List Arrival → List Answer → Type 0
@@ -31,27 +26,26 @@ IsCutEnd site h arrivals answers end = (cut : List Item) × IsCutRun site arriva
 
 -- Arrivals led from this hall, each with its answer. Of a store that was settled a stop leaves a hall on the way; and the hall at their
 -- end alone, if each was given its answer.
-pub record HasRun {S : Type 0} (holds : S → Hall → Type 0) (leaves : S → List Hall → Type 0) (old new : S) (site : Site) (h : Hall) (arrivals : List Arrival) (answers : List Answer) : Type 0 where
-  pub ran : IsRan holds new site h arrivals answers
-  pub settled : leaves old (h ∷ []) → AreGiven site h arrivals answers → leaves new (ran.end ∷ [])
-  pub stop : (hs : List Hall) → leaves old hs → (more : List Hall) × leaves new (more ++ hs) × AllByRecursion (IsCutEnd site h arrivals answers) more
+pub record HasRun {S : Type 0} (g : Ghosts S) (old new : S) (site : Site) (h : Hall) (arrivals : List Arrival) (answers : List Answer) : Type 0 where
+  pub ran : IsRan g new site h arrivals answers
+  pub settled : g.leaves old (h ∷ []) → AreGiven site h arrivals answers → g.leaves new (ran.end ∷ [])
+  pub stop : (hs : List Hall) → g.leaves old hs → (more : List Hall) × g.leaves new (more ++ hs) × AllByRecursion (IsCutEnd site h arrivals answers) more
 
 -- one of these histories leads to the hall, and keeps all laws
 abbrev pub IsEnd : Origin → (List Item → Type 0) → Hall → Type 0
 IsEnd origin IsOne h = (items : List Item) × IsOne items × Headline origin items h
 
--- `holds` says which hall a store has, and `leaves` that a stop leaves one of these halls
-module _ {S : Type 0} (holds : S → Hall → Type 0) (leaves : S → List Hall → Type 0) (store : S) (origin : Origin) where
+module _ {S : Type 0} (g : Ghosts S) (store : S) (origin : Origin) where
   -- the store has a hall to which this history leads, and a stop leaves that hall and no other
   pub record IsSettled (items : List Item) : Type 0 where
-    pub history : HasHistory holds store origin items
-    pub settled : leaves store (history.end ∷ [])
+    pub history : HasHistory g store origin items
+    pub settled : g.leaves store (history.end ∷ [])
 
-module _ {S : Type 0} (leaves : S → List Hall → Type 0) (store : S) (origin : Origin) where
+module _ {S : Type 0} (g : Ghosts S) (store : S) (origin : Origin) where
   -- a stop leaves a hall to which one of these histories leads
   pub record IsLeft (IsOne : List Item → Type 0) : Type 0 where
     pub halls : List Hall
-    pub left : leaves store halls
+    pub left : g.leaves store halls
     pub each : AllByRecursion (IsEnd origin IsOne) halls
 
 -- ---- what came by the stop

@@ -1,7 +1,6 @@
 //! What a desk did with one arrival, for a log.
 ghost use Rattle.std.specs.Prelude.{◌≡◌, Some, option_map};
-ghost use Rattle.hall_desk.specs.Account.{about, sent_by};
-ghost use Rattle.hall_desk.specs.Moved.{moved_by};
+ghost use Rattle.hall_desk.specs.{Account.{about, sent_by}, Moved.moved_by};
 
 use crate::moved::{Moved, Seen, moved_by};
 use boot_desk::{BootView, Decision, OrderView, ReportView};

@@ -4,9 +4,7 @@ ghost use Rattle.hall_types.specs.Hall.{Hall};
 ghost use Rattle.hall_events.specs.declared.event.Event.{Event};
 ghost use Rattle.hall_events.specs.declared.event.Event.TheVariants as event;
 ghost use Rattle.hall_desk.specs.declared.account.Came.TheVariants as came;
-ghost use Rattle.hall_desk.specs.Account.{IsDatagram, IsFound, IsNoted, IsReadAs, given_or_missed, nothing_noted};
-ghost use Rattle.hall_desk.specs.Attempt.{Attempts, IsOnlyRead};
-ghost use Rattle.hall_desk.specs.Octets.{missed_answer};
+ghost use Rattle.hall_desk.specs.{Account.{IsDatagram, IsFound, IsNoted, IsReadAs, given_or_missed, nothing_noted}, Attempt.{Attempts, IsOnlyRead}, Octets.missed_answer};
 ghost use Rattle.hall_desk.specs.declared.arrival.Input.TheVariants as input;
 
 use crate::account::{Account, Came};
@@ -17,9 +15,9 @@ use crate::typed::{event_is_typed, frame_is_typed};
 use dhcp_frame::read;
 use hall_events::Event;
 use hall_http::{HttpFault, event_of};
+use hall_laws::{decisions_keep_the_rules, steps_keep_halls_sound};
 use hall_store::{HallStore, Unavailable};
 use hall_types::{Moment, Port, Token};
-use laws_steps::{decisions_keep_the_rules, steps_keep_halls_sound};
 use pxe_vendor::{NotServed, Place, client};
 use std::alloc::Global;
 
@@ -35,11 +33,11 @@ pub(crate) fn attempt_datagram<S: HallStore>(
     enlists: bool,
     account: &mut Account,
 ) -> Result<Answer, Unavailable>
-    ensures attempts { Attempts S.HallStore.is_clean S.HallStore.holds S.HallStore.leaves store.old store.new place.now (input.Datagram port octets.now) moment fresh result }
+    ensures attempts { Attempts S.HallStore store.old store.new place.now (input.Datagram port octets.now) moment fresh result }
     ensures came { IsReadAs (input.Datagram port octets.now) account.new.came }
     ensures found { account.old.notes ≡ nothing_noted → S.HallStore.is_clean store.new → (h : Hall) → S.HallStore.holds store.old h
         → IsFound enlists place.now h (input.Datagram port octets.now) moment fresh (given_or_missed (input.Datagram port octets.now) result) account.new }
-    ensures unlisted { enlists ≡ false → S.HallStore.is_clean store.new → IsOnlyRead S.HallStore.holds S.HallStore.leaves store.old store.new }
+    ensures unlisted { enlists ≡ false → S.HallStore.is_clean store.new → IsOnlyRead S.HallStore store.old store.new }
 {
     steps_keep_halls_sound();
     decisions_keep_the_rules();
@@ -80,7 +78,7 @@ pub(crate) fn attempt_request<S: HallStore>(
     fresh: Token,
     account: &mut Account,
 ) -> Result<Answer, Unavailable>
-    ensures attempts { Attempts S.HallStore.is_clean S.HallStore.holds S.HallStore.leaves store.old store.new place.now (input.Request octets.now) moment fresh result }
+    ensures attempts { Attempts S.HallStore store.old store.new place.now (input.Request octets.now) moment fresh result }
     ensures came { IsReadAs (input.Request octets.now) account.new.came }
     ensures found { account.old.notes ≡ nothing_noted → S.HallStore.is_clean store.new → (h : Hall) → S.HallStore.holds store.old h
         → (e : Event) → account.new.came ≡ came.Asked e → IsNoted place.now h e moment fresh (given_or_missed (input.Request octets.now) result) account.new.notes }
@@ -114,7 +112,7 @@ pub(crate) fn attempt_quiet<S: HallStore>(
     fresh: Token,
     account: &mut Account,
 ) -> Result<Answer, Unavailable>
-    ensures attempts { Attempts S.HallStore.is_clean S.HallStore.holds S.HallStore.leaves store.old store.new place.now input.Quiet moment fresh result }
+    ensures attempts { Attempts S.HallStore store.old store.new place.now input.Quiet moment fresh result }
     ensures came { IsReadAs input.Quiet account.new.came }
     ensures found { account.old.notes ≡ nothing_noted → S.HallStore.is_clean store.new → (h : Hall) → S.HallStore.holds store.old h
         → IsNoted place.now h event.Quiet moment fresh (given_or_missed input.Quiet result) account.new.notes }
@@ -135,11 +133,11 @@ pub(crate) fn attempt<S: HallStore>(
     enlists: bool,
     account: &mut Account,
 ) -> Result<Answer, Unavailable>
-    ensures attempts { Attempts S.HallStore.is_clean S.HallStore.holds S.HallStore.leaves store.old store.new place.now arrival.now.input arrival.now.moment arrival.now.fresh result }
+    ensures attempts { Attempts S.HallStore store.old store.new place.now arrival.now.input arrival.now.moment arrival.now.fresh result }
     ensures came { IsReadAs arrival.now.input account.new.came }
     ensures found { account.old.notes ≡ nothing_noted → S.HallStore.is_clean store.new → (h : Hall) → S.HallStore.holds store.old h
         → IsFound enlists place.now h arrival.now.input arrival.now.moment arrival.now.fresh (given_or_missed arrival.now.input result) account.new }
-    ensures unlisted { enlists ≡ false → IsDatagram arrival.now.input → S.HallStore.is_clean store.new → IsOnlyRead S.HallStore.holds S.HallStore.leaves store.old store.new }
+    ensures unlisted { enlists ≡ false → IsDatagram arrival.now.input → S.HallStore.is_clean store.new → IsOnlyRead S.HallStore store.old store.new }
 {
     let moment = arrival.moment;
     let fresh = arrival.fresh;

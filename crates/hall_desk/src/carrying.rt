@@ -3,12 +3,8 @@ ghost use Rattle.std.specs.Prelude.{◌≡◌, None, false, OnErr, OnOk};
 ghost use Rattle.hall_types.specs.Hall.{Hall};
 ghost use Rattle.hall_events.specs.Reply.{Content};
 ghost use Rattle.hall_events.specs.declared.event.Event.TheVariants as event;
-ghost use Rattle.laws_model.specs.Decision.{decision_of};
-ghost use Rattle.hall_desk.specs.Account.{IsDecided, found_for, is_unlisted, with_move};
-ghost use Rattle.hall_desk.specs.Attempt.{IsOnlyRead};
-ghost use Rattle.hall_desk.specs.Moved.{moved_by};
-ghost use Rattle.hall_desk.specs.Octets.{frame_answer, no_answer, response_answer};
-ghost use Rattle.hall_desk.specs.Plan.{CarriesOut};
+ghost use Rattle.hall_laws.specs.Decision.{decision_of};
+ghost use Rattle.hall_desk.specs.{Account.{IsDecided, found_for, is_unlisted, with_move}, Attempt.IsOnlyRead, Moved.moved_by, Octets.{frame_answer, no_answer, response_answer}, Plan.CarriesOut};
 
 use crate::account::Notes;
 use crate::arrival::Answer;
@@ -36,7 +32,7 @@ fn is_unlisted(enlists: bool, decision: Decision) -> bool
 
 /// Carries out a client's frame, and gives its answer. All memory is taken before a row is written. Of a desk that doesn't enlist, the
 /// frame of a client that is to be enlisted counts as not having come.
-#[tactic(auto, unfolding(laws_model::specs::Decision::decision_of))]
+#[tactic(auto, unfolding(hall_laws::specs::Decision::decision_of))]
 pub(crate) fn carry_frame<S: HallStore>(
     alloc: Global,
     store: &mut S,
@@ -49,13 +45,13 @@ pub(crate) fn carry_frame<S: HallStore>(
     enlists: bool,
     notes: &mut Notes,
 ) -> Result<Answer, Unavailable>
-    ensures carried { CarriesOut S.HallStore.is_clean S.HallStore.holds S.HallStore.leaves store.old store.new result
+    ensures carried { CarriesOut S.HallStore store.old store.new result
         (λ h. (decision_of place.now h (event.Frame port client.now) moment fresh).rows)
         (λ h answer. answer ≡ frame_answer place.now frame.now client.now (decision_of place.now h (event.Frame port client.now) moment fresh).content) }
     ensures decided { notes.old.decision ≡ None → notes.old.unlisted ≡ false → S.HallStore.is_clean store.new → (h : Hall) → S.HallStore.holds store.old h → IsDecided enlists h port client.now notes.new }
     ensures moved { S.HallStore.is_clean store.new → OnOk result ((h : Hall) → S.HallStore.holds store.old h → notes.new.moved ≡ moved_by notes.old.machine (decision_of place.now h (event.Frame port client.now) moment fresh).rows) }
     ensures unmoved { OnErr result (notes.new.moved ≡ notes.old.moved) }
-    ensures unlisted { enlists ≡ false → S.HallStore.is_clean store.new → IsOnlyRead S.HallStore.holds S.HallStore.leaves store.old store.new }
+    ensures unlisted { enlists ≡ false → S.HallStore.is_clean store.new → IsOnlyRead S.HallStore store.old store.new }
 {
     let (change, decision) = plan_client(alloc, store, port, client)?;
     notes.decision = Some(decision);
@@ -79,7 +75,7 @@ pub(crate) fn carry_request<S: HallStore>(
     fresh: Token,
     notes: &mut Notes,
 ) -> Result<Answer, Unavailable>
-    ensures carried { CarriesOut S.HallStore.is_clean S.HallStore.holds S.HallStore.leaves store.old store.new result
+    ensures carried { CarriesOut S.HallStore store.old store.new result
         (λ h. (decision_of place.now h event.now moment fresh).rows)
         (λ h answer. answer ≡ response_answer (decision_of place.now h event.now moment fresh).content) }
     ensures noted { S.HallStore.is_clean store.new → OnOk result ((h : Hall) → S.HallStore.holds store.old h
@@ -102,7 +98,7 @@ pub(crate) fn carry_quiet<S: HallStore>(
     fresh: Token,
     notes: &mut Notes,
 ) -> Result<Answer, Unavailable>
-    ensures carried { CarriesOut S.HallStore.is_clean S.HallStore.holds S.HallStore.leaves store.old store.new result
+    ensures carried { CarriesOut S.HallStore store.old store.new result
         (λ h. (decision_of place.now h event.Quiet moment fresh).rows)
         (λ h answer. answer ≡ no_answer (decision_of place.now h event.Quiet moment fresh).content) }
     ensures noted { S.HallStore.is_clean store.new → OnOk result ((h : Hall) → S.HallStore.holds store.old h

@@ -1,21 +1,11 @@
 //! The desk: a store, and the place that it serves.
 ghost use Rattle.std.specs.Prelude.{◌≡◌, true, false, ℕ, List, [], ◌∷◌, ◌++◌, length, IfOk, OnErr};
 ghost use Rattle.hall_events.specs.Reply.{reply_of};
-ghost use Rattle.desk_command.specs.Command.{sender};
-ghost use Rattle.laws_model.specs.Decision.{decision_of};
+ghost use Rattle.desk_command.specs.{Command.sender, Look.Looks};
+ghost use Rattle.hall_laws.specs.{Decision.decision_of, Laws.IsFrame};
 ghost use Rattle.hall_types.specs.Hall.{Hall, second};
-ghost use Rattle.desk_views.specs.Look.{Looks};
 ghost use Rattle.boot_desk.specs.Sound.{IsSound};
-ghost use Rattle.laws_past.specs.Laws.{IsFrame};
-ghost use Rattle.hall_desk.specs.Account.{IsDatagram, IsFound, IsReadAs};
-ghost use Rattle.hall_desk.specs.Attempt.{ChangeNothing, GivesAnswer, IsOnlyRead};
-ghost use Rattle.hall_desk.specs.Desk.{enlists_of, site_of, store_of};
-ghost use Rattle.hall_desk.specs.Headline.{HasHistory};
-ghost use Rattle.hall_desk.specs.History.{BeginsWith, Item, Origin, carried_out, exchanged, exchanges};
-ghost use Rattle.hall_desk.specs.Octets.{IsGiven};
-ghost use Rattle.hall_desk.specs.Plan.{CarriesOut, Plans};
-ghost use Rattle.hall_desk.specs.Sender.{if_enabled};
-ghost use Rattle.hall_desk.specs.Stops.{AndCutRun, AreGiven, HasRun, IsLeft, IsSettled, OrUnanswered, OrUnreplied};
+ghost use Rattle.hall_desk.specs.{Account.{IsDatagram, IsFound, IsReadAs}, Answering.Answers, Attempt.{ChangeNothing, GivesAnswer, IsOnlyRead}, Desk.{enlists_of, site_of, store_of}, Headline.HasHistory, History.{BeginsWith, Item, Origin, carried_out, exchanges}, Plan.{CarriesOut, Plans}, Sender.if_enabled, Stops.{AndCutRun, AreGiven, HasRun, IsLeft, IsSettled, OrUnreplied}};
 
 use crate::account::{Account, Came, Notes};
 use crate::arrival::{Answer, Arrival};
@@ -26,9 +16,9 @@ use crate::requests::enabled_sender;
 use crate::typed::event_is_typed;
 use crate::writing::write;
 use hall_events::{Event, Reply};
+use hall_laws::decisions_keep_the_rules;
 use hall_store::{HallStore, Unavailable};
 use hall_types::{Change, Digest, Moment, Operator, Token};
-use laws_steps::decisions_keep_the_rules;
 use pxe_vendor::Place;
 use std::alloc::{AllocError, Global};
 
@@ -57,7 +47,7 @@ impl<S: HallStore> Desk<S> {
         ensures store { store_of result ≡ store }
         ensures site { site_of result ≡ place }
         ensures enlists { enlists_of result ≡ true }
-        ensures history { (origin : Origin) (h : Hall) → BeginsWith origin h → S.HallStore.holds store h → HasHistory S.HallStore.holds (store_of result) origin [] }
+        ensures history { (origin : Origin) (h : Hall) → BeginsWith origin h → S.HallStore.holds store h → HasHistory S.HallStore (store_of result) origin [] }
     {
         histories_keep_the_laws();
         Desk {
@@ -98,7 +88,7 @@ impl<S: HallStore> Desk<S> {
     ) -> Result<(Change, Reply), Unavailable>
         ensures site { site_of self.new ≡ site_of self.old }
         ensures enlists { enlists_of self.new ≡ enlists_of self.old }
-        ensures plan { Looks S.HallStore.is_clean S.HallStore.holds S.HallStore.leaves (store_of self.old) (store_of self.new) result
+        ensures plan { Looks S.HallStore (store_of self.old) (store_of self.new) result
             (λ h planned. Plans (decision_of (site_of self.old) h event.now moment fresh) planned) }
         ensures unlisted { enlists_of self.old ≡ false → IsFrame event.now → IfOk result (λ planned. planned.0 ≡ []) }
     {
@@ -122,7 +112,7 @@ impl<S: HallStore> Desk<S> {
     pub fn sender(&mut self, bearer: Option<Digest>) -> Result<Option<Operator>, Unavailable>
         ensures site { site_of self.new ≡ site_of self.old }
         ensures enlists { enlists_of self.new ≡ enlists_of self.old }
-        ensures sender { Looks S.HallStore.is_clean S.HallStore.holds S.HallStore.leaves (store_of self.old) (store_of self.new) result
+        ensures sender { Looks S.HallStore (store_of self.old) (store_of self.new) result
             (λ h answer. answer ≡ if_enabled (sender h bearer)) }
     {
         enabled_sender(&mut self.store, bearer)
@@ -141,19 +131,19 @@ impl<S: HallStore> Desk<S> {
     ) -> Result<Reply, Unavailable>
         ensures site { site_of self.new ≡ site_of self.old }
         ensures enlists { enlists_of self.new ≡ enlists_of self.old }
-        ensures step { CarriesOut S.HallStore.is_clean S.HallStore.holds S.HallStore.leaves (store_of self.old) (store_of self.new) result
+        ensures step { CarriesOut S.HallStore (store_of self.old) (store_of self.new) result
             (λ h. (decision_of (site_of self.old) h event.now moment fresh).rows)
             (λ h reply. reply ≡ reply_of second (decision_of (site_of self.old) h event.now moment fresh).content) }
         ensures history { S.HallStore.is_clean (store_of self.new) → IfOk result (λ reply. (origin : Origin) (past : List Item)
-            → HasHistory S.HallStore.holds (store_of self.old) origin past
-            → HasHistory S.HallStore.holds (store_of self.new) origin (past ++ carried_out (site_of self.old) event.now moment fresh reply ∷ [])) }
+            → HasHistory S.HallStore (store_of self.old) origin past
+            → HasHistory S.HallStore (store_of self.new) origin (past ++ carried_out (site_of self.old) event.now moment fresh reply ∷ [])) }
         ensures settled { S.HallStore.is_clean (store_of self.new) → IfOk result (λ reply. (origin : Origin) (past : List Item)
-            → IsSettled S.HallStore.holds S.HallStore.leaves (store_of self.old) origin past
-            → IsSettled S.HallStore.holds S.HallStore.leaves (store_of self.new) origin (past ++ carried_out (site_of self.old) event.now moment fresh reply ∷ [])) }
+            → IsSettled S.HallStore (store_of self.old) origin past
+            → IsSettled S.HallStore (store_of self.new) origin (past ++ carried_out (site_of self.old) event.now moment fresh reply ∷ [])) }
         ensures stop { S.HallStore.is_clean (store_of self.new) → (origin : Origin) (past : List Item)
-            → IsSettled S.HallStore.holds S.HallStore.leaves (store_of self.old) origin past
-            → IsLeft S.HallStore.leaves (store_of self.new) origin (OrUnreplied past (site_of self.old) event.now moment fresh) }
-        ensures unlisted { enlists_of self.old ≡ false → IsFrame event.now → S.HallStore.is_clean (store_of self.new) → IsOnlyRead S.HallStore.holds S.HallStore.leaves (store_of self.old) (store_of self.new) }
+            → IsSettled S.HallStore (store_of self.old) origin past
+            → IsLeft S.HallStore (store_of self.new) origin (OrUnreplied past (site_of self.old) event.now moment fresh) }
+        ensures unlisted { enlists_of self.old ≡ false → IsFrame event.now → S.HallStore.is_clean (store_of self.new) → IsOnlyRead S.HallStore (store_of self.old) (store_of self.new) }
     {
         histories_keep_the_laws();
         decisions_keep_the_rules();
@@ -171,10 +161,10 @@ impl<S: HallStore> Desk<S> {
     ) -> Result<Reply, Unavailable>
         ensures site { site_of self.new ≡ site_of self.old }
         ensures enlists { enlists_of self.new ≡ enlists_of self.old }
-        ensures step { CarriesOut S.HallStore.is_clean S.HallStore.holds S.HallStore.leaves (store_of self.old) (store_of self.new) result
+        ensures step { CarriesOut S.HallStore (store_of self.old) (store_of self.new) result
             (λ h. (decision_of (site_of self.old) h event.now moment fresh).rows)
             (λ h reply. reply ≡ reply_of second (decision_of (site_of self.old) h event.now moment fresh).content) }
-        ensures unlisted { enlists_of self.old ≡ false → IsFrame event.now → S.HallStore.is_clean (store_of self.new) → IsOnlyRead S.HallStore.holds S.HallStore.leaves (store_of self.old) (store_of self.new) }
+        ensures unlisted { enlists_of self.old ≡ false → IsFrame event.now → S.HallStore.is_clean (store_of self.new) → IsOnlyRead S.HallStore (store_of self.old) (store_of self.new) }
     {
         let (change, reply) = self.plan(alloc, event, moment, fresh)?;
         write(&mut self.store, &change)?;
@@ -186,24 +176,10 @@ impl<S: HallStore> Desk<S> {
     /// at any moment leaves the hall before it or the hall after it, of a store that was settled; once it was answered, the hall after it
     /// alone.
     pub fn answer_with_account(&mut self, alloc: Global, arrival: &Arrival) -> (Answer, Account)
-        ensures site { site_of self.new ≡ site_of self.old }
-        ensures answer { GivesAnswer S.HallStore.is_clean S.HallStore.holds S.HallStore.leaves (store_of self.old) (store_of self.new)
-            (site_of self.old) arrival.now.input arrival.now.moment arrival.now.fresh result.0 }
-        ensures history { S.HallStore.is_clean (store_of self.new) → (origin : Origin) (past : List Item)
-            → HasHistory S.HallStore.holds (store_of self.old) origin past
-            → HasHistory S.HallStore.holds (store_of self.new) origin (past ++ exchanged (site_of self.old) arrival.now result.0 ∷ []) }
-        ensures settled { S.HallStore.is_clean (store_of self.new) → (origin : Origin) (past : List Item)
-            → (was : IsSettled S.HallStore.holds S.HallStore.leaves (store_of self.old) origin past)
-            → IsGiven (site_of self.old) was.history.end arrival.now.input arrival.now.moment arrival.now.fresh result.0
-            → IsSettled S.HallStore.holds S.HallStore.leaves (store_of self.new) origin (past ++ exchanged (site_of self.old) arrival.now result.0 ∷ []) }
-        ensures stop { S.HallStore.is_clean (store_of self.new) → (origin : Origin) (past : List Item)
-            → IsSettled S.HallStore.holds S.HallStore.leaves (store_of self.old) origin past
-            → IsLeft S.HallStore.leaves (store_of self.new) origin (OrUnanswered past (site_of self.old) arrival.now) }
+        ensures answered { Answers S.HallStore self.old self.new arrival.now result.0 }
         ensures came { IsReadAs arrival.now.input result.1.came }
         ensures found { S.HallStore.is_clean (store_of self.new) → (h : Hall) → S.HallStore.holds (store_of self.old) h
             → IsFound (enlists_of self.old) (site_of self.old) h arrival.now.input arrival.now.moment arrival.now.fresh result.0 result.1 }
-        ensures enlists { enlists_of self.new ≡ enlists_of self.old }
-        ensures unlisted { enlists_of self.old ≡ false → IsDatagram arrival.now.input → S.HallStore.is_clean (store_of self.new) → IsOnlyRead S.HallStore.holds S.HallStore.leaves (store_of self.old) (store_of self.new) }
     {
         histories_keep_the_laws();
         self.take(alloc, arrival)
@@ -213,13 +189,13 @@ impl<S: HallStore> Desk<S> {
     #[tactic(auto, using(crate::proofs::AttemptLemmas::answered_ok, crate::proofs::AttemptLemmas::answered_err))]
     fn take(&mut self, alloc: Global, arrival: &Arrival) -> (Answer, Account)
         ensures site { site_of self.new ≡ site_of self.old }
-        ensures answer { GivesAnswer S.HallStore.is_clean S.HallStore.holds S.HallStore.leaves (store_of self.old) (store_of self.new)
+        ensures answer { GivesAnswer S.HallStore (store_of self.old) (store_of self.new)
             (site_of self.old) arrival.now.input arrival.now.moment arrival.now.fresh result.0 }
         ensures came { IsReadAs arrival.now.input result.1.came }
         ensures found { S.HallStore.is_clean (store_of self.new) → (h : Hall) → S.HallStore.holds (store_of self.old) h
             → IsFound (enlists_of self.old) (site_of self.old) h arrival.now.input arrival.now.moment arrival.now.fresh result.0 result.1 }
         ensures enlists { enlists_of self.new ≡ enlists_of self.old }
-        ensures unlisted { enlists_of self.old ≡ false → IsDatagram arrival.now.input → S.HallStore.is_clean (store_of self.new) → IsOnlyRead S.HallStore.holds S.HallStore.leaves (store_of self.old) (store_of self.new) }
+        ensures unlisted { enlists_of self.old ≡ false → IsDatagram arrival.now.input → S.HallStore.is_clean (store_of self.new) → IsOnlyRead S.HallStore (store_of self.old) (store_of self.new) }
     {
         let mut account = Account {
             came: Came::Quiet,
@@ -242,21 +218,7 @@ impl<S: HallStore> Desk<S> {
     /// the hall since it was new, at this place or others, it is a history that keeps all laws. A stop at any moment leaves the hall
     /// before it or the hall after it, of a store that was settled; once it was answered, the hall after it alone.
     pub fn answer(&mut self, alloc: Global, arrival: &Arrival) -> Answer
-        ensures site { site_of self.new ≡ site_of self.old }
-        ensures answer { GivesAnswer S.HallStore.is_clean S.HallStore.holds S.HallStore.leaves (store_of self.old) (store_of self.new)
-            (site_of self.old) arrival.now.input arrival.now.moment arrival.now.fresh result }
-        ensures history { S.HallStore.is_clean (store_of self.new) → (origin : Origin) (past : List Item)
-            → HasHistory S.HallStore.holds (store_of self.old) origin past
-            → HasHistory S.HallStore.holds (store_of self.new) origin (past ++ exchanged (site_of self.old) arrival.now result ∷ []) }
-        ensures settled { S.HallStore.is_clean (store_of self.new) → (origin : Origin) (past : List Item)
-            → (was : IsSettled S.HallStore.holds S.HallStore.leaves (store_of self.old) origin past)
-            → IsGiven (site_of self.old) was.history.end arrival.now.input arrival.now.moment arrival.now.fresh result
-            → IsSettled S.HallStore.holds S.HallStore.leaves (store_of self.new) origin (past ++ exchanged (site_of self.old) arrival.now result ∷ []) }
-        ensures stop { S.HallStore.is_clean (store_of self.new) → (origin : Origin) (past : List Item)
-            → IsSettled S.HallStore.holds S.HallStore.leaves (store_of self.old) origin past
-            → IsLeft S.HallStore.leaves (store_of self.new) origin (OrUnanswered past (site_of self.old) arrival.now) }
-        ensures enlists { enlists_of self.new ≡ enlists_of self.old }
-        ensures unlisted { enlists_of self.old ≡ false → IsDatagram arrival.now.input → S.HallStore.is_clean (store_of self.new) → IsOnlyRead S.HallStore.holds S.HallStore.leaves (store_of self.old) (store_of self.new) }
+        ensures { Answers S.HallStore self.old self.new arrival.now result }
     {
         let (answer, account) = self.answer_with_account(alloc, arrival);
         drop(account);
@@ -272,17 +234,17 @@ impl<S: HallStore> Desk<S> {
         ensures site { site_of self.new ≡ site_of self.old }
         ensures enlists { enlists_of self.new ≡ enlists_of self.old }
         ensures run { S.HallStore.is_clean (store_of self.new) → IfOk result (λ answers. (h : Hall) → S.HallStore.holds (store_of self.old) h → IsSound h
-            → HasRun S.HallStore.holds S.HallStore.leaves (store_of self.old) (store_of self.new) (site_of self.old) h arrivals.now answers.items) }
+            → HasRun S.HallStore (store_of self.old) (store_of self.new) (site_of self.old) h arrivals.now answers.items) }
         ensures one_each { IfOk result (λ answers. length answers.items ≡ length arrivals.now) }
         ensures history { S.HallStore.is_clean (store_of self.new) → IfOk result (λ answers. (origin : Origin) (past : List Item)
-            → HasHistory S.HallStore.holds (store_of self.old) origin past
-            → HasHistory S.HallStore.holds (store_of self.new) origin (past ++ exchanges (site_of self.old) arrivals.now answers.items)) }
+            → HasHistory S.HallStore (store_of self.old) origin past
+            → HasHistory S.HallStore (store_of self.new) origin (past ++ exchanges (site_of self.old) arrivals.now answers.items)) }
         ensures settled { S.HallStore.is_clean (store_of self.new) → IfOk result (λ answers. (origin : Origin) (past : List Item)
-            → (was : IsSettled S.HallStore.holds S.HallStore.leaves (store_of self.old) origin past) → AreGiven (site_of self.old) was.history.end arrivals.now answers.items
-            → IsSettled S.HallStore.holds S.HallStore.leaves (store_of self.new) origin (past ++ exchanges (site_of self.old) arrivals.now answers.items)) }
+            → (was : IsSettled S.HallStore (store_of self.old) origin past) → AreGiven (site_of self.old) was.history.end arrivals.now answers.items
+            → IsSettled S.HallStore (store_of self.new) origin (past ++ exchanges (site_of self.old) arrivals.now answers.items)) }
         ensures stop { S.HallStore.is_clean (store_of self.new) → IfOk result (λ answers. (origin : Origin) (past : List Item)
-            → IsSettled S.HallStore.holds S.HallStore.leaves (store_of self.old) origin past
-            → IsLeft S.HallStore.leaves (store_of self.new) origin (AndCutRun past (site_of self.old) arrivals.now answers.items)) }
+            → IsSettled S.HallStore (store_of self.old) origin past
+            → IsLeft S.HallStore (store_of self.new) origin (AndCutRun past (site_of self.old) arrivals.now answers.items)) }
         ensures idle { S.HallStore.is_clean (store_of self.new) → (h : Hall) → S.HallStore.holds (store_of self.old) h
             → ChangeNothing (site_of self.old) h arrivals.now → S.HallStore.holds (store_of self.new) h }
         ensures err { OnErr result (self.new ≡ self.old) }

@@ -2,15 +2,10 @@
 ghost use Rattle.std.specs.Prelude.{ℕ, List, [], ◌∷◌, ◌++◌};
 ghost use Rattle.pxe_vendor.specs.Place.{Site};
 ghost use Rattle.hall_types.specs.Hall.{Hall};
-ghost use Rattle.laws_model.specs.Step.{IsRun, Step};
-ghost use Rattle.hall_desk.specs.Headline.{Headline};
-ghost use Rattle.hall_desk.specs.History.{AllLead, AreStepsOf, BeginsWith, Item, ItemLeads, Origin, exchanges};
-ghost use Rattle.hall_desk.specs.Octets.{IsArrivalRun};
-ghost use Rattle.hall_desk.specs.Stops.{AreAnswered, AreGiven};
-ghost use Rattle.hall_desk.specs.declared.arrival.Answer.{Answer};
-ghost use Rattle.hall_desk.specs.declared.arrival.Arrival.{Arrival};
+ghost use Rattle.hall_laws.specs.Step.{IsRun, Step};
+ghost use Rattle.hall_desk.specs.{Headline.Headline, History.{AllLead, AreStepsOf, BeginsWith, Item, ItemLeads, Origin, exchanges}, Octets.IsArrivalRun, Stops.{AreAnswered, AreGiven}, declared.arrival.{Answer.Answer, Arrival.Arrival}};
 
-use laws_migration::laws_hold_from_origins;
+use hall_laws::laws_hold_from_origins;
 
 /// What came is a run of the model: each arrival that asked the hall and came is one step of it, whose content was sent, and
 /// each event that was carried out is one; all others changed nothing.

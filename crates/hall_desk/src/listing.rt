@@ -1,11 +1,9 @@
 //! The list of all machines.
-ghost use Rattle.std.specs.Prelude.{◌≡◌, ◌==◌, filter, map, IfOk};
-ghost use Rattle.std.specs.List.Sorted.{IsNonDecreasingBy};
-ghost use Rattle.hall_types.specs.Hall.{second};
-ghost use Rattle.hall_types.specs.Rows.{listed as rows_of};
+ghost use Rattle.std.specs.{Prelude.{◌≡◌, ◌==◌, filter, map, IfOk}, List.Sorted.IsNonDecreasingBy};
+ghost use Rattle.hall_types.specs.{Hall.second, Rows.listed as rows_of};
 ghost use Rattle.hall_events.specs.Reply.{listed, listing, machine_list, reply_of, with_machine};
-ghost use Rattle.laws_model.specs.Decision.{listed_of, says};
-ghost use Rattle.desk_views.specs.Look.{Looks};
+ghost use Rattle.hall_laws.specs.Decision.{listed_of, says};
+ghost use Rattle.desk_command.specs.Look.{Looks};
 ghost use Rattle.hall_desk.specs.Plan.{Plans};
 
 use crate::requests::said;
@@ -49,7 +47,7 @@ pub(crate) fn list_machines<S: HallStore>(
     alloc: Global,
     store: &mut S,
 ) -> Result<(Change, Reply), Unavailable>
-    ensures { Looks S.HallStore.is_clean S.HallStore.holds S.HallStore.leaves store.old store.new result
+    ensures { Looks S.HallStore store.old store.new result
         (λ h planned. Plans (says (machine_list (map (listed_of h) (rows_of h.machines)))) planned) }
 {
     let machines = store.machines(alloc)?;

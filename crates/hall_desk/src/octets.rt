@@ -1,50 +1,31 @@
 //! Answers in octets.
-ghost use Rattle.std.specs.Prelude.{◌≡◌, IfOk, IsTrue};
-ghost use Rattle.hall_events.specs.Reply.{reply_of};
-ghost use Rattle.hall_http.specs.Response.{IsStatus};
-ghost use Rattle.hall_types.specs.Hall.{second};
+ghost use Rattle.std.specs.Prelude.{◌≡◌, IfOk};
+ghost use Rattle.hall_events.specs.Reply.{reply_of, Content};
+ghost use Rattle.hall_types.specs.Hall.{second, Hall};
 ghost use Rattle.hall_events.specs.Reply as content;
-ghost use Rattle.hall_events.specs.Reply.{Content};
-ghost use Rattle.hall_desk.specs.Octets.{refusal_of, response_answer};
+ghost use Rattle.hall_desk.specs.Octets.{refusal_of, response_answer, frame_answer};
 ghost use Rattle.pxe_vendor.specs.Place.{Site};
-ghost use Rattle.hall_types.specs.Hall.{Hall};
-ghost use Rattle.laws_model.specs.Decision.{framed};
-ghost use Rattle.hall_desk.specs.Octets.{frame_answer};
+ghost use Rattle.hall_laws.specs.Decision.{framed};
 
 use crate::arrival::Answer;
 use boot_desk::Decision;
 use dhcp_frame::Frame;
 use hall_events::Reply;
-use hall_http::{HttpFault, bytes_of};
+use hall_http::{HttpFault, bytes_of, is_response};
 use hall_store::Unavailable;
 use hall_types::Refusal;
 use pxe_vendor::{Client, Octets, Place, boot_reply};
 use std::alloc::Global;
 
-// Whether a status is one of those of responses.
-fn is_status(status: u16) -> bool
-    ensures { IsTrue result → IsStatus status }
-{
-    matches!(
-        status,
-        200 | 400 | 401 | 403 | 404 | 405 | 409 | 410 | 411 | 412 | 413 | 423 | 503
-    )
-}
-
 // The response with an answer by HTTP.
 fn response_with(alloc: Global, reply: &Reply) -> Result<Answer, Unavailable>
     ensures { (said : Content) → reply.now ≡ reply_of second said → IfOk result (λ answer. answer ≡ response_answer said) }
 {
-    let Reply::Http { status, .. } = reply else {
-        return Err(Unavailable);
-    };
-    if !is_status(*status) {
+    if !is_response(reply) {
         return Err(Unavailable);
     }
-    match bytes_of(alloc, reply) {
-        Ok(octets) => Ok(Answer::Octets(Octets::from(octets))),
-        Err(_) => Err(Unavailable),
-    }
+    let octets = bytes_of(alloc, reply)?;
+    Ok(Answer::Octets(Octets::from(octets)))
 }
 
 /// The response with an answer by HTTP. `Unavailable` if memory is wanting, or a receipt kept a status that no response
@@ -75,10 +56,8 @@ fn refusal_of(fault: HttpFault) -> Refusal
 pub(crate) fn fault_response(alloc: Global, fault: HttpFault) -> Result<Answer, Unavailable>
     ensures { IfOk result (λ answer. answer ≡ response_answer (content.refused (refusal_of fault))) }
 {
-    match Reply::refused(alloc, refusal_of(fault)) {
-        Ok(reply) => response(alloc, reply),
-        Err(_) => Err(Unavailable),
-    }
+    let reply = Reply::refused(alloc, refusal_of(fault))?;
+    response(alloc, reply)
 }
 
 /// The answer to a client's frame.

@@ -1,10 +1,9 @@
 //! What is planned for every event.
 ghost use Rattle.std.specs.Prelude.{◌≡◌, OnOk};
 ghost use Rattle.hall_types.specs.Hall.{Hall};
-ghost use Rattle.laws_model.specs.Decision.{decision_of};
-ghost use Rattle.desk_views.specs.Look.{Looks};
-ghost use Rattle.hall_desk.specs.Account.{found_for};
-ghost use Rattle.hall_desk.specs.Plan.{Plans};
+ghost use Rattle.hall_laws.specs.Decision.{decision_of};
+ghost use Rattle.desk_command.specs.Look.{Looks};
+ghost use Rattle.hall_desk.specs.{Account.found_for, Plan.Plans};
 
 use crate::account::Notes;
 use crate::plans::{plan_frame, plan_quiet, plan_report, plan_script};
@@ -18,7 +17,7 @@ use pxe_vendor::Place;
 use std::alloc::Global;
 
 /// What is planned for an event: the rows to write, and the answer. The store's hall isn't changed.
-#[tactic(auto, unfolding(laws_model::specs::Decision::decision_of))]
+#[tactic(auto, unfolding(hall_laws::specs::Decision::decision_of))]
 pub(crate) fn planned<S: HallStore>(
     alloc: Global,
     store: &mut S,
@@ -28,7 +27,7 @@ pub(crate) fn planned<S: HallStore>(
     fresh: Token,
     notes: &mut Notes,
 ) -> Result<(Change, Reply), Unavailable>
-    ensures planned { Looks S.HallStore.is_clean S.HallStore.holds S.HallStore.leaves store.old store.new result
+    ensures planned { Looks S.HallStore store.old store.new result
         (λ h its. Plans (decision_of place.now h event.now moment fresh) its) }
     ensures noted { S.HallStore.is_clean store.new → OnOk result ((h : Hall) → S.HallStore.holds store.old h → notes.new ≡ found_for h moment event.now notes.old) }
     ensures unmoved { notes.new.moved ≡ notes.old.moved }

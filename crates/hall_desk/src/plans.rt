@@ -1,26 +1,19 @@
 //! What is planned for each event.
 ghost use Rattle.std.specs.Prelude.{◌≡◌, [], List, IfOk, OnOk, option_copied, option_map};
 ghost use Rattle.pxe_vendor.specs.Place.{Site};
-ghost use Rattle.hall_types.specs.Hall.{Hall, second};
-ghost use Rattle.hall_types.specs.Lookup.{next_expired};
-ghost use Rattle.hall_types.specs.declared.change.RowWrite.{RowWrite};
+ghost use Rattle.hall_types.specs.{Hall.{Hall, second}, Lookup.next_expired, declared.change.RowWrite.RowWrite};
 ghost use Rattle.hall_events.specs.Reply.{nothing, reply_of};
-ghost use Rattle.boot_desk.specs.Decided.{Decides};
-ghost use Rattle.boot_desk.specs.Expiry.{swept};
-ghost use Rattle.boot_desk.specs.Fetch.{Fetched};
+ghost use Rattle.boot_desk.specs.{Decided.Decides, Expiry.swept, Fetch.Fetched, OrderAnswer.answered, Report.{Judged, reported}};
 ghost use Rattle.boot_desk.specs.FrameEvent as event;
-ghost use Rattle.boot_desk.specs.OrderAnswer.{answered};
-ghost use Rattle.boot_desk.specs.Report.{Judged, reported};
 ghost use Rattle.boot_desk.specs.Views as view;
-ghost use Rattle.laws_model.specs.Decision as made;
-ghost use Rattle.laws_model.specs.Decision.{framed, given_if, judged, refuses, verdict_content};
-ghost use Rattle.desk_views.specs.Look.{Looks};
-ghost use Rattle.hall_desk.specs.Account.{about};
-ghost use Rattle.hall_desk.specs.Plan.{Plans, rows_for};
+ghost use Rattle.hall_laws.specs.Decision as made;
+ghost use Rattle.hall_laws.specs.Decision.{framed, given_if, judged, refuses, verdict_content};
+ghost use Rattle.desk_command.specs.Look.{Looks};
+ghost use Rattle.hall_desk.specs.{Account.about, Plan.{Plans, rows_for}};
 
 use crate::account::Notes;
 use boot_desk::{Decision, DeskFault, Verdict, enlist, fetch, frame, order_answer, report, sweep};
-use desk_views::{expired_view, frame_view, order_view, report_view, view_at};
+use desk_command::{expired_view, frame_view, order_view, report_view, view_at};
 use hall_events::Reply;
 use hall_store::{HallStore, Unavailable};
 use hall_types::{
@@ -41,10 +34,8 @@ fn no_rows(alloc: Global) -> Change
 pub(crate) fn refused(alloc: Global, cause: Refusal) -> Result<(Change, Reply), Unavailable>
     ensures { IfOk result (λ planned. Plans (refuses cause) planned) }
 {
-    match Reply::refused(alloc, cause) {
-        Ok(reply) => Ok((no_rows(alloc), reply)),
-        Err(_) => Err(Unavailable),
-    }
+    let reply = Reply::refused(alloc, cause)?;
+    Ok((no_rows(alloc), reply))
 }
 
 // ---- clients
@@ -59,10 +50,7 @@ fn rows_for(
     ensures { IfOk result (λ change. change ≡ rows_for decision client.now numbers) }
 {
     match decision {
-        Decision::Enlist => match enlist(alloc, client, numbers) {
-            Ok(change) => Ok(change),
-            Err(AllocError) => Err(Unavailable),
-        },
+        Decision::Enlist => Ok(enlist(alloc, client, numbers)?),
         Decision::Loader | Decision::ScriptUrl | Decision::Silent(_) => Ok(no_rows(alloc)),
     }
 }
@@ -75,7 +63,7 @@ pub(crate) fn plan_client<S: HallStore>(
     port: Port,
     client: &Client,
 ) -> Result<(Change, Decision), Unavailable>
-    ensures { Looks S.HallStore.is_clean S.HallStore.holds S.HallStore.leaves store.old store.new result
+    ensures { Looks S.HallStore store.old store.new result
         (λ h planned. (planned.1 ≡ event.frame_decision (event.frame_view h client.now) port client.now)
         × ((site : Site) → planned.0 ≡ (framed (event.frame_decision (event.frame_view h client.now) port client.now) site h client.now).rows)) }
 {
@@ -98,10 +86,8 @@ fn client_reply(
     if let Decision::Silent(_) = decision {
         return Ok(Reply::Nothing);
     }
-    match boot_file(alloc, client, place) {
-        Ok(file) => Ok(Reply::boot_file(file)),
-        Err(_) => Err(Unavailable),
-    }
+    let file = boot_file(alloc, client, place)?;
+    Ok(Reply::boot_file(file))
 }
 
 pub(crate) fn plan_frame<S: HallStore>(
@@ -111,7 +97,7 @@ pub(crate) fn plan_frame<S: HallStore>(
     port: Port,
     client: &Client,
 ) -> Result<(Change, Reply), Unavailable>
-    ensures { Looks S.HallStore.is_clean S.HallStore.holds S.HallStore.leaves store.old store.new result
+    ensures { Looks S.HallStore store.old store.new result
         (λ h planned. Plans (framed (event.frame_decision (event.frame_view h client.now) port client.now) place.now h client.now) planned) }
 {
     let (change, decision) = plan_client(alloc, store, port, client)?;
@@ -129,10 +115,7 @@ fn script_plan(
     ensures { (fetched : Fetched) → Decides given fetched → IfOk result (λ planned. Plans (made.given fetched) planned) }
 {
     match given {
-        Ok((change, script)) => match Reply::script(alloc, &script) {
-            Ok(reply) => Ok((change, reply)),
-            Err(_) => Err(Unavailable),
-        },
+        Ok((change, script)) => Ok((change, Reply::script(alloc, &script)?)),
         Err(DeskFault::Refused(cause)) => refused(alloc, cause),
         Err(DeskFault::Memory) => Err(Unavailable),
     }
@@ -147,7 +130,7 @@ pub(crate) fn plan_script<S: HallStore>(
     fresh: Token,
     notes: &mut Notes,
 ) -> Result<(Change, Reply), Unavailable>
-    ensures planned { Looks S.HallStore.is_clean S.HallStore.holds S.HallStore.leaves store.old store.new result
+    ensures planned { Looks S.HallStore store.old store.new result
         (λ h planned. Plans (given_if place.now.host (view.view_at h mac) moment fresh) planned) }
     ensures noted { S.HallStore.is_clean store.new → OnOk result ((h : Hall) → S.HallStore.holds store.old h → notes.new ≡ about (option_map (λ its. its.machine) (view.view_at h mac)) notes.old) }
     ensures unmoved { notes.new.moved ≡ notes.old.moved }
@@ -166,13 +149,9 @@ pub(crate) fn plan_script<S: HallStore>(
 fn verdict_reply(alloc: Global, verdict: Verdict) -> Result<Reply, Unavailable>
     ensures { IfOk result (λ reply. reply ≡ reply_of second (verdict_content verdict)) }
 {
-    let reply = match verdict {
-        Verdict::Counted => Reply::counted(alloc),
-        Verdict::Repeat => Reply::repeated(alloc),
-    };
-    match reply {
-        Ok(reply) => Ok(reply),
-        Err(_) => Err(Unavailable),
+    match verdict {
+        Verdict::Counted => Ok(Reply::counted(alloc)?),
+        Verdict::Repeat => Ok(Reply::repeated(alloc)?),
     }
 }
 
@@ -199,7 +178,7 @@ pub(crate) fn plan_report<S: HallStore>(
     moment: Moment,
     notes: &mut Notes,
 ) -> Result<(Change, Reply), Unavailable>
-    ensures planned { Looks S.HallStore.is_clean S.HallStore.holds S.HallStore.leaves store.old store.new result
+    ensures planned { Looks S.HallStore store.old store.new result
         (λ h planned. Plans (judged (reported (view.report_view h boot) token progress moment)) planned) }
     ensures noted { S.HallStore.is_clean store.new → OnOk result ((h : Hall) → S.HallStore.holds store.old h → notes.new ≡ about (option_map (λ its. its.at.machine) (view.report_view h boot)) notes.old) }
     ensures unmoved { notes.new.moved ≡ notes.old.moved }
@@ -220,7 +199,7 @@ pub(crate) fn judge_answer<S: HallStore>(
     moment: Moment,
     notes: &mut Notes,
 ) -> Result<(Change, Reply), Unavailable>
-    ensures planned { Looks S.HallStore.is_clean S.HallStore.holds S.HallStore.leaves store.old store.new result
+    ensures planned { Looks S.HallStore store.old store.new result
         (λ h planned. Plans (judged (answered (view.order_view h order) outcome moment)) planned) }
     ensures noted { S.HallStore.is_clean store.new → OnOk result ((h : Hall) → S.HallStore.holds store.old h → notes.new ≡ about (option_map (λ its. its.at.machine) (view.order_view h order)) notes.old) }
     ensures unmoved { notes.new.moved ≡ notes.old.moved }
@@ -237,10 +216,7 @@ pub(crate) fn judge_answer<S: HallStore>(
 fn quiet_plan(swept: Result<Change, AllocError>) -> Result<(Change, Reply), Unavailable>
     ensures { (rows : List RowWrite) → IfOk swept (λ change. change ≡ rows) → IfOk result (λ planned. Plans (record { rows = rows; content = nothing }) planned) }
 {
-    match swept {
-        Ok(change) => Ok((change, Reply::Nothing)),
-        Err(AllocError) => Err(Unavailable),
-    }
+    Ok((swept?, Reply::Nothing))
 }
 
 /// A quiet moment: the machine whose deadline comes first expires, if it is due.
@@ -250,7 +226,7 @@ pub(crate) fn plan_quiet<S: HallStore>(
     moment: Moment,
     notes: &mut Notes,
 ) -> Result<(Change, Reply), Unavailable>
-    ensures planned { Looks S.HallStore.is_clean S.HallStore.holds S.HallStore.leaves store.old store.new result
+    ensures planned { Looks S.HallStore store.old store.new result
         (λ h planned. Plans (record { rows = swept (view.machine_view h (next_expired h moment)) moment; content = nothing }) planned) }
     ensures noted { S.HallStore.is_clean store.new → OnOk result ((h : Hall) → S.HallStore.holds store.old h → notes.new ≡ about (option_map (λ its. its.machine) (view.machine_view h (next_expired h moment))) notes.old) }
     ensures unmoved { notes.new.moved ≡ notes.old.moved }

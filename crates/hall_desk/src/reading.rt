@@ -1,7 +1,6 @@
 //! Reading one request.
 ghost use Rattle.std.specs.Prelude.{◌≡◌, ◌≤◌, ◌++◌, false, IfOk, IsTrue};
-ghost use Rattle.hall_http.specs.Noted.{failed_of, inner_of, takes_of};
-ghost use Rattle.http_requests.specs.Decided.{Ends, IsDecided};
+ghost use Rattle.hall_http.specs.{Noted.{failed_of, inner_of, takes_of}, Decided.{Ends, IsDecided}};
 ghost use Rattle.hall_desk.specs.Served.{IfFailed, IsReadInTime, TakesWhole};
 ghost use Rattle.hall_desk.specs.declared.reading.Reading.TheVariants as reading;
 

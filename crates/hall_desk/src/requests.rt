@@ -1,27 +1,19 @@
 //! What is planned for what operators and the power program ask.
 ghost use Rattle.std.specs.Prelude.{◌≡◌, [], map, IfOk, OnOk, Ok, None, option_map};
-ghost use Rattle.hall_types.specs.Hall.{Hall, pair};
-ghost use Rattle.hall_types.specs.Lookup.{waiting};
-ghost use Rattle.hall_types.specs.Rows.{at, listed};
-ghost use Rattle.boot_desk.specs.Decided.{Decides};
-ghost use Rattle.boot_desk.specs.OrderAnswer.{answered};
+ghost use Rattle.hall_types.specs.{Hall.{Hall, pair}, Lookup.waiting, Rows.{at, listed}};
+ghost use Rattle.boot_desk.specs.{Decided.Decides, OrderAnswer.answered};
 ghost use Rattle.boot_desk.specs.Views as view;
 ghost use Rattle.desk_command.specs.Command as commands;
-ghost use Rattle.desk_command.specs.Command.{replied};
-ghost use Rattle.desk_command.specs.Effect.{Effect};
-ghost use Rattle.laws_model.specs.Decision.{commanded, if_role, judged, listed_if, listed_of, may_answer, may_see_machines, may_see_orders, says};
+ghost use Rattle.desk_command.specs.{Command.replied, Effect.Effect, Look.Looks};
+ghost use Rattle.hall_laws.specs.Decision.{commanded, if_role, judged, listed_if, listed_of, may_answer, may_see_machines, may_see_orders, says};
 ghost use Rattle.hall_events.specs.Reply.{machine_list, waiting_orders};
-ghost use Rattle.desk_views.specs.Look.{Looks};
-ghost use Rattle.hall_desk.specs.Account.{about, if_may, machine_keyed, machine_named, machine_sent, sent_by};
-ghost use Rattle.hall_desk.specs.Plan.{Plans};
-ghost use Rattle.hall_desk.specs.Sender.{if_enabled};
+ghost use Rattle.hall_desk.specs.{Account.{about, if_may, machine_keyed, machine_named, machine_sent, sent_by}, Plan.Plans, Sender.if_enabled};
 
 use crate::account::Notes;
 use crate::listing::list_machines;
 use crate::plans::{judge_answer, refused};
 use boot_desk::DeskFault;
-use desk_command::{command, may_send, repeated};
-use desk_views::{command_view, sender};
+use desk_command::{command, command_view, may_send, repeated, sender};
 use hall_events::{HallCommand, Reply};
 use hall_store::{HallStore, Unavailable};
 use hall_types::{Change, Digest, Moment, Number, Operator, Outcome, Refusal, RequestKey, Role};
@@ -33,7 +25,7 @@ fn noted_sender<S: HallStore>(
     bearer: Option<Digest>,
     notes: &mut Notes,
 ) -> Result<Option<Operator>, Unavailable>
-    ensures sender { Looks S.HallStore.is_clean S.HallStore.holds S.HallStore.leaves store.old store.new result (λ h answer. answer ≡ commands.sender h bearer) }
+    ensures sender { Looks S.HallStore store.old store.new result (λ h answer. answer ≡ commands.sender h bearer) }
     ensures noted { S.HallStore.is_clean store.new → OnOk result ((h : Hall) → S.HallStore.holds store.old h → notes.new ≡ sent_by (commands.sender h bearer) notes.old) }
     ensures unmoved { notes.new.moved ≡ notes.old.moved }
 {
@@ -57,7 +49,7 @@ pub(crate) fn enabled_sender<S: HallStore>(
     store: &mut S,
     bearer: Option<Digest>,
 ) -> Result<Option<Operator>, Unavailable>
-    ensures { Looks S.HallStore.is_clean S.HallStore.holds S.HallStore.leaves store.old store.new result (λ h answer. answer ≡ if_enabled (commands.sender h bearer)) }
+    ensures { Looks S.HallStore store.old store.new result (λ h answer. answer ≡ if_enabled (commands.sender h bearer)) }
 {
     let operator = sender(store, bearer)?;
     Ok(if_enabled(operator))
@@ -89,7 +81,7 @@ fn plan_new_command<S: HallStore>(
     moment: Moment,
     notes: &mut Notes,
 ) -> Result<(Change, Reply), Unavailable>
-    ensures planned { Looks S.HallStore.is_clean S.HallStore.holds S.HallStore.leaves store.old store.new result
+    ensures planned { Looks S.HallStore store.old store.new result
         (λ h planned. Plans (commanded (commands.keyed h by.now None key wish.now moment)) planned) }
     ensures noted { S.HallStore.is_clean store.new → OnOk result ((h : Hall) → S.HallStore.holds store.old h → notes.new ≡ about (machine_named h by.now wish.now) notes.old) }
     ensures unmoved { notes.new.moved ≡ notes.old.moved }
@@ -114,7 +106,7 @@ fn plan_keyed<S: HallStore>(
     moment: Moment,
     notes: &mut Notes,
 ) -> Result<(Change, Reply), Unavailable>
-    ensures planned { Looks S.HallStore.is_clean S.HallStore.holds S.HallStore.leaves store.old store.new result
+    ensures planned { Looks S.HallStore store.old store.new result
         (λ h planned. Plans (commanded (commands.keyed h by.now (at h.receipts (pair by.now.name key)) key wish.now moment)) planned) }
     ensures noted { S.HallStore.is_clean store.new → OnOk result ((h : Hall) → S.HallStore.holds store.old h → notes.new ≡ about (machine_keyed h by.now (at h.receipts (pair by.now.name key)) wish.now) notes.old) }
     ensures unmoved { notes.new.moved ≡ notes.old.moved }
@@ -139,7 +131,7 @@ pub(crate) fn plan_command<S: HallStore>(
     moment: Moment,
     notes: &mut Notes,
 ) -> Result<(Change, Reply), Unavailable>
-    ensures planned { Looks S.HallStore.is_clean S.HallStore.holds S.HallStore.leaves store.old store.new result
+    ensures planned { Looks S.HallStore store.old store.new result
         (λ h planned. Plans (commanded (commands.command_decision h bearer key wish.now moment)) planned) }
     ensures noted { S.HallStore.is_clean store.new → OnOk result ((h : Hall) → S.HallStore.holds store.old h → notes.new ≡ about (machine_sent h (commands.sender h bearer) key wish.now) (sent_by (commands.sender h bearer) notes.old)) }
     ensures unmoved { notes.new.moved ≡ notes.old.moved }
@@ -189,14 +181,11 @@ pub(crate) fn said(
 ) -> Result<(Change, Reply), Unavailable>
     ensures { IfOk result (λ planned. (planned.0 ≡ []) × (reply ≡ Ok planned.1)) }
 {
-    match reply {
-        Ok(reply) => Ok((Change::from(Vec::new(alloc)), reply)),
-        Err(AllocError) => Err(Unavailable),
-    }
+    Ok((Change::from(Vec::new(alloc)), reply?))
 }
 
 fn list_orders<S: HallStore>(alloc: Global, store: &mut S) -> Result<(Change, Reply), Unavailable>
-    ensures { Looks S.HallStore.is_clean S.HallStore.holds S.HallStore.leaves store.old store.new result
+    ensures { Looks S.HallStore store.old store.new result
         (λ h planned. Plans (says (waiting_orders (waiting h))) planned) }
 {
     let orders = store.waiting_orders(alloc)?;
@@ -209,7 +198,7 @@ pub(crate) fn plan_orders<S: HallStore>(
     bearer: Option<Digest>,
     notes: &mut Notes,
 ) -> Result<(Change, Reply), Unavailable>
-    ensures planned { Looks S.HallStore.is_clean S.HallStore.holds S.HallStore.leaves store.old store.new result
+    ensures planned { Looks S.HallStore store.old store.new result
         (λ h planned. Plans (if_role may_see_orders (commands.sender h bearer) (says (waiting_orders (waiting h)))) planned) }
     ensures noted { S.HallStore.is_clean store.new → OnOk result ((h : Hall) → S.HallStore.holds store.old h → notes.new ≡ sent_by (commands.sender h bearer) notes.old) }
     ensures unmoved { notes.new.moved ≡ notes.old.moved }
@@ -235,7 +224,7 @@ pub(crate) fn plan_order_answer<S: HallStore>(
     moment: Moment,
     notes: &mut Notes,
 ) -> Result<(Change, Reply), Unavailable>
-    ensures planned { Looks S.HallStore.is_clean S.HallStore.holds S.HallStore.leaves store.old store.new result
+    ensures planned { Looks S.HallStore store.old store.new result
         (λ h planned. Plans (if_role may_answer (commands.sender h bearer) (judged (answered (view.order_view h order) outcome moment))) planned) }
     ensures noted { S.HallStore.is_clean store.new → OnOk result ((h : Hall) → S.HallStore.holds store.old h → notes.new ≡ about (if_may may_answer (commands.sender h bearer) (option_map (λ its. its.at.machine) (view.order_view h order))) (sent_by (commands.sender h bearer) notes.old)) }
     ensures unmoved { notes.new.moved ≡ notes.old.moved }
@@ -258,7 +247,7 @@ fn list_one<S: HallStore>(
     store: &mut S,
     id: Number,
 ) -> Result<(Change, Reply), Unavailable>
-    ensures { Looks S.HallStore.is_clean S.HallStore.holds S.HallStore.leaves store.old store.new result
+    ensures { Looks S.HallStore store.old store.new result
         (λ h planned. Plans (listed_if h (at h.machines id)) planned) }
 {
     let Some(machine) = store.machine(id)? else {
@@ -275,7 +264,7 @@ pub(crate) fn plan_one_machine<S: HallStore>(
     id: Number,
     notes: &mut Notes,
 ) -> Result<(Change, Reply), Unavailable>
-    ensures planned { Looks S.HallStore.is_clean S.HallStore.holds S.HallStore.leaves store.old store.new result
+    ensures planned { Looks S.HallStore store.old store.new result
         (λ h planned. Plans (if_role may_see_machines (commands.sender h bearer) (listed_if h (at h.machines id))) planned) }
     ensures noted { S.HallStore.is_clean store.new → OnOk result ((h : Hall) → S.HallStore.holds store.old h → notes.new ≡ sent_by (commands.sender h bearer) notes.old) }
     ensures unmoved { notes.new.moved ≡ notes.old.moved }
@@ -298,7 +287,7 @@ pub(crate) fn plan_machines<S: HallStore>(
     bearer: Option<Digest>,
     notes: &mut Notes,
 ) -> Result<(Change, Reply), Unavailable>
-    ensures planned { Looks S.HallStore.is_clean S.HallStore.holds S.HallStore.leaves store.old store.new result
+    ensures planned { Looks S.HallStore store.old store.new result
         (λ h planned. Plans (if_role may_see_machines (commands.sender h bearer) (says (machine_list (map (listed_of h) (listed h.machines))))) planned) }
     ensures noted { S.HallStore.is_clean store.new → OnOk result ((h : Hall) → S.HallStore.holds store.old h → notes.new ≡ sent_by (commands.sender h bearer) notes.old) }
     ensures unmoved { notes.new.moved ≡ notes.old.moved }

@@ -1,14 +1,7 @@
 //! Serving one request over a reader and a writer.
-ghost use Rattle.std.specs.Prelude.{◌≡◌, ◌<◌, ◌≤◌, ◌+◌, ◌⊎◌, ℕ, List, true, false, length, take, drop, IfNone, IfSome};
-ghost use Rattle.std.specs.Io.KnownBytes.{Appends};
+ghost use Rattle.std.specs.{Prelude.{◌≡◌, ◌<◌, ◌≤◌, ◌+◌, ◌⊎◌, ℕ, List, true, false, length, take, drop, IfNone, IfSome}, Io.KnownBytes.Appends};
 ghost use Rattle.hall_http.specs.Noted.{failed_of, inner_of, takes_of};
-ghost use Rattle.hall_desk.specs.Attempt.{IsAnswered};
-ghost use Rattle.hall_desk.specs.Desk.{enlists_of, site_of, store_of};
-ghost use Rattle.hall_desk.specs.Headline.{HasHistory, HasServed, HasSomeRequest};
-ghost use Rattle.hall_desk.specs.History.{Item, Origin};
-ghost use Rattle.hall_desk.specs.Octets.{octets_of};
-ghost use Rattle.hall_desk.specs.Served.{IfReadFailed, IfWriteFailed, IsReadInTime, IsSent, IsServed, IsWritten};
-ghost use Rattle.hall_desk.specs.Stops.{IsLeft, IsSettled, OrSomeRequest};
+ghost use Rattle.hall_desk.specs.{Attempt.IsAnswered, Desk.{enlists_of, site_of, store_of}, Headline.{HasHistory, HasServed, HasSomeRequest}, History.{Item, Origin}, Octets.octets_of, Served.{IfReadFailed, IfWriteFailed, IsReadInTime, IsSent, IsServed, IsWritten}, Stops.{IsLeft, IsSettled, OrSomeRequest}};
 ghost use Rattle.hall_desk.specs.declared.arrival.Input.TheVariants as input;
 ghost use Rattle.hall_desk.specs.declared.serving.Served.TheVariants as served;
 
@@ -91,9 +84,9 @@ impl<S: HallStore> Desk<S> {
         ensures site { site_of self.new ≡ site_of self.old }
         ensures enlists { enlists_of self.new ≡ enlists_of self.old }
         ensures step { S.HallStore.is_clean (store_of self.new) → IfSome result (λ answer. IfSome (R.remaining (inner_of reader.old)) (λ octets.
-            IsAnswered S.HallStore.holds S.HallStore.leaves (store_of self.old) (store_of self.new) (site_of self.old) (input.Request octets) moment fresh answer)) }
+            IsAnswered S.HallStore (store_of self.old) (store_of self.new) (site_of self.old) (input.Request octets) moment fresh answer)) }
         ensures some { S.HallStore.is_clean (store_of self.new) → IfSome result (λ answer. (octets : List ℕ)
-            × IsAnswered S.HallStore.holds S.HallStore.leaves (store_of self.old) (store_of self.new) (site_of self.old) (input.Request octets) moment fresh answer) }
+            × IsAnswered S.HallStore (store_of self.old) (store_of self.new) (site_of self.old) (input.Request octets) moment fresh answer) }
         ensures same { IfNone result (self.new ≡ self.old) }
         ensures fails { IfNone result ((failed_of reader.new ≡ true) ⊎ (takes_of reader.new ≡ 4096)) }
         ensures in_time { IsReadInTime (R.remaining (inner_of reader.old)) (R.remaining (inner_of reader.new)) }
@@ -133,14 +126,14 @@ impl<S: HallStore> Desk<S> {
         ensures site { site_of self.new ≡ site_of self.old }
         ensures enlists { enlists_of self.new ≡ enlists_of self.old }
         ensures served { S.HallStore.is_clean (store_of self.new) → IfSome (R.remaining (inner_of reader.old)) (λ octets. IfSome (W.contents (inner_of writer.old)) (λ before.
-            IsServed S.HallStore.holds S.HallStore.leaves (store_of self.old) (store_of self.new) (site_of self.old) moment fresh octets before result (W.contents (inner_of writer.new)))) }
+            IsServed S.HallStore (store_of self.old) (store_of self.new) (site_of self.old) moment fresh octets before result (W.contents (inner_of writer.new)))) }
         ensures history { S.HallStore.is_clean (store_of self.new) → IfSome (R.remaining (inner_of reader.old)) (λ octets. IfSome (W.contents (inner_of writer.old)) (λ before.
-            (origin : Origin) (past : List Item) → HasHistory S.HallStore.holds (store_of self.old) origin past
-            → HasServed S.HallStore.holds (store_of self.new) origin past (site_of self.old) octets moment fresh before result (W.contents (inner_of writer.new)))) }
-        ensures goes_on { S.HallStore.is_clean (store_of self.new) → (origin : Origin) (past : List Item) → HasHistory S.HallStore.holds (store_of self.old) origin past
-            → HasSomeRequest S.HallStore.holds (store_of self.new) origin past (site_of self.old) moment fresh }
-        ensures stop { S.HallStore.is_clean (store_of self.new) → (origin : Origin) (past : List Item) → IsSettled S.HallStore.holds S.HallStore.leaves (store_of self.old) origin past
-            → IsLeft S.HallStore.leaves (store_of self.new) origin (OrSomeRequest past (site_of self.old) moment fresh) }
+            (origin : Origin) (past : List Item) → HasHistory S.HallStore (store_of self.old) origin past
+            → HasServed S.HallStore (store_of self.new) origin past (site_of self.old) octets moment fresh before result (W.contents (inner_of writer.new)))) }
+        ensures goes_on { S.HallStore.is_clean (store_of self.new) → (origin : Origin) (past : List Item) → HasHistory S.HallStore (store_of self.old) origin past
+            → HasSomeRequest S.HallStore (store_of self.new) origin past (site_of self.old) moment fresh }
+        ensures stop { S.HallStore.is_clean (store_of self.new) → (origin : Origin) (past : List Item) → IsSettled S.HallStore (store_of self.old) origin past
+            → IsLeft S.HallStore (store_of self.new) origin (OrSomeRequest past (site_of self.old) moment fresh) }
         ensures same { result ≡ served.ReadFailed → (self.new ≡ self.old) × (writer.new ≡ writer.old) }
         ensures read_failed { IfReadFailed result (failed_of reader.new) (takes_of reader.new) }
         ensures in_time { IsReadInTime (R.remaining (inner_of reader.old)) (R.remaining (inner_of reader.new)) }

@@ -1,7 +1,7 @@
 //! What comes to a desk is of its type.
 ghost use Rattle.std.specs.Prelude.{◌≡◌};
 ghost use Rattle.hall_events.specs.declared.event.Event.TheVariants as event;
-ghost use Rattle.laws_model.specs.Step.{IsTyped};
+ghost use Rattle.hall_laws.specs.Step.{IsTyped};
 
 use hall_events::Event;
 use hall_types::{Port, Token};

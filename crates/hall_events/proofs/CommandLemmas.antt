@@ -1,12 +1,7 @@
 -- Members that are put one after another, and the text of a command.
 use Rattle.std.proofs.Common.{◌≡◌, ℕ, false, List, [], ◌∷◌, ◌++◌, refl}
-use Rattle.serde_json.specs.Data.{Members, put}
-use Rattle.serde_json.specs.Written.{has_float}
-use Rattle.hall_events.specs.Object.{Member, put_all}
-use Rattle.hall_events.specs.ObjectLaws.{no_float}
-use Rattle.hall_events.specs.Command.{command_data, request_data, IsCommand}
-use Rattle.hall_events.specs.CommandLaws.{IsPlain-command, IsPlain-request}
-use Rattle.hall_events.specs.declared.command.HallCommand.{HallCommand}
+use Rattle.serde_json.specs.{Data.{Members, put}, Written.has_float}
+use Rattle.hall_events.specs.{Object.{Member, put_all}, ObjectLaws.no_float, Command.{command_data, request_data, IsCommand}, CommandLaws.{IsPlain-command, IsPlain-request}, declared.command.HallCommand.HallCommand}
 
 pub put_all_append : (ms more : List Member) (old : Members) → put_all (ms ++ more) old ≡ put_all more (put_all ms old)
 put_all_append [] more old = refl

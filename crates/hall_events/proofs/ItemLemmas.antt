@@ -1,6 +1,5 @@
 -- Values that are made of the elements of a list, one after another.
-use Rattle.std.proofs.Common.{◌≡◌, ℕ, ◌+◌, ◌<◌, ◌≤◌, List, [], ◌∷◌, ◌++◌, map, length, get_or, drop, refl, sym, ap, ◌∙◌, add-one, drop-cons, append_assoc}
-use Rattle.std.proofs.lemmas.List.{map_push, drop_all, append-nil}
+use Rattle.std.proofs.{Common.{◌≡◌, ℕ, ◌+◌, ◌<◌, ◌≤◌, List, [], ◌∷◌, ◌++◌, map, length, get_or, drop, refl, sym, ap, ◌∙◌, add-one, drop-cons, append_assoc}, lemmas.List.{map_push, drop_all, append-nil}}
 use Rattle.serde_json.specs.Data.{Data}
 
 -- the element at a place comes before those after it

@@ -1,16 +1,9 @@
 -- A machine that is written member by member.
-use Rattle.std.proofs.Common.{◌≡◌, ℕ, ◌+◌, ◌<◌, Bool, List, [], ◌∷◌, ◌++◌, true, false, map, length, drop, get_or, refl, sym, ap, ◌∙◌, add-one, drop-cons, append_assoc}
-use Rattle.std.proofs.lemmas.List.{append-nil}
+use Rattle.std.proofs.{Common.{◌≡◌, ℕ, ◌+◌, ◌<◌, Bool, List, [], ◌∷◌, ◌++◌, true, false, map, length, drop, get_or, refl, sym, ap, ◌∙◌, add-one, drop-cons, append_assoc}, lemmas.List.append-nil}
 use Rattle.json.specs.Print.{quoted}
-use Rattle.serde_json.specs.Data.{object, Members, no_members, member}
-use Rattle.serde_json.specs.View.{items_of}
-use Rattle.serde_json.specs.Written.{comma_if, compact_text, items_text, members_text}
-use Rattle.hall_types.specs.Hall.{second}
-use Rattle.hall_types.specs.declared.machine.Interface.{Interface}
-use Rattle.hall_events.specs.Command.{mac_data}
-use Rattle.hall_events.specs.Object.{Member}
-use Rattle.hall_events.specs.Reply.{ListedMachine, machine_data}
-use Rattle.hall_events.specs.WrittenMachine.{before, written, first_members, middle_members, last_members}
+use Rattle.serde_json.specs.{Data.{object, Members, no_members, member}, View.items_of, Written.{comma_if, compact_text, items_text, members_text}}
+use Rattle.hall_types.specs.{Hall.second, declared.machine.Interface.Interface}
+use Rattle.hall_events.specs.{Command.mac_data, Object.Member, Reply.{ListedMachine, machine_data}, WrittenMachine.{before, written, first_members, middle_members, last_members}}
 
 regroup_item : (text comma one rest : List ℕ) → (text ++ (comma ++ one)) ++ rest ≡ text ++ (comma ++ (one ++ rest))
 regroup_item text comma one rest = simp append_assoc

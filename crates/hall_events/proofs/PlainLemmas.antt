@@ -1,12 +1,8 @@
 -- Texts without an octet that needs an escape.
-use Rattle.std.proofs.Common.{◌≡◌, ◌<◌, ◌/◌, ◌%◌, ℕ, suc, true, List, [], ◌∷◌, ◌++◌, refl, sym, ap, ◌∙◌, append_assoc, arith}
-use Rattle.std.specs.List.{list_all}
-use Rattle.std.proofs.lemmas.Bool.{agree_below_at, and_parts}
-use Rattle.std.proofs.lemmas.Bool.Decides.{nat_tests}
+use Rattle.std.{proofs.{Common.{◌≡◌, ◌<◌, ◌/◌, ◌%◌, ℕ, suc, true, List, [], ◌∷◌, ◌++◌, refl, sym, ap, ◌∙◌, append_assoc, arith}, lemmas.Bool.{agree_below_at, and_parts, Decides.nat_tests}}, specs.List.list_all}
 use Rattle.json.specs.Print.{escape, escape_byte, quoted}
 use Rattle.hex.specs.Hex.{IsBytes}
-use Rattle.wire_mac.specs.MacText.{digit, mac_text, more_text}
-use Rattle.wire_mac.specs.MacLaws.{mac_text-first}
+use Rattle.pxe_vendor.specs.{MacText.{digit, mac_text, more_text}, MacLaws.mac_text-first}
 use Rattle.hall_types.specs.Octets.{AreOctets}
 use Rattle.hall_events.specs.WrittenMachine.{is_plain}
 

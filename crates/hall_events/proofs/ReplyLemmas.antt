@@ -1,16 +1,9 @@
 -- The texts of machines and of lists.
-use Rattle.std.proofs.Common.{◌≡◌, ℕ, Bool, true, false, List, [], ◌∷◌, ◌++◌, map, refl, sym, ap, ◌∙◌, ◌+◌, ◌<◌, length, drop, get_or, add-one, drop-cons, append_assoc}
-use Rattle.std.specs.Prelude.{codes, fold}
+use Rattle.std.{proofs.Common.{◌≡◌, ℕ, Bool, true, false, List, [], ◌∷◌, ◌++◌, map, refl, sym, ap, ◌∙◌, ◌+◌, ◌<◌, length, drop, get_or, add-one, drop-cons, append_assoc}, specs.Prelude.{codes, fold}}
 use Rattle.json.specs.Print.{escape_byte}
-use Rattle.serde_json.specs.Data.{Data, Items, item, array, object, member, no_members}
-use Rattle.serde_json.specs.View.{items_of}
-use Rattle.serde_json.specs.Written.{comma_if, compact_text, items_text}
-use Rattle.hall_types.specs.Hall.{second}
-use Rattle.hall_types.specs.declared.order.Order.{Order}
-use Rattle.hall_events.specs.Listing.{Listing}
-use Rattle.hall_events.specs.declared.reply.Reply.TheVariants.{Http}
-use Rattle.hall_events.specs.declared.reply.BodyKind.TheVariants.{Json}
-use Rattle.hall_events.specs.Reply.{ListedMachine, machine_data, with_machine, no_machine, listing, order_data, reply_of, machine_list}
+use Rattle.serde_json.specs.{Data.{Data, Items, item, array, object, member, no_members}, View.items_of, Written.{comma_if, compact_text, items_text}}
+use Rattle.hall_types.specs.{Hall.second, declared.order.Order.Order}
+use Rattle.hall_events.specs.{Listing.Listing, declared.reply.{Reply.TheVariants.Http, BodyKind.TheVariants.Json}, Reply.{ListedMachine, machine_data, with_machine, no_machine, listing, order_data, reply_of, machine_list}}
 
 -- ---- lists that are written item by item
 

@@ -1,51 +1,20 @@
 -- Worked answers, written out by hand.
-use Rattle.std.proofs.Common.{◌≡◌, ℕ, true, false, List, [], ◌∷◌, Some, None, refl}
-use Rattle.std.specs.Prelude.{⊤, codes}
-use Rattle.std.specs.Fmt.{digits}
+use Rattle.std.{proofs.Common.{◌≡◌, ℕ, true, false, List, [], ◌∷◌, Some, None, refl}, specs.{Prelude.{⊤, codes}, Fmt.digits}}
 use Rattle.hex.proofs.OnLiterals.{hex_on_literals}
 use Rattle.uuid.proofs.OnLiterals.{uuid_on_literals}
 use Rattle.json.specs.Print.{escape_byte}
-use Rattle.pxe_vendor.specs.Arch.{arch_text}
-use Rattle.pxe_vendor.specs.declared.arch.Arch.TheVariants.{Uefi64}
+use Rattle.pxe_vendor.specs.{Arch.arch_text, declared.arch.Arch.TheVariants.Uefi64}
 use Rattle.ipxe_script.specs.declared.command.Command.TheVariants.{Kernel, Initrd, Boot}
-use Rattle.hall_types.specs.Kinds.{order_kind_text, erase_text}
-use Rattle.hall_types.specs.Refusal.{refusal_name, refusal_status}
-use Rattle.hall_types.specs.Status.{status_text}
-use Rattle.hall_types.specs.Hall.{first, second}
-use Rattle.hall_events.specs.Reply.{reply_of, machine_data, script, refused, counted, repeated, machine_is, machine_gone, done, waiting_orders, machine_list, one_machine, stored, boot_file, nothing}
-use Rattle.hall_types.specs.declared.kinds.Erase.TheVariants.{Quick}
-use Rattle.hall_types.specs.declared.kinds.OrderKind.TheVariants.{Cycle}
-use Rattle.hall_types.specs.declared.kinds.OrderStage.TheVariants.{Waiting}
-use Rattle.hall_types.specs.declared.machine.Machine.{Machine}
-use Rattle.hall_types.specs.declared.refusal.Refusal.TheVariants.{Unavailable, Locked}
-use Rattle.hall_events.specs.declared.reply.Reply.TheVariants.{Http, File, Nothing}
-use Rattle.hall_events.specs.declared.reply.BodyKind.TheVariants.{Text, Json}
-use Rattle.hall_types.specs.declared.status.Status.TheVariants.{New, Ready, FailedDiskErasing}
+use Rattle.hall_types.specs.{Kinds.{order_kind_text, erase_text}, Refusal.refusal_row, Status.status_text, Hall.{first, second}, declared.{kinds.{Erase.TheVariants.Quick, OrderKind.TheVariants.Cycle, OrderStage.TheVariants.Waiting}, machine.Machine.Machine, refusal.Refusal.TheVariants.{Unavailable, Locked}, status.Status.TheVariants.{New, Ready, FailedDiskErasing}}, Machine.blank_machine}
+use Rattle.hall_events.specs.{Reply.{reply_of, machine_data, script, refused, counted, repeated, machine_is, machine_gone, done, waiting_orders, machine_list, one_machine, stored, boot_file, nothing}, declared.reply.{Reply.TheVariants.{Http, File, Nothing}, BodyKind.TheVariants.{Text, Json}}}
 
 unfoldable texts_on_literals : ⊤
-unfolding reply_of machine_data escape_byte digits hex_on_literals uuid_on_literals arch_text order_kind_text erase_text refusal_name refusal_status status_text
+unfolding reply_of machine_data escape_byte digits hex_on_literals uuid_on_literals arch_text order_kind_text erase_text refusal_row status_text
 texts_on_literals = tt
 
 -- a machine that was released
 released : Machine
-released = record {
-  id = 1;
-  arch = Uefi64;
-  uuid = None;
-  pool = codes "lab";
-  status = Ready;
-  owner = None;
-  image = None;
-  tests = false;
-  back = None;
-  erase = None;
-  locked = false;
-  version = 14;
-  deadline = None;
-  boot = None;
-  boots = 0;
-  waiting = None;
-}
+released = record (blank_machine 1 Uefi64 (codes "lab") None) { status = Ready; version = 14 }
 
 -- one whose erasing was aborted
 aborted : Machine

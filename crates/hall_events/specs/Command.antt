@@ -2,26 +2,12 @@
 use Rattle.std.specs.Prelude.{ℕ, true, false, List, [], ◌∷◌, ◌++◌, map, Option, Some, None, option_map, codes, IfSome}
 use Rattle.hex.specs.Hex.{encode_lower}
 use Rattle.uuid.specs.Text.{hyphenated_text, lower}
-use Rattle.wire_mac.specs.MacText.{mac_text}
-use Rattle.serde_json.specs.Data.{Data, string, boolean, array}
-use Rattle.serde_json.specs.View.{items_of}
-use Rattle.serde_json.specs.Written.{compact_text}
-use Rattle.pxe_vendor.specs.Arch.{arch_text}
-use Rattle.hall_types.specs.Kinds.{role_text, erase_text}
-use Rattle.hall_types.specs.Number.{IsNumber}
-use Rattle.hall_types.specs.Octets.{AreOctets}
-use Rattle.hall_types.specs.declared.kinds.Erase.{Erase}
-use Rattle.hall_types.specs.declared.kinds.Erase.TheVariants.{Quick, Full}
-use Rattle.hall_events.specs.Object.{Member, object_of, member_if, count}
-use Rattle.hall_events.specs.Kind.{kind_word}
-use Rattle.hall_events.specs.declared.kind.CommandKind.{CommandKind}
+use Rattle.pxe_vendor.specs.{MacText.mac_text, Arch.arch_text}
+use Rattle.serde_json.specs.{Data.{Data, string, boolean, array}, View.items_of, Written.compact_text}
+use Rattle.hall_types.specs.{Kinds.{role_text, erase_text}, Number.IsNumber, Octets.AreOctets, declared.kinds.Erase.{Erase, TheVariants.{Quick, Full}}}
+use Rattle.hall_events.specs.{Object.{Member, object_of, member_if, count}, Kind.kind_word, declared.{kind.{CommandKind.CommandKind, MachineKind.MachineKind}, command.{HallCommand.{HallCommand, TheVariants.{AddOperator, DisableOperator, AddPool, Grant, AddImage, DeleteImage, SetLive, AddMachine, OnMachine}}, MachineCommand.{MachineCommand, TheVariants.{AddInterface, RemoveInterface, SetPool, Commission, Delete, Deploy, Release, Act}}}}}
 use Rattle.hall_events.specs.declared.kind.CommandKind.TheVariants as of_hall
-use Rattle.hall_events.specs.declared.kind.MachineKind.{MachineKind}
 use Rattle.hall_events.specs.declared.kind.MachineKind.TheVariants as kind
-use Rattle.hall_events.specs.declared.command.HallCommand.{HallCommand}
-use Rattle.hall_events.specs.declared.command.HallCommand.TheVariants.{AddOperator, DisableOperator, AddPool, Grant, AddImage, DeleteImage, SetLive, AddMachine, OnMachine}
-use Rattle.hall_events.specs.declared.command.MachineCommand.{MachineCommand}
-use Rattle.hall_events.specs.declared.command.MachineCommand.TheVariants.{AddInterface, RemoveInterface, SetPool, Commission, Test, Override, Fix, Delete, Allocate, Deploy, Release, Rescue, Abort, Lock, Unlock, ExitRescue, Break}
 
 -- an address in lower case, with a colon between two octets
 abbrev pub mac_data : List ℕ → Data
@@ -47,19 +33,10 @@ machine_kind (AddInterface mac) = kind.AddInterface
 machine_kind (RemoveInterface mac) = kind.RemoveInterface
 machine_kind (SetPool pool) = kind.SetPool
 machine_kind (Commission tests) = kind.Commission
-machine_kind Test = kind.Test
-machine_kind Override = kind.Override
-machine_kind Fix = kind.Fix
 machine_kind Delete = kind.Delete
-machine_kind Allocate = kind.Allocate
 machine_kind (Deploy image) = kind.Deploy
 machine_kind (Release erase) = kind.Release
-machine_kind Rescue = kind.Rescue
-machine_kind Abort = kind.Abort
-machine_kind Lock = kind.Lock
-machine_kind Unlock = kind.Unlock
-machine_kind ExitRescue = kind.ExitRescue
-machine_kind Break = kind.Break
+machine_kind (Act act) = kind.Act act
 
 -- the kind of a command
 abbrev pub command_kind : HallCommand → CommandKind

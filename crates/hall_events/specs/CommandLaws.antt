@@ -1,36 +1,12 @@
 -- Laws of commands' texts, for the proofs of callers: a text is that of one command alone.
-use Rattle.std.proofs.Common.{◌≡◌, ◌<◌, ◌^◌, ℕ, Bool, false, List, [], ◌∷◌, ◌++◌, Option, Some, None, refl, sym, ap, ◌∙◌, inl, arith}
-use Rattle.std.specs.Prelude.{codes, unwrap_or, if◌then◌else◌, option_map}
-use Rattle.std.specs.List.{AllByRecursion}
-use Rattle.std.specs.Result.{result_unwrap_or}
-use Rattle.std.specs.Str.{bytes_eq}
-use Rattle.std.proofs.lemmas.List.{get_or_default}
-use Rattle.hex.specs.Hex.{IsBytes, decode_of, encode_lower, encode_with}
-use Rattle.hex.proofs.HexLemmas.{decode_of-encode_lower}
-use Rattle.uuid.specs.Text.{lower, parsed}
-use Rattle.uuid.proofs.RoundTrips.{parses_hyphenated}
-use Rattle.wire_mac.specs.MacText.{mac_text}
-use Rattle.serde_json.specs.Data.{Data, string, boolean}
-use Rattle.serde_json.specs.Find.{get}
-use Rattle.pxe_vendor.specs.Arch.{arch_text}
-use Rattle.pxe_vendor.specs.declared.arch.Arch.{Arch}
-use Rattle.pxe_vendor.specs.declared.arch.Arch.TheVariants.{Bios, Uefi32, Uefi64, Arm64}
-use Rattle.hall_types.specs.Kinds.{archs, with_text, role_text, role_of_text, erase_text}
-use Rattle.hall_types.specs.KindLaws.{role_by_text}
-use Rattle.hall_types.specs.Number.{IsNumber}
-use Rattle.hall_types.specs.Octets.{AreOctets}
-use Rattle.hall_types.specs.declared.kinds.Role.{Role}
-use Rattle.hall_types.specs.declared.kinds.Role.TheVariants.{Admin}
-use Rattle.hall_types.specs.declared.kinds.Erase.{Erase}
-use Rattle.hall_types.specs.declared.kinds.Erase.TheVariants.{Quick, Full}
-use Rattle.hall_events.specs.Object.{Member, member_if, count}
-use Rattle.hall_events.specs.ObjectLaws.{IsPlain, IsPlain-object, ItemsArePlain-texts, value_in, value_in-compact_text, text_in, texts_in, texts_of-texts, number_in}
-use Rattle.hall_events.specs.Command.{command_data, command_text, request_data, machine_kind, members_of, own_members, uuid_data, IsCommand, IsMachineCommand}
-use Rattle.hall_events.specs.Kind.{kind_word, machine_word}
-use Rattle.hall_events.specs.declared.command.HallCommand.{HallCommand}
-use Rattle.hall_events.specs.declared.command.HallCommand.TheVariants.{AddOperator, DisableOperator, AddPool, Grant, AddImage, DeleteImage, SetLive, AddMachine, OnMachine}
-use Rattle.hall_events.specs.declared.command.MachineCommand.{MachineCommand}
-use Rattle.hall_events.specs.declared.command.MachineCommand.TheVariants.{AddInterface, RemoveInterface, SetPool, Commission, Test, Override, Fix, Delete, Allocate, Deploy, Release, Rescue, Abort, Lock, Unlock, ExitRescue, Break}
+use Rattle.std.{proofs.{Common.{◌≡◌, ◌<◌, ◌^◌, ℕ, Bool, false, List, [], ◌∷◌, ◌++◌, Option, Some, None, refl, sym, ap, ◌∙◌, inl, arith}, lemmas.List.get_or_default}, specs.{Prelude.{codes, map, unwrap_or, if◌then◌else◌, option_map}, List.AllByRecursion, Result.result_unwrap_or, Str.bytes_eq}}
+use Rattle.hex.{specs.Hex.{IsBytes, decode_of, encode_lower, encode_with}, proofs.HexLemmas.decode_of-encode_lower}
+use Rattle.uuid.{specs.Text.{lower, parsed}, proofs.RoundTrips.parses_hyphenated}
+use Rattle.pxe_vendor.specs.{MacText.mac_text, Arch.arch_text, declared.arch.Arch.{Arch, TheVariants.{Bios, Uefi32, Uefi64, Arm64}}}
+use Rattle.serde_json.specs.{Data.{Data, string, boolean}, Find.get}
+use Rattle.hall_types.specs.{Act.{act_text, acts}, Kinds.{archs, with_text, role_text, role_of_text, erase_text}, KindLaws.role_by_text, Number.IsNumber, Octets.AreOctets, declared.kinds.{Role.{Role, TheVariants.Admin}, Erase.{Erase, TheVariants.{Quick, Full}}}}
+use Rattle.hall_types.specs.declared.act.Act.TheVariants as does
+use Rattle.hall_events.specs.{Object.{Member, member_if, count}, ObjectLaws.{IsPlain, IsPlain-object, ItemsArePlain-texts, value_in, value_in-compact_text, text_in, texts_in, texts_of-texts, number_in}, Command.{command_data, command_text, request_data, machine_kind, members_of, own_members, uuid_data, IsCommand, IsMachineCommand}, Kind.{kind_word, machine_word}, declared.command.{HallCommand.{HallCommand, TheVariants.{AddOperator, DisableOperator, AddPool, Grant, AddImage, DeleteImage, SetLive, AddMachine, OnMachine}}, MachineCommand.{MachineCommand, TheVariants.{AddInterface, RemoveInterface, SetPool, Commission, Delete, Deploy, Release, Act}}}}
 
 -- ---- commands are plain values
 
@@ -149,10 +125,10 @@ machine_commands d =
     ∷ Commission (truth_in (get (codes "tests") d))
     ∷ Deploy (text_in (get (codes "image") d))
     ∷ Release (erase_in (get (codes "erase") d))
-    ∷ Test ∷ Override ∷ Fix ∷ Delete ∷ Allocate ∷ Rescue ∷ Abort ∷ Lock ∷ Unlock ∷ ExitRescue ∷ []
+    ∷ map Act acts
 
 machine_command_in : List ℕ → Data → MachineCommand
-machine_command_in name d = unwrap_or (with_text (λ c. machine_word (machine_kind c)) name (machine_commands d)) Break
+machine_command_in name d = unwrap_or (with_text (λ c. machine_word (machine_kind c)) name (machine_commands d)) Delete
 
 -- the command with these members and this name
 command_in : List ℕ → Data → HallCommand
@@ -182,7 +158,7 @@ command_of d = command_in (text_in (get (codes "command") d)) d
 
 -- a command on a machine is found, with a version or without
 on_machine : (machine : ℕ) (version : Option ℕ) (c : MachineCommand) → IsMachineCommand c → command_of (command_data (OnMachine machine version c)) ≡ OnMachine machine version c
-unfolding command_of command_in machine_command_in machine_commands members_of kind_word machine_word erase_text
+unfolding command_of command_in machine_command_in machine_commands members_of kind_word machine_word act_text erase_text
 on_machine machine None (AddInterface mac) h = rw (mac_in-mac_text mac h) refl
 on_machine machine (Some version) (AddInterface mac) h = rw (mac_in-mac_text mac h) refl
 on_machine machine None (RemoveInterface mac) h = rw (mac_in-mac_text mac h) refl
@@ -193,7 +169,9 @@ on_machine machine None (Release (Some Full)) h = refl
 on_machine machine (Some version) (Release (Some Full)) h = refl
 on_machine machine None (Release (Some Quick)) h = refl
 on_machine machine (Some version) (Release (Some Quick)) h = refl
+on_machine machine None (Act does.Test) h = refl
 on_machine machine None c h = refl
+on_machine machine (Some version) (Act does.Test) h = refl
 on_machine machine (Some version) c h = refl
 
 command_of-command_data : (c : HallCommand) → IsCommand c → command_of (command_data c) ≡ c

@@ -1,9 +1,7 @@
 -- What an event brings.
 use Rattle.std.specs.Prelude.{◌≡◌, ℕ, List, Option}
 use Rattle.hall_types.specs.Image.{BootImage, IsImage}
-use Rattle.hall_events.specs.declared.command.HallCommand.TheVariants.{AddImage}
-use Rattle.hall_events.specs.declared.event.Event.{Event}
-use Rattle.hall_events.specs.declared.event.Event.TheVariants.{Command}
+use Rattle.hall_events.specs.declared.{command.HallCommand.TheVariants.AddImage, event.Event.{Event, TheVariants.Command}}
 
 -- the image that an event brings, if it brings one, is an image
 abbrev pub BringsImage : Event → Type 0

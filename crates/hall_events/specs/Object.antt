@@ -1,7 +1,6 @@
 -- Objects of JSON (RFC 8259 section 4), their members in the order of their names' octets.
 use Rattle.std.specs.Prelude.{ℕ, List, [], ◌∷◌, Option, Some, None}
-use Rattle.serde_json.specs.Data.{Data, null, number, unsigned, array, object, Members, no_members, put}
-use Rattle.serde_json.specs.View.{items_of}
+use Rattle.serde_json.specs.{Data.{Data, null, number, unsigned, array, object, Members, no_members, put}, View.items_of}
 
 -- a member's name and its value
 abbrev pub Member : Type 0

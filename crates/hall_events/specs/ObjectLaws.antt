@@ -1,22 +1,8 @@
 -- Laws of JSON values, for the proofs of callers: a text is that of one value alone.
-use Rattle.std.proofs.Common.{◌≡◌, ◌<◌, ◌≤◌, ◌^◌, ◌||◌, ℕ, suc, zero, false, List, [], ◌∷◌, Option, Some, None, map, refl, sym, ap, ap₂, ◌∙◌, arith}
-use Rattle.std.specs.Prelude.{max, unwrap_or, option_map}
-use Rattle.std.specs.List.{AllByRecursion}
-use Rattle.std.specs.Ordering.{nat_cmp, match_ordering}
-use Rattle.std.specs.Cmp.Lexicographic.{slice_cmp}
-use Rattle.std.specs.declared.cmp.Ordering.{Ordering}
-use Rattle.std.specs.declared.cmp.Ordering.TheVariants.{Less, Equal, Greater}
+use Rattle.std.{proofs.Common.{◌≡◌, ◌<◌, ◌≤◌, ◌^◌, ◌||◌, ℕ, suc, zero, false, List, [], ◌∷◌, Option, Some, None, map, refl, sym, ap, ap₂, ◌∙◌, arith}, specs.{Prelude.{max, unwrap_or, option_map}, List.AllByRecursion, Ordering.{nat_cmp, match_ordering}, Cmp.Lexicographic.slice_cmp, declared.cmp.Ordering.{Ordering, TheVariants.{Less, Equal, Greater}}}}
 use Rattle.json.specs.Json as json
-use Rattle.json.specs.Json.{document}
-use Rattle.json.specs.Tree.{depth, items_depth, members_depth, HasNumbers, ItemsHaveNumbers, MembersHaveNumbers}
-use Rattle.json.proofs.Printed.Decimals.{IsNumber-decimal}
-use Rattle.json.proofs.Printed.Trees.{document-print}
-use Rattle.serde_json.specs.Data.{Num, unsigned, negative, float, Data, null, boolean, number, string, array, object, Items, no_items, item, Members, no_members, member, put}
-use Rattle.serde_json.specs.Read.{number_of}
-use Rattle.serde_json.specs.View.{items_of}
-use Rattle.serde_json.specs.Written.{outline, items_outline, members_outline, compact_text, has_float, items_have_float, members_have_float}
-use Rattle.serde_json.proofs.Numbers.{number_of-decimal}
-use Rattle.serde_json.proofs.Texts.{print-outline}
+use Rattle.json.{specs.{Json.document, Tree.{depth, items_depth, members_depth, HasNumbers, ItemsHaveNumbers, MembersHaveNumbers}}, proofs.Printed.{Decimals.IsNumber-decimal, Trees.document-print}}
+use Rattle.serde_json.{specs.{Data.{Num, unsigned, negative, float, Data, null, boolean, number, string, array, object, Items, no_items, item, Members, no_members, member, put}, Read.number_of, View.items_of, Written.{outline, items_outline, members_outline, compact_text, has_float, items_have_float, members_have_float}}, proofs.{Numbers.number_of-decimal, Texts.print-outline}}
 use Rattle.hall_events.specs.Object.{Member, put_all, object_of}
 
 -- ---- values whose text can be read

@@ -1,28 +1,10 @@
 -- What the desk answers, with its text (statuses: RFC 9110 section 15).
 use Rattle.std.specs.Prelude.{ℕ, true, false, List, [], ◌∷◌, ◌++◌, map, fold, Option, codes}
-use Rattle.serde_json.specs.Data.{Data, string, boolean, array}
-use Rattle.serde_json.specs.View.{items_of}
-use Rattle.serde_json.specs.Written.{comma_if, compact_text}
-use Rattle.ipxe_script.specs.Script.{spelling, IsScript}
-use Rattle.ipxe_script.specs.declared.command.Command.{Command}
+use Rattle.serde_json.specs.{Data.{Data, string, boolean, array}, View.items_of, Written.{comma_if, compact_text}}
+use Rattle.ipxe_script.specs.{Script.{spelling, IsScript}, declared.command.Command.Command}
 use Rattle.pxe_vendor.specs.Arch.{arch_text}
-use Rattle.hall_types.specs.Hall.{Schema, first, second}
-use Rattle.hall_types.specs.Kinds.{erase_text, order_kind_text}
-use Rattle.hall_types.specs.Number.{IsNumber}
-use Rattle.hall_types.specs.Refusal.{refusal_name, refusal_status}
-use Rattle.hall_types.specs.Status.{status_text}
-use Rattle.hall_types.specs.declared.kinds.Erase.{Erase}
-use Rattle.hall_types.specs.declared.machine.Interface.{Interface}
-use Rattle.hall_types.specs.declared.machine.Machine.{Machine}
-use Rattle.hall_types.specs.declared.order.Order.{Order}
-use Rattle.hall_types.specs.declared.refusal.Refusal.{Refusal}
-use Rattle.hall_types.specs.declared.status.Status.{Status}
-use Rattle.hall_events.specs.Object.{Member, object_of, list_object, or_null, count}
-use Rattle.hall_events.specs.Command.{mac_data, uuid_data}
-use Rattle.hall_events.specs.Listing.{Listing}
-use Rattle.hall_events.specs.declared.reply.Reply.{Reply}
-use Rattle.hall_events.specs.declared.reply.Reply.TheVariants.{Http, File, Nothing}
-use Rattle.hall_events.specs.declared.reply.BodyKind.TheVariants.{Text, Json}
+use Rattle.hall_types.specs.{Hall.{Schema, first, second}, Kinds.{erase_text, order_kind_text}, Number.IsNumber, Refusal.{refusal_name, refusal_status}, Status.status_text, declared.{kinds.Erase.Erase, machine.{Interface.Interface, Machine.Machine}, order.Order.Order, refusal.Refusal.Refusal, status.Status.Status}}
+use Rattle.hall_events.specs.{Object.{Member, object_of, list_object, or_null, count}, Command.{mac_data, uuid_data}, Listing.Listing, declared.reply.{Reply.{Reply, TheVariants.{Http, File, Nothing}}, BodyKind.TheVariants.{Text, Json}}}
 
 -- a machine with the addresses of its interfaces
 pub record ListedMachine : Type 0 where

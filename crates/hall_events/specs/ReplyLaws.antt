@@ -1,33 +1,9 @@
 -- Laws of answers, for the proofs of callers: what an answer says is found in its octets.
-use Rattle.std.proofs.Common.{◌≡◌, ℕ, List, [], ◌∷◌, ◌++◌, Option, map, refl, sym, ap, ◌∙◌, arith}
-use Rattle.std.specs.Prelude.{codes, fold, is_some, unwrap_or, if◌then◌else◌}
-use Rattle.std.specs.List.{AllByRecursion}
-use Rattle.std.specs.Str.{bytes_eq}
-use Rattle.std.proofs.lemmas.List.Elements.{recursion_from_All}
-use Rattle.serde_json.specs.Data.{Data}
-use Rattle.serde_json.specs.Find.{get}
-use Rattle.serde_json.specs.Written.{compact_text}
-use Rattle.ipxe_script.specs.Text.{lines_in, words_in}
-use Rattle.ipxe_script.specs.Script.{words_of, spelling, IsLine, IsScript}
-use Rattle.ipxe_script.specs.LineLaws.{text_of, words_in-text_of, lines_in-spelling}
-use Rattle.ipxe_script.specs.declared.command.Command.{Command}
-use Rattle.ipxe_script.specs.declared.command.Command.TheVariants.{Kernel, Initrd, Boot, Exit, Sanboot, Echo, Poweroff}
-use Rattle.hall_types.specs.Hall.{Schema}
-use Rattle.hall_types.specs.Kinds.{with_text}
-use Rattle.hall_types.specs.Refusal.{refusal_name}
-use Rattle.hall_types.specs.Status.{status_text, statuses}
-use Rattle.hall_types.specs.declared.refusal.Refusal.{Refusal}
-use Rattle.hall_types.specs.declared.refusal.Refusal.TheVariants.{BadRequest, NoRoute, WrongMethod, NeedLength, TooLarge, UnknownToken, KeyReused, RoleNeeded, NoMachine, NoInterface, NoPool, NoImage, NoOperator, NotOwner, NotMember, StaleVersion, Locked, WrongStatus, Taken, NoLiveImage, WrongArch, InUse, LastInterface, SelfDisable, Full, Exhausted, NoBoot, NoOrder, Spent, Stale, Withdrawn, WrongStage, Unavailable}
-use Rattle.hall_types.specs.declared.status.Status.{Status}
-use Rattle.hall_types.specs.declared.status.Status.TheVariants.{New, Broken}
-use Rattle.hall_events.specs.Object.{object_of}
-use Rattle.hall_events.specs.ObjectLaws.{IsPlain, text_in, number_in, value_in, value_in-compact_text}
-use Rattle.hall_events.specs.CommandLaws.{number_fits}
-use Rattle.hall_events.specs.Listing.{Listing}
-use Rattle.hall_events.specs.Reply.{Content, script, refused, counted, repeated, machine_is, machine_gone, done, waiting_orders, machine_list, one_machine, stored, boot_file, nothing, IsReadable, ListedMachine, reply_of, refusal_data, result_data, id_data, status_data, with_machine, no_machine, listing}
-use Rattle.hall_events.specs.declared.reply.Reply.{Reply}
-use Rattle.hall_events.specs.declared.reply.Reply.TheVariants.{Http, File, Nothing}
-use Rattle.hall_events.specs.declared.reply.BodyKind.TheVariants.{Text, Json}
+use Rattle.std.{proofs.{Common.{◌≡◌, ℕ, List, [], ◌∷◌, ◌++◌, Option, map, refl, sym, ap, ◌∙◌, arith}, lemmas.List.Elements.recursion_from_All}, specs.{Prelude.{codes, fold, is_some, unwrap_or, if◌then◌else◌}, List.AllByRecursion, Str.bytes_eq}}
+use Rattle.serde_json.specs.{Data.Data, Find.get, Written.compact_text}
+use Rattle.ipxe_script.specs.{Text.{lines_in, words_in}, Script.{words_of, spelling, IsLine, IsScript}, LineLaws.{text_of, words_in-text_of, lines_in-spelling}, declared.command.Command.{Command, TheVariants.{Kernel, Initrd, Boot, Exit, Sanboot, Echo, Poweroff}}}
+use Rattle.hall_types.specs.{Hall.Schema, Kinds.with_text, Refusal.{refusal_name, refusal_of_text, refusal_row}, Status.{status_text, statuses}, declared.{refusal.Refusal.{Refusal, TheVariants.{BadRequest, Unavailable}}, status.Status.{Status, TheVariants.{New, Broken}}}}
+use Rattle.hall_events.specs.{Object.object_of, ObjectLaws.{IsPlain, text_in, number_in, value_in, value_in-compact_text}, CommandLaws.number_fits, Listing.Listing, Reply.{Content, script, refused, counted, repeated, machine_is, machine_gone, done, waiting_orders, machine_list, one_machine, stored, boot_file, nothing, IsReadable, ListedMachine, reply_of, refusal_data, result_data, id_data, status_data, with_machine, no_machine, listing}, declared.reply.{Reply.{Reply, TheVariants.{Http, File, Nothing}}, BodyKind.TheVariants.{Text, Json}}}
 
 -- ---- the commands of a script
 
@@ -90,17 +66,11 @@ script_in-spelling commands h =
 
 -- ---- words
 
-refusals : List Refusal
-refusals =
-    BadRequest ∷ NoRoute ∷ WrongMethod ∷ NeedLength ∷ TooLarge ∷ UnknownToken ∷ KeyReused ∷ RoleNeeded ∷ NoMachine ∷ NoInterface ∷ NoPool
-    ∷ NoImage ∷ NoOperator ∷ NotOwner ∷ NotMember ∷ StaleVersion ∷ Locked ∷ WrongStatus ∷ Taken ∷ NoLiveImage ∷ WrongArch ∷ InUse
-    ∷ LastInterface ∷ SelfDisable ∷ Full ∷ Exhausted ∷ NoBoot ∷ NoOrder ∷ Spent ∷ Stale ∷ Withdrawn ∷ WrongStage ∷ []
-
 refusal_in : List ℕ → Refusal
-refusal_in text = unwrap_or (with_text refusal_name text refusals) Unavailable
+refusal_in text = unwrap_or (refusal_of_text text) Unavailable
 
 refusal_in-name : (r : Refusal) → refusal_in (refusal_name r) ≡ r
-unfolding refusal_in refusals refusal_name
+unfolding refusal_in refusal_row
 refusal_in-name BadRequest = refl
 refusal_in-name r = refl
 

@@ -1,16 +1,10 @@
 -- How a machine is written: member by member, in the order of their names' octets.
 use Rattle.std.specs.Prelude.{ℕ, Bool, true, List, [], ◌∷◌, ◌++◌, map, codes, nat_le, not, ◌&&◌, ◌==◌}
 use Rattle.json.specs.Print.{quoted}
-use Rattle.serde_json.specs.Data.{string, boolean, array}
-use Rattle.serde_json.specs.View.{items_of}
-use Rattle.serde_json.specs.Written.{comma_if, compact_text}
+use Rattle.serde_json.specs.{Data.{string, boolean, array}, View.items_of, Written.{comma_if, compact_text}}
 use Rattle.pxe_vendor.specs.Arch.{arch_text}
-use Rattle.hall_types.specs.Kinds.{erase_text}
-use Rattle.hall_types.specs.Status.{status_text}
-use Rattle.hall_types.specs.declared.machine.Machine.{Machine}
-use Rattle.hall_events.specs.Object.{Member, or_null, count}
-use Rattle.hall_events.specs.Command.{mac_data, uuid_data}
-use Rattle.hall_events.specs.Reply.{ListedMachine}
+use Rattle.hall_types.specs.{Kinds.erase_text, Status.status_text, declared.machine.Machine.Machine}
+use Rattle.hall_events.specs.{Object.{Member, or_null, count}, Command.{mac_data, uuid_data}, Reply.ListedMachine}
 
 -- an octet that stands for itself in a text: neither a control, nor a quotation mark, nor a backslash
 abbrev pub is_plain : ℕ → Bool

@@ -6,7 +6,7 @@ ghost use Rattle.hall_events.specs.Command.{IsCommand, command_kind, command_tex
 use crate::command_value::{command_value, request_value};
 use crate::kind::{CommandKind, MachineKind};
 use hall_types::{
-    Digest, Erase, Image, MacAddress, MachineUuid, Name, Number, RequestKey, Role, Version,
+    Act, Digest, Erase, Image, MacAddress, MachineUuid, Name, Number, RequestKey, Role, Version,
 };
 use pxe_vendor::Arch;
 use std::alloc::{AllocError, Global};
@@ -59,20 +59,11 @@ pub enum MachineCommand {
     RemoveInterface { mac: MacAddress },
     SetPool { pool: Name },
     Commission { tests: bool },
-    Test,
-    Override,
-    Fix,
     Delete,
-    Allocate,
     Deploy { image: Name },
     /// With its disks erased in this way, or not.
     Release { erase: Option<Erase> },
-    Rescue,
-    Abort,
-    Lock,
-    Unlock,
-    ExitRescue,
-    Break,
+    Act(Act),
 }
 
 impl MachineCommand {
@@ -85,19 +76,10 @@ impl MachineCommand {
             MachineCommand::RemoveInterface { .. } => MachineKind::RemoveInterface,
             MachineCommand::SetPool { .. } => MachineKind::SetPool,
             MachineCommand::Commission { .. } => MachineKind::Commission,
-            MachineCommand::Test => MachineKind::Test,
-            MachineCommand::Override => MachineKind::Override,
-            MachineCommand::Fix => MachineKind::Fix,
             MachineCommand::Delete => MachineKind::Delete,
-            MachineCommand::Allocate => MachineKind::Allocate,
             MachineCommand::Deploy { .. } => MachineKind::Deploy,
             MachineCommand::Release { .. } => MachineKind::Release,
-            MachineCommand::Rescue => MachineKind::Rescue,
-            MachineCommand::Abort => MachineKind::Abort,
-            MachineCommand::Lock => MachineKind::Lock,
-            MachineCommand::Unlock => MachineKind::Unlock,
-            MachineCommand::ExitRescue => MachineKind::ExitRescue,
-            MachineCommand::Break => MachineKind::Break,
+            MachineCommand::Act(act) => MachineKind::Act(*act),
         }
     }
 }

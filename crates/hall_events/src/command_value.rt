@@ -1,13 +1,9 @@
 //! Commands as JSON values.
 ghost use Rattle.std.specs.Prelude.{◌≡◌, ◌∷◌, [], codes, map, option_map, IfOk, IfSome, OnOk};
 ghost use Rattle.hex.specs.Hex.{encode_lower};
-ghost use Rattle.serde_json.specs.Data.{array, put as with, string};
-ghost use Rattle.serde_json.specs.View.{view, items_of, members_view};
-ghost use Rattle.hall_types.specs.Number.{IsNumber};
-ghost use Rattle.hall_types.specs.Octets.{AreOctets};
-ghost use Rattle.hall_events.specs.Object.{count, member_if, put_all};
-ghost use Rattle.hall_events.specs.Command.{IsCommand, IsMachineCommand, command_data, command_member, erase_data, mac_data, members_of, own_members, request_data, uuid_data};
-ghost use Rattle.hall_events.specs.declared.command.HallCommand.{HallCommand};
+ghost use Rattle.serde_json.specs.{Data.{array, put as with, string}, View.{view, items_of, members_view}};
+ghost use Rattle.hall_types.specs.{Number.IsNumber, Octets.AreOctets};
+ghost use Rattle.hall_events.specs.{Object.{count, member_if, put_all}, Command.{IsCommand, IsMachineCommand, command_data, command_member, erase_data, mac_data, members_of, own_members, request_data, uuid_data}, declared.command.HallCommand.HallCommand};
 
 use crate::command::{HallCommand, MachineCommand};
 use crate::kind::CommandKind;

@@ -1,7 +1,9 @@
 //! The kinds of commands, and the word of each.
 ghost use Rattle.std.specs.Prelude.{◌≡◌};
 ghost use Rattle.hall_types.specs.Kinds.{with_text};
-ghost use Rattle.hall_events.specs.Kind.{machine_word, kind_word, kinds, kind_with_word};
+ghost use Rattle.hall_events.specs.Kind.{act_kind, machine_word, kind_word, kinds, kind_with_word};
+
+use hall_types::Act;
 
 /// The kind of a command on a machine.
 #[derive(Clone, Copy)]
@@ -10,19 +12,10 @@ pub enum MachineKind {
     RemoveInterface,
     SetPool,
     Commission,
-    Test,
-    Override,
-    Fix,
     Delete,
-    Allocate,
     Deploy,
     Release,
-    Rescue,
-    Abort,
-    Lock,
-    Unlock,
-    ExitRescue,
-    Break,
+    Act(Act),
 }
 
 /// The kind of a command.
@@ -39,8 +32,8 @@ pub enum CommandKind {
     OnMachine(MachineKind),
 }
 
-// All kinds.
-const KINDS: [CommandKind; 25] = [
+// All kinds but acts.
+const KINDS: [CommandKind; 15] = [
     CommandKind::AddOperator,
     CommandKind::DisableOperator,
     CommandKind::AddPool,
@@ -53,19 +46,9 @@ const KINDS: [CommandKind; 25] = [
     CommandKind::OnMachine(MachineKind::RemoveInterface),
     CommandKind::OnMachine(MachineKind::SetPool),
     CommandKind::OnMachine(MachineKind::Commission),
-    CommandKind::OnMachine(MachineKind::Test),
-    CommandKind::OnMachine(MachineKind::Override),
-    CommandKind::OnMachine(MachineKind::Fix),
     CommandKind::OnMachine(MachineKind::Delete),
-    CommandKind::OnMachine(MachineKind::Allocate),
     CommandKind::OnMachine(MachineKind::Deploy),
     CommandKind::OnMachine(MachineKind::Release),
-    CommandKind::OnMachine(MachineKind::Rescue),
-    CommandKind::OnMachine(MachineKind::Abort),
-    CommandKind::OnMachine(MachineKind::Lock),
-    CommandKind::OnMachine(MachineKind::Unlock),
-    CommandKind::OnMachine(MachineKind::ExitRescue),
-    CommandKind::OnMachine(MachineKind::Break),
 ];
 
 impl MachineKind {
@@ -79,19 +62,10 @@ impl MachineKind {
             MachineKind::RemoveInterface => "remove_interface",
             MachineKind::SetPool => "set_pool",
             MachineKind::Commission => "commission",
-            MachineKind::Test => "test",
-            MachineKind::Override => "override",
-            MachineKind::Fix => "fix",
             MachineKind::Delete => "delete",
-            MachineKind::Allocate => "allocate",
             MachineKind::Deploy => "deploy",
             MachineKind::Release => "release",
-            MachineKind::Rescue => "rescue",
-            MachineKind::Abort => "abort",
-            MachineKind::Lock => "lock",
-            MachineKind::Unlock => "unlock",
-            MachineKind::ExitRescue => "exit_rescue",
-            MachineKind::Break => "break",
+            MachineKind::Act(act) => act.text(),
         }
     }
 }
@@ -120,7 +94,10 @@ impl CommandKind {
     pub fn with_word(word: &str) -> Option<CommandKind>
         ensures { result ≡ kind_with_word word.now }
     {
-        kind_among(&KINDS, word)
+        match kind_among(&KINDS, word) {
+            Some(kind) => Some(kind),
+            None => act_kind(word),
+        }
     }
 }
 
@@ -129,4 +106,14 @@ fn kind_among(kinds: &[CommandKind], word: &str) -> Option<CommandKind>
     ensures { result ≡ with_text kind_word word.now kinds.now }
 {
     kinds.iter().copied().find(|kind| kind.word() == word)
+}
+
+// The act that has this word.
+fn act_kind(word: &str) -> Option<CommandKind>
+    ensures { result ≡ act_kind word.now }
+{
+    match word.parse::<Act>() {
+        Ok(act) => Some(CommandKind::OnMachine(MachineKind::Act(act))),
+        Err(_) => None,
+    }
 }

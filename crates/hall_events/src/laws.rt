@@ -1,9 +1,7 @@
 //! What holds of the texts of commands and answers.
 ghost use Rattle.std.specs.Prelude.{◌≡◌, ◌↔◌};
 ghost use Rattle.hall_types.specs.Hall.{Schema};
-ghost use Rattle.hall_events.specs.Command.{IsCommand, command_text};
-ghost use Rattle.hall_events.specs.Reply.{Content, IsReadable, reply_of};
-ghost use Rattle.hall_events.specs.declared.command.HallCommand.{HallCommand};
+ghost use Rattle.hall_events.specs.{Command.{IsCommand, command_text}, Reply.{Content, IsReadable, reply_of}, declared.command.HallCommand.HallCommand};
 
 /// Law: commands have equal texts if and only if they are equal.
 pub fn one_text()

@@ -1,7 +1,6 @@
 //! Lists that are written item by item, so that no tree of all items is held.
 ghost use Rattle.std.specs.Prelude.{◌≡◌, ◌++◌, false, OnOk, string_bytes};
-ghost use Rattle.serde_json.specs.View.{view};
-ghost use Rattle.serde_json.specs.Written.{comma_if as comma_before, compact_text, has_float};
+ghost use Rattle.serde_json.specs.{View.view, Written.{comma_if as comma_before, compact_text, has_float}};
 
 use serde_json::Value;
 use std::alloc::{AllocError, Global};

@@ -1,14 +1,8 @@
 //! Machines as answers list them, which are written member by member, in the order of their names' octets, without a tree of values.
 ghost use Rattle.std.specs.Prelude.{◌≡◌, ◌++◌, codes, false, true, map, OnOk, string_bytes};
-ghost use Rattle.serde_json.specs.Data.{array, boolean, string};
-ghost use Rattle.serde_json.specs.View.{items_of};
-ghost use Rattle.serde_json.specs.Written.{comma_if as comma_before, compact_text};
-ghost use Rattle.hall_types.specs.Hall.{second};
-ghost use Rattle.hall_types.specs.Kinds.{erase_text};
-ghost use Rattle.hall_events.specs.Command.{mac_data, uuid_data};
-ghost use Rattle.hall_events.specs.Object.{count, or_null};
-ghost use Rattle.hall_events.specs.Reply.{listed, machine_data};
-ghost use Rattle.hall_events.specs.WrittenMachine.{first_members, last_members, middle_members, written};
+ghost use Rattle.serde_json.specs.{Data.{array, boolean, string}, View.items_of, Written.{comma_if as comma_before, compact_text}};
+ghost use Rattle.hall_types.specs.{Hall.second, Kinds.erase_text};
+ghost use Rattle.hall_events.specs.{Command.{mac_data, uuid_data}, Object.{count, or_null}, Reply.{listed, machine_data}, WrittenMachine.{first_members, last_members, middle_members, written}};
 
 use crate::list_text::comma_if;
 use crate::plain_text::push_text;
@@ -91,7 +85,7 @@ fn push_mac(text: &mut String, later: bool, interface: &Interface) -> Result<(),
 {
     text.push_str(comma_if(later))?;
     text.push_str("\"")?;
-    wire_mac::push(text, &interface.mac.octets())?;
+    pxe_vendor::push_mac(text, &interface.mac.octets())?;
     text.push_str("\"")?;
     Ok(())
 }

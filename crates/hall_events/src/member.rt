@@ -1,10 +1,8 @@
 //! Members of JSON objects, and the values of addresses and identifiers.
 ghost use Rattle.std.specs.Prelude.{◌≡◌, option_map, IfOk, IfSome, OnOk};
 ghost use Rattle.hall_types.specs.Octets.{AreOctets};
-ghost use Rattle.serde_json.specs.Data.{put as with, string};
-ghost use Rattle.serde_json.specs.View.{view, members_view};
-ghost use Rattle.hall_events.specs.Object.{count, member_if, put_all};
-ghost use Rattle.hall_events.specs.Command.{mac_data, uuid_data};
+ghost use Rattle.serde_json.specs.{Data.{put as with, string}, View.{view, members_view}};
+ghost use Rattle.hall_events.specs.{Object.{count, member_if, put_all}, Command.{mac_data, uuid_data}};
 
 use hall_types::{MacAddress, MachineUuid};
 use serde_json::{Map, Value, put};
@@ -53,7 +51,7 @@ pub(crate) fn mac_value(alloc: Global, mac: MacAddress) -> Result<Value, AllocEr
     ensures value { IfOk result (λ value. view value ≡ mac_data mac) }
     ensures whole { OnOk result (AreOctets 6 mac) }
 {
-    let text = wire_mac::print(alloc, &mac.octets())?;
+    let text = pxe_vendor::print_mac(alloc, &mac.octets())?;
     Ok(Value::String(text))
 }
 

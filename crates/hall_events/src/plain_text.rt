@@ -1,8 +1,6 @@
 //! Texts of JSON, of which almost none needs an escape (RFC 8259 section 7).
-ghost use Rattle.std.specs.Prelude.{◌≡◌, ◌++◌, OnOk, string_bytes};
-ghost use Rattle.std.specs.List.{list_all};
-ghost use Rattle.serde_json.specs.Data.{string};
-ghost use Rattle.serde_json.specs.Written.{compact_text};
+ghost use Rattle.std.specs.{Prelude.{◌≡◌, ◌++◌, OnOk, string_bytes}, List.list_all};
+ghost use Rattle.serde_json.specs.{Data.string, Written.compact_text};
 ghost use Rattle.hall_events.specs.WrittenMachine.{is_plain};
 
 use serde_json::Value;

@@ -1,7 +1,6 @@
 //! What the desk answers.
 ghost use Rattle.std.specs.Prelude.{◌≡◌, ◌++◌, codes, false, IfOk, OnOk, string_bytes};
-ghost use Rattle.serde_json.specs.View.{view};
-ghost use Rattle.serde_json.specs.Written.{comma_if, compact_text, has_float};
+ghost use Rattle.serde_json.specs.{View.view, Written.{comma_if, compact_text, has_float}};
 ghost use Rattle.hall_types.specs.Hall.{second};
 ghost use Rattle.hall_events.specs.Reply as content;
 ghost use Rattle.hall_events.specs.Reply.{id_data, listed, ok as answer_of, order_data, refusal_data, reply_of, result_data};

@@ -1,1 +1,6 @@
 pub mod ResponseLemmas
+pub mod DecidedLemmas
+pub mod RouteLemmas
+mod RouteRows
+pub mod TargetLemmas
+pub mod ShapeLemmas

@@ -1,6 +1,5 @@
 -- Octets that are pushed in three parts.
-use Rattle.std.proofs.Common.{◌≡◌, ℕ, List, ◌++◌, append_assoc, arith}
-use Rattle.std.proofs.lemmas.Bool.Decides.{nat_tests}
+use Rattle.std.proofs.{Common.{◌≡◌, ℕ, List, ◌++◌, append_assoc, arith}, lemmas.Bool.Decides.nat_tests}
 use Rattle.http.specs.StatusCode.{IsStatusCode}
 use Rattle.hall_http.specs.Response.{IsStatus}
 

@@ -1,6 +1,5 @@
 -- What is noted of a reader or a writer.
-use Rattle.std.specs.Prelude.{◌≡◌, ℕ, ◌+◌, List, take, Option, Some, None, Bool, min, if◌then◌else◌, ◌==◌}
-use Rattle.std.specs.Io.KnownBytes.{Consumes, Appends, Keeps, IsAtEnd}
+use Rattle.std.specs.{Prelude.{◌≡◌, ℕ, ◌+◌, List, take, Option, Some, None, Bool, min, if◌then◌else◌, ◌==◌}, Io.KnownBytes.{Consumes, Appends, Keeps, IsAtEnd}}
 use Rattle.hall_http.specs.declared.noted.Noted.{Noted}
 
 module _ {T : Type 0} where

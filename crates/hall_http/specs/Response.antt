@@ -1,12 +1,7 @@
 -- Responses: status line, fields and body (RFC 9112 section 4; RFC 9110 sections 8.3, 8.6 and 15; RFC 4918 section 11.3 for 423).
-use Rattle.std.specs.Prelude.{ℕ, ◌==◌, List, [], ◌∷◌, ◌++◌, codes, length, decimal, unwrap_or, IsTrue}
-use Rattle.std.specs.List.{list_any}
+use Rattle.std.specs.{Prelude.{ℕ, ◌==◌, List, [], ◌∷◌, ◌++◌, codes, length, decimal, unwrap_or, IsTrue}, List.list_any}
 use Rattle.http.specs.StatusCode.{reason_phrase}
-use Rattle.hall_events.specs.Reply.{Content, stored, boot_file, nothing}
-use Rattle.hall_events.specs.declared.reply.Reply.{Reply}
-use Rattle.hall_events.specs.declared.reply.Reply.TheVariants.{Http, File, Nothing}
-use Rattle.hall_events.specs.declared.reply.BodyKind.{BodyKind}
-use Rattle.hall_events.specs.declared.reply.BodyKind.TheVariants.{Text, Json}
+use Rattle.hall_events.specs.{Reply.{Content, stored, boot_file, nothing}, declared.reply.{Reply.{Reply, TheVariants.{Http, File, Nothing}}, BodyKind.{BodyKind, TheVariants.{Text, Json}}}}
 
 -- the statuses of responses
 abbrev pub statuses : List ℕ

@@ -1,17 +1,7 @@
 -- Laws of responses, for the proofs of callers: their octets say the status, the kind and the body, and each answer by HTTP has a response.
-use Rattle.std.proofs.Common.{◌≡◌, ◌<◌, ◌≤◌, ◌^◌, ℕ, List, [], ◌∷◌, ◌++◌, length, get_or, refl, sym, ap, ◌∙◌, arith, append_assoc}
-use Rattle.std.specs.Prelude.{codes, decimal}
-use Rattle.std.specs.Char.{digit_value}
-use Rattle.std.specs.Str.Parse.{AllDigits}
-use Rattle.std.proofs.lemmas.List.{append_cancel_left}
-use Rattle.std.proofs.lemmas.Fmt.{decimal_is_IsNumeral, decimal_injective}
-use Rattle.hall_types.specs.Hall.{Schema}
-use Rattle.hall_types.specs.Refusal.{refusal_status}
-use Rattle.hall_types.specs.declared.refusal.Refusal.{Refusal}
-use Rattle.hall_types.specs.declared.refusal.Refusal.TheVariants.{BadRequest}
-use Rattle.hall_events.specs.Reply.{Content, script, refused, counted, repeated, machine_is, machine_gone, done, waiting_orders, machine_list, one_machine, stored, boot_file, nothing, reply_of}
-use Rattle.hall_events.specs.declared.reply.BodyKind.{BodyKind}
-use Rattle.hall_events.specs.declared.reply.BodyKind.TheVariants.{Text, Json}
+use Rattle.std.{proofs.{Common.{◌≡◌, ◌<◌, ◌≤◌, ◌^◌, ℕ, List, [], ◌∷◌, ◌++◌, length, get_or, refl, sym, ap, ◌∙◌, arith, append_assoc}, lemmas.{List.append_cancel_left, Fmt.{decimal_is_IsNumeral, decimal_injective}}}, specs.{Prelude.{codes, decimal}, Char.digit_value, Str.Parse.AllDigits}}
+use Rattle.hall_types.specs.{Hall.Schema, Refusal.{refusal_row, refusal_status}, declared.refusal.Refusal.{Refusal, TheVariants.BadRequest}}
+use Rattle.hall_events.specs.{Reply.{Content, script, refused, counted, repeated, machine_is, machine_gone, done, waiting_orders, machine_list, one_machine, stored, boot_file, nothing, reply_of}, declared.reply.BodyKind.{BodyKind, TheVariants.{Text, Json}}}
 use Rattle.hall_http.specs.Response.{phrase_of, kind_text, status_line, type_line, length_line, last_lines, response, IsStatus, IsResponse, HasResponse}
 
 -- ---- what the octets say
@@ -80,7 +70,7 @@ one_response status other kind another body text s o h g e =
 -- ---- which answers have a response
 
 pub refusal_has_status : (refusal : Refusal) → IsStatus (refusal_status refusal)
-unfolding refusal_status
+unfolding refusal_row
 refusal_has_status BadRequest = refl
 refusal_has_status refusal = refl
 

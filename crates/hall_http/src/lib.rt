@@ -1,12 +1,37 @@
 //! The desk's side of HTTP: requests to events, answers to octets, and connections whose failures are noted.
 #![tactic(auto)]
 
+mod body;
+mod command;
+mod decided;
+mod demand;
+mod fault;
+mod fields;
+mod head;
+mod image;
 mod laws;
+mod machine;
+mod member;
+mod members;
 mod noted;
+mod report;
+mod request;
+mod resource;
 mod response;
+mod shape;
+mod slices;
+mod target;
+mod value;
+mod wrong_bodies;
 
-pub use http_bodies::{BodyFault, body_fault};
-pub use http_requests::{HttpFault, event_of, is_decided};
+pub use command::{KeyedCommand, command_in};
+pub use decided::is_decided;
+pub use fault::HttpFault;
+pub use fields::{count, first_value, is_bearer_token, is_visible_text};
 pub use laws::{answers_have_responses, one_response, unavailable_is_a_refusal};
 pub use noted::Noted;
-pub use response::{UNAVAILABLE, bytes_of};
+pub use report::{outcome_in, progress_in};
+pub use request::event_of;
+pub use response::{UNAVAILABLE, bytes_of, is_response};
+pub use slices::{prefix, suffix};
+pub use wrong_bodies::{BodyFault, body_fault};

@@ -1,5 +1,5 @@
 //! The octets of responses.
-ghost use Rattle.std.specs.Prelude.{◌≡◌, ◌++◌, IfOk, OnOk};
+ghost use Rattle.std.specs.Prelude.{◌≡◌, ◌++◌, IfOk, IsTrue, OnOk};
 ghost use Rattle.hall_http.specs.Response.{phrase_of, kind_text, status_line, type_line, length_line, last_lines, response, response_of, IsResponse, IsStatus};
 
 use hall_events::{BodyKind, Reply};
@@ -88,6 +88,26 @@ fn response(alloc: Global, status: u16, kind: BodyKind, body: &str) -> Result<Ve
     push_last_lines(&mut octets)?;
     octets.extend_from_slice(body.as_bytes())?;
     Ok(octets)
+}
+
+// Whether a status is one of those of responses.
+fn is_status(status: u16) -> bool
+    ensures { IsTrue result → IsStatus status }
+{
+    matches!(
+        status,
+        200 | 400 | 401 | 403 | 404 | 405 | 409 | 410 | 411 | 412 | 413 | 423 | 503
+    )
+}
+
+/// Whether an answer is a response: by HTTP, with one of the statuses of responses.
+pub fn is_response(reply: &Reply) -> bool
+    ensures { IsTrue result → IsResponse reply.now }
+{
+    match reply {
+        Reply::Http { status, .. } => is_status(*status),
+        Reply::File(_) | Reply::Nothing => false,
+    }
 }
 
 /// The octets of an answer by HTTP: its status line, its fields and its body. The error is want of memory,

@@ -1,20 +1,9 @@
 -- Records in turn, as a writer has written them.
-use Rattle.std.proofs.Common.{◌≡◌, ◌≢◌, ◌<◌, ◌+◌, ◌==◌, ℕ, false, List, [], ◌∷◌, ◌++◌, Option, Some, None, Result, Ok, Err, OnOk, filter, length, take, get_or, refl, sym, ap, subst, ◌∙◌}
-use Rattle.std.specs.List.{flat_map}
-use Rattle.std.specs.Result.{is_err}
-use Rattle.std.specs.Io.KnownBytes.{Appends}
-use Rattle.std.specs.declared.alloc.Global.{Global}
-use Rattle.std.specs.declared.vec.Vec.{Vec}
-use Rattle.std.proofs.lemmas.List.{flat_map_more, take_more}
-use Rattle.std.proofs.lemmas.Str.{IsUtf8-append, IsUtf8-nil}
-use Rattle.csv.specs.Records.{AllText}
-use Rattle.csv.specs.Writing.{default_writer, fields_written, has_written, row_text, text_written, writer_pending, writer_setup, writer_under}
+use Rattle.std.{proofs.{Common.{◌≡◌, ◌≢◌, ◌<◌, ◌+◌, ◌==◌, ℕ, false, List, [], ◌∷◌, ◌++◌, Option, Some, None, Result, Ok, Err, OnOk, filter, length, take, get_or, refl, sym, ap, subst, ◌∙◌}, lemmas.{List.{flat_map_more, take_more}, Str.{IsUtf8-append, IsUtf8-nil}}}, specs.{List.flat_map, Result.is_err, Io.KnownBytes.Appends, declared.{alloc.Global.Global, vec.Vec.Vec}}}
+use Rattle.csv.specs.{Records.AllText, Writing.{default_writer, fields_written, has_written, row_text, text_written, writer_pending, writer_setup, writer_under}, declared.writer.Writer.Writer}
 use Rattle.csv.specs.declared.writer.QuoteStyle.TheVariants as style
-use Rattle.csv.specs.declared.writer.Writer.{Writer}
-use Rattle.hall_types.specs.declared.machine.Interface.{Interface}
-use Rattle.hall_types.specs.declared.machine.Machine.{Machine}
-use Rattle.hall_report.specs.Export.{HasWritten, machine_fields, record_text}
-use Rattle.hall_report.proofs.TextLemmas.{record_is_text}
+use Rattle.hall_types.specs.declared.machine.{Interface.Interface, Machine.Machine}
+use Rattle.hall_report.{specs.Export.{HasWritten, machine_fields, record_text}, proofs.TextLemmas.record_is_text}
 
 abbrev Octets : Type 0
 Octets = Vec ℕ Global

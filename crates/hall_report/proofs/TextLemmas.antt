@@ -1,11 +1,7 @@
 -- A record of texts is a text: quotes are put between characters only.
-use Rattle.std.proofs.Common.{◌≡◌, ◌≤◌, ◌<◌, ◌+◌, ◌/◌, ◌%◌, ◌==◌, ◌&&◌, ℕ, Bool, true, false, if◌then◌else◌, cond, List, [], ◌∷◌, ◌++◌, refl, ap, subst, arith, ltb}
-use Rattle.std.specs.Prelude.{IsUtf8}
-use Rattle.std.proofs.lemmas.Bool.Decides.{nat_tests}
-use Rattle.std.proofs.lemmas.Str.{IsUtf8-append, IsUtf8-nil, IsUtf8-encode, encode_ascii}
+use Rattle.std.{proofs.{Common.{◌≡◌, ◌≤◌, ◌<◌, ◌+◌, ◌/◌, ◌%◌, ◌==◌, ◌&&◌, ℕ, Bool, true, false, if◌then◌else◌, cond, List, [], ◌∷◌, ◌++◌, refl, ap, subst, arith, ltb}, lemmas.{Bool.Decides.nat_tests, Str.{IsUtf8-append, IsUtf8-nil, IsUtf8-encode, encode_ascii}}}, specs.Prelude.IsUtf8}
 use lib.Utf8.{encode, encodes, scalar, scalars, low_scalar}
-use Rattle.csv.specs.Records.{AllText}
-use Rattle.csv.specs.Writing.{default_writer, escaped, field_text, fields_text, is_blank, quoted, needs_quotes}
+use Rattle.csv.specs.{Records.AllText, Writing.{default_writer, escaped, field_text, fields_text, is_blank, quoted, needs_quotes}}
 use Rattle.hall_report.specs.Export.{record_text}
 
 -- ---- a field between quotes

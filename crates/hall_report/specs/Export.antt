@@ -1,18 +1,8 @@
 -- The export of a hall's machines, in comma-separated values (RFC 4180).
-use Rattle.std.specs.Prelude.{◌≡◌, ℕ, false, List, [], ◌∷◌, ◌++◌, Option, Some, None, option_map, codes, IsUtf8}
-use Rattle.std.specs.Fmt.{decimal}
-use Rattle.std.specs.List.{flat_map}
-use Rattle.std.specs.declared.alloc.Global.{Global}
-use Rattle.std.specs.declared.vec.Vec.{Vec}
-use Rattle.csv.specs.Writing.{default_writer, fields_written, has_written, row_text, text_written, writer_setup}
-use Rattle.csv.specs.declared.writer.Writer.{Writer}
+use Rattle.std.specs.{Prelude.{◌≡◌, ℕ, false, List, [], ◌∷◌, ◌++◌, Option, Some, None, option_map, codes, IsUtf8}, Fmt.decimal, List.flat_map, declared.{alloc.Global.Global, vec.Vec.Vec}}
+use Rattle.csv.specs.{Writing.{default_writer, fields_written, has_written, row_text, text_written, writer_setup}, declared.writer.Writer.Writer}
 use Rattle.pxe_vendor.specs.Arch.{arch_text}
-use Rattle.hall_types.specs.Hall.{Hall}
-use Rattle.hall_types.specs.Lookup.{interfaces_of}
-use Rattle.hall_types.specs.Rows.{listed}
-use Rattle.hall_types.specs.Status.{status_text}
-use Rattle.hall_types.specs.declared.machine.Interface.{Interface}
-use Rattle.hall_types.specs.declared.machine.Machine.{Machine}
+use Rattle.hall_types.specs.{Hall.Hall, Lookup.interfaces_of, Rows.listed, Status.status_text, declared.machine.{Interface.Interface, Machine.Machine}}
 use Rattle.hall_report.specs.Lines.{macs_text, uuid_text, yes_no}
 
 -- a record's text, ended by LF, with quotes round the fields that need them (RFC 4180 section 2)

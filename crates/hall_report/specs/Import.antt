@@ -1,18 +1,10 @@
 -- Files of new machines, in comma-separated values (RFC 4180).
-use Rattle.std.specs.Prelude.{◌≡◌, ◌≢◌, ℕ, ◌+◌, ◌==◌, Bool, true, false, ◌&&◌, List, [], ◌∷◌, length, Option, Some, None, option_and_then, option_map, Result, Ok, Err, bytes_eq, codes, if◌then◌else◌}
-use Rattle.std.specs.Str.{is_utf8}
-use Rattle.csv.specs.Reading.{default_config, records, strip_bom}
-use Rattle.csv.specs.Records.{field_at}
+use Rattle.std.specs.{Prelude.{◌≡◌, ◌≢◌, ℕ, ◌+◌, ◌==◌, Bool, true, false, ◌&&◌, List, [], ◌∷◌, length, Option, Some, None, option_and_then, option_map, Result, Ok, Err, bytes_eq, codes, if◌then◌else◌}, Str.is_utf8}
+use Rattle.csv.specs.{Reading.{default_config, records, strip_bom}, Records.field_at}
 use Rattle.uuid.specs.Text.{parsed}
-use Rattle.wire_mac.specs.MacText.{mac_of}
-use Rattle.pxe_vendor.specs.Arch.{arch_in}
-use Rattle.pxe_vendor.specs.declared.arch.Arch.{Arch}
-use Rattle.hall_types.specs.Name.{name_of}
-use Rattle.hall_types.specs.Uuid.{unless_blank}
-use Rattle.hall_report.specs.Steps.{◌>>=◌}
-use Rattle.hall_report.specs.declared.fault.ImportFault.{ImportFault}
-use Rattle.hall_report.specs.declared.fault.ImportFault.TheVariants.{BadHeader, BadRow, Memory}
-use Rattle.hall_report.specs.declared.row.ImportRow.{ImportRow}
+use Rattle.pxe_vendor.specs.{MacText.mac_of, Arch.arch_in, declared.arch.Arch.Arch}
+use Rattle.hall_types.specs.{Name.name_of, Uuid.unless_blank}
+use Rattle.hall_report.specs.{Steps.◌>>=◌, declared.{fault.ImportFault.{ImportFault, TheVariants.{BadHeader, BadRow, Memory}}, row.ImportRow.ImportRow}}
 
 -- ---- fields
 

@@ -1,5 +1,7 @@
 pub mod Columns
 pub mod Export
+pub mod Fault
 pub mod Import
 pub mod Lines
 pub mod Steps
+pub mod Values

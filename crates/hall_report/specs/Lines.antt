@@ -1,20 +1,9 @@
 -- The texts of reports, line by line.
-use Rattle.std.specs.Prelude.{◌≡◌, ℕ, Bool, true, false, List, [], ◌∷◌, ◌++◌, Option, Some, None, option_map, codes, sum_by}
-use Rattle.std.specs.Fmt.{decimal}
-use Rattle.std.specs.List.{flat_map, join_by}
+use Rattle.std.specs.{Prelude.{◌≡◌, ℕ, Bool, true, false, List, [], ◌∷◌, ◌++◌, Option, Some, None, option_map, codes, sum_by}, Fmt.decimal, List.{flat_map, join_by}}
 use Rattle.uuid.specs.Text.{hyphenated_text, lower}
-use Rattle.wire_mac.specs.MacText.{mac_text}
-use Rattle.pxe_vendor.specs.Arch.{arch_text}
-use Rattle.hall_types.specs.Hall.{Hall}
-use Rattle.hall_types.specs.Kinds.{erase_text, order_kind_text}
-use Rattle.hall_types.specs.Lookup.{interfaces_of, waiting}
-use Rattle.hall_types.specs.Rows.{at}
-use Rattle.hall_types.specs.Status.{status_text}
-use Rattle.hall_types.specs.declared.machine.Interface.{Interface}
-use Rattle.hall_types.specs.declared.machine.Machine.{Machine}
-use Rattle.hall_types.specs.declared.order.Order.{Order}
-use Rattle.hall_store.specs.Counts.{AreCounts}
-use Rattle.hall_store.specs.declared.count.Count.{Count}
+use Rattle.pxe_vendor.specs.{MacText.mac_text, Arch.arch_text}
+use Rattle.hall_types.specs.{Hall.Hall, Kinds.{erase_text, order_kind_text}, Lookup.{interfaces_of, waiting}, Rows.at, Status.status_text, declared.{machine.{Interface.Interface, Machine.Machine}, order.Order.Order}}
+use Rattle.hall_store.specs.{Counts.AreCounts, declared.count.Count.Count}
 use Rattle.hall_report.specs.Columns.{in_left, in_right, space}
 
 -- the octet that ends a line

@@ -1,6 +1,5 @@
 //! Texts in columns.
-ghost use Rattle.std.specs.Prelude.{◌≡◌, ◌++◌, IfOk, OnOk, string_bytes, replicate};
-ghost use Rattle.std.specs.Fmt.{decimal};
+ghost use Rattle.std.specs.{Prelude.{◌≡◌, ◌++◌, IfOk, OnOk, string_bytes, replicate}, Fmt.decimal};
 ghost use Rattle.hall_report.specs.Columns.{in_left, in_right};
 
 use std::alloc::{AllocError, Global};

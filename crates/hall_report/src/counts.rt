@@ -1,7 +1,6 @@
 //! How many machines each pool has in each status.
-ghost use Rattle.std.specs.Prelude.{◌≡◌, ◌≢◌, ◌++◌, IfErr, IfOk, OnOk, string_bytes, sum_by};
-ghost use Rattle.std.specs.Fmt.{decimal};
-ghost use Rattle.hall_store.specs.Store.{Reads};
+ghost use Rattle.std.specs.{Prelude.{◌≡◌, ◌≢◌, ◌++◌, IfErr, IfOk, OnOk, string_bytes, sum_by}, Fmt.decimal};
+ghost use Rattle.hall_store.specs.Reading.{Reads};
 ghost use Rattle.hall_report.specs.Lines.{IsHallText, count_line, counts_text, table_line, total_line};
 
 use crate::columns::{digits, push_left, push_right};
@@ -85,7 +84,7 @@ fn counts_text(alloc: Global, counts: &[Count]) -> Result<String, AllocError>
 /// How many machines each pool has in each status, by the pool's name and the status's number, one a line, after a header
 /// and before the sum. The store isn't changed. The faults are `Unavailable` and `Memory`.
 pub fn hall_text<S: HallStore>(alloc: Global, store: &mut S) -> Result<String, ReportFault>
-    ensures read { Reads S.HallStore.is_clean S.HallStore.holds S.HallStore.leaves store.old store.new result (λ h text. IsHallText h (string_bytes text)) }
+    ensures read { Reads S.HallStore store.old store.new result (λ h text. IsHallText h (string_bytes text)) }
     ensures fault { IfErr result (λ fault. fault ≢ ReportFault.NoMachine) }
 {
     let counts = store.counts(alloc)?;

@@ -1,11 +1,8 @@
 //! The export of all machines.
-ghost use Rattle.std.specs.Prelude.{◌≡◌, ◌≢◌, ◌==◌, ◌++◌, List, ℕ, filter, option_map, IfErr, IfOk, OnOk, string_bytes};
-ghost use Rattle.std.specs.List.{flat_map};
-ghost use Rattle.std.specs.List.Sorted.{IsNonDecreasingBy};
+ghost use Rattle.std.specs.{Prelude.{◌≡◌, ◌≢◌, ◌==◌, ◌++◌, List, ℕ, filter, option_map, IfErr, IfOk, OnOk, string_bytes}, List.{flat_map, Sorted.IsNonDecreasingBy}};
 ghost use Rattle.csv.specs.Records.{AllText, fields_of};
-ghost use Rattle.hall_store.specs.Store.{Reads};
-ghost use Rattle.hall_report.specs.Lines.{uuid_text};
-ghost use Rattle.hall_report.specs.Export.{HasWritten, export_text, hardware_fields, header, holder_fields, machine_fields, or_empty, record_text};
+ghost use Rattle.hall_store.specs.Reading.{Reads};
+ghost use Rattle.hall_report.specs.{Lines.uuid_text, Export.{HasWritten, export_text, hardware_fields, header, holder_fields, machine_fields, or_empty, record_text}};
 
 use crate::columns::digits;
 use crate::fault::ReportFault;
@@ -147,7 +144,7 @@ fn machines_export(
 /// nothing for what is absent, and `yes` or `no` for `locked`. Each record ends with LF. The store isn't changed. The faults
 /// are `Unavailable` and `Memory`.
 pub fn export_text<S: HallStore>(alloc: Global, store: &mut S) -> Result<String, ReportFault>
-    ensures read { Reads S.HallStore.is_clean S.HallStore.holds S.HallStore.leaves store.old store.new result (λ h text. string_bytes text ≡ export_text h) }
+    ensures read { Reads S.HallStore store.old store.new result (λ h text. string_bytes text ≡ export_text h) }
     ensures fault { IfErr result (λ fault. fault ≢ ReportFault.NoMachine) }
 {
     let machines = store.machines(alloc)?;

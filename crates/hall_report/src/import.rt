@@ -1,7 +1,6 @@
 //! The import of new machines.
 ghost use Rattle.std.specs.Prelude.{◌≡◌, IfOk, map, codes};
-ghost use Rattle.csv.specs.Reading.{default_config, records, strip_bom};
-ghost use Rattle.csv.specs.Records.{field_at, fields_of};
+ghost use Rattle.csv.specs.{Reading.{default_config, records, strip_bom}, Records.{field_at, fields_of}};
 ghost use Rattle.hall_report.specs.Import.{Answers, import_in, import_of, is_field, is_header, with_ok};
 
 use crate::fault::ImportFault;
@@ -72,4 +71,12 @@ pub fn import_rows(alloc: Global, octets: &[u8]) -> Result<Vec<ImportRow>, Impor
 {
     let all = records_of(alloc, octets)?;
     import_of(alloc, &all)
+}
+
+/// The number of the first malformed row of a file of machines, if there is one. Rows are counted from 1, after the header.
+pub fn bad_row(alloc: Global, octets: &[u8]) -> Option<u64> {
+    match import_rows(alloc, octets) {
+        Err(ImportFault::BadRow(number)) => Some(number),
+        _ => None,
+    }
 }

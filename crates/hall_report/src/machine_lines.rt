@@ -1,9 +1,7 @@
 //! A machine, field by field.
-ghost use Rattle.std.specs.Prelude.{◌≡◌, ◌++◌, Some, None, IfErr, IfOk, OnOk, codes, option_map, string_bytes};
-ghost use Rattle.std.specs.Fmt.{decimal};
-ghost use Rattle.hall_types.specs.Hall.{Hall};
-ghost use Rattle.hall_types.specs.Kinds.{erase_text};
-ghost use Rattle.hall_store.specs.Store.{Reads};
+ghost use Rattle.std.specs.{Prelude.{◌≡◌, ◌++◌, Some, None, IfErr, IfOk, OnOk, codes, option_map, string_bytes}, Fmt.decimal};
+ghost use Rattle.hall_types.specs.{Hall.Hall, Kinds.erase_text};
+ghost use Rattle.hall_store.specs.Reading.{Reads};
 ghost use Rattle.hall_report.specs.Lines.{field_line, hardware_lines, holder_lines, machine_lines, machine_text, macs_if, or_dash, state_lines, uuid_text};
 
 use crate::columns::digits;
@@ -134,7 +132,7 @@ pub fn machine_text<S: HallStore>(
     store: &mut S,
     id: Number,
 ) -> Result<String, ReportFault>
-    ensures read { Reads S.HallStore.is_clean S.HallStore.holds S.HallStore.leaves store.old store.new result (λ h text. machine_text h id ≡ Some (string_bytes text)) }
+    ensures read { Reads S.HallStore store.old store.new result (λ h text. machine_text h id ≡ Some (string_bytes text)) }
     ensures missing { S.HallStore.is_clean store.new → IfErr result (λ fault. fault ≡ ReportFault.NoMachine → (h : Hall) → S.HallStore.holds store.old h → machine_text h id ≡ None) }
 {
     let Some(machine) = store.machine(id)? else {

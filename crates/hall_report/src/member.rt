@@ -1,7 +1,6 @@
 //! The texts of a machine's members.
-ghost use Rattle.std.specs.Prelude.{◌≡◌, ◌∷◌, ◌++◌, [], IfOk, OnOk, string_bytes};
-ghost use Rattle.std.specs.List.{flat_map};
-ghost use Rattle.wire_mac.specs.MacText.{mac_text};
+ghost use Rattle.std.specs.{Prelude.{◌≡◌, ◌∷◌, ◌++◌, [], IfOk, OnOk, string_bytes}, List.flat_map};
+ghost use Rattle.pxe_vendor.specs.MacText.{mac_text};
 ghost use Rattle.hall_report.specs.Lines.{macs_text, uuid_text, yes_no};
 
 use hall_types::{Interface, MacAddress, MachineUuid};
@@ -31,7 +30,7 @@ fn push_mac(text: &mut String, mac: MacAddress) -> Result<(), AllocError>
     ensures { OnOk result (string_bytes text.new ≡ string_bytes text.old ++ (32 ∷ []) ++ mac_text mac) }
 {
     text.push(' ')?;
-    wire_mac::push(text, &mac.octets())
+    pxe_vendor::push_mac(text, &mac.octets())
 }
 
 // Writes the addresses of interfaces, each after a space.
@@ -51,7 +50,7 @@ pub(crate) fn macs_text(alloc: Global, interfaces: &[Interface]) -> Result<Strin
     let Some((first, others)) = interfaces.split_first() else {
         return Ok(String::new(alloc));
     };
-    let mut text = wire_mac::print(alloc, &first.mac.octets())?;
+    let mut text = pxe_vendor::print_mac(alloc, &first.mac.octets())?;
     push_macs(&mut text, others)?;
     Ok(text)
 }

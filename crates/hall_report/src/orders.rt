@@ -1,10 +1,7 @@
 //! The queue of power orders.
-ghost use Rattle.std.specs.Prelude.{◌≡◌, ◌≢◌, ◌++◌, IfErr, IfOk, OnOk, string_bytes};
-ghost use Rattle.std.specs.Fmt.{decimal};
-ghost use Rattle.std.specs.List.{flat_map};
-ghost use Rattle.hall_store.specs.Store.{Reads};
-ghost use Rattle.hall_report.specs.Columns.{in_right};
-ghost use Rattle.hall_report.specs.Lines.{order_line, order_text};
+ghost use Rattle.std.specs.{Prelude.{◌≡◌, ◌≢◌, ◌++◌, IfErr, IfOk, OnOk, string_bytes}, Fmt.decimal, List.flat_map};
+ghost use Rattle.hall_store.specs.Reading.{Reads};
+ghost use Rattle.hall_report.specs.{Columns.in_right, Lines.{order_line, order_text}};
 
 use crate::columns::{digits, push_right};
 use crate::fault::ReportFault;
@@ -54,7 +51,7 @@ fn orders_text(alloc: Global, orders: &[Order]) -> Result<String, AllocError>
 /// The power orders that wait, by number, one a line: the order's number and its machine's, each at the right end of 16
 /// columns, and `cycle` or `off`. The store isn't changed. The faults are `Unavailable` and `Memory`.
 pub fn order_text<S: HallStore>(alloc: Global, store: &mut S) -> Result<String, ReportFault>
-    ensures read { Reads S.HallStore.is_clean S.HallStore.holds S.HallStore.leaves store.old store.new result (λ h text. string_bytes text ≡ order_text h) }
+    ensures read { Reads S.HallStore store.old store.new result (λ h text. string_bytes text ≡ order_text h) }
     ensures fault { IfErr result (λ fault. fault ≢ ReportFault.NoMachine) }
 {
     let orders = store.waiting_orders(alloc)?;

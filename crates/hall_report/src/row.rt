@@ -37,10 +37,8 @@ fn text_of(octets: &[u8]) -> Option<&str>
 fn text_at(values: &ByteRecord, column: usize) -> Option<&str>
     ensures { option_copied result ≡ text_at column (fields_of values.now) }
 {
-    match values.get(column) {
-        Some(field) => text_of(field),
-        None => None,
-    }
+    let field = values.get(column)?;
+    text_of(field)
 }
 
 // The octets of a UUID, in one of its four spellings.
@@ -59,61 +57,42 @@ fn uuid_of(text: &str) -> Option<Option<MachineUuid>>
     if text.is_empty() {
         return Some(None);
     }
-    match parsed(text) {
-        Some(octets) => MachineUuid::identifying(octets).map(Some),
-        None => None,
-    }
+    let octets = parsed(text)?;
+    MachineUuid::identifying(octets).map(Some)
 }
 
 fn key_at(values: &ByteRecord) -> Option<RequestKey>
     ensures { result ≡ key_at (fields_of values.now) }
 {
-    match text_at(values, 0) {
-        Some(text) => match parsed(text) {
-            Some(octets) => Some(RequestKey::from(octets)),
-            None => None,
-        },
-        None => None,
-    }
+    let text = text_at(values, 0)?;
+    let octets = parsed(text)?;
+    Some(RequestKey::from(octets))
 }
 
 fn mac_at(values: &ByteRecord) -> Option<MacAddress>
     ensures { result ≡ mac_at (fields_of values.now) }
 {
-    match text_at(values, 1) {
-        Some(text) => match wire_mac::read(text.as_bytes()) {
-            Some(octets) => Some(MacAddress::from(octets)),
-            None => None,
-        },
-        None => None,
-    }
+    text_at(values, 1)?.parse().ok()
 }
 
 fn arch_at(values: &ByteRecord) -> Option<Arch>
     ensures { result ≡ arch_at (fields_of values.now) }
 {
-    match text_at(values, 2) {
-        Some(text) => text.parse().ok(),
-        None => None,
-    }
+    text_at(values, 2)?.parse().ok()
 }
 
 fn uuid_at(values: &ByteRecord) -> Option<Option<MachineUuid>>
     ensures { result ≡ uuid_at (fields_of values.now) }
 {
-    match text_at(values, 3) {
-        Some(text) => uuid_of(text),
-        None => None,
-    }
+    let text = text_at(values, 3)?;
+    uuid_of(text)
 }
 
 fn pool_at(values: &ByteRecord) -> Option<Name>
     ensures { result ≡ pool_at (fields_of values.now) }
 {
-    match text_at(values, 4) {
-        Some(text) => Name::new(text).ok(),
-        None => None,
-    }
+    let text = text_at(values, 4)?;
+    Name::new(text).ok()
 }
 
 fn row_in(values: &ByteRecord) -> Option<ImportRow>

@@ -1,9 +1,7 @@
 -- The counts of all pools and statuses make up the number of machines.
 use Rattle.sql_schema.specs.Words.{nat_cmp_total, tied_itself, nat_list_cmp_total, AllByRecursion, sum_by, bytes_eq, cond_both, not-true, Decides-and, Decides-eqb, Decides-like, sum_by-cons, bytes_eq-Decides, how_many-split, none_pass, Hall, at-rows_where, how_many-gone, same_rows, where_found, Rows, numbers, at, how_many, passes, rows_where, size, status_number, Machine, Status, same_status}
-use Rattle.std.proofs.Common.{◌≡◌, ◌==◌, ◌&&◌, ℕ, List, [], ◌∷◌, Option, Some, None, Bool, true, false, Decides, not, if◌then◌else◌, Less, refl, sym, ap, arith, ◌∙◌}
-use Rattle.std.specs.List.Sorted.{IsStrictlySortedBy}
-use Rattle.hall_store.specs.Counts.{AreCounts, count_cmp, counted, is_about, is_in}
-use Rattle.hall_store.specs.declared.count.Count.{Count}
+use Rattle.std.{proofs.Common.{◌≡◌, ◌==◌, ◌&&◌, ℕ, List, [], ◌∷◌, Option, Some, None, Bool, true, false, Decides, not, if◌then◌else◌, Less, refl, sym, ap, arith, ◌∙◌}, specs.List.Sorted.IsStrictlySortedBy}
+use Rattle.hall_store.specs.{Counts.{AreCounts, count_cmp, counted, is_about, is_in}, declared.count.Count.Count}
 
 -- a machine or an entry is about a pool and a status if these are its own
 own-Decides : (own pool : List ℕ) (its status : Status) → Decides (bytes_eq own pool && (status_number its == status_number status)) ((own ≡ pool) × (its ≡ status))

@@ -2,14 +2,9 @@
 use Rattle.sql_schema.specs.Words.{Error, Database, Held, state, HasCleanDisk, Hall, applied, next_expired, if_due, RowWrite, Machine, IsHeld, Leaves, IsTableRead, back_held, leaves_more, leaves_on, SpellHall, AllByRecursion}
 use Rattle.std.proofs.Common.{◌≡◌, inl, ◌≤◌, ◌<◌, None, Option, List, [], ◌∷◌, false, Bool, true, not, ℕ, Ok, Err, Result, IsTrue, refl, sym, ap, subst, ◌∙◌, arith}
 use Rattle.sqlite_trees.specs.declared.store.Store as trees
-use Rattle.hall_store.specs.Store.{IsWrite, Reads}
-use Rattle.hall_store.specs.StoreLaws.{none_asked, read_failed, read_refused}
-use Rattle.hall_store.specs.declared.store.Unavailable.{Unavailable}
+use Rattle.hall_store.specs.{Store.{IsWrite, ReadsBy}, StoreLaws.{none_asked, read_failed, read_refused}, declared.store.Unavailable.Unavailable}
 use Rattle.sql_writes.specs.Applying.{IsTold}
-use Rattle.hall_sql.specs.Expiring.{IsEarliest, PutsNoEarlier, earliest_of}
-use Rattle.hall_sql.specs.Store.{HasHall, LeavesCommitted, Passes, StopLeaves}
-use Rattle.hall_sql.specs.declared.store.SqlStore.{SqlStore}
-use Rattle.hall_sql.proofs.ExpiryLemmas.{applied_earliest, applied_schema, first_due, first_earliest, lower_earliest, none_due}
+use Rattle.hall_sql.{specs.{Expiring.{IsEarliest, PutsNoEarlier, earliest_of}, Store.{HasHall, LeavesCommitted, Passes, StopLeaves}, declared.store.SqlStore.SqlStore}, proofs.ExpiryLemmas.{applied_earliest, applied_schema, first_due, first_earliest, lower_earliest, none_due}}
 
 pub is_true : (b : Bool) → not b ≡ false → IsTrue b
 is_true true e = refl
@@ -37,7 +32,7 @@ module _ {S : Type 0} (g : trees.Ghosts S) where
   pub asks : {Y : Type 0} {old new : SqlStore S} (mid : Held S) (r : Result Y Error) (out : Result Y Unavailable) {Right : Hall → Y → Type 0} → old.stopped ≡ false
       → (HasCleanDisk (state g mid) → HasCleanDisk (state g old.conn)) → (HasCleanDisk (state g mid) → IsTableRead (state g old.conn) (state g mid) r Right)
       → (HasCleanDisk (state g new.conn) → HasCleanDisk (state g mid)) → (HasCleanDisk (state g new.conn) → Passes g (record old { conn = mid }) new r out) → LeavesCommitted (state g new.conn)
-      → Reads (λ s. HasCleanDisk (state g s.conn)) (HasHall g) (StopLeaves g) old new out Right
+      → ReadsBy (λ s. HasCleanDisk (state g s.conn)) (HasHall g) (StopLeaves g) old new out Right
   asks mid (Ok y) out up was_clean read mid_clean passed settled clean =
       let it = passed clean in
       let a = read (mid_clean clean) in (
@@ -65,7 +60,7 @@ module _ {S : Type 0} (g : trees.Ghosts S) where
 
   -- a read of the machine that expires next
   abbrev FindsNext : SqlStore S → SqlStore S → Result (Option Machine) Unavailable → ℕ → Type 0
-  FindsNext old new out moment = Reads (λ s. HasCleanDisk (state g s.conn)) (HasHall g) (StopLeaves g) old new out (λ h answer. answer ≡ next_expired h moment)
+  FindsNext old new out moment = ReadsBy (λ s. HasCleanDisk (state g s.conn)) (HasHall g) (StopLeaves g) old new out (λ h answer. answer ≡ next_expired h moment)
 
   -- before the moment that the store keeps none expires
   pub none_known : (s : SqlStore S) (seconds moment : ℕ) → seconds ≡ moment → s.stopped ≡ false → LeavesCommitted (state g s.conn) → seconds < s.earliest → FindsNext s s (Ok None) moment

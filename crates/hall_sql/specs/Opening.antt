@@ -1,10 +1,8 @@
 -- What making a store over a connection answers, and what it hands back.
 use Rattle.sql_schema.specs.Words.{Held}
 use Rattle.std.specs.Prelude.{Result, Ok, Err}
-use Rattle.hall_sql.specs.Store.{connection}
+use Rattle.hall_sql.specs.{Store.connection, declared.{opening.Refused.Refused, store.SqlStore.SqlStore}}
 use Rattle.sql_tables.specs.declared.migrating.Migrated.{Migrated}
-use Rattle.hall_sql.specs.declared.opening.Refused.{Refused}
-use Rattle.hall_sql.specs.declared.store.SqlStore.{SqlStore}
 
 -- the connection, in the store or beside the fault
 abbrev pub connection_of : {S F : Type 0} → Result (SqlStore S) (Refused S F) → Held S

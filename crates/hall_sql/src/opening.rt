@@ -1,11 +1,8 @@
 //! A connection becomes a store: of a new hall, or of the hall that the file has, which is carried over if it's of the first schema.
 ghost use Rattle.sql_schema.specs.Words.{state, HasCleanDisk, Survives, Hall, new_hall, second, Holds, IsHeld, SpellHall};
 ghost use Rattle.std.specs.Prelude.{◌≡◌, ◌≢◌, ◌↔◌, ◌⊎◌, IsTrue, IfOk, IfErr, Ok, Err, [], ◌∷◌};
-ghost use Rattle.sql_tables.specs.Creating.{KeepsTables, MayLeaveBesides, is_a_name_taken};
-ghost use Rattle.sql_tables.specs.Migrating.{BecomeHall, IsRightMigration};
-ghost use Rattle.sql_tables.specs.Opening.{IsRightAnswer, NamesNoSchema};
-ghost use Rattle.hall_sql.specs.Opening.{connection_after, connection_of, migration_of, outcome};
-ghost use Rattle.hall_sql.specs.Store.{connection};
+ghost use Rattle.sql_tables.specs.{Creating.{KeepsTables, MayLeaveBesides, is_a_name_taken}, Migrating.{BecomeHall, IsRightMigration}, Opening.{IsRightAnswer, NamesNoSchema}};
+ghost use Rattle.hall_sql.specs.{Opening.{connection_after, connection_of, migration_of, outcome}, Store.connection};
 
 use crate::store::SqlStore;
 use hall_store::HallStore;

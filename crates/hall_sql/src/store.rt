@@ -72,8 +72,7 @@ impl<S: Alter> SqlStore<S> {
 
 impl<S: Alter> HallStore for SqlStore<S> {
     ghost use Rattle.std.proofs.Common.{inr};
-    ghost use Rattle.sqlite.specs.Held.{state};
-    ghost use Rattle.sqlite.specs.State.{HasCleanDisk};
+    ghost use Rattle.sqlite.specs.{Held.state, State.HasCleanDisk};
     ghost use Rattle.hall_sql.specs.Store.{HasHall, StopLeaves};
 
     ghost is_clean = { λ s. HasCleanDisk (state S.Store s.conn) };

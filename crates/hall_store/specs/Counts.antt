@@ -1,16 +1,6 @@
 -- How many machines each pool has in each status.
-use Rattle.std.specs.Prelude.{◌≡◌, ◌≤◌, ℕ, ◌==◌, ◌&&◌, Bool, List, [], ◌∷◌, if◌then◌else◌}
-use Rattle.std.specs.List.{AllByRecursion}
-use Rattle.std.specs.List.Sorted.{IsStrictlySortedBy}
-use Rattle.std.specs.Str.{bytes_eq}
-use Rattle.std.specs.Cmp.Lexicographic.{slice_cmp}
-use Rattle.std.specs.Ordering.{nat_cmp, ordering_then}
-use Rattle.std.specs.declared.cmp.Ordering.{Ordering}
-use Rattle.hall_types.specs.Hall.{Hall}
-use Rattle.hall_types.specs.Rows.{how_many}
-use Rattle.hall_types.specs.Status.{status_number}
-use Rattle.hall_types.specs.declared.machine.Machine.{Machine}
-use Rattle.hall_types.specs.declared.status.Status.{Status}
+use Rattle.std.specs.{Prelude.{◌≡◌, ◌≤◌, ℕ, ◌==◌, ◌&&◌, Bool, List, [], ◌∷◌, if◌then◌else◌}, List.{AllByRecursion, Sorted.IsStrictlySortedBy}, Str.bytes_eq, Cmp.Lexicographic.slice_cmp, Ordering.{nat_cmp, ordering_then}, declared.cmp.Ordering.Ordering}
+use Rattle.hall_types.specs.{Hall.Hall, Rows.how_many, Status.status_number, declared.{machine.Machine.Machine, status.Status.Status}}
 use Rattle.hall_store.specs.declared.count.Count.{Count}
 
 -- the machine is in this pool and this status

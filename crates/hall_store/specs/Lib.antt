@@ -1,7 +1,10 @@
-pub mod Composed
 pub mod Counts
 pub mod Probe
 pub mod Rules
+pub mod Reading
 pub mod Store
 pub mod StoreLaws
 pub mod Versions
+pub mod Known
+pub mod Lists
+pub mod Cached

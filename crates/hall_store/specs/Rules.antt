@@ -1,17 +1,6 @@
 -- The tables' rules: when a row may be written.
 use Rattle.std.specs.Prelude.{◌≡◌, ℕ, false, ⊤, List, [], ◌∷◌, Some, None}
-use Rattle.hall_types.specs.Hall.{Hall, pair, written}
-use Rattle.hall_types.specs.Lookup.{HasRow, HasRowIf, is_image_used}
-use Rattle.hall_types.specs.Rows.{Keys, Rows, at}
-use Rattle.hall_types.specs.declared.boot.Boot.{Boot}
-use Rattle.hall_types.specs.declared.change.RowWrite.{RowWrite}
-use Rattle.hall_types.specs.declared.change.RowWrite.TheVariants.{PutOperator, PutPool, PutMember, PutImage, ImageGone, PutLive, PutMachine, MachineGone, PutInterface, InterfaceGone, PutBoot, PutOrder, PutReceipt, PutNumbers}
-use Rattle.hall_types.specs.declared.machine.Interface.{Interface}
-use Rattle.hall_types.specs.declared.machine.Machine.{Machine}
-use Rattle.hall_types.specs.declared.operator.Member.{Member}
-use Rattle.hall_types.specs.declared.operator.Operator.{Operator}
-use Rattle.hall_types.specs.declared.order.Order.{Order}
-use Rattle.hall_types.specs.declared.receipt.Receipt.{Receipt}
+use Rattle.hall_types.specs.{Hall.{Hall, pair, written}, Lookup.{HasRow, HasRowIf, is_image_used}, Rows.{Keys, Rows, at}, declared.{boot.Boot.Boot, change.RowWrite.{RowWrite, TheVariants.{PutOperator, PutPool, PutMember, PutImage, ImageGone, PutLive, PutMachine, MachineGone, PutInterface, InterfaceGone, PutBoot, PutOrder, PutReceipt, PutNumbers}}, machine.{Interface.Interface, Machine.Machine}, operator.{Member.Member, Operator.Operator}, order.Order.Order, receipt.Receipt.Receipt}}
 
 -- no row has this key
 abbrev pub IsFree : {K X : Type 0} {keys : Keys K} → Rows keys X → K → Type 0

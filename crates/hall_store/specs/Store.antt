@@ -1,9 +1,7 @@
 -- What a read and a write of a store promise, over any store.
 use Rattle.std.specs.Prelude.{List, [], ◌∷◌, Result, IfOk, OnOk, OnErr}
-use Rattle.hall_types.specs.Hall.{Hall, applied}
-use Rattle.hall_types.specs.declared.change.RowWrite.{RowWrite}
-use Rattle.hall_store.specs.Rules.{AllKeep}
-use Rattle.hall_store.specs.Versions.{HaveVersions}
+use Rattle.hall_types.specs.{Hall.{Hall, applied}, declared.change.RowWrite.RowWrite}
+use Rattle.hall_store.specs.{Rules.AllKeep, Versions.HaveVersions}
 
 -- `holds` says which hall a store has, and `leaves` that a stop leaves one of these halls
 module _ {S : Type 0} (holds : S → Hall → Type 0) (leaves : S → List Hall → Type 0) (old new : S) {Y E : Type 0} (r : Result Y E) where
@@ -32,8 +30,8 @@ module _ {S : Type 0} (holds : S → Hall → Type 0) (leaves : S → List Hall 
 
 -- Where a store took no wrong answer of a disk for a right one (`clean`), it took none before, and it was read or written so.
 module _ {S : Type 0} (clean : S → Type 0) (holds : S → Hall → Type 0) (leaves : S → List Hall → Type 0) (old new : S) {Y E : Type 0} (r : Result Y E) where
-  abbrev pub Reads : (Hall → Y → Type 0) → Type 0
-  Reads Right = clean new → clean old × IsRead holds leaves old new r Right
+  abbrev pub ReadsBy : (Hall → Y → Type 0) → Type 0
+  ReadsBy Right = clean new → clean old × IsRead holds leaves old new r Right
 
-  abbrev pub Writes : (Hall → List RowWrite) → Type 0
-  Writes rows = clean new → clean old × IsWrite holds leaves old new r rows
+  abbrev pub WritesBy : (Hall → List RowWrite) → Type 0
+  WritesBy rows = clean new → clean old × IsWrite holds leaves old new r rows

@@ -1,11 +1,7 @@
 -- Calls of a store in turn: what reads and a write promise together.
-use Rattle.std.specs.Prelude.{◌≡◌, List, [], ◌∷◌, Result, Ok, Err}
-use Rattle.std.proofs.Common.{sym, subst}
-use Rattle.hall_types.specs.Hall.{Hall, applied}
-use Rattle.hall_types.specs.declared.change.RowWrite.{RowWrite}
-use Rattle.hall_store.specs.Rules.{AllKeep}
-use Rattle.hall_store.specs.Versions.{HaveVersions}
-use Rattle.hall_store.specs.Store.{IsRead, IsWrite}
+use Rattle.std.{specs.Prelude.{◌≡◌, List, [], ◌∷◌, Result, Ok, Err}, proofs.Common.{sym, subst}}
+use Rattle.hall_types.specs.{Hall.{Hall, applied}, declared.change.RowWrite.RowWrite}
+use Rattle.hall_store.specs.{Rules.AllKeep, Versions.HaveVersions, Store.{IsRead, IsWrite}}
 
 module _ {S : Type 0} (holds : S → Hall → Type 0) (leaves : S → List Hall → Type 0) where
   -- ---- reads

@@ -1,9 +1,6 @@
 -- The versions that row writes expect.
 use Rattle.std.specs.Prelude.{◌≡◌, ℕ, ⊤, List, [], ◌∷◌, Option, option_map}
-use Rattle.hall_types.specs.Hall.{Hall, written}
-use Rattle.hall_types.specs.Rows.{at}
-use Rattle.hall_types.specs.declared.change.RowWrite.{RowWrite}
-use Rattle.hall_types.specs.declared.change.RowWrite.TheVariants.{PutOperator, PutPool, PutMember, PutImage, ImageGone, PutLive, PutMachine, MachineGone, PutInterface, InterfaceGone, PutBoot, PutOrder, PutReceipt, PutNumbers}
+use Rattle.hall_types.specs.{Hall.{Hall, written}, Rows.at, declared.change.RowWrite.{RowWrite, TheVariants.{PutOperator, PutPool, PutMember, PutImage, ImageGone, PutLive, PutMachine, MachineGone, PutInterface, InterfaceGone, PutBoot, PutOrder, PutReceipt, PutNumbers}}}
 
 -- the version of the machine with a number, none if there is no such machine
 abbrev pub version_of : Hall → ℕ → Option ℕ

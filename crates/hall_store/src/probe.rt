@@ -78,14 +78,17 @@ impl<S> Probe<S> {
         self.store
     }
 
-    // Counts a call, and says whether it is to fail.
-    fn is_failing(&mut self, call: Call) -> bool
+    // Counts a call, which may be the one that is to fail.
+    fn ask(&mut self, call: Call) -> Result<(), Unavailable>
         ensures { inner self.new ≡ inner self.old }
     {
         let place = call as usize;
         self.calls_of[place] = self.calls_of[place].saturating_add(1);
         self.calls = self.calls.saturating_add(1);
-        self.fails_at == Some(self.calls)
+        if self.fails_at == Some(self.calls) {
+            return Err(Unavailable);
+        }
+        Ok(())
     }
 }
 
@@ -101,86 +104,62 @@ impl<S: HallStore> HallStore for Probe<S> {
     ghost second_schema = { λ probe h held. S.second_schema (inner probe) h held };
 
     fn by_mac(&mut self, mac: MacAddress) -> Result<Option<Number>, Unavailable> {
-        if self.is_failing(Call::ByMac) {
-            return Err(Unavailable);
-        }
+        self.ask(Call::ByMac)?;
         self.store.by_mac(mac)
     }
 
     fn by_uuid(&mut self, uuid: MachineUuid) -> Result<Option<Number>, Unavailable> {
-        if self.is_failing(Call::ByUuid) {
-            return Err(Unavailable);
-        }
+        self.ask(Call::ByUuid)?;
         self.store.by_uuid(uuid)
     }
 
     fn machine(&mut self, id: Number) -> Result<Option<Machine>, Unavailable> {
-        if self.is_failing(Call::Machine) {
-            return Err(Unavailable);
-        }
+        self.ask(Call::Machine)?;
         self.store.machine(id)
     }
 
     fn boot(&mut self, number: Number) -> Result<Option<Boot>, Unavailable> {
-        if self.is_failing(Call::Boot) {
-            return Err(Unavailable);
-        }
+        self.ask(Call::Boot)?;
         self.store.boot(number)
     }
 
     fn order(&mut self, number: Number) -> Result<Option<Order>, Unavailable> {
-        if self.is_failing(Call::Order) {
-            return Err(Unavailable);
-        }
+        self.ask(Call::Order)?;
         self.store.order(number)
     }
 
     fn operator(&mut self, name: &Name) -> Result<Option<Operator>, Unavailable> {
-        if self.is_failing(Call::Operator) {
-            return Err(Unavailable);
-        }
+        self.ask(Call::Operator)?;
         self.store.operator(name)
     }
 
     fn operator_by_digest(&mut self, digest: &Digest) -> Result<Option<Operator>, Unavailable> {
-        if self.is_failing(Call::OperatorByDigest) {
-            return Err(Unavailable);
-        }
+        self.ask(Call::OperatorByDigest)?;
         self.store.operator_by_digest(digest)
     }
 
     fn pool(&mut self, name: &Name) -> Result<Option<Pool>, Unavailable> {
-        if self.is_failing(Call::Pool) {
-            return Err(Unavailable);
-        }
+        self.ask(Call::Pool)?;
         self.store.pool(name)
     }
 
     fn member(&mut self, pool: &Name, operator: &Name) -> Result<Option<Member>, Unavailable> {
-        if self.is_failing(Call::Member) {
-            return Err(Unavailable);
-        }
+        self.ask(Call::Member)?;
         self.store.member(pool, operator)
     }
 
     fn image(&mut self, alloc: Global, name: &Name) -> Result<Option<Image>, Unavailable> {
-        if self.is_failing(Call::Image) {
-            return Err(Unavailable);
-        }
+        self.ask(Call::Image)?;
         self.store.image(alloc, name)
     }
 
     fn image_used(&mut self, name: &Name) -> Result<bool, Unavailable> {
-        if self.is_failing(Call::ImageUsed) {
-            return Err(Unavailable);
-        }
+        self.ask(Call::ImageUsed)?;
         self.store.image_used(name)
     }
 
     fn live(&mut self, arch: Arch) -> Result<Option<Live>, Unavailable> {
-        if self.is_failing(Call::Live) {
-            return Err(Unavailable);
-        }
+        self.ask(Call::Live)?;
         self.store.live(arch)
     }
 
@@ -190,72 +169,52 @@ impl<S: HallStore> HallStore for Probe<S> {
         operator: &Name,
         key: RequestKey,
     ) -> Result<Option<Receipt>, Unavailable> {
-        if self.is_failing(Call::Receipt) {
-            return Err(Unavailable);
-        }
+        self.ask(Call::Receipt)?;
         self.store.receipt(alloc, operator, key)
     }
 
     fn numbers(&mut self) -> Result<Numbers, Unavailable> {
-        if self.is_failing(Call::Numbers) {
-            return Err(Unavailable);
-        }
+        self.ask(Call::Numbers)?;
         self.store.numbers()
     }
 
     fn next_expired(&mut self, moment: Moment) -> Result<Option<Machine>, Unavailable> {
-        if self.is_failing(Call::NextExpired) {
-            return Err(Unavailable);
-        }
+        self.ask(Call::NextExpired)?;
         self.store.next_expired(moment)
     }
 
     fn machine_count(&mut self) -> Result<u64, Unavailable> {
-        if self.is_failing(Call::MachineCount) {
-            return Err(Unavailable);
-        }
+        self.ask(Call::MachineCount)?;
         self.store.machine_count()
     }
 
     fn interfaces_of(&mut self, alloc: Global, id: Number) -> Result<Vec<Interface>, Unavailable> {
-        if self.is_failing(Call::InterfacesOf) {
-            return Err(Unavailable);
-        }
+        self.ask(Call::InterfacesOf)?;
         self.store.interfaces_of(alloc, id)
     }
 
     fn interfaces(&mut self, alloc: Global) -> Result<Vec<Interface>, Unavailable> {
-        if self.is_failing(Call::Interfaces) {
-            return Err(Unavailable);
-        }
+        self.ask(Call::Interfaces)?;
         self.store.interfaces(alloc)
     }
 
     fn machines(&mut self, alloc: Global) -> Result<Vec<Machine>, Unavailable> {
-        if self.is_failing(Call::Machines) {
-            return Err(Unavailable);
-        }
+        self.ask(Call::Machines)?;
         self.store.machines(alloc)
     }
 
     fn waiting_orders(&mut self, alloc: Global) -> Result<Vec<Order>, Unavailable> {
-        if self.is_failing(Call::WaitingOrders) {
-            return Err(Unavailable);
-        }
+        self.ask(Call::WaitingOrders)?;
         self.store.waiting_orders(alloc)
     }
 
     fn counts(&mut self, alloc: Global) -> Result<Vec<Count>, Unavailable> {
-        if self.is_failing(Call::Counts) {
-            return Err(Unavailable);
-        }
+        self.ask(Call::Counts)?;
         self.store.counts(alloc)
     }
 
     fn apply(&mut self, change: &Change) -> Result<(), Unavailable> {
-        if self.is_failing(Call::Apply) {
-            return Err(Unavailable);
-        }
+        self.ask(Call::Apply)?;
         self.store.apply(change)
     }
 }

@@ -1,9 +1,6 @@
 -- What changes make of a hall.
-use Rattle.std.proofs.Common.{◌≡◌, ◌≢◌, ◌↔◌, ℕ, not, Some, ap}
-use Rattle.std.specs.Prelude.{◌==◌}
-use Rattle.std.proofs.lemmas.Bool.{both_ways, ne_eqb, eq-eqb}
-use Rattle.hall_types.specs.Rows.{Keys, Rows, at, rows_where}
-use Rattle.hall_types.specs.RowLaws.{where_found, where_kept}
+use Rattle.std.{proofs.{Common.{◌≡◌, ◌≢◌, ◌↔◌, ℕ, not, Some, ap}, lemmas.Bool.{both_ways, ne_eqb, eq-eqb}}, specs.Prelude.◌==◌}
+use Rattle.hall_types.specs.{Rows.{Keys, Rows, at, rows_where}, RowLaws.{where_found, where_kept}}
 
 -- the rows that aren't of one machine
 pub others : {K X : Type 0} {keys : Keys K} (machine : X → ℕ) (id : ℕ) (rows : Rows keys X) (key : K) (x : X) →

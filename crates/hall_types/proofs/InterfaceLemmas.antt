@@ -1,11 +1,5 @@
 -- Interfaces sorted by machine: those of one machine stand together.
-use Rattle.std.proofs.Common.{◌≡◌, ◌<◌, ◌+◌, ℕ, suc, Bool, true, false, List, [], ◌∷◌, ◌++◌, length, get_or, refl, sym, ap, subst, ◌∙◌, arith}
-use Rattle.std.specs.Prelude.{filter, take, drop, cond, leb, ltb, not, Result, Ok, Err, OnOk, ◌==◌, ◌&&◌}
-use Rattle.std.specs.Ordering.{is_lt, nat_cmp}
-use Rattle.std.specs.List.Sorted.{IsPartitionPoint, IsStableByKey, ties}
-use Rattle.std.proofs.lemmas.Bool.Decides.{nat_tests}
-use Rattle.std.proofs.lemmas.List.{take-append-drop, append-nil, get_or-take, get_or-drop, length-take, length-drop}
-use Rattle.std.proofs.lemmas.List.Elements.{filter-append}
+use Rattle.std.{proofs.{Common.{◌≡◌, ◌<◌, ◌+◌, ℕ, suc, Bool, true, false, List, [], ◌∷◌, ◌++◌, length, get_or, refl, sym, ap, subst, ◌∙◌, arith}, lemmas.{Bool.Decides.nat_tests, List.{take-append-drop, append-nil, get_or-take, get_or-drop, length-take, length-drop, Elements.filter-append}}}, specs.{Prelude.{filter, take, drop, cond, leb, ltb, not, Result, Ok, Err, OnOk, ◌==◌, ◌&&◌}, Ordering.{is_lt, nat_cmp}, List.Sorted.{IsPartitionPoint, IsStableByKey, ties}}}
 
 module _ {X : Type 0} (p : X → Bool) where
   pub filter_none : (xs : List X) → ((k : ℕ) (d : X) → k < length xs → p (get_or xs k d) ≡ false) → filter p xs ≡ []

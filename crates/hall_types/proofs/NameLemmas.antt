@@ -1,15 +1,5 @@
 -- A name is found in its octets, which are ASCII.
-use Rattle.std.proofs.Common.{◌≡◌, ◌≢◌, ℕ, zero, suc, ◌-◌, ◌≤◌, ◌<◌, ◌&&◌, true, List, [], ◌∷◌, ◌++◌, length, replicate, get_or, All, refl, sym, ap, subst, ◌∙◌, arith, append-nil, length-append}
-use Rattle.std.specs.Prelude.{◌==◌, IsAscii, IsUtf8}
-use Rattle.std.specs.List.{list_all}
-use Rattle.std.specs.Char.{is_ascii_lowercase}
-use Rattle.std.proofs.lemmas.Bool.{ne_eqb, and_parts}
-use Rattle.std.proofs.lemmas.Bool.Decides.{nat_tests}
-use Rattle.std.proofs.lemmas.List.{take_at, take_all, get_or_append_left}
-use Rattle.std.proofs.lemmas.List.Elements.{All-nil, All-cons, All-head, All-tail, All-append}
-use Rattle.std.proofs.lemmas.Str.{IsUtf8-from_ascii}
-use Rattle.std.proofs.lemmas.List.Sums.{position_or_len_is}
-use Rattle.std.proofs.Math.Seq.{get_or-append_seam}
+use Rattle.std.{proofs.{Common.{◌≡◌, ◌≢◌, ℕ, zero, suc, ◌-◌, ◌≤◌, ◌<◌, ◌&&◌, true, List, [], ◌∷◌, ◌++◌, length, replicate, get_or, All, refl, sym, ap, subst, ◌∙◌, arith, append-nil, length-append}, lemmas.{Bool.{ne_eqb, and_parts, Decides.nat_tests}, List.{take_at, take_all, get_or_append_left, Elements.{All-nil, All-cons, All-head, All-tail, All-append}, Sums.position_or_len_is}, Str.IsUtf8-from_ascii}, Math.Seq.get_or-append_seam}, specs.{Prelude.{◌==◌, IsAscii, IsUtf8}, List.list_all, Char.is_ascii_lowercase}}
 use Rattle.hall_types.specs.Name.{is_name_octet, is_name, IsName, filled, name_in}
 
 -- an octet of a name is ASCII and not zero

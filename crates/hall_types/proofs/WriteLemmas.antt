@@ -1,16 +1,6 @@
 -- What row writes change and leave.
-use Rattle.std.proofs.Common.{◌≡◌, ◌≢◌, ℕ, Bool, true, not, List, Some, refl, sym, ap, ◌∙◌, inl, inr, ◌⊎◌}
-use Rattle.std.specs.Prelude.{◌==◌}
-use Rattle.hall_types.specs.Kinds.{arch_number}
-use Rattle.hall_types.specs.Rows.{Keys, Rows, at, put, gone, no_rows, rows_where}
-use Rattle.hall_types.specs.RowLaws.{at-put-same, at-put-other, at-gone-same, at-gone-other, at-no_rows, put_cases, gone_found, where_found}
-use Rattle.hall_types.specs.Hall.{Schema, Hall, written, new_hall, default_pool, pair}
-use Rattle.hall_types.specs.Image.{BootImage}
-use Rattle.hall_types.specs.declared.kinds.Role.TheVariants.{Admin}
-use Rattle.hall_types.specs.Keyed.{StandUnder, IsKeyed}
-use Rattle.hall_types.specs.Tables.{ChangesOnly, tables_of, IsPut, IsGone, IsSole, HasNone}
-use Rattle.hall_types.specs.declared.change.RowWrite.{RowWrite}
-use Rattle.hall_types.specs.declared.change.RowWrite.TheVariants.{PutOperator, PutPool, PutMember, PutImage, ImageGone, PutLive, PutMachine, MachineGone, PutInterface, InterfaceGone, PutBoot, PutOrder, PutReceipt, PutNumbers}
+use Rattle.std.{proofs.Common.{◌≡◌, ◌≢◌, ℕ, Bool, true, not, List, Some, refl, sym, ap, ◌∙◌, inl, inr, ◌⊎◌}, specs.Prelude.◌==◌}
+use Rattle.hall_types.specs.{Kinds.arch_number, Rows.{Keys, Rows, at, put, gone, no_rows, rows_where}, RowLaws.{at-put-same, at-put-other, at-gone-same, at-gone-other, at-no_rows, put_cases, gone_found, where_found}, Hall.{Schema, Hall, written, new_hall, default_pool, pair}, Image.BootImage, declared.{kinds.Role.TheVariants.Admin, change.RowWrite.{RowWrite, TheVariants.{PutOperator, PutPool, PutMember, PutImage, ImageGone, PutLive, PutMachine, MachineGone, PutInterface, InterfaceGone, PutBoot, PutOrder, PutReceipt, PutNumbers}}}, Keyed.{StandUnder, IsKeyed}, Tables.{ChangesOnly, tables_of, IsPut, IsGone, IsSole, HasNone}}
 
 pub changes_only : (w : RowWrite) (h : Hall) → ChangesOnly (tables_of w) h (written w h)
 changes_only (PutOperator o) h = record { schema = refl; operators = λ e. cc; pools = λ e. refl; members = λ e. refl; images = λ e. refl; lives = λ e. refl; machines = λ e. refl; interfaces = λ e. refl; boots = λ e. refl; orders = λ e. refl; receipts = λ e. refl; last = λ e. refl }

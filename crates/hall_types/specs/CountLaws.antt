@@ -1,10 +1,7 @@
 -- Rows one by one: induction over them, how counts move, and what a list of them holds.
-use Rattle.std.specs.Prelude.{◌≡◌, ◌≢◌, ℕ, zero, suc, ◌+◌, is_some, not, List, [], ◌∷◌, Option, Some, None, Bool, true, false, if◌then◌else◌, length}
+use Rattle.std.{specs.{Prelude.{◌≡◌, ◌≢◌, ℕ, zero, suc, ◌+◌, is_some, not, List, [], ◌∷◌, Option, Some, None, Bool, true, false, if◌then◌else◌, length}, FinMap.{get-entries, len-entries, len-empty, empty_of_len}}, proofs.Common.{refl, arith, ◌∙◌, ap, sym, subst}}
 use Rattle.std.specs.FinMap as map
-use Rattle.std.specs.FinMap.{get-entries, len-entries, len-empty, empty_of_len}
-use Rattle.std.proofs.Common.{refl, arith, ◌∙◌, ap, sym, subst}
-use Rattle.hall_types.specs.Rows.{Keys, Rows, passes, at, put, gone, no_rows, rows_where, same_key, one_if, size, how_many}
-use Rattle.hall_types.specs.RowLaws.{key-same, same-key, at-put, at-gone, at-gone-same, at-no_rows, at-rows_where, same_rows, size-gone, rows_where-put, how_many-put, how_many-gone}
+use Rattle.hall_types.specs.{Rows.{Keys, Rows, passes, at, put, gone, no_rows, rows_where, same_key, one_if, size, how_many}, RowLaws.{key-same, same-key, at-put, at-gone, at-gone-same, at-no_rows, at-rows_where, same_rows, size-gone, rows_where-put, how_many-put, how_many-gone}}
 
 not_suc : (n : ℕ) → suc n ≢ 0
 not_suc n e = absurd (omega arith)

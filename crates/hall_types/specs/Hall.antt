@@ -1,21 +1,6 @@
 -- A hall: what the desk knows.
 use Rattle.std.specs.Prelude.{ℕ, ◌==◌, not, List, [], ◌∷◌, true, codes}
-use Rattle.hall_types.specs.Kinds.{arch_number}
-use Rattle.hall_types.specs.Rows.{Rows, numbers, texts, pairs, put, gone, no_rows, rows_where}
-use Rattle.hall_types.specs.Image.{BootImage}
-use Rattle.hall_types.specs.declared.kinds.Role.TheVariants.{Admin}
-use Rattle.hall_types.specs.declared.operator.Operator.{Operator}
-use Rattle.hall_types.specs.declared.operator.Pool.{Pool}
-use Rattle.hall_types.specs.declared.operator.Member.{Member}
-use Rattle.hall_types.specs.declared.image.Live.{Live}
-use Rattle.hall_types.specs.declared.machine.Machine.{Machine}
-use Rattle.hall_types.specs.declared.machine.Interface.{Interface}
-use Rattle.hall_types.specs.declared.boot.Boot.{Boot}
-use Rattle.hall_types.specs.declared.order.Order.{Order}
-use Rattle.hall_types.specs.declared.receipt.Receipt.{Receipt}
-use Rattle.hall_types.specs.declared.number.Numbers.{Numbers}
-use Rattle.hall_types.specs.declared.change.RowWrite.{RowWrite}
-use Rattle.hall_types.specs.declared.change.RowWrite.TheVariants.{PutOperator, PutPool, PutMember, PutImage, ImageGone, PutLive, PutMachine, MachineGone, PutInterface, InterfaceGone, PutBoot, PutOrder, PutReceipt, PutNumbers}
+use Rattle.hall_types.specs.{Kinds.arch_number, Rows.{Rows, numbers, texts, pairs, put, gone, no_rows, rows_where}, Image.BootImage, declared.{kinds.Role.TheVariants.Admin, operator.{Operator.Operator, Pool.Pool, Member.Member}, image.Live.Live, machine.{Machine.Machine, Interface.Interface}, boot.Boot.Boot, order.Order.Order, receipt.Receipt.Receipt, number.Numbers.Numbers, change.RowWrite.{RowWrite, TheVariants.{PutOperator, PutPool, PutMember, PutImage, ImageGone, PutLive, PutMachine, MachineGone, PutInterface, InterfaceGone, PutBoot, PutOrder, PutReceipt, PutNumbers}}}}
 
 -- Which tables a hall is kept in. The first schema knows one kind of erasing alone, and doesn't keep it.
 pub data Schema : Type 0 where

@@ -1,6 +1,5 @@
 -- Boot images, and which arguments of a kernel they may have.
-use Rattle.std.specs.Prelude.{◌≡◌, ◌≤◌, ℕ, Bool, false, List, length, All}
-use Rattle.std.specs.List.{list_any}
+use Rattle.std.specs.{Prelude.{◌≡◌, ◌≤◌, ℕ, Bool, false, List, length, All}, List.list_any}
 use Rattle.ipxe_script.specs.Word.{IsUri, IsWord, is_hall_word}
 use Rattle.pxe_vendor.specs.declared.arch.Arch.{Arch}
 

@@ -1,9 +1,6 @@
 -- Every row of a hall stands under its own key.
 use Rattle.std.specs.Prelude.{◌≡◌, Some}
-use Rattle.hall_types.specs.Kinds.{arch_number}
-use Rattle.hall_types.specs.Rows.{Keys, Rows, at}
-use Rattle.hall_types.specs.Hall.{Hall, pair}
-use Rattle.hall_types.specs.Image.{BootImage}
+use Rattle.hall_types.specs.{Kinds.arch_number, Rows.{Keys, Rows, at}, Hall.{Hall, pair}, Image.BootImage}
 
 -- each of these rows stands under its own key
 abbrev pub StandUnder : {K X : Type 0} {keys : Keys K} → (X → K) → Rows keys X → Type 0

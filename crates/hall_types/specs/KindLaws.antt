@@ -1,32 +1,8 @@
 -- Words and numbers are those of one kind each.
-use Rattle.std.specs.Prelude.{◌≡◌, ◌↔◌, ◌==◌, ℕ, Bool, true, false, List, [], ◌∷◌, Some, if◌then◌else◌, find}
-use Rattle.std.specs.Str.{bytes_eq}
-use Rattle.std.proofs.Common.{refl, sym, ap, ◌∙◌}
-use Rattle.std.proofs.lemmas.Bool.{eqb-true}
-use Rattle.std.proofs.lemmas.Slice.Eq.{bytes_eq-Decides}
-use Rattle.pxe_vendor.specs.declared.arch.Arch.{Arch}
-use Rattle.pxe_vendor.specs.declared.arch.Arch.TheVariants.{Bios}
-use Rattle.hall_types.specs.declared.kinds.Role.{Role}
-use Rattle.hall_types.specs.declared.kinds.Role.TheVariants.{Admin}
-use Rattle.hall_types.specs.declared.kinds.Purpose.{Purpose}
-use Rattle.hall_types.specs.declared.kinds.Purpose.TheVariants.{Commission}
-use Rattle.hall_types.specs.declared.kinds.Stage.{Stage}
-use Rattle.hall_types.specs.declared.kinds.Stage.TheVariants.{Offered}
-use Rattle.hall_types.specs.declared.kinds.OrderKind.{OrderKind}
-use Rattle.hall_types.specs.declared.kinds.OrderKind.TheVariants.{Cycle}
-use Rattle.hall_types.specs.declared.kinds.OrderStage.{OrderStage}
-use Rattle.hall_types.specs.declared.kinds.OrderStage.TheVariants.{Waiting}
-use Rattle.hall_types.specs.declared.kinds.Erase.{Erase}
-use Rattle.hall_types.specs.declared.kinds.Erase.TheVariants.{Quick}
-use Rattle.hall_types.specs.declared.kinds.Progress.{Progress}
-use Rattle.hall_types.specs.declared.kinds.Progress.TheVariants.{Started}
-use Rattle.hall_types.specs.declared.kinds.Outcome.{Outcome}
-use Rattle.hall_types.specs.declared.kinds.Outcome.TheVariants.{Done}
-use Rattle.hall_types.specs.declared.status.Status.{Status}
-use Rattle.hall_types.specs.declared.status.Status.TheVariants.{New}
-use Rattle.hall_types.specs.Kinds.{with_number, arch_number, archs, role_number, roles, purpose_number, purposes, stage_number, stages, order_kind_number, order_kinds, order_stage_number, order_stages, erase_number, erases}
-use Rattle.hall_types.specs.Kinds.{with_text, role_text, role_of_text, erase_text, erase_of_text, progress_text, progress_of_text, progresses, outcome_text, outcome_of_text, outcomes}
-use Rattle.hall_types.specs.Status.{statuses, status_number}
+use Rattle.std.{specs.{Prelude.{◌≡◌, ◌↔◌, ◌==◌, ℕ, Bool, true, false, List, [], ◌∷◌, Some, if◌then◌else◌, find}, Str.bytes_eq}, proofs.{Common.{refl, sym, ap, ◌∙◌}, lemmas.{Bool.eqb-true, Slice.Eq.bytes_eq-Decides}}}
+use Rattle.pxe_vendor.specs.declared.arch.Arch.{Arch, TheVariants.Bios}
+use Rattle.hall_types.specs.{declared.{kinds.{Role.{Role, TheVariants.Admin}, Purpose.{Purpose, TheVariants.Commission}, Stage.{Stage, TheVariants.Offered}, OrderKind.{OrderKind, TheVariants.Cycle}, OrderStage.{OrderStage, TheVariants.Waiting}, Erase.{Erase, TheVariants.Quick}, Progress.{Progress, TheVariants.Started}, Outcome.{Outcome, TheVariants.Done}}, act.Act.Act, status.Status.{Status, TheVariants.New}}, Kinds.{with_number, arch_number, archs, role_number, roles, purpose_number, purposes, stage_number, stages, order_kind_number, order_kinds, order_stage_number, order_stages, erase_number, erases, with_text, role_text, role_of_text, erase_text, erase_of_text, progress_text, progress_of_text, progresses, outcome_text, outcome_of_text, outcomes}, Act.{act_of_text, act_text, acts}, Status.{statuses, status_number}}
+use Rattle.hall_types.specs.declared.act.Act.TheVariants as act
 
 module _ {K : Type 0} where
   found : (p : K → Bool) (kinds : List K) (kind : K) → find p kinds ≡ Some kind → p kind ≡ true
@@ -68,6 +44,14 @@ erase_word k = refl
 
 pub erase_by_text : (text : List ℕ) (k : Erase) → (erase_of_text text ≡ Some k) ↔ (erase_text k ≡ text)
 erase_by_text = exact_text erase_text erases erase_word
+
+act_word : (k : Act) → act_of_text (act_text k) ≡ Some k
+unfolding act_text
+act_word act.Test = refl
+act_word k = refl
+
+pub act_by_text : (text : List ℕ) (k : Act) → (act_of_text text ≡ Some k) ↔ (act_text k ≡ text)
+act_by_text = exact_text act_text acts act_word
 
 progress_word : (k : Progress) → progress_of_text (progress_text k) ≡ Some k
 unfolding progress_text
@@ -149,4 +133,4 @@ status_found k = refl
 pub status_by_number : (number : ℕ) (k : Status) → (with_number status_number number statuses ≡ Some k) ↔ (status_number k ≡ number)
 status_by_number = exact_number status_number statuses status_found
 
-pub ruleset by_text = (role_by_text, erase_by_text, progress_by_text, outcome_by_text)
+pub ruleset by_text = (role_by_text, act_by_text, erase_by_text, progress_by_text, outcome_by_text)

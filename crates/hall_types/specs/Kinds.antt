@@ -1,23 +1,15 @@
 -- The words and numbers of kinds, in texts and in tables.
-use Rattle.std.specs.Prelude.{ℕ, ◌==◌, List, [], ◌∷◌, Option, find, codes}
-use Rattle.std.specs.Str.{bytes_eq}
+use Rattle.std.specs.{Prelude.{ℕ, ◌==◌, List, [], ◌∷◌, Option, find, codes}, Str.bytes_eq}
 use Rattle.pxe_vendor.specs.declared.arch.Arch.{Arch}
 use Rattle.pxe_vendor.specs.declared.arch.Arch.TheVariants as arch
-use Rattle.hall_types.specs.declared.kinds.Role.{Role}
+use Rattle.hall_types.specs.declared.kinds.{Role.Role, Purpose.Purpose, Stage.Stage, OrderKind.OrderKind, OrderStage.OrderStage, Erase.Erase, Progress.Progress, Outcome.Outcome}
 use Rattle.hall_types.specs.declared.kinds.Role.TheVariants as role
-use Rattle.hall_types.specs.declared.kinds.Purpose.{Purpose}
 use Rattle.hall_types.specs.declared.kinds.Purpose.TheVariants as purpose
-use Rattle.hall_types.specs.declared.kinds.Stage.{Stage}
 use Rattle.hall_types.specs.declared.kinds.Stage.TheVariants as stage
-use Rattle.hall_types.specs.declared.kinds.OrderKind.{OrderKind}
 use Rattle.hall_types.specs.declared.kinds.OrderKind.TheVariants as orderkind
-use Rattle.hall_types.specs.declared.kinds.OrderStage.{OrderStage}
 use Rattle.hall_types.specs.declared.kinds.OrderStage.TheVariants as orderstage
-use Rattle.hall_types.specs.declared.kinds.Erase.{Erase}
 use Rattle.hall_types.specs.declared.kinds.Erase.TheVariants as erase
-use Rattle.hall_types.specs.declared.kinds.Progress.{Progress}
 use Rattle.hall_types.specs.declared.kinds.Progress.TheVariants as progress
-use Rattle.hall_types.specs.declared.kinds.Outcome.{Outcome}
 use Rattle.hall_types.specs.declared.kinds.Outcome.TheVariants as outcome
 
 -- the one of these kinds that has this word

@@ -1,3 +1,4 @@
+pub mod Act
 pub mod ChangeLaws
 pub mod CountLaws
 pub mod Hall
@@ -8,6 +9,7 @@ pub mod Lookup
 pub mod LookupLaws
 pub mod KindLaws
 pub mod Kinds
+pub mod Machine
 pub mod Name
 pub mod Number
 pub mod Octets

@@ -1,18 +1,7 @@
 -- What a list of all rows holds: each row once, in the order of the keys.
-use Rattle.std.specs.Prelude.{◌≡◌, zero, suc, List, [], ◌∷◌, Option, Some, None, Bool, true, false, ◌&&◌, if◌then◌else◌, IsTrue, map, length, Contains, filter}
-use Rattle.std.specs.List.{AllByRecursion}
-use Rattle.std.specs.List.Sorted.{IsStrictlySortedBy}
-use Rattle.std.specs.declared.cmp.Ordering.{Ordering}
-use Rattle.std.specs.declared.cmp.Ordering.TheVariants.{Less, Equal, Greater}
-use Rattle.std.specs.Ordering.{is_lt, is_eq, ordering_reverse, eq_by_cmp}
+use Rattle.std.{specs.{Prelude.{◌≡◌, zero, suc, List, [], ◌∷◌, Option, Some, None, Bool, true, false, ◌&&◌, if◌then◌else◌, IsTrue, map, length, Contains, filter}, List.{AllByRecursion, Sorted.IsStrictlySortedBy}, declared.cmp.Ordering.{Ordering, TheVariants.{Less, Equal, Greater}}, Ordering.{is_lt, is_eq, ordering_reverse, eq_by_cmp}, FinMap.{FinMap, find, is_sorted, entries_sorted, get-entries, len-entries, same_map, get-retain_keys, get-from_sorted, entries-from_sorted, Entries.{below_all, where_key, is_sorted-where_key, find-where_key}}}, proofs.{Math.Dec.T, Common.{refl, arith, ◌∙◌, ap, sym}}}
 use Rattle.std.specs.FinMap as map
-use Rattle.std.specs.FinMap.{FinMap, find, is_sorted, entries_sorted, get-entries, len-entries, same_map, get-retain_keys, get-from_sorted, entries-from_sorted}
-use Rattle.std.specs.FinMap.Entries.{below_all, where_key, is_sorted-where_key, find-where_key}
-use Rattle.std.proofs.Math.Dec.{T}
-use Rattle.std.proofs.Common.{refl, arith, ◌∙◌, ap, sym}
-use Rattle.hall_types.specs.Rows.{Keys, Rows, at, listed, same_key, passes, rows_where, size, how_many}
-use Rattle.hall_types.specs.RowLaws.{same-key}
-use Rattle.hall_types.specs.Keyed.{StandUnder}
+use Rattle.hall_types.specs.{Rows.{Keys, Rows, at, listed, same_key, passes, rows_where, size, how_many}, RowLaws.same-key, Keyed.StandUnder}
 
 is_true : (b : Bool) → T b → IsTrue b
 is_true true h = refl

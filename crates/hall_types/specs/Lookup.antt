@@ -1,15 +1,6 @@
 -- Rows of a hall looked up by what is not their key.
-use Rattle.std.specs.Prelude.{ℕ, ◌==◌, nat_lt, nat_le, Bool, true, false, ◌||◌, List, [], ◌∷◌, Option, Some, None, IsSome, ◌≡◌, filter, find, if◌then◌else◌}
-use Rattle.std.specs.List.{list_any}
-use Rattle.std.specs.Str.{bytes_eq}
-use Rattle.hall_types.specs.Rows.{Keys, Rows, at, listed}
-use Rattle.hall_types.specs.Hall.{Hall}
-use Rattle.hall_types.specs.declared.kinds.OrderStage.{OrderStage}
-use Rattle.hall_types.specs.declared.kinds.OrderStage.TheVariants.{Waiting, Done, Failed, Withdrawn}
-use Rattle.hall_types.specs.declared.machine.Interface.{Interface}
-use Rattle.hall_types.specs.declared.machine.Machine.{Machine}
-use Rattle.hall_types.specs.declared.operator.Operator.{Operator}
-use Rattle.hall_types.specs.declared.order.Order.{Order}
+use Rattle.std.specs.{Prelude.{ℕ, ◌==◌, nat_lt, nat_le, Bool, true, false, ◌||◌, List, [], ◌∷◌, Option, Some, None, IsSome, ◌≡◌, filter, find, if◌then◌else◌}, List.list_any, Str.bytes_eq}
+use Rattle.hall_types.specs.{Rows.{Keys, Rows, at, listed}, Hall.Hall, declared.{kinds.OrderStage.{OrderStage, TheVariants.{Waiting, Done, Failed, Withdrawn}}, machine.{Interface.Interface, Machine.Machine}, operator.Operator.Operator, order.Order.Order}}
 
 -- there is a row with this key
 abbrev pub HasRow : {K X : Type 0} {keys : Keys K} → Rows keys X → K → Type 0

@@ -1,19 +1,6 @@
 -- What is found by what is not its key, and which machine expires next.
-use Rattle.std.specs.Prelude.{◌≡◌, ◌≤◌, ◌<◌, ℕ, Bool, true, false, List, [], ◌∷◌, Option, Some, None, map, filter, find, if◌then◌else◌}
-use Rattle.std.specs.List.{AllByRecursion}
-use Rattle.std.specs.List.Sorted.{IsStrictlySortedBy}
-use Rattle.std.specs.Ordering.{nat_cmp}
-use Rattle.std.specs.declared.cmp.Ordering.TheVariants.{Less}
-use Rattle.std.proofs.Common.{refl, arith, ◌∙◌, ap, sym, subst}
-use Rattle.std.proofs.lemmas.Bool.{both_ways}
-use Rattle.std.proofs.lemmas.Bool.Decides.{nat_tests}
-use Rattle.std.proofs.lemmas.List.Elements.{All-contains, All-from_recursion}
-use Rattle.hall_types.specs.Rows.{Keys, numbers, Rows, at, listed}
-use Rattle.hall_types.specs.Hall.{Hall}
-use Rattle.hall_types.specs.Keyed.{StandUnder}
-use Rattle.hall_types.specs.ListLaws.{AllByRecursion-listed, Contains-listed, IsStrictlySortedBy-listed}
-use Rattle.hall_types.specs.Lookup.{is_before, is_due, next_expired, sooner, soonest}
-use Rattle.hall_types.specs.declared.machine.Machine.{Machine}
+use Rattle.std.{specs.{Prelude.{◌≡◌, ◌≤◌, ◌<◌, ℕ, Bool, true, false, List, [], ◌∷◌, Option, Some, None, map, filter, find, if◌then◌else◌}, List.{AllByRecursion, Sorted.IsStrictlySortedBy}, Ordering.nat_cmp, declared.cmp.Ordering.TheVariants.Less}, proofs.{Common.{refl, arith, ◌∙◌, ap, sym, subst}, lemmas.{Bool.{both_ways, Decides.nat_tests}, List.Elements.{All-contains, All-from_recursion}}}}
+use Rattle.hall_types.specs.{Rows.{Keys, numbers, Rows, at, listed}, Hall.Hall, Keyed.StandUnder, ListLaws.{AllByRecursion-listed, Contains-listed, IsStrictlySortedBy-listed}, Lookup.{is_before, is_due, next_expired, sooner, soonest}, declared.machine.Machine.Machine}
 
 -- ---- what is found
 

@@ -1,16 +1,6 @@
 -- What is found where after each change of rows, and how many rows pass.
-use Rattle.std.specs.Prelude.{◌≡◌, ◌≢◌, ℕ, ◌+◌, ◌==◌, is_some, List, Option, Some, None, Bool, true, false, if◌then◌else◌, ◌⊎◌}
-use Rattle.std.specs.declared.cmp.Ordering.{Ordering}
-use Rattle.std.specs.declared.cmp.Ordering.TheVariants.{Less, Equal, Greater}
-use Rattle.std.specs.Ordering.{is_eq}
-use Rattle.std.specs.Cmp.{tied_itself}
-use Rattle.std.specs.Cmp.Lexicographic.{texts_ties}
-use Rattle.std.specs.Str.{bytes_eq}
+use Rattle.std.{specs.{Prelude.{◌≡◌, ◌≢◌, ℕ, ◌+◌, ◌==◌, is_some, List, Option, Some, None, Bool, true, false, if◌then◌else◌, ◌⊎◌}, declared.cmp.Ordering.{Ordering, TheVariants.{Less, Equal, Greater}}, Ordering.is_eq, Cmp.{tied_itself, Lexicographic.texts_ties}, Str.bytes_eq, FinMap.{get-insert, get-remove, get-empty, get-retain_keys, len-insert, len-remove, empty_of_len, same_map}}, proofs.{Common.{refl, arith, inl, inr, ◌∙◌, ap, sym}, lemmas.Bool.{both_ways, Decides.nat_tests}}}
 use Rattle.std.specs.FinMap as map
-use Rattle.std.specs.FinMap.{get-insert, get-remove, get-empty, get-retain_keys, len-insert, len-remove, empty_of_len, same_map}
-use Rattle.std.proofs.Common.{refl, arith, inl, inr, ◌∙◌, ap, sym}
-use Rattle.std.proofs.lemmas.Bool.{both_ways}
-use Rattle.std.proofs.lemmas.Bool.Decides.{nat_tests}
 use Rattle.hall_types.specs.Rows.{Keys, numbers, texts, Rows, passes, at, put, gone, no_rows, rows_where, same_key, one_if, size, how_many}
 
 tied : (o : Ordering) → is_eq o ≡ true → o ≡ Equal

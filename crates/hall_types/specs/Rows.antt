@@ -1,11 +1,6 @@
 -- Rows by their key.
-use Rattle.std.specs.Prelude.{ℕ, List, Option, Some, None, Bool, true, false}
-use Rattle.std.specs.declared.cmp.Ordering.{Ordering}
-use Rattle.std.specs.Ordering.{nat_cmp, eq_by_cmp}
-use Rattle.std.specs.Cmp.{IsTotalOrder, nat_cmp_total}
-use Rattle.std.specs.Cmp.Lexicographic.{slice_cmp, nat_list_cmp_total, lists_total}
+use Rattle.std.specs.{Prelude.{ℕ, List, Option, Some, None, Bool, true, false}, declared.cmp.Ordering.Ordering, Ordering.{nat_cmp, eq_by_cmp}, Cmp.{IsTotalOrder, nat_cmp_total, Lexicographic.{slice_cmp, nat_list_cmp_total, lists_total}}, FinMap.{FinMap, IsAntisymmetric, nat_cmp-IsAntisymmetric, slice_cmp-IsAntisymmetric}}
 use Rattle.std.specs.FinMap as map
-use Rattle.std.specs.FinMap.{FinMap, IsAntisymmetric, nat_cmp-IsAntisymmetric, slice_cmp-IsAntisymmetric}
 
 -- an order of keys, in which the keys that tie are the same
 pub record Keys (K : Type 0) : Type 0 where

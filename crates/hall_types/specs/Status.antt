@@ -1,7 +1,6 @@
 -- Where a machine stands in its life (after the node statuses of MAAS).
-use Rattle.std.specs.Prelude.{ℕ, List, [], ◌∷◌, codes}
-use Rattle.hall_types.specs.declared.status.Status.{Status}
-use Rattle.hall_types.specs.declared.status.Status.TheVariants.{New, Commissioning, FailedCommissioning, Testing, FailedTesting, Ready, Allocated, Deploying, FailedDeployment, Deployed, Releasing, FailedReleasing, DiskErasing, FailedDiskErasing, EnteringRescue, FailedToEnterRescue, Rescue, ExitingRescue, FailedToExitRescue, Broken}
+use Rattle.std.specs.Prelude.{ℕ, List, [], ◌∷◌, Option, codes}
+use Rattle.hall_types.specs.{Kinds.with_text, declared.status.Status.{Status, TheVariants.{New, Commissioning, FailedCommissioning, Testing, FailedTesting, Ready, Allocated, Deploying, FailedDeployment, Deployed, Releasing, FailedReleasing, DiskErasing, FailedDiskErasing, EnteringRescue, FailedToEnterRescue, Rescue, ExitingRescue, FailedToExitRescue, Broken}}}
 
 -- the printed text
 unfoldable pub status_text : Status → List ℕ
@@ -54,3 +53,7 @@ statuses =
     New ∷ Commissioning ∷ FailedCommissioning ∷ Testing ∷ FailedTesting ∷ Ready ∷ Allocated ∷ Deploying ∷ FailedDeployment ∷ Deployed
     ∷ Releasing ∷ FailedReleasing ∷ DiskErasing ∷ FailedDiskErasing ∷ EnteringRescue ∷ FailedToEnterRescue ∷ Rescue ∷ ExitingRescue
     ∷ FailedToExitRescue ∷ Broken ∷ []
+
+-- the status with this text
+abbrev pub status_of_text : List ℕ → Option Status
+status_of_text text = with_text status_text text statuses

@@ -1,9 +1,6 @@
 -- Which tables of a hall a row write changes, and what it leaves there.
-use Rattle.std.specs.Prelude.{◌≡◌, ◌≢◌, ℕ, ◌==◌, Bool, false, List, [], ◌∷◌, Some, None}
-use Rattle.std.specs.List.{list_any}
-use Rattle.hall_types.specs.Rows.{Keys, Rows, at}
-use Rattle.hall_types.specs.Hall.{Hall}
-use Rattle.hall_types.specs.declared.change.RowWrite.{RowWrite}
+use Rattle.std.specs.{Prelude.{◌≡◌, ◌≢◌, ℕ, ◌==◌, Bool, false, List, [], ◌∷◌, Some, None}, List.list_any}
+use Rattle.hall_types.specs.{Rows.{Keys, Rows, at}, Hall.Hall, declared.change.RowWrite.RowWrite}
 use Rattle.hall_types.specs.declared.change.RowWrite.TheVariants as write
 
 pub data Table : Type 0 where

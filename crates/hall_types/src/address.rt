@@ -1,11 +1,12 @@
 //! Hardware addresses.
-ghost use Rattle.std.specs.Prelude.{◌≡◌, Some, refl};
-ghost use Rattle.std.specs.Ordering.{nat_cmp};
-ghost use Rattle.std.specs.Cmp.Lexicographic.{slice_cmp, nat_list_cmp_total, texts_po, texts_ties};
+ghost use Rattle.std.specs.{Prelude.{◌≡◌, Some, refl}, Ordering.nat_cmp, Cmp.Lexicographic.{slice_cmp, nat_list_cmp_total, texts_po, texts_ties}};
 ghost use Rattle.hall_types.specs.Octets.{AreOctets};
 
+use pxe_vendor::read_mac;
 use std::cmp::Ordering;
 use std::marker::Model;
+use std::str::FromStr;
+use thiserror::Error;
 
 /// An Ethernet address, six octets in the order in which they are sent. Contracts see the octets.
 #[derive(Clone, Copy, PartialEq, Eq)]
@@ -28,6 +29,28 @@ impl From<[u8; 6]> for MacAddress {
 
     fn from(octets: [u8; 6]) -> MacAddress {
         MacAddress { octets }
+    }
+}
+
+/// The text is no hardware address.
+#[derive(Clone, Copy, Debug, PartialEq, Eq, Error)]
+#[error("an address is six octets of two hexadecimal digits, with colons between them")]
+pub struct BadMacAddress;
+
+/// An address is read as in `52:54:00:12:34:56`, with its digits in either case.
+impl FromStr for MacAddress {
+    type Err = BadMacAddress;
+
+    ghost use Rattle.std.specs.Result.{result_ok};
+    ghost use Rattle.pxe_vendor.specs.MacText.{mac_of};
+
+    ghost from_str_gives = { λ text result. result_ok result ≡ mac_of text };
+
+    fn from_str(text: &str) -> Result<Self, BadMacAddress> {
+        match read_mac(text.as_bytes()) {
+            Some(octets) => Ok(MacAddress { octets }),
+            None => Err(BadMacAddress),
+        }
     }
 }
 

@@ -1,7 +1,6 @@
 //! The numbers of architectures in tables.
 ghost use Rattle.std.specs.Prelude.{◌≡◌};
-ghost use Rattle.hall_types.specs.Kinds.{arch_number, archs};
-ghost use Rattle.hall_types.specs.KindLaws.{arch_by_number};
+ghost use Rattle.hall_types.specs.{Kinds.{arch_number, archs}, KindLaws.arch_by_number};
 
 use crate::numbered::Numbered;
 use pxe_vendor::Arch;

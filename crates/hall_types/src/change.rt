@@ -46,10 +46,7 @@ pub struct Change {
 
 impl Model for Change {
     ghost use Rattle.std.specs.Prelude.{List};
-    ghost use Rattle.hall_types.specs.declared.boot.Boot.{Boot};
-    ghost use Rattle.hall_types.specs.declared.machine.Interface.{Interface};
-    ghost use Rattle.hall_types.specs.declared.order.Order.{Order};
-    ghost use Rattle.hall_types.specs.declared.change.RowWrite.{RowWrite};
+    ghost use Rattle.hall_types.specs.declared.{boot.Boot.Boot, machine.Interface.Interface, order.Order.Order, change.RowWrite.RowWrite};
 
     ghost Value = { List RowWrite };
 

@@ -2,7 +2,9 @@
 ghost use Rattle.std.specs.Prelude.{◌≡◌};
 ghost use Rattle.hall_types.specs.Octets.{AreOctets};
 
+use hex::{FromHex, FromHexError};
 use std::marker::Model;
+use std::str::FromStr;
 
 /// The SHA-256 of an operator's bearer token, 32 octets. Contracts see the octets.
 #[derive(Clone, Copy, PartialEq, Eq)]
@@ -34,5 +36,22 @@ impl Digest {
         ensures range { AreOctets 32 self }
     {
         self.octets
+    }
+}
+
+/// A digest is read from 64 hexadecimal digits in either case.
+impl FromStr for Digest {
+    type Err = FromHexError;
+
+    ghost use Rattle.std.specs.Result.{result_ok};
+    ghost use Rattle.hall_types.specs.Octets.{octets_of_text};
+
+    ghost from_str_gives = { λ text result. result_ok result ≡ octets_of_text 32 text };
+
+    fn from_str(text: &str) -> Result<Self, FromHexError> {
+        match <[u8; 32] as FromHex>::from_hex(text) {
+            Ok(octets) => Ok(Digest { octets }),
+            Err(error) => Err(error),
+        }
     }
 }

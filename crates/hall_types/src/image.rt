@@ -1,6 +1,5 @@
 //! Boot images.
-ghost use Rattle.std.specs.Prelude.{◌≡◌, ◌≤◌, ◌<◌, ◌↔◌, true, false, length, IfOk, IsOk, IsErrOf};
-ghost use Rattle.std.specs.List.{list_any};
+ghost use Rattle.std.specs.{Prelude.{◌≡◌, ◌≤◌, ◌<◌, ◌↔◌, true, false, length, IfOk, IsOk, IsErrOf}, List.list_any};
 ghost use Rattle.ipxe_script.specs.Word.{IsUri, is_hall_word};
 ghost use Rattle.hall_types.specs.Image.{BootImage, IsImage, has_hall_word};
 

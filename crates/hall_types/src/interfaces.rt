@@ -1,6 +1,5 @@
 //! Interfaces by machine.
-ghost use Rattle.std.specs.Prelude.{◌≡◌, ◌==◌, filter, OnOk, ℕ};
-ghost use Rattle.std.specs.List.Sorted.{IsNonDecreasingBy};
+ghost use Rattle.std.specs.{Prelude.{◌≡◌, ◌==◌, filter, OnOk, ℕ}, List.Sorted.IsNonDecreasingBy};
 
 use crate::machine::Interface;
 use crate::number::Number;

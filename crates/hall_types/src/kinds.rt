@@ -1,6 +1,5 @@
 //! Kinds that texts name by a word, and most of them tables by a number.
-ghost use Rattle.std.specs.Prelude.{◌≡◌};
-ghost use Rattle.std.specs.Result.{result_ok};
+ghost use Rattle.std.specs.{Prelude.◌≡◌, Result.result_ok};
 ghost use Rattle.hall_types.specs.Kinds.{role_text, role_number, role_of_text, purpose_text, purpose_number, stage_number, order_kind_text, order_kind_number, order_stage_number, erase_text, erase_number, erase_of_text, progress_text, progress_of_text, outcome_text, outcome_of_text, stage_after};
 
 use std::str::FromStr;

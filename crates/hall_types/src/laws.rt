@@ -1,28 +1,6 @@
 //! What holds of halls, whatever is written.
 ghost use Rattle.std.specs.Prelude.{◌≡◌, ◌≢◌, ◌++◌, ◌↔◌, ℕ, List, Option, None, Some, true};
-ghost use Rattle.hall_types.specs.Image.{BootImage};
-ghost use Rattle.hall_types.specs.Kinds.{with_number, role_text, role_of_text, erase_text, erase_of_text, progress_text, progress_of_text, outcome_text, outcome_of_text, arch_number};
-ghost use Rattle.hall_types.specs.declared.kinds.Role.{Role};
-ghost use Rattle.hall_types.specs.declared.kinds.Erase.{Erase};
-ghost use Rattle.hall_types.specs.declared.kinds.Progress.{Progress};
-ghost use Rattle.hall_types.specs.declared.kinds.Outcome.{Outcome};
-ghost use Rattle.hall_types.specs.Rows.{at};
-ghost use Rattle.hall_types.specs.Hall.{Hall, Schema, applied, default_pool, new_hall, pair, written};
-ghost use Rattle.hall_types.specs.Keyed.{IsKeyed};
-ghost use Rattle.hall_types.specs.Tables.{ChangesOnly, HasNone, IsGone, IsPut, IsSole, tables_of};
-ghost use Rattle.hall_types.specs.declared.boot.Boot.{Boot};
-ghost use Rattle.hall_types.specs.declared.image.Live.{Live};
-ghost use Rattle.hall_types.specs.declared.kinds.Role.TheVariants.{Admin};
-ghost use Rattle.hall_types.specs.declared.machine.Interface.{Interface};
-ghost use Rattle.hall_types.specs.declared.machine.Machine.{Machine};
-ghost use Rattle.hall_types.specs.declared.number.Numbers.{Numbers};
-ghost use Rattle.hall_types.specs.declared.operator.Operator.{Operator};
-ghost use Rattle.hall_types.specs.declared.operator.Member.{Member};
-ghost use Rattle.hall_types.specs.declared.operator.Pool.{Pool};
-ghost use Rattle.hall_types.specs.declared.order.Order.{Order};
-ghost use Rattle.hall_types.specs.declared.receipt.Receipt.{Receipt};
-ghost use Rattle.hall_types.specs.declared.change.RowWrite.{RowWrite};
-ghost use Rattle.hall_types.specs.declared.change.RowWrite.TheVariants.{ImageGone, InterfaceGone, MachineGone, PutBoot, PutImage, PutInterface, PutLive, PutMachine, PutMember, PutNumbers, PutOperator, PutOrder, PutPool, PutReceipt};
+ghost use Rattle.hall_types.specs.{Act.{act_of_text, act_text}, Image.BootImage, Kinds.{with_number, role_text, role_of_text, erase_text, erase_of_text, progress_text, progress_of_text, outcome_text, outcome_of_text, arch_number}, declared.{act.Act.Act, kinds.{Role.{Role, TheVariants.Admin}, Erase.Erase, Progress.Progress, Outcome.Outcome}, boot.Boot.Boot, image.Live.Live, machine.{Interface.Interface, Machine.Machine}, number.Numbers.Numbers, operator.{Operator.Operator, Member.Member, Pool.Pool}, order.Order.Order, receipt.Receipt.Receipt, change.RowWrite.{RowWrite, TheVariants.{ImageGone, InterfaceGone, MachineGone, PutBoot, PutImage, PutInterface, PutLive, PutMachine, PutMember, PutNumbers, PutOperator, PutOrder, PutPool, PutReceipt}}}, Rows.at, Hall.{Hall, Schema, applied, default_pool, new_hall, pair, written}, Keyed.IsKeyed, Tables.{ChangesOnly, HasNone, IsGone, IsPut, IsSole, tables_of}};
 
 use crate::numbered::Numbered;
 
@@ -96,6 +74,7 @@ pub fn rows_stand_under_their_keys()
 #[tactic(auto, using(crate::specs::KindLaws::by_text))]
 pub fn words_are_of_one_kind()
     ensures role { (text : List ℕ) (k : Role) → (role_of_text text ≡ Some k) ↔ (role_text k ≡ text) }
+    ensures act { (text : List ℕ) (k : Act) → (act_of_text text ≡ Some k) ↔ (act_text k ≡ text) }
     ensures erase { (text : List ℕ) (k : Erase) → (erase_of_text text ≡ Some k) ↔ (erase_text k ≡ text) }
     ensures progress { (text : List ℕ) (k : Progress) → (progress_of_text text ≡ Some k) ↔ (progress_text k ≡ text) }
     ensures outcome { (text : List ℕ) (k : Outcome) → (outcome_of_text text ≡ Some k) ↔ (outcome_text k ≡ text) }

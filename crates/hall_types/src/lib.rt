@@ -2,6 +2,7 @@
 //! to their rows.
 #![tactic(auto)]
 
+mod act;
 mod address;
 mod arch;
 mod boot;
@@ -28,7 +29,8 @@ mod text;
 mod token;
 mod version;
 
-pub use address::MacAddress;
+pub use act::Act;
+pub use address::{BadMacAddress, MacAddress};
 pub use arch::arch_number;
 pub use boot::{BadBootCount, Boot, BootCount, MAX_BOOTS};
 pub use change::{Change, RowWrite};

@@ -49,7 +49,31 @@ pub struct Machine {
 }
 
 impl Machine {
-    ghost use Rattle.hall_types.specs.Lookup.{if_due, is_due};
+    ghost use Rattle.hall_types.specs.{Lookup.{if_due, is_due}, Machine.blank_machine};
+
+    /// A New machine of a pool, of which nothing is known but its architecture and its UUID.
+    pub fn new(id: Number, arch: Arch, pool: Name, uuid: Option<MachineUuid>) -> Machine
+        ensures { result ≡ blank_machine id arch pool uuid }
+    {
+        Machine {
+            id,
+            arch,
+            uuid,
+            pool,
+            status: Status::New,
+            owner: None,
+            image: None,
+            tests: false,
+            back: None,
+            erase: None,
+            locked: false,
+            version: Version::FIRST,
+            deadline: None,
+            boot: None,
+            boots: BootCount::NONE,
+            waiting: None,
+        }
+    }
 
     /// Whether its deadline has come.
     pub fn is_due(&self, moment: Moment) -> bool

@@ -1,7 +1,6 @@
 //! Identifiers of machines.
 ghost use Rattle.std.specs.Prelude.{◌≡◌};
-ghost use Rattle.hall_types.specs.Octets.{AreOctets};
-ghost use Rattle.hall_types.specs.Uuid.{unless_blank};
+ghost use Rattle.hall_types.specs.{Octets.AreOctets, Uuid.unless_blank};
 
 use pxe_vendor::is_blank;
 use std::marker::Model;

@@ -1,7 +1,10 @@
 //! Moments.
-ghost use Rattle.std.specs.Prelude.{◌≡◌, ◌≤◌, ◌<◌, ◌↔◌, IfOk, IsErr};
+ghost use Rattle.std.specs.{Prelude.{◌≡◌, ◌≤◌, ◌<◌, ◌↔◌, IfOk, IsErr}, Result.result_ok};
+ghost use Rattle.hall_types.specs.Number.{moment_in};
 
+use pxe_vendor::numeral;
 use std::marker::Model;
+use std::str::FromStr;
 use thiserror::Error;
 
 /// The last moment, in seconds since 1970-01-01 00:00:00 UTC.
@@ -34,6 +37,7 @@ impl Moment {
     pub fn new(seconds: u64) -> Result<Moment, BadMoment>
         ensures moment { IfOk result (λ moment. moment ≡ seconds) }
         ensures bad { IsErr result ↔ (MAX_MOMENT < seconds) }
+        ensures option { result_ok result ≡ moment_in seconds }
     {
         if seconds > MAX_MOMENT {
             return Err(BadMoment);
@@ -47,5 +51,21 @@ impl Moment {
         ensures range { self ≤ MAX_MOMENT }
     {
         self.seconds
+    }
+}
+
+/// A moment is read from decimal digits without a leading zero.
+impl FromStr for Moment {
+    type Err = BadMoment;
+
+    ghost use Rattle.hall_types.specs.Number.{moment_of_text};
+
+    ghost from_str_gives = { λ text result. result_ok result ≡ moment_of_text text };
+
+    fn from_str(text: &str) -> Result<Self, BadMoment> {
+        match numeral(text.as_bytes()) {
+            Some(seconds) => Moment::new(seconds),
+            None => Err(BadMoment),
+        }
     }
 }

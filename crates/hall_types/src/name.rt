@@ -1,14 +1,10 @@
 //! Names.
-ghost use Rattle.std.specs.Prelude.{◌≡◌, ◌≤◌, ◌↔◌, length, Some, refl, IfOk, IsErr, IsTrue};
-ghost use Rattle.std.specs.List.{list_all};
-ghost use Rattle.std.specs.Ordering.{nat_cmp};
-ghost use Rattle.std.specs.Cmp.{partial_equiv_from_equiv};
-ghost use Rattle.std.specs.Cmp.Lexicographic.{slice_cmp, nat_list_eq_equiv, nat_list_cmp_total, texts_po, texts_ties};
-ghost use Rattle.std.specs.Str.{bytes_eq};
+ghost use Rattle.std.specs.{Prelude.{◌≡◌, ◌≤◌, ◌↔◌, length, Some, refl, IfOk, IsErr, IsTrue}, List.list_all, Ordering.nat_cmp, Cmp.{partial_equiv_from_equiv, Lexicographic.{slice_cmp, nat_list_eq_equiv, nat_list_cmp_total, texts_po, texts_ties}}, Str.bytes_eq};
 ghost use Rattle.hall_types.specs.Name.{IsName, filled, is_name, is_name_octet};
 
 use std::cmp::Ordering;
 use std::marker::Model;
+use std::str::FromStr;
 use std::{fmt, str};
 use thiserror::Error;
 
@@ -21,8 +17,7 @@ pub struct Name {
 }
 
 impl Model for Name {
-    ghost use Rattle.std.specs.Prelude.{◌≡◌, ℕ, List};
-    ghost use Rattle.std.proofs.Common.{ap, sym};
+    ghost use Rattle.std.{specs.Prelude.{◌≡◌, ℕ, List}, proofs.Common.{ap, sym}};
     ghost use Rattle.hall_types.specs.Name.{IsName, filled, name_in};
 
     ghost Value = { List ℕ };
@@ -98,6 +93,19 @@ impl Name {
             },
             Err(_) => unreachable!(),
         }
+    }
+}
+
+impl FromStr for Name {
+    type Err = BadName;
+
+    ghost use Rattle.std.specs.Result.{result_ok};
+    ghost use Rattle.hall_types.specs.Name.{name_of};
+
+    ghost from_str_gives = { λ text result. result_ok result ≡ name_of text };
+
+    fn from_str(text: &str) -> Result<Self, BadName> {
+        Name::new(text)
     }
 }
 

@@ -1,8 +1,10 @@
 //! Numbers of machines, boots and orders.
-ghost use Rattle.std.specs.Prelude.{◌≡◌, ◌≤◌, ◌↔◌, IfOk, IsErr, IsOk};
-ghost use Rattle.hall_types.specs.Number.{IsNumber, max_number, next_number};
+ghost use Rattle.std.specs.{Prelude.{◌≡◌, ◌≤◌, ◌↔◌, IfOk, IsErr, IsOk}, Result.result_ok};
+ghost use Rattle.hall_types.specs.Number.{IsNumber, max_number, next_number, number_in};
 
+use pxe_vendor::numeral;
 use std::marker::Model;
+use std::str::FromStr;
 use thiserror::Error;
 
 /// The highest number of a machine, a boot or an order, and the highest version.
@@ -50,6 +52,7 @@ impl Number {
     pub fn new(number: u64) -> Result<Number, BadNumber>
         ensures number { IfOk result (λ made. made ≡ number) }
         ensures bad { IsErr result ↔ ¬ (IsNumber number) }
+        ensures option { result_ok result ≡ number_in number }
     {
         if number == 0 || number > MAX_NUMBER {
             return Err(BadNumber);
@@ -69,6 +72,22 @@ impl Number {
         ensures { result ≡ next_number self }
     {
         after(self.number)
+    }
+}
+
+/// A number is read from decimal digits without a leading zero.
+impl FromStr for Number {
+    type Err = BadNumber;
+
+    ghost use Rattle.hall_types.specs.Number.{number_of_text};
+
+    ghost from_str_gives = { λ text result. result_ok result ≡ number_of_text text };
+
+    fn from_str(text: &str) -> Result<Self, BadNumber> {
+        match numeral(text.as_bytes()) {
+            Some(number) => Number::new(number),
+            None => Err(BadNumber),
+        }
     }
 }
 

@@ -1,8 +1,6 @@
 //! Kinds that tables name by a number.
 ghost use Rattle.std.specs.Prelude.{◌≡◌, ◌↔◌, ℕ, List, Some};
-ghost use Rattle.hall_types.specs.Kinds.{with_number, role_number, roles, purpose_number, purposes, stage_number, stages, order_kind_number, order_kinds, order_stage_number, order_stages, erase_number, erases};
-ghost use Rattle.hall_types.specs.KindLaws.{role_by_number, purpose_by_number, stage_by_number, order_kind_by_number, order_stage_by_number, erase_by_number, status_by_number};
-ghost use Rattle.hall_types.specs.Status.{status_number, statuses};
+ghost use Rattle.hall_types.specs.{Kinds.{with_number, role_number, roles, purpose_number, purposes, stage_number, stages, order_kind_number, order_kinds, order_stage_number, order_stages, erase_number, erases}, KindLaws.{role_by_number, purpose_by_number, stage_by_number, order_kind_by_number, order_stage_by_number, erase_by_number, status_by_number}, Status.{status_number, statuses}};
 
 use crate::kinds::{Erase, OrderKind, OrderStage, Purpose, Role, Stage};
 use crate::status::Status;

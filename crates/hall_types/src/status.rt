@@ -1,6 +1,9 @@
 //! Statuses of machines.
 ghost use Rattle.std.specs.Prelude.{◌≡◌, ◌<◌};
-ghost use Rattle.hall_types.specs.Status.{status_text, status_number};
+ghost use Rattle.hall_types.specs.{Kinds.with_text, Status.{status_text, status_number}};
+
+use crate::kinds::UnknownWord;
+use std::str::FromStr;
 
 /// A machine's status, modelled on the node statuses of MAAS. Its number in tables is its place, from 0 on.
 #[derive(Clone, Copy, PartialEq, Eq)]
@@ -29,7 +32,8 @@ pub enum Status {
 
 #[tactic(auto, unfolding(crate::specs::Status::status_text, crate::specs::Status::status_number))]
 impl Status {
-    pub(crate) const ALL: [Status; 20] = [
+    /// All of them, in the order of their numbers.
+    pub const ALL: [Status; 20] = [
         Status::New,
         Status::Commissioning,
         Status::FailedCommissioning,
@@ -86,5 +90,26 @@ impl Status {
         ensures small { result < 20 }
     {
         self as u8
+    }
+}
+
+// The one of these statuses that has this text.
+fn with_text(statuses: &[Status], text: &str) -> Option<Status>
+    ensures { result ≡ with_text status_text text.now statuses.now }
+{
+    statuses.iter().copied().find(|it| it.text() == text)
+}
+
+/// A status is read from its printed text.
+impl FromStr for Status {
+    type Err = UnknownWord;
+
+    ghost use Rattle.std.specs.Result.{result_ok};
+    ghost use Rattle.hall_types.specs.Status.{status_of_text};
+
+    ghost from_str_gives = { λ text result. result_ok result ≡ status_of_text text };
+
+    fn from_str(text: &str) -> Result<Self, UnknownWord> {
+        with_text(&Self::ALL, text).ok_or(UnknownWord)
     }
 }

@@ -34,13 +34,6 @@ impl Text {
         self.text.as_str()
     }
 
-    /// The text, as what it was made from.
-    pub fn into_string(self) -> String
-        ensures { string_bytes result ≡ self }
-    {
-        self.text
-    }
-
     /// An equal text.
     pub fn copy(&self, alloc: Global) -> Result<Text, AllocError>
         ensures { IfOk result (λ copy. copy ≡ self.now) }

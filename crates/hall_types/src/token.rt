@@ -2,7 +2,9 @@
 ghost use Rattle.std.specs.Prelude.{◌≡◌};
 ghost use Rattle.hall_types.specs.Octets.{AreOctets};
 
+use hex::{FromHex, FromHexError};
 use std::marker::Model;
+use std::str::FromStr;
 
 /// What a report of a boot has to name, 16 octets. Contracts see the octets.
 #[derive(Clone, Copy, PartialEq, Eq)]
@@ -34,5 +36,22 @@ impl Token {
         ensures range { AreOctets 16 self }
     {
         self.octets
+    }
+}
+
+/// A token is read from 32 hexadecimal digits in either case.
+impl FromStr for Token {
+    type Err = FromHexError;
+
+    ghost use Rattle.std.specs.Result.{result_ok};
+    ghost use Rattle.hall_types.specs.Octets.{octets_of_text};
+
+    ghost from_str_gives = { λ text result. result_ok result ≡ octets_of_text 16 text };
+
+    fn from_str(text: &str) -> Result<Self, FromHexError> {
+        match <[u8; 16] as FromHex>::from_hex(text) {
+            Ok(octets) => Ok(Token { octets }),
+            Err(error) => Err(error),
+        }
     }
 }

@@ -1,9 +1,11 @@
 //! Versions of machines.
-ghost use Rattle.std.specs.Prelude.{◌≡◌, ◌↔◌, IfOk, IsErr};
-ghost use Rattle.hall_types.specs.Number.{IsNumber, next_number, next_version};
+ghost use Rattle.std.specs.{Prelude.{◌≡◌, ◌↔◌, IfOk, IsErr}, Result.result_ok};
+ghost use Rattle.hall_types.specs.Number.{IsNumber, next_number, next_version, number_in};
 
 use crate::number::{BadNumber, MAX_NUMBER};
+use pxe_vendor::numeral;
 use std::marker::Model;
+use std::str::FromStr;
 
 /// The version of a machine's row: 1 to 10^15. Contracts see the number.
 #[derive(Clone, Copy, PartialEq, Eq)]
@@ -31,6 +33,7 @@ impl Version {
     pub fn new(number: u64) -> Result<Version, BadNumber>
         ensures version { IfOk result (λ version. version ≡ number) }
         ensures bad { IsErr result ↔ ¬ (IsNumber number) }
+        ensures option { result_ok result ≡ number_in number }
     {
         if number == 0 || number > MAX_NUMBER {
             return Err(BadNumber);
@@ -62,5 +65,21 @@ impl Version {
         ensures { result ≡ next_version self }
     {
         self.next().unwrap_or(self)
+    }
+}
+
+/// A version is read from decimal digits without a leading zero.
+impl FromStr for Version {
+    type Err = BadNumber;
+
+    ghost use Rattle.hall_types.specs.Number.{number_of_text};
+
+    ghost from_str_gives = { λ text result. result_ok result ≡ number_of_text text };
+
+    fn from_str(text: &str) -> Result<Self, BadNumber> {
+        match numeral(text.as_bytes()) {
+            Some(number) => Version::new(number),
+            None => Err(BadNumber),
+        }
     }
 }

@@ -1,5 +1,5 @@
 //! Faults of a hall's file.
-use desk_values::Fault;
+use hall_report::Fault;
 use hallboot_files::is_foreign;
 use sql_file::FileFault;
 

@@ -1,22 +1,14 @@
 //! The file of a new hall is made: under another name first, so that it is whole once it has its own.
-use crate::failure::{Failure, because, refused};
 use crate::file_faults::{looked_at, of_file};
 use desk_operations::Exit;
-use desk_values::Fault;
-use hall_types::{Digest, Name};
+use hall_report::Fault;
 use hallboot_files::{
     FileIdentity, LOG, is_unfinished, new_file, now_text, put_in_place, remove_with_beside,
     with_end,
 };
+use hallboot_words::{Failure, Init, because, refused};
 use sql_file::create;
 use std::{fs, io};
-
-/// The one operator of a new hall.
-#[derive(Clone, Copy)]
-pub(crate) struct Admin {
-    pub(crate) name: Name,
-    pub(crate) digest: Digest,
-}
 
 // Whether no hall can be at a path: nothing is there, or what an interrupted init left.
 fn is_free(rt: &HostRuntime, path: &str) -> io::Result<bool> {
@@ -36,11 +28,11 @@ fn making_of(rt: &HostRuntime, path: &str) -> io::Result<String> {
 }
 
 // Makes the tables of a new hall in a new file, and puts that at its path.
-fn make_whole(rt: &HostRuntime, making: &str, path: &str, admin: Admin) -> Result<(), Failure> {
+fn make_whole(rt: &HostRuntime, making: &str, path: &str, asked: &Init) -> Result<(), Failure> {
     if let Err(error) = new_file(rt, making) {
         return Err(refused(rt, making, &error));
     }
-    if let Err(fault) = create(rt, making, admin.name, admin.digest) {
+    if let Err(fault) = create(rt, making, asked.admin, asked.digest) {
         remove_with_beside(rt, making);
         return Err(Failure::from(of_file(fault)));
     }
@@ -50,23 +42,23 @@ fn make_whole(rt: &HostRuntime, making: &str, path: &str, admin: Admin) -> Resul
     }
 }
 
-fn make(rt: &HostRuntime, path: &str, admin: Admin) -> Result<(), Failure> {
+fn make(rt: &HostRuntime, path: &str, asked: &Init) -> Result<(), Failure> {
     match making_of(rt, path) {
-        Ok(making) => make_whole(rt, making.as_str(), path, admin),
+        Ok(making) => make_whole(rt, making.as_str(), path, asked),
         Err(error) => Err(refused(rt, path, &error)),
     }
 }
 
 // Makes the tables of a new hall in a file that is there and has none.
-fn make_in(rt: &HostRuntime, path: &str, admin: Admin) -> Result<(), Failure> {
+fn make_in(rt: &HostRuntime, path: &str, asked: &Init) -> Result<(), Failure> {
     looked_at(rt, path)?;
-    match create(rt, path, admin.name, admin.digest) {
+    match create(rt, path, asked.admin, asked.digest) {
         Ok(()) => Ok(()),
         Err(fault) => Err(Failure::from(of_file(fault))),
     }
 }
 
-fn made_at(rt: &HostRuntime, path: &str, admin: Admin) -> Result<(), Failure> {
+fn made_at(rt: &HostRuntime, path: &str, asked: &Init) -> Result<(), Failure> {
     let (is_free, has_lone_log) = match (is_free(rt, path), has_lone_log(rt, path)) {
         (Ok(is_free), Ok(has_lone_log)) => (is_free, has_lone_log),
         (Err(error), _) | (_, Err(error)) => return Err(refused(rt, path, &error)),
@@ -78,16 +70,17 @@ fn made_at(rt: &HostRuntime, path: &str, admin: Admin) -> Result<(), Failure> {
         return Err(because(Fault::NotEmpty, reason));
     }
     if is_free {
-        make(rt, path, admin)
+        make(rt, path, asked)
     } else {
-        make_in(rt, path, admin)
+        make_in(rt, path, asked)
     }
 }
 
 /// Makes the file of a new hall, for its owner alone, and says so.
-pub(crate) fn init(rt: &HostRuntime, path: &str, admin: Admin) -> Result<Exit, Failure> {
+pub(crate) fn init(rt: &HostRuntime, asked: &Init) -> Result<Exit, Failure> {
+    let path = asked.path.as_str();
     match FileIdentity::at(rt, path) {
-        Ok(identity) => made_at(rt, identity.path(), admin)?,
+        Ok(identity) => made_at(rt, identity.path(), asked)?,
         Err(error) => return Err(refused(rt, path, &error)),
     }
     desk_operations::write_text(&mut rt.stdout(), "hall created\n")?;

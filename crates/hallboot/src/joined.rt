@@ -1,6 +1,6 @@
 //! A hall's file and its log as one.
 use hallboot_files::Joining;
-use sql_backup::{Unjoined, one_file};
+use sql_file::{Unjoined, one_file};
 use std::alloc::Global;
 use std::fs::File;
 use std::io::{self, ErrorKind, Write};

@@ -2,7 +2,6 @@
 //! Without a word it answers the frame on standard input.
 #![tactic(auto)]
 
-mod failure;
 mod file_faults;
 mod init;
 mod joined;
@@ -10,14 +9,15 @@ mod over_file;
 mod restoring;
 mod tasks;
 
+use command_rows::{Options, Usage};
 use desk_operations::Exit;
-use desk_values::Fault;
-use hallboot_asked::{fault_of, has_json_errors, reason};
+use hall_report::Fault;
 use hallboot_tasks::tell_of_fault;
-use hallboot_words::{Refusal, Words, read};
+use hallboot_words::{Failure, Job, fault_of, has_json_errors, read, reason, wants_reason};
 use std::io::{ErrorKind, IsTerminal};
 use std::process::ExitCode;
 use std::{env, io};
+use tasks::carry_out;
 
 // Why the words of the command line can't be read: one isn't UTF-8, or there is no memory.
 fn fault_of_words(error: &io::Error) -> Fault {
@@ -50,55 +50,58 @@ fn status(rt: &HostRuntime, exit: Exit) -> u8 {
 }
 
 // The exit status where the words name nothing to be done, with what is said of them.
-fn status_of_refusal(rt: &HostRuntime, refusal: &Refusal) -> u8 {
-    if refusal.is_memory() {
+fn status_of_usage(rt: &HostRuntime, usage: &Usage) -> u8 {
+    if usage.is_memory() {
         return status(rt, Exit::Fault(Fault::Memory));
     }
-    refusal.print(rt);
-    refusal.status()
+    usage.print(rt);
+    usage.status()
 }
 
 // What a fault is about, where that is asked for, or people read it: as the task knows it, or by another look.
-fn explained(
-    rt: &HostRuntime,
-    words: &Words<'_>,
-    fault: Fault,
-    known: Option<String>,
-) -> Option<String> {
-    if !words.why && !rt.stderr().is_terminal() {
+fn explained(rt: &HostRuntime, options: &Options<'_>, failure: Failure) -> Option<String> {
+    if !wants_reason(options) && !rt.stderr().is_terminal() {
         return None;
     }
-    match known {
+    match failure.reason {
         Some(known) => Some(known),
-        None => reason(rt, words, fault),
+        None => reason(rt, options, failure.fault),
     }
 }
 
 // Tells a fault on standard error: its name, and in a second line what it is about, or both in an object where all lines are objects.
-fn tell_fault(rt: &HostRuntime, words: &Words<'_>, fault: Fault, known: Option<String>) {
-    if has_json_errors(words) {
-        let reason = explained(rt, words, fault, known);
+fn tell_failure(rt: &HostRuntime, options: &Options<'_>, failure: Failure) {
+    let fault = failure.fault;
+    let reason = explained(rt, options, failure);
+    if has_json_errors(options) {
         tell_of_fault(rt, fault, reason.as_ref().map(|reason| reason.as_str()));
         return;
     }
     let _ = eprintln!(rt; "hallboot: {}", fault.name());
-    if let Some(reason) = explained(rt, words, fault, known) {
+    if let Some(reason) = reason {
         let _ = eprintln!(rt; "hallboot: {reason}");
     }
 }
 
-fn status_of_task(rt: &HostRuntime, words: &Words<'_>) -> u8 {
-    let (exit, known) = tasks::done(rt, words);
-    if let Exit::Fault(fault) = exit {
-        tell_fault(rt, words, fault, known);
+fn done(rt: &HostRuntime, options: &Options<'_>) -> Result<Exit, Failure> {
+    carry_out(rt, Job::read(rt, options)?)
+}
+
+fn status_of_task(rt: &HostRuntime, options: &Options<'_>) -> u8 {
+    match done(rt, options) {
+        Ok(exit) => exit.status(),
+        Err(failure) => {
+            let status = Exit::Fault(failure.fault).status();
+            tell_failure(rt, options, failure);
+            status
+        }
     }
-    exit.status()
 }
 
 fn run(rt: &HostRuntime, words: &[String]) -> u8 {
     match read(rt.alloc(), words) {
-        Ok(words) => status_of_task(rt, &words),
-        Err(refusal) => status_of_refusal(rt, &refusal),
+        Ok(options) => status_of_task(rt, &options),
+        Err(usage) => status_of_usage(rt, &usage),
     }
 }
 

@@ -2,11 +2,11 @@
 use crate::file_faults::{looked_at, of_file};
 use crate::joined::Joined;
 use desk_operations::Exit;
-use desk_values::Fault;
+use hall_report::Fault;
 use hall_store::HallStore;
-use hallboot_asked::{Serving, Task};
 use hallboot_files::{remove_with_beside, write_copy};
 use hallboot_tasks::{HallSum, Suspended, carried_out, served, sum_of, tell};
+use hallboot_words::{Serving, Task};
 use sql_file::{Ended, FileFault, StoreTask, over};
 use std::io;
 

@@ -1,14 +1,14 @@
 //! Copies of a hall that isn't served, and halls that are put back from them.
-use crate::failure::{Failure, because, refused};
 use crate::joined::Joined;
 use crate::over_file::{Copying, Doing, Found, over_file};
 use desk_operations::{Exit, write_text};
-use desk_values::Fault;
+use hall_report::Fault;
 use hallboot_files::{
     FileIdentity, LOG, changed_at, hold, now_text, put_aside, put_in_place, remove_with_beside,
     with_end, write_copy,
 };
 use hallboot_tasks::{HallSum, sum_text};
+use hallboot_words::{Backup, Failure, Restore, because, refused};
 use std::fs::File;
 use std::io::ErrorKind;
 use std::{fs, io};
@@ -96,7 +96,8 @@ fn backed_up(rt: &HostRuntime, path: &str, new: &str, to: &str) -> Result<(HallS
 }
 
 /// Copies a hall that isn't served to one file, and says what it has. The copy before is replaced once the new one was found whole.
-pub(crate) fn backup(rt: &HostRuntime, path: &str, to: &str) -> Result<Exit, Failure> {
+pub(crate) fn backup(rt: &HostRuntime, asked: &Backup) -> Result<Exit, Failure> {
+    let (path, to) = (asked.path.as_str(), asked.to.as_str());
     let hall = without_links(rt, path)?;
     let new = path_with(rt, to, ".new")?;
     let (sum, octets) = backed_up(rt, hall.path(), new.as_str(), to)?;
@@ -225,7 +226,8 @@ fn replaced_or_removed(
 
 /// Puts a copy of a hall in the place of its file, and says what it has. The copy stays as it is, and what was at the hall's path is kept
 /// under a name with the moment. Nothing is changed where the copy is no whole hall, or another program has the hall open.
-pub(crate) fn restore(rt: &HostRuntime, path: &str, from: &str) -> Result<Exit, Failure> {
+pub(crate) fn restore(rt: &HostRuntime, asked: &Restore) -> Result<Exit, Failure> {
+    let (path, from) = (asked.path.as_str(), asked.from.as_str());
     let (hall, copy, now) = (
         without_links(rt, path)?,
         without_links(rt, from)?,

@@ -1,15 +1,13 @@
 //! What the words ask for is done.
-use crate::failure::Failure;
 use crate::file_faults::{looked_at, of_file};
-use crate::init::{Admin, init};
+use crate::init::init;
 use crate::over_file::{Doing, ended_over, outcome_of, over_file, tell_of_closing};
 use crate::restoring::{backup, restore};
 use desk_operations::{Exit, frame_run};
-use desk_values::Fault;
-use hallboot_asked::{Asked, Serving, asked_by};
+use hall_report::Fault;
 use hallboot_files::first_open_to_others;
 use hallboot_tasks::{Suspended, tell};
-use hallboot_words::Words;
+use hallboot_words::{Failure, Frame, Job, Serving, Task};
 use sql_file::migrate;
 use sql_tables::Migrated;
 
@@ -79,42 +77,34 @@ fn serve(rt: &HostRuntime, serving: &Serving) -> Result<Exit, Fault> {
     Err(Fault::Unavailable)
 }
 
-fn carry_out(rt: &HostRuntime, asked: Asked<'_>) -> Result<Exit, Failure> {
-    match asked {
-        Asked::Frame { port, place } => Ok(frame_run(
-            rt.alloc(),
-            &mut rt.stdin(),
-            &mut rt.stdout(),
-            port,
-            &place,
-        )),
-        Asked::Init {
-            path,
-            admin,
-            digest,
-        } => {
-            let admin = Admin {
-                name: admin,
-                digest,
-            };
-            init(rt, path, admin)
-        }
-        Asked::Migrate { path } => Ok(carry_over(rt, path)?),
-        Asked::Backup { path, to } => backup(rt, path, to),
-        Asked::Restore { path, from } => restore(rt, path, from),
-        Asked::Serve(serving) => Ok(serve(rt, &serving)?),
-        Asked::Over { path, task } => Ok(over_file(rt, path, Doing::Once(task))?),
+fn frame(rt: &HostRuntime, asked: &Frame) -> Result<Exit, Failure> {
+    let (mut input, mut output) = (rt.stdin(), rt.stdout());
+    match frame_run(
+        rt.alloc(),
+        &mut input,
+        &mut output,
+        asked.port,
+        &asked.place,
+    ) {
+        Exit::Fault(fault) => Err(Failure::from(fault)),
+        exit => Ok(exit),
     }
 }
 
-fn run(rt: &HostRuntime, words: &Words<'_>) -> Result<Exit, Failure> {
-    carry_out(rt, asked_by(rt, words)?)
+fn once(rt: &HostRuntime, path: &str, task: Task) -> Result<Exit, Failure> {
+    Ok(over_file(rt, path, Doing::Once(task))?)
 }
 
-/// Does what the words ask for, and says how it ended, and why, if the task knows more of a fault than its name.
-pub fn done(rt: &HostRuntime, words: &Words<'_>) -> (Exit, Option<String>) {
-    match run(rt, words) {
-        Ok(exit) => (exit, None),
-        Err(failure) => (Exit::Fault(failure.fault), failure.reason),
+/// Does what is asked for.
+pub(crate) fn carry_out(rt: &HostRuntime, job: Job) -> Result<Exit, Failure> {
+    match job {
+        Job::Frame(asked) => frame(rt, &asked),
+        Job::Init(asked) => init(rt, &asked),
+        Job::Migrate(path) => Ok(carry_over(rt, path.as_str())?),
+        Job::Backup(asked) => backup(rt, &asked),
+        Job::Restore(asked) => restore(rt, &asked),
+        Job::Serve(serving) => Ok(serve(rt, &serving)?),
+        Job::Import(path, asked) => once(rt, path.as_str(), asked.task(rt)?),
+        Job::Over(path, task) => once(rt, path.as_str(), task),
     }
 }

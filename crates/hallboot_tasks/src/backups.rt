@@ -1,7 +1,7 @@
 //! Copies of a hall's file that are made while it is served, between two turns.
 use desk_lines::Backup;
-use hallboot_asked::BackupPlan;
 use hallboot_files::{Joining, copy};
+use hallboot_words::BackupPlan;
 use std::time::Instant;
 
 /// How many seconds a service is served at most before its first copy, so that one that is started often has one.

@@ -2,28 +2,26 @@
 use crate::serving::serve;
 use crate::suspended::Suspended;
 use desk_operations::{Exit, Imported};
-use desk_values::{Fault, What};
 use hall_desk::Desk;
 use hall_http::Noted;
-use hall_store::HallStore;
-use hall_types::{Digest, Moment, Token};
-use hallboot_asked::{Serving, Task};
+use hall_report::{Fault, What};
+use hall_store::{Cached, HallStore};
+use hall_types::{Digest, Moment};
 use hallboot_files::Joining;
+use hallboot_words::{Request, Serving, Task};
 use pxe_vendor::Place;
-use store_cached::Cached;
 
 fn done(task: Result<(), Fault>) -> Result<Exit, Fault> {
     task?;
     Ok(Exit::Done)
 }
 
-fn request<S: HallStore>(
-    rt: &HostRuntime,
-    store: S,
-    place: Place,
-    moment: Moment,
-    fresh: Token,
-) -> (Result<Exit, Fault>, S) {
+fn request<S: HallStore>(rt: &HostRuntime, store: S, request: Request) -> (Result<Exit, Fault>, S) {
+    let Request {
+        place,
+        moment,
+        fresh,
+    } = request;
     let mut desk = Desk::new(store, place);
     let mut reader = Noted::new(rt.stdin());
     let mut writer = Noted::new(rt.stdout());
@@ -82,11 +80,7 @@ fn carried_out_over<S: HallStore>(
     task: Task,
 ) -> (Result<Exit, Fault>, S) {
     match task {
-        Task::Request {
-            place,
-            moment,
-            fresh,
-        } => request(rt, store, place, moment, fresh),
+        Task::Request(asked) => request(rt, store, asked),
         Task::Report(what) => report(rt, store, what),
         Task::Export => export(rt, store),
         Task::Import {

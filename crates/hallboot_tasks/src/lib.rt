@@ -12,8 +12,10 @@ mod stack;
 mod stamps;
 mod sums;
 mod suspended;
+mod turn_lines;
 
 pub use carrying::{carried_out, served};
 pub use notices::{tell, tell_of_fault};
 pub use sums::{HallSum, sum_of, sum_text};
 pub use suspended::Suspended;
+pub use turn_lines::turn_line;

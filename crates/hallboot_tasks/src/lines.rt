@@ -1,12 +1,12 @@
 //! The log of a service's turns.
 use crate::outlet::Outlet;
+use crate::turn_lines::turn_line;
 use desk_lines::{
     Backup, Failures, arrival_members, arrival_text, backup_line, is_of_note, unstamped_line,
 };
-use desk_values::LogFormat;
 use hall_desk::{Account, Answer, Arrival};
+use hall_report::LogFormat;
 use hall_types::Moment;
-use serve_lines::turn_line;
 use serve_sockets::{Turn, TurnLog};
 use std::alloc::{AllocError, Global};
 

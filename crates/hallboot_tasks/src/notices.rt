@@ -3,7 +3,7 @@
 use crate::outlet::Outlet;
 use crate::stamps::now;
 use desk_lines::stamped;
-use desk_values::{Fault, LogFormat};
+use hall_report::{Fault, LogFormat};
 use std::alloc::AllocError;
 
 /// An object that says what happened, with a line feed.

@@ -1,8 +1,8 @@
 //! Where the lines of a log go. A stream that takes no octets now, as a pipe that nobody reads, isn't waited for.
 use desk_lines::lost_line;
-use desk_values::{Fault, LogFormat};
+use hall_report::{Fault, LogFormat};
 use hall_types::Moment;
-use hallboot_asked::fault_of;
+use hallboot_words::fault_of;
 use mio::event::Events;
 use mio::unix::SourceFd;
 use mio::{Interest, Poll, Token};

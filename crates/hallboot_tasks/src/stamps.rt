@@ -1,6 +1,5 @@
 //! Where a service's stamps come from.
-ghost use Rattle.std.specs.Prelude.{◌≡◌, ◌≤◌, ◌<◌, ◌+◌, ◌*◌, ◌/◌, ◌%◌, ◌↔◌, IfSome, IsNone};
-ghost use Rattle.std.specs.Duration.{as_nanos};
+ghost use Rattle.std.specs.{Prelude.{◌≡◌, ◌≤◌, ◌<◌, ◌+◌, ◌*◌, ◌/◌, ◌%◌, ◌↔◌, IfSome, IsNone}, Duration.as_nanos};
 
 use crate::random_block::RandomBlock;
 use hall_types::{MAX_MOMENT, Moment};

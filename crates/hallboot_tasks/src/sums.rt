@@ -1,5 +1,5 @@
 //! What a hall amounts to, for a line about a copy.
-use desk_values::Fault;
+use hall_report::Fault;
 use hall_store::{HallStore, Unavailable};
 use hall_types::Numbers;
 use std::alloc::{AllocError, Global};

@@ -1,14 +1,30 @@
-//! The command line of the desk's program: its subcommands and their options as tables, and what the words of a command line
-//! say of them.
+//! The command line of the desk's program: each command with its options and what it asks for in a file of its own, the files that options
+//! name, and why a fault came.
 #![tactic(auto)]
 
+mod backup;
 mod command_line;
-mod lists;
-mod options;
-mod refusal;
-mod subcommands;
-mod words;
+mod common;
+mod explaining;
+mod failure;
+mod frame;
+mod import;
+mod init;
+mod job;
+mod named_files;
+mod reading;
+mod report;
+mod request;
+mod serve;
 
-pub use refusal::Refusal;
-pub use subcommands::Subcommand;
-pub use words::{Words, read};
+pub use backup::{Backup, Restore};
+pub use command_line::{read, wants_reason};
+pub use explaining::reason;
+pub use failure::{Failure, because, refused};
+pub use frame::Frame;
+pub use import::{Bearer, Import};
+pub use init::Init;
+pub use job::{Job, Task};
+pub use reading::fault_of;
+pub use request::Request;
+pub use serve::{BackupPlan, Serving, has_json_errors};

@@ -1,5 +1,5 @@
 //! Where the desk is, and the operator's token.
-use hallctl_requests::{BearerToken, TokenFault};
+use hallctl_requests::{BearerToken, TextFault};
 use hallctl_tasks::{AddressFault, Desk, DeskAddress, file_octets};
 use hallctl_words::Line;
 use std::os::unix::fs::PermissionsExt;
@@ -62,13 +62,13 @@ fn token_in(rt: &HostRuntime, text: &str) -> Result<BearerToken, DeskFault> {
     };
     match BearerToken::new(rt.alloc(), line) {
         Ok(token) => Ok(token),
-        Err(TokenFault::BadToken) => Err(DeskFault::BadToken),
-        Err(TokenFault::Memory) => Err(DeskFault::Memory),
+        Err(TextFault::BadText) => Err(DeskFault::BadToken),
+        Err(TextFault::Memory) => Err(DeskFault::Memory),
     }
 }
 
-// Tells where others than its owner can read a token's file.
-fn tell_of_others(rt: &HostRuntime, path: &str) {
+// Warns where others than its owner can read a token's file.
+fn warn_of_others(rt: &HostRuntime, path: &str) {
     if let Ok(found) = fs::metadata(rt, path) {
         if found.permissions().mode() & OTHERS != 0 {
             let _ = eprintln!(rt; "hallctl: others can read the token in {path}: chmod 600 {path}");
@@ -77,7 +77,7 @@ fn tell_of_others(rt: &HostRuntime, path: &str) {
 }
 
 fn token_at(rt: &HostRuntime, path: &str) -> Result<BearerToken, DeskFault> {
-    tell_of_others(rt, path);
+    warn_of_others(rt, path);
     let Ok(octets) = file_octets(rt, path) else {
         return Err(DeskFault::UnreadToken);
     };

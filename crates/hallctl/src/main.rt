@@ -3,9 +3,10 @@
 
 mod finding;
 
+use command_rows::Wrong;
 use finding::desk;
-use hallctl_tasks::{Desk, Host, carried_out};
-use hallctl_words::{Line, LineFault, Usage, Wish, completion, read};
+use hallctl_tasks::{Desk, Host, Session};
+use hallctl_words::{Line, LineFault, Wish, completion, read};
 use std::process::ExitCode;
 use std::{env, io};
 
@@ -14,6 +15,39 @@ const FAULT: u8 = 1;
 
 // The exit status of wrong usage.
 const USAGE: u8 = 2;
+
+const NO_MEMORY: &str = "memory ran out";
+
+/// Why the program ends before its task is done.
+#[derive(Drop)]
+enum EarlyEnd {
+    /// The line asks for nothing, or for help.
+    Line(LineFault),
+    /// What it asks for can't be done, for this reason.
+    Misused(&'static str),
+    Fault(&'static str),
+}
+
+impl EarlyEnd {
+    // Prints the help, or why the program ends, and gives its exit status.
+    fn report(&self, rt: &HostRuntime) -> u8 {
+        match self {
+            EarlyEnd::Line(LineFault::Usage(usage)) if !usage.is_memory() => {
+                usage.print(rt);
+                usage.status()
+            }
+            EarlyEnd::Line(LineFault::Wrong(Wrong::Text(line))) => report(rt, line.as_str(), USAGE),
+            EarlyEnd::Line(_) => report(rt, NO_MEMORY, FAULT),
+            EarlyEnd::Misused(words) => report(rt, words, USAGE),
+            EarlyEnd::Fault(words) => report(rt, words, FAULT),
+        }
+    }
+}
+
+fn report(rt: &HostRuntime, words: &str, status: u8) -> u8 {
+    let _ = eprintln!(rt; "hallctl: {words}");
+    status
+}
 
 // The words of the command line.
 fn given(rt: &HostRuntime) -> io::Result<Vec<String>> {
@@ -24,76 +58,56 @@ fn given(rt: &HostRuntime) -> io::Result<Vec<String>> {
     Ok(words)
 }
 
-fn fault(rt: &HostRuntime, words: &str) -> u8 {
-    let _ = eprintln!(rt; "hallctl: {words}");
-    FAULT
-}
-
-fn misused(rt: &HostRuntime, words: &str) -> u8 {
-    let _ = eprintln!(rt; "hallctl: {words}");
-    USAGE
-}
-
-fn status_of_usage(rt: &HostRuntime, usage: &Usage) -> u8 {
-    if usage.is_memory() {
-        return fault(rt, "memory ran out");
-    }
-    usage.print(rt);
-    usage.status()
-}
-
-fn status_of_line_fault(rt: &HostRuntime, line_fault: &LineFault<'_>) -> u8 {
-    match line_fault {
-        LineFault::Usage(usage) => status_of_usage(rt, usage),
-        LineFault::Words(words) => match words.line(rt.alloc()) {
-            Ok(line) => misused(rt, line.as_str()),
-            Err(_) => fault(rt, "memory ran out"),
-        },
-        LineFault::Memory => fault(rt, "memory ran out"),
-    }
-}
-
-fn status_at(rt: &HostRuntime, desk: &Desk, line: &Line<'_>) -> u8 {
-    let Some(mut host) = Host::new(rt, &desk.address) else {
-        return fault(rt, "the system's clock fails");
-    };
-    match carried_out(rt.alloc(), &mut host, desk, line) {
-        Ok(ended) => ended.status(),
-        Err(task_fault) => fault(rt, task_fault.words()),
-    }
-}
-
 // Prints the completion of command lines for bash.
-fn complete(rt: &HostRuntime) -> u8 {
+fn complete(rt: &HostRuntime) -> Result<u8, EarlyEnd> {
     let Ok(text) = completion(rt.alloc()) else {
-        return fault(rt, "memory ran out");
+        return Err(EarlyEnd::Fault(NO_MEMORY));
     };
     match print!(rt; "{text}") {
-        Ok(()) => 0,
-        Err(_) => fault(rt, "standard output can't be written"),
+        Ok(()) => Ok(0),
+        Err(_) => Err(EarlyEnd::Fault("standard output can't be written")),
     }
 }
 
-fn status_of_line(rt: &HostRuntime, line: &Line<'_>) -> u8 {
+fn ask(rt: &HostRuntime, desk: &Desk, line: &Line<'_>) -> Result<u8, EarlyEnd> {
+    let Some(mut host) = Host::new(rt, &desk.address) else {
+        return Err(EarlyEnd::Fault("the system's clock fails"));
+    };
+    let mut session = Session {
+        alloc: rt.alloc(),
+        surroundings: &mut host,
+        desk,
+        line,
+    };
+    match session.carry_out() {
+        Ok(end) => Ok(end.status()),
+        Err(fault) => Err(EarlyEnd::Fault(fault.words())),
+    }
+}
+
+fn carry_out(rt: &HostRuntime, line: &Line<'_>) -> Result<u8, EarlyEnd> {
     if matches!(line.wish, Wish::Completion) {
         return complete(rt);
     }
     match desk(rt, line) {
-        Ok(desk) => status_at(rt, &desk, line),
-        Err(desk_fault) => misused(rt, desk_fault.words()),
+        Ok(desk) => ask(rt, &desk, line),
+        Err(fault) => Err(EarlyEnd::Misused(fault.words())),
     }
 }
 
-fn run(rt: &HostRuntime, words: &[String]) -> u8 {
-    match read(rt.alloc(), words) {
-        Ok(line) => status_of_line(rt, &line),
-        Err(line_fault) => status_of_line_fault(rt, &line_fault),
+fn run(rt: &HostRuntime) -> Result<u8, EarlyEnd> {
+    let Ok(words) = given(rt) else {
+        return Err(EarlyEnd::Misused("a word of the command line isn't UTF-8"));
+    };
+    match read(rt.alloc(), words.as_slice()) {
+        Ok(line) => carry_out(rt, &line),
+        Err(fault) => Err(EarlyEnd::Line(fault)),
     }
 }
 
 fn main(rt: HostRuntime) -> ExitCode {
-    match given(&rt) {
-        Ok(words) => ExitCode::from(run(&rt, words.as_slice())),
-        Err(_) => ExitCode::from(misused(&rt, "a word of the command line isn't UTF-8")),
+    match run(&rt) {
+        Ok(status) => ExitCode::from(status),
+        Err(early) => ExitCode::from(early.report(&rt)),
     }
 }

@@ -1,16 +1,8 @@
 -- What a complete head says of all octets.
-use Rattle.std.proofs.Common.{◌≡◌, ◌++◌, ℕ, List, length, take, drop, map, Result, Ok, Err, ap, sym, ◌∙◌, arith}
-use Rattle.std.specs.Prelude.{IfOk}
-use Rattle.std.proofs.lemmas.List.{take-append-drop}
-use Rattle.httparse.specs.Grammar.{status_code}
-use Rattle.httparse.specs.Spans.{header_bytes, name_and_value}
-use Rattle.httparse.specs.declared.spans.HeaderSpan.{HeaderSpan}
-use Rattle.httparse.specs.declared.spans.ResponseSpans.{ResponseSpans}
-use Rattle.http_requests.specs.Fields.{FieldPair}
-use Rattle.http_requests.specs.Request.{front}
-use Rattle.hallctl_requests.specs.declared.response.Response.{Response}
-use Rattle.hallctl_requests.specs.declared.response.ResponseFault.{ResponseFault}
-use Rattle.hallctl_requests.specs.Response.{HasHead, IsReading, answer_of}
+use Rattle.std.{proofs.{Common.{◌≡◌, ◌++◌, ℕ, List, length, take, drop, map, Result, Ok, Err, ap, sym, ◌∙◌, arith}, lemmas.List.take-append-drop}, specs.Prelude.IfOk}
+use Rattle.httparse.specs.{Grammar.status_code, Spans.{header_bytes, name_and_value}, declared.spans.{HeaderSpan.HeaderSpan, ResponseSpans.ResponseSpans}}
+use Rattle.hall_http.specs.{Fields.FieldPair, Request.front}
+use Rattle.hallctl_requests.specs.{declared.response.{Response.Response, ResponseFault.ResponseFault}, Response.{HasHead, IsReading, answer_of}}
 
 pub head_reads : (octets after : List ℕ) (headers : List HeaderSpan) (spans : ResponseSpans) (result : Result (ℕ × List ℕ) ResponseFault)
     → HasHead (front octets) headers spans → length headers ≡ 64 → after ≡ drop spans.len octets

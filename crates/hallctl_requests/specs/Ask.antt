@@ -1,9 +1,8 @@
 -- What an `Ask` asks.
 use Rattle.std.specs.Prelude.{Bool, false, not}
-use Rattle.hallctl_requests.specs.declared.ask.Ask.{Ask}
+use Rattle.hallctl_requests.specs.{declared.ask.Ask.Ask, Request.{Question, machines, machine, orders, command}}
 use Rattle.hallctl_requests.specs.declared.ask.Ask.TheVariants as ask
-use Rattle.hallctl_requests.specs.Request.{Question, machines, machine, orders, command}
-use Rattle.http_bodies.specs.Sendable.{is_identified}
+use Rattle.hall_http.specs.Sendable.{is_identified}
 
 -- what is asked
 abbrev pub asked : Ask → Question

@@ -1,23 +1,11 @@
 -- Laws of the head that a client sends: it is a head of at most 8,192 octets with at most 64 fields.
-use Rattle.std.proofs.Common.{◌≡◌, ◌+◌, ◌-◌, ◌<◌, ◌≤◌, ◌^◌, ℕ, suc, true, List, [], ◌∷◌, ◌++◌, length, refl, ap, ◌∙◌, arith, length-append, lit<, lit≤}
-use Rattle.std.specs.Prelude.{codes, decimal, take, nat_le, ◌==◌, flat_map, All, IsUtf8}
-use Rattle.std.specs.List.{list_all}
-use Rattle.std.proofs.lemmas.Bool.{and_parts, leb-true, lt-ltb, false_from_ne_true, eqb-true}
-use Rattle.std.proofs.lemmas.Fmt.{length-decimal-le, IsAscii-decimal}
-use Rattle.std.proofs.lemmas.List.Elements.{All-from_recursion}
-use Rattle.std.proofs.lemmas.List.Sums.{AllPass-from_list_all}
-use Rattle.std.proofs.lemmas.Str.{IsUtf8-from_ascii, IsUtf8-append}
-use Rattle.std.proofs.Math.Seq.{take-append-add, drop-append_seam}
+use Rattle.std.{proofs.{Common.{◌≡◌, ◌+◌, ◌-◌, ◌<◌, ◌≤◌, ◌^◌, ℕ, suc, true, List, [], ◌∷◌, ◌++◌, length, refl, ap, ◌∙◌, arith, length-append, lit<, lit≤}, lemmas.{Bool.{and_parts, leb-true, lt-ltb, false_from_ne_true, eqb-true}, Fmt.{length-decimal-le, IsAscii-decimal}, List.{Elements.All-from_recursion, Sums.AllPass-from_list_all}, Str.{IsUtf8-from_ascii, IsUtf8-append}}, Math.Seq.{take-append-add, drop-append_seam}}, specs.{Prelude.{codes, decimal, take, nat_le, ◌==◌, flat_map, All, IsUtf8}, List.list_all}}
 use Rattle.json.proofs.Printed.Utf8.{IsUtf8-are_ascii}
 use Rattle.httparse.specs.Grammar.{Field, RequestHead, IsField, IsRequestHead, ReadsRequest, IsToken, crlf, print_request, print_field, is_token_byte, is_uri_byte, is_value_byte}
 use Rattle.hall_types.specs.Number.{IsNumber}
 use Rattle.hall_events.specs.Command.{request_text}
-use Rattle.http_bodies.specs.SizeLaws.{short-request_text}
-use Rattle.http_requests.specs.Request.{front, after_head}
-use Rattle.http_requests.specs.Fields.{is_visible}
-use Rattle.hallctl_requests.specs.FieldLaws.{visible_text, visible_is_value, visible-decimal, list_all_so}
-use Rattle.hallctl_requests.specs.Request.{Question, machines, machine, orders, command, IsAuthority, IsBearerToken, field, fields_of, method_of, target_of, head_of, body_of, request_of}
-use Rattle.hallctl_requests.specs.Sendable.{IsSendable}
+use Rattle.hall_http.specs.{SizeLaws.short-request_text, Request.{front, after_head}, Fields.is_visible}
+use Rattle.hallctl_requests.specs.{FieldLaws.{visible_text, visible_is_value, visible-decimal, list_all_so}, Request.{Question, machines, machine, orders, command, IsAuthority, IsBearerToken, field, fields_of, method_of, target_of, head_of, body_of, request_of}, Sendable.IsSendable}
 
 -- ---- the parts of the head
 

@@ -1,13 +1,10 @@
 -- Requests of an operator's client and the events that they make (RFC 9112 sections 3 and 5; RFC 9110 sections 7.2, 8.3, 8.6 and 9.3; RFC 6750 section 2.1).
-use Rattle.std.specs.Prelude.{ℕ, List, [], ◌∷◌, ◌++◌, Some, codes, decimal, length, nat_le, ◌&&◌, Bool, IsTrue}
-use Rattle.std.specs.List.{list_all}
+use Rattle.std.specs.{Prelude.{ℕ, List, [], ◌∷◌, ◌++◌, Some, codes, decimal, length, nat_le, ◌&&◌, IsTrue}, List.list_all}
 use Rattle.httparse.specs.Grammar.{Field, RequestHead, crlf, print_request}
 use Rattle.sha2.specs.Sha256.{sha256}
-use Rattle.hall_events.specs.Command.{request_text}
-use Rattle.hall_events.specs.declared.command.HallCommand.{HallCommand}
-use Rattle.hall_events.specs.declared.event.Event.{Event}
+use Rattle.hall_events.specs.{Command.request_text, declared.{command.HallCommand.HallCommand, event.Event.Event}}
 use Rattle.hall_events.specs.declared.event.Event.TheVariants as event
-use Rattle.http_requests.specs.Fields.{is_visible, is_bearer_token}
+use Rattle.hall_http.specs.Fields.{is_visible}
 
 -- what is asked of the desk: the list of machines, one machine, the waiting orders, or a command with the key of its request
 pub data Question : Type 0 where
@@ -16,15 +13,15 @@ pub data Question : Type 0 where
   orders : Question
   command : List ℕ → HallCommand → Question
 
--- 1 to 255 visible characters
-abbrev pub is_authority : List ℕ → Bool
-is_authority text = nat_le 1 (length text) && nat_le (length text) 255 && list_all is_visible text
+-- 1 to so many visible characters
+abbrev pub IsVisibleText : ℕ → List ℕ → Type 0
+IsVisibleText max text = IsTrue (nat_le 1 (length text) && nat_le (length text) max && list_all is_visible text)
 
 abbrev pub IsAuthority : List ℕ → Type 0
-IsAuthority text = IsTrue (is_authority text)
+IsAuthority text = IsVisibleText 255 text
 
 abbrev pub IsBearerToken : List ℕ → Type 0
-IsBearerToken text = IsTrue (is_bearer_token text)
+IsBearerToken text = IsVisibleText 128 text
 
 -- ---- the parts of a request
 

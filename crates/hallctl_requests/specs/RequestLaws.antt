@@ -1,22 +1,10 @@
 -- Laws of requests: the desk reads each as the event that was meant, and no two are equal.
-use Rattle.std.proofs.Common.{◌≡◌, ℕ, List, [], map, refl, sym, ap, subst, ◌∙◌}
-use Rattle.std.specs.Prelude.{Result, Ok}
-use Rattle.std.specs.Result.{result_unwrap_or}
-use Rattle.httparse.specs.Grammar.{RequestHead, ReadsRequest}
-use Rattle.httparse.specs.Spans.{name_and_value}
-use Rattle.httparse.proofs.GrammarLemmas.{request_unique}
+use Rattle.std.{proofs.Common.{◌≡◌, ℕ, List, [], map, refl, sym, ap, subst, ◌∙◌}, specs.{Prelude.{Result, Ok}, Result.result_unwrap_or}}
+use Rattle.httparse.{specs.{Grammar.{RequestHead, ReadsRequest}, Spans.name_and_value}, proofs.GrammarLemmas.request_unique}
 use Rattle.hall_events.specs.declared.event.Event.{Event}
 use Rattle.hall_events.specs.declared.event.Event.TheVariants as event
-use Rattle.http_bodies.specs.SizeLaws.{short-request_text}
-use Rattle.http_requests.specs.declared.fault.HttpFault.{HttpFault}
-use Rattle.http_requests.specs.Answer.{Answers}
-use Rattle.http_requests.specs.Event.{event_of_parts}
-use Rattle.http_requests.specs.EventLaws.{command_event, machines_event, machine_event, orders_event}
-use Rattle.http_requests.specs.Request.{IsEvent, after_head, of_head, front}
-use Rattle.hallctl_requests.specs.FieldLaws.{body_length_is, bearer_is}
-use Rattle.hallctl_requests.specs.HeadLaws.{reads_head, after_head_is, few_fields}
-use Rattle.hallctl_requests.specs.Request.{Question, machines, machine, orders, command, IsAuthority, IsBearerToken, fields_of, method_of, target_of, head_of, body_of, request_of, event_of}
-use Rattle.hallctl_requests.specs.Sendable.{IsSendable}
+use Rattle.hall_http.specs.{SizeLaws.short-request_text, declared.fault.HttpFault.HttpFault, Answer.Answers, Event.event_of_parts, EventLaws.{command_event, machines_event, machine_event, orders_event}, Request.{IsEvent, after_head, of_head, front}}
+use Rattle.hallctl_requests.specs.{FieldLaws.{body_length_is, bearer_is}, HeadLaws.{reads_head, after_head_is, few_fields}, Request.{Question, machines, machine, orders, command, IsAuthority, IsBearerToken, fields_of, method_of, target_of, head_of, body_of, request_of, event_of}, Sendable.IsSendable}
 
 -- ---- each request
 

@@ -1,19 +1,9 @@
 -- How a client reads the octets that the desk sent until it closed the connection (RFC 9112 sections 4 and 6; RFC 9110 section 8.6).
-use Rattle.std.specs.Prelude.{◌≡◌, ◌<◌, ◌≤◌, ◌⊎◌, ℕ, List, Option, Some, None, Result, Ok, Err, Bool, codes, length, map, drop, nat_eq, nat_le, nat_lt, ◌&&◌, if◌then◌else◌}
-use Rattle.std.specs.List.{list_all}
-use Rattle.std.specs.Char.{is_ascii_digit}
-use Rattle.httparse.specs.Grammar.{ResponseHead, ReadsResponse, MayBecomeResponse, NeverHasResponse, print_response, status_code}
-use Rattle.httparse.specs.Spans.{ResponseExceeds, IsResponseAt, IsResponseWithin, name_and_value}
-use Rattle.httparse.specs.declared.spans.HeaderSpan.{HeaderSpan}
-use Rattle.httparse.specs.declared.spans.ResponseSpans.{ResponseSpans}
-use Rattle.http_requests.specs.Fields.{FieldPair, count, first_value}
+use Rattle.std.specs.{Prelude.{◌≡◌, ◌<◌, ◌≤◌, ◌⊎◌, ℕ, List, Option, Some, None, Result, Ok, Err, Bool, codes, length, map, drop, nat_eq, nat_le, nat_lt, ◌&&◌, if◌then◌else◌}, List.list_all, Char.is_ascii_digit}
+use Rattle.httparse.specs.{Grammar.{ResponseHead, ReadsResponse, MayBecomeResponse, NeverHasResponse, print_response, status_code}, Spans.{ResponseExceeds, IsResponseAt, IsResponseWithin, name_and_value}, declared.spans.{HeaderSpan.HeaderSpan, ResponseSpans.ResponseSpans}}
+use Rattle.hall_http.specs.{Fields.{FieldPair, count, first_value}, Request.front}
 use Rattle.pxe_vendor.specs.Digits.{decimal_value}
-use Rattle.http_requests.specs.Request.{front}
-use Rattle.hallctl_requests.specs.declared.response.Response.{Response}
-use Rattle.hallctl_requests.specs.declared.response.ResponseFault.{ResponseFault}
-use Rattle.hallctl_requests.specs.declared.response.ResponseFault.TheVariants.{NotHttp, Cut, TooLong}
-use Rattle.hallctl_requests.specs.declared.head.Look.{Look}
-use Rattle.hallctl_requests.specs.declared.head.Look.TheVariants.{Head, Open, Many, Never}
+use Rattle.hallctl_requests.specs.declared.{response.{Response.Response, ResponseFault.{ResponseFault, TheVariants.{NotHttp, Cut, TooLong}}}, head.Look.{Look, TheVariants.{Head, Open, Many, Never}}}
 
 -- ---- a complete head
 

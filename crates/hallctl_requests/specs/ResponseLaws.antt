@@ -1,26 +1,9 @@
 -- Laws of responses: a client reads what the desk writes as its status and its body.
-use Rattle.std.proofs.Common.{◌≡◌, ◌+◌, ◌-◌, ◌<◌, ◌≤◌, ◌^◌, ℕ, suc, Bool, true, false, List, [], ◌∷◌, ◌++◌, Some, map, length, refl, ap, subst, ◌∙◌, arith, append_assoc, append-nil, length-append, lit≤, lit<}
-use Rattle.std.specs.Prelude.{codes, decimal, drop, take, flat_map, nat_le, nat_lt, ◌&&◌, ◌||◌, ◌==◌, All, Result, Ok}
-use Rattle.std.specs.Fmt.{digits}
-use Rattle.std.specs.List.{list_all, list_any}
-use Rattle.std.specs.Char.{is_ascii_digit}
-use Rattle.std.proofs.lemmas.Bool.{and_parts, le-leb, leb-true, eqb-true, false_from_ne_true, ltb-true}
-use Rattle.std.proofs.lemmas.Fmt.{decimal_nonempty, decimal_is_IsNumeral, length-decimal-le}
-use Rattle.std.proofs.lemmas.List.Elements.{All-from_recursion}
-use Rattle.std.proofs.lemmas.List.Sums.{AllPass-from_list_all}
-use Rattle.std.proofs.Math.Seq.{drop-append_seam}
-use Rattle.httparse.specs.Grammar.{Field, ResponseHead, IsField, IsResponseHead, ReadsResponse, crlf, print_response, print_field, status_code, is_token_byte, is_value_byte}
-use Rattle.httparse.specs.Spans.{name_and_value}
-use Rattle.hall_events.specs.declared.reply.BodyKind.{BodyKind}
-use Rattle.hall_events.specs.declared.reply.BodyKind.TheVariants.{Text, Json}
-use Rattle.hall_http.specs.Response.{IsStatus, statuses, phrase_of, kind_text, status_line, type_line, length_line, last_lines, response}
-use Rattle.http_requests.specs.DecimalLaws.{digits-decimal, decimal_value-decimal}
-use Rattle.http_requests.specs.Request.{front}
-use Rattle.hallctl_requests.specs.FieldLaws.{trims_decimal, visible-decimal}
-use Rattle.hallctl_requests.specs.HeadLaws.{field_is, value_passes, front_of, length-field, length-fields}
-use Rattle.hallctl_requests.specs.Request.{field}
-use Rattle.hallctl_requests.specs.Response.{IsReading, answer_of, size_of, sized}
-use Rattle.hallctl_requests.specs.declared.response.ResponseFault.{ResponseFault}
+use Rattle.std.{proofs.{Common.{◌≡◌, ◌+◌, ◌-◌, ◌<◌, ◌≤◌, ◌^◌, ℕ, suc, Bool, true, false, List, [], ◌∷◌, ◌++◌, Some, map, length, refl, ap, subst, ◌∙◌, arith, append_assoc, append-nil, length-append, lit≤, lit<}, lemmas.{Bool.{and_parts, le-leb, leb-true, eqb-true, false_from_ne_true, ltb-true}, Fmt.{decimal_nonempty, decimal_is_IsNumeral, length-decimal-le}, List.{Elements.All-from_recursion, Sums.AllPass-from_list_all}}, Math.Seq.drop-append_seam}, specs.{Prelude.{codes, decimal, drop, take, flat_map, nat_le, nat_lt, ◌&&◌, ◌||◌, ◌==◌, All, Result, Ok}, Fmt.digits, List.{list_all, list_any}, Char.is_ascii_digit}}
+use Rattle.httparse.specs.{Grammar.{Field, ResponseHead, IsField, IsResponseHead, ReadsResponse, crlf, print_response, print_field, status_code, is_token_byte, is_value_byte}, Spans.name_and_value}
+use Rattle.hall_events.specs.declared.reply.BodyKind.{BodyKind, TheVariants.{Text, Json}}
+use Rattle.hall_http.specs.{Response.{IsStatus, statuses, phrase_of, kind_text, status_line, type_line, length_line, last_lines, response}, DecimalLaws.{digits-decimal, decimal_value-decimal}, Request.front}
+use Rattle.hallctl_requests.specs.{FieldLaws.{trims_decimal, visible-decimal}, HeadLaws.{field_is, value_passes, front_of, length-field, length-fields}, Request.field, Response.{IsReading, answer_of, size_of, sized}, declared.response.ResponseFault.ResponseFault}
 
 -- ---- the statuses
 

@@ -1,6 +1,6 @@
 -- Which questions the desk reads as what was meant.
 use Rattle.hall_types.specs.Number.{IsNumber}
-use Rattle.http_bodies.specs.Sendable.{IsSendableCommand}
+use Rattle.hall_http.specs.Sendable.{IsSendableCommand}
 use Rattle.hallctl_requests.specs.Request.{Question, machines, machine, orders, command}
 
 -- a machine has a number, and a command can be brought by a request

@@ -1,19 +1,12 @@
 //! The octets of requests.
 ghost use Rattle.std.specs.Prelude.{◌≡◌, ◌++◌, ◌↔◌, false, codes, decimal, length, string_bytes, IfOk, OnOk, IsErrOf, IsTrue, Result, Ok};
-ghost use Rattle.http_requests.specs.Answer.{Answers};
-ghost use Rattle.http_requests.specs.Request.{IsEvent};
-ghost use Rattle.hall_events.specs.declared.event.Event.{Event};
-ghost use Rattle.http_requests.specs.declared.fault.HttpFault.{HttpFault};
+ghost use Rattle.hall_http.specs.{Answer.Answers, Request.IsEvent, declared.fault.HttpFault.HttpFault, Sendable.{IsSendableCommand, is_identified}};
+ghost use Rattle.hall_events.specs.{declared.event.Event.Event, Command.request_text};
 ghost use Rattle.hall_types.specs.Number.{IsNumber};
-ghost use Rattle.hall_events.specs.Command.{request_text};
-ghost use Rattle.hallctl_requests.specs.Ask.{asked, brings_blank};
-ghost use Rattle.hallctl_requests.specs.Request.{body_part, common_lines, event_of, field_line, get_of, post_of, request_line, request_of};
-ghost use Rattle.http_bodies.specs.Sendable.{IsSendableCommand, is_identified};
-ghost use Rattle.hallctl_requests.specs.Sendable.{IsSendable};
+ghost use Rattle.hallctl_requests.specs.{Ask.{asked, brings_blank}, Request.{body_part, common_lines, event_of, field_line, get_of, post_of, request_line, request_of}, Sendable.IsSendable};
 
 use crate::ask::Ask;
-use crate::authority::Authority;
-use crate::bearer::BearerToken;
+use crate::checked_text::{Authority, BearerToken};
 use crate::sendable::{has_parts, is_identified};
 use hall_events::HallCommand;
 use hall_types::{Number, RequestKey};

@@ -1,13 +1,12 @@
 //! Responses of the desk.
-ghost use Rattle.std.specs.Prelude.{◌≡◌, ◌<◌, ◌^◌, ◌++◌, ℕ, List, Ok, IfOk, length, map, All, option_copied};
-ghost use Rattle.std.specs.Result.{result_map_both};
+ghost use Rattle.std.specs.{Prelude.{◌≡◌, ◌<◌, ◌^◌, ◌++◌, ℕ, List, Ok, IfOk, length, map, All, option_copied}, Result.result_map_both};
 ghost use Rattle.httparse.specs.Spans.{IsHeaderWithin, header_bytes};
 ghost use Rattle.hall_events.specs.declared.reply.BodyKind.{BodyKind};
 ghost use Rattle.hall_http.specs.Response.{IsStatus, response};
 ghost use Rattle.hallctl_requests.specs.Response.{IsReading, answer_of, body_of, has_one_size, is_size, said, said_size, size_of, sized};
 
 use crate::head::{Look, MAX_FIELDS, MAX_HEAD_LEN, look_for_head};
-use http_requests::{count, first_value, prefix, suffix};
+use hall_http::{count, first_value, prefix, suffix};
 use httparse::spans::{EMPTY_HEADER_SPAN, HeaderSpan};
 use pxe_vendor::{are_digits, decimal};
 use thiserror::Error;

@@ -1,8 +1,7 @@
 //! What holds of each command.
 ghost use Rattle.std.specs.Prelude.{◌≡◌};
-ghost use Rattle.hall_types.specs.Image.{IsImage};
-ghost use Rattle.hall_types.specs.Name.{IsName};
-ghost use Rattle.http_bodies.specs.Sendable.{HasNames, HasParts, identifies, is_identified};
+ghost use Rattle.hall_types.specs.{Image.IsImage, Name.IsName};
+ghost use Rattle.hall_http.specs.Sendable.{HasNames, HasParts, identifies, is_identified};
 
 use hall_events::{HallCommand, MachineCommand};
 use hall_types::{Image, MachineUuid, Name};

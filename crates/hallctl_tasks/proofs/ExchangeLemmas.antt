@@ -1,7 +1,6 @@
 -- Tries in vain.
 use Rattle.std.proofs.Common.{◌≡◌, ℕ, List, Option, subst, sym}
-use Rattle.hallctl_tasks.specs.Exchange.{AreInVain, AreUnsent, IsTry, IsUnsent, Known, Unheard, more, unsent_more}
-use Rattle.hallctl_tasks.specs.Try.{Try}
+use Rattle.hallctl_tasks.specs.{Exchange.{AreInVain, AreUnsent, IsTry, IsUnsent, Known, Unheard, more, unsent_more}, Try.Try}
 
 -- one more try that makes nothing known
 pub one_more_in_vain : (before : Option (List Try)) (octets : List ℕ) (known : Known) (last middle after : Option (List Try))

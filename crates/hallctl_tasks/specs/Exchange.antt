@@ -1,13 +1,7 @@
 -- What an exchange with the desk sends, and what it makes known.
 use Rattle.std.specs.Prelude.{◌≡◌, ℕ, Bool, List, Option, Result, Ok, Err, if◌then◌else◌, ◌==◌, ◌||◌}
-use Rattle.hallctl_requests.specs.declared.response.ResponseFault.{ResponseFault}
-use Rattle.hallctl_requests.specs.declared.response.ResponseFault.TheVariants.{Cut, NotHttp, TooLong}
-use Rattle.hallctl_requests.specs.Response.{IsReading}
-use Rattle.hallctl_tasks.specs.Hearing.{Hearing}
-use Rattle.hallctl_tasks.specs.Try.{Came, Octets, Endless, Silence, NoConnection, Try, adds}
-use Rattle.hallctl_tasks.specs.declared.dial.Why.{Why}
-use Rattle.hallctl_tasks.specs.declared.answer.Exchanged.{Exchanged}
-use Rattle.hallctl_tasks.specs.declared.answer.Exchanged.TheVariants.{Answered, NotTheDesk, Unknown, Unsent}
+use Rattle.hallctl_requests.specs.{declared.response.ResponseFault.{ResponseFault, TheVariants.{Cut, NotHttp, TooLong}}, Response.IsReading}
+use Rattle.hallctl_tasks.specs.{Hearing.Hearing, Try.{Came, Octets, Endless, Silence, NoConnection, Try, adds}, declared.{dial.Why.Why, answer.Exchanged.{Exchanged, TheVariants.{Answered, NotTheDesk, Unknown, Unsent}}}}
 
 -- what is known: a whole answer but 503, that what answers isn't the desk, or nothing
 pub data Known : Type 0 where

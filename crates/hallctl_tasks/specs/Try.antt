@@ -1,8 +1,6 @@
 -- Tries to have the desk's answer.
 use Rattle.std.specs.Prelude.{ℕ, List, [], ◌∷◌, ◌++◌, Option, None, Some}
-use Rattle.hallctl_tasks.specs.declared.dial.Attempt.{Attempt}
-use Rattle.hallctl_tasks.specs.declared.dial.Attempt.TheVariants.{Answer, TooLong, Nothing, Unsent}
-use Rattle.hallctl_tasks.specs.declared.dial.Why.{Why}
+use Rattle.hallctl_tasks.specs.declared.dial.{Attempt.{Attempt, TheVariants.{Answer, TooLong, Nothing, Unsent}}, Why.Why}
 
 -- what came back, where there was a connection
 pub data Came : Type 0 where

@@ -1,5 +1,5 @@
 //! Where the desk is.
-use hallctl_requests::{Authority, AuthorityFault};
+use hallctl_requests::{Authority, TextFault};
 use std::alloc::{AllocError, Global};
 use url::{ParseError, Url};
 
@@ -54,8 +54,8 @@ fn authority_of(alloc: Global, host: &str, port: Option<u16>) -> Result<Authorit
     };
     match Authority::new(alloc, text.as_str()) {
         Ok(authority) => Ok(authority),
-        Err(AuthorityFault::BadAuthority) => Err(AddressFault::NotAnAddress),
-        Err(AuthorityFault::Memory) => Err(AddressFault::Memory),
+        Err(TextFault::BadText) => Err(AddressFault::NotAnAddress),
+        Err(TextFault::Memory) => Err(AddressFault::Memory),
     }
 }
 

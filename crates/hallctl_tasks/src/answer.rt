@@ -2,6 +2,7 @@
 ghost use Rattle.std.specs.Prelude.{◌≡◌, ◌≤◌, drop, length};
 
 use crate::dial::Why;
+use hallctl_texts::{ListedMachine, listed, value_of};
 use std::alloc::{AllocError, Global};
 use std::marker::Model;
 
@@ -50,6 +51,24 @@ impl Answer {
         ensures { result.now ≡ self.now.body }
     {
         &self.octets.as_slice()[self.start..]
+    }
+
+    /// The body as it came, if it is a text.
+    pub(crate) fn text(&self) -> Option<&str> {
+        std::str::from_utf8(self.body()).ok()
+    }
+
+    /// The machine that it lists, if it does.
+    pub(crate) fn machine(&self, alloc: Global) -> Result<Option<ListedMachine>, AllocError> {
+        match value_of(alloc, self.body())? {
+            Some(value) => Ok(listed(&value).ok()),
+            None => Ok(None),
+        }
+    }
+
+    /// What it is where it isn't one of the desk's to what was asked.
+    pub(crate) fn strange(&self) -> Strange {
+        Strange::OtherAnswer(self.status)
     }
 }
 

@@ -2,8 +2,9 @@
 use crate::address::DeskAddress;
 use crate::answer::{Answer, Exchanged, Strange};
 use crate::dial::Why;
+use crate::end::{EarlyEnd, TaskFault};
 use crate::exchanging::{MAX_TRY, Patience, exchange};
-use crate::fault::TaskFault;
+use crate::session::Session;
 use crate::surroundings::Surroundings;
 use hall_events::HallCommand;
 use hallctl_requests::{Ask, BearerToken, RequestFault, request};
@@ -16,6 +17,22 @@ pub struct Desk {
     pub address: DeskAddress,
     pub token: BearerToken,
     pub milliseconds: u64,
+}
+
+impl Desk {
+    /// The URL that is asked.
+    pub(crate) fn url(&self, alloc: Global, ask: &Ask<'_>) -> Result<String, AllocError> {
+        let authority = self.address.authority.text();
+        match ask {
+            Ask::Machines => format!(in alloc; "http://{authority}/machines"),
+            Ask::Machine(machine) => {
+                let machine = machine.get();
+                format!(in alloc; "http://{authority}/machines/{machine}")
+            }
+            Ask::Orders => format!(in alloc; "http://{authority}/orders"),
+            Ask::Command { .. } => format!(in alloc; "http://{authority}/commands"),
+        }
+    }
 }
 
 /// What comes of asking the desk.
@@ -39,20 +56,6 @@ fn question_of<'c>(ask: &Ask<'c>) -> Question<'c> {
     }
 }
 
-/// The URL that is asked.
-pub(crate) fn url_of(alloc: Global, desk: &Desk, ask: &Ask<'_>) -> Result<String, AllocError> {
-    let authority = desk.address.authority.text();
-    match ask {
-        Ask::Machines => format!(in alloc; "http://{authority}/machines"),
-        Ask::Machine(machine) => {
-            let machine = machine.get();
-            format!(in alloc; "http://{authority}/machines/{machine}")
-        }
-        Ask::Orders => format!(in alloc; "http://{authority}/orders"),
-        Ask::Command { .. } => format!(in alloc; "http://{authority}/commands"),
-    }
-}
-
 // The command of what is asked, if it is one.
 fn command_of<'c>(ask: &Ask<'c>) -> Option<&'c HallCommand> {
     match ask {
@@ -62,7 +65,7 @@ fn command_of<'c>(ask: &Ask<'c>) -> Option<&'c HallCommand> {
 }
 
 // What an answer says to a question, which is about this command, if it is about one. The command is passed beside it, since the prover's
-// borrow checker is told of its type by nothing else here.
+// borrow checker has its type from nothing else here.
 fn said_to(
     alloc: Global,
     question: &Question<'_>,
@@ -82,99 +85,77 @@ fn said(alloc: Global, ask: &Ask<'_>, answer: &Answer) -> Result<Option<DeskAnsw
     said_to(alloc, &question, command, answer)
 }
 
-// An answer is the desk's only if it is one to what was asked.
-fn judged<S: Surroundings>(
-    alloc: Global,
-    surroundings: &mut S,
-    ask: &Ask<'_>,
-    answer: Answer,
-) -> Result<Heard, AllocError> {
-    match said(alloc, ask, &answer)? {
-        Some(said) => {
-            surroundings.count_anew();
-            Ok(Heard::Said(said, answer))
+impl<S: Surroundings> Session<'_, S> {
+    // What an exchange gives. An answer is the desk's only if it is one to what was asked; time is counted anew from it on.
+    fn heard(&mut self, ask: &Ask<'_>, exchanged: Exchanged) -> Result<Heard, AllocError> {
+        match exchanged {
+            Exchanged::Answered(answer) => match said(self.alloc, ask, &answer)? {
+                Some(said) => {
+                    self.surroundings.count_anew();
+                    Ok(Heard::Said(said, answer))
+                }
+                None => Ok(Heard::NotTheDesk(answer.strange())),
+            },
+            Exchanged::NotTheDesk(strange) => Ok(Heard::NotTheDesk(strange)),
+            Exchanged::Unknown(why) => Ok(Heard::Unknown(why)),
+            Exchanged::Unsent(why) => Ok(Heard::Unsent(why)),
         }
-        None => Ok(Heard::NotTheDesk(Strange::OtherAnswer(answer.status()))),
     }
-}
 
-fn outcome_of<S: Surroundings>(
-    alloc: Global,
-    surroundings: &mut S,
-    ask: &Ask<'_>,
-    exchanged: Exchanged,
-) -> Result<Heard, AllocError> {
-    match exchanged {
-        Exchanged::Answered(answer) => judged(alloc, surroundings, ask, answer),
-        Exchanged::NotTheDesk(strange) => Ok(Heard::NotTheDesk(strange)),
-        Exchanged::Unknown(why) => Ok(Heard::Unknown(why)),
-        Exchanged::Unsent(why) => Ok(Heard::Unsent(why)),
-    }
-}
-
-fn asked_for<S: Surroundings>(
-    alloc: Global,
-    surroundings: &mut S,
-    desk: &Desk,
-    ask: &Ask<'_>,
-    patience: Patience,
-) -> Result<Heard, TaskFault> {
-    match request(alloc, &desk.address.authority, &desk.token, ask) {
-        Ok(octets) => {
-            let exchanged = exchange(alloc, surroundings, octets.as_slice(), patience);
-            drop(octets);
-            Ok(outcome_of(alloc, surroundings, ask, exchanged)?)
+    fn ask_for(&mut self, ask: &Ask<'_>, patience: Patience) -> Result<Heard, EarlyEnd> {
+        match request(
+            self.alloc,
+            &self.desk.address.authority,
+            &self.desk.token,
+            ask,
+        ) {
+            Ok(octets) => {
+                let exchanged = exchange(
+                    self.alloc,
+                    self.surroundings,
+                    octets.as_slice(),
+                    patience,
+                );
+                drop(octets);
+                Ok(self.heard(ask, exchanged)?)
+            }
+            Err(RequestFault::BlankUuid) => Err(EarlyEnd::Fault(TaskFault::BlankUuid)),
+            Err(RequestFault::Memory) => Err(EarlyEnd::Fault(TaskFault::Memory)),
         }
-        Err(RequestFault::BlankUuid) => Err(TaskFault::BlankUuid),
-        Err(RequestFault::Memory) => Err(TaskFault::Memory),
     }
-}
 
-// The milliseconds of the line's time that are left: it is counted anew from each answer of the desk on.
-fn left<S: Surroundings>(surroundings: &mut S, desk: &Desk) -> u64 {
-    desk.milliseconds.saturating_sub(surroundings.idle())
-}
+    // The milliseconds of the line's time that are left: it is counted anew from each answer of the desk on.
+    fn time_left(&mut self) -> u64 {
+        self.desk
+            .milliseconds
+            .saturating_sub(self.surroundings.idle())
+    }
 
-/// Asks the desk, again and again until there is an answer or the time is over.
-pub(crate) fn asked<S: Surroundings>(
-    alloc: Global,
-    surroundings: &mut S,
-    desk: &Desk,
-    ask: &Ask<'_>,
-) -> Result<Heard, TaskFault> {
-    let all = left(surroundings, desk);
-    // No time at all is one try.
-    let first = if desk.milliseconds == 0 {
-        MAX_TRY
-    } else {
-        all.min(MAX_TRY)
-    };
-    asked_for(alloc, surroundings, desk, ask, Patience { all, first })
-}
+    /// Asks the desk, again and again until there is an answer or the time is over.
+    pub(crate) fn ask(&mut self, ask: &Ask<'_>) -> Result<Heard, EarlyEnd> {
+        let all = self.time_left();
+        // No time at all is one try.
+        let first = if self.desk.milliseconds == 0 {
+            MAX_TRY
+        } else {
+            all.min(MAX_TRY)
+        };
+        self.ask_for(ask, Patience { all, first })
+    }
 
-/// Asks the desk once, for at most so many milliseconds.
-pub(crate) fn asked_once<S: Surroundings>(
-    alloc: Global,
-    surroundings: &mut S,
-    desk: &Desk,
-    ask: &Ask<'_>,
-    milliseconds: u64,
-) -> Result<Heard, TaskFault> {
-    let first = milliseconds.min(MAX_TRY);
-    asked_for(alloc, surroundings, desk, ask, Patience { all: 0, first })
-}
+    /// Asks the desk once, for at most so many milliseconds.
+    pub(crate) fn ask_once(&mut self, ask: &Ask<'_>, milliseconds: u64) -> Result<Heard, EarlyEnd> {
+        let first = milliseconds.min(MAX_TRY);
+        self.ask_for(ask, Patience { all: 0, first })
+    }
 
-/// Asks the desk once for what can be done without, for at most half of the time that is left.
-pub(crate) fn asked_in_passing<S: Surroundings>(
-    alloc: Global,
-    surroundings: &mut S,
-    desk: &Desk,
-    ask: &Ask<'_>,
-) -> Result<Heard, TaskFault> {
-    let milliseconds = if desk.milliseconds == 0 {
-        MAX_TRY
-    } else {
-        left(surroundings, desk) / 2
-    };
-    asked_once(alloc, surroundings, desk, ask, milliseconds)
+    /// Asks the desk once for what can be done without, for at most half of the time that is left.
+    pub(crate) fn ask_in_passing(&mut self, ask: &Ask<'_>) -> Result<Heard, EarlyEnd> {
+        let milliseconds = if self.desk.milliseconds == 0 {
+            MAX_TRY
+        } else {
+            self.time_left() / 2
+        };
+        self.ask_once(ask, milliseconds)
+    }
 }

@@ -1,7 +1,7 @@
 //! The system that the program runs on: a socket to the desk, the terminal, files and random octets.
 use crate::address::DeskAddress;
 use crate::dial::{Attempt, Dial, Why};
-use crate::saying::goes_on_text;
+use crate::output::goes_on_text;
 use crate::socket::{Time, connected, exchanged};
 use crate::surroundings::{FileFault, Surroundings};
 use rand::rngs::SysRng;
@@ -158,7 +158,7 @@ impl Surroundings for Host<'_> {
         self.rt.stdout().write_all(text.as_bytes()).is_ok()
     }
 
-    fn tell(&mut self, text: &str) {
+    fn eprint(&mut self, text: &str) {
         let _ = self.rt.stderr().write_all(text.as_bytes());
     }
 

@@ -1,18 +1,19 @@
 //! One command is sent until it is answered.
-use crate::answer::{Answer, Strange};
-use crate::desk::{Desk, Heard, asked};
+use crate::answer::Answer;
+use crate::desk::Heard;
 use crate::dial::Why;
-use crate::fault::{Ended, TaskFault};
+use crate::end::{EarlyEnd, TaskEnd};
 use crate::keys::key_text;
 use crate::looks::Before;
-use crate::notes::{note_end, note_text, noted};
-use crate::saying::{print_line, strange_text, tell};
+use crate::session::Session;
 use crate::surroundings::Surroundings;
-use crate::texts::said_text;
 use hall_events::HallCommand;
-use hall_types::RequestKey;
+use hall_types::{RequestKey, Status};
 use hallctl_requests::Ask;
-use hallctl_texts::{DeskAnswer, subject};
+use hallctl_texts::{
+    DeskAnswer, MachineState, deleted_line, done_line, refusal_line, state_line, subject,
+    version_of,
+};
 use std::alloc::{AllocError, Global};
 
 /// A command that is to be sent.
@@ -22,12 +23,8 @@ pub(crate) struct Sending<'c> {
     pub(crate) command: &'c HallCommand,
     /// The machine as it was listed before, where it was.
     pub(crate) before: Option<Before>,
-    /// What has to be said beside the key when the command is said again.
-    pub(crate) beside: &'c str,
-    /// Whether the desk's JSON is printed.
-    pub(crate) json: bool,
-    /// The file to which the key is added.
-    pub(crate) keys: Option<&'c str>,
+    /// What may be done in place of saying it again with its key, where something may.
+    pub(crate) instead: &'static str,
 }
 
 impl<'c> Sending<'c> {
@@ -38,140 +35,129 @@ impl<'c> Sending<'c> {
             command: self.command,
         }
     }
-}
 
-// How a command is said again: with its key, and what has to be said beside it.
-fn again_text(alloc: Global, sending: &Sending<'_>) -> Result<String, AllocError> {
-    let key = key_text(alloc, sending.key)?;
-    let beside = sending.beside;
-    format!(in alloc; "--key {key}{beside}")
-}
-
-// The line of a command of which it isn't known whether it was done, for this cause.
-fn open_text(alloc: Global, sending: &Sending<'_>, cause: &str) -> Result<String, AllocError> {
-    let about = subject(alloc, sending.command)?;
-    let again = again_text(alloc, sending)?;
-    format!(in alloc;
-        "{about}: {cause}; it isn't known whether this was done. Say it again with {again}"
-    )
-}
-
-// The line of a command that wasn't sent, for this reason.
-fn unsent_text(alloc: Global, sending: &Sending<'_>, why: Why) -> Result<String, AllocError> {
-    let about = subject(alloc, sending.command)?;
-    let again = again_text(alloc, sending)?;
-    let why = why.words();
-    format!(in alloc; "{about}: not done ({why}): say it again with {again}")
-}
-
-// Writes the line of a command without an answer: beside the desk's JSON it goes to standard error.
-fn write_unanswered<S: Surroundings>(
-    alloc: Global,
-    surroundings: &mut S,
-    sending: &Sending<'_>,
-    line: &str,
-) -> Result<Ended, TaskFault> {
-    if sending.json {
-        tell(alloc, surroundings, line)?;
-    } else {
-        print_line(alloc, surroundings, line)?;
-    }
-    Ok(Ended::NoAnswer)
-}
-
-// What answered a command isn't the desk.
-fn not_the_desk<S: Surroundings>(
-    alloc: Global,
-    surroundings: &mut S,
-    desk: &Desk,
-    sending: &Sending<'_>,
-    strange: Strange,
-) -> Result<Ended, TaskFault> {
-    let cause = strange_text(alloc, desk, &sending.ask(), strange)?;
-    let line = open_text(alloc, sending, cause.as_str())?;
-    write_unanswered(alloc, surroundings, sending, line.as_str())
-}
-
-fn unknown<S: Surroundings>(
-    alloc: Global,
-    surroundings: &mut S,
-    sending: &Sending<'_>,
-    why: Why,
-) -> Result<Ended, TaskFault> {
-    let words = why.words();
-    let cause = format!(in alloc; "no answer ({words})")?;
-    let line = open_text(alloc, sending, cause.as_str())?;
-    write_unanswered(alloc, surroundings, sending, line.as_str())
-}
-
-fn unsent<S: Surroundings>(
-    alloc: Global,
-    surroundings: &mut S,
-    sending: &Sending<'_>,
-    why: Why,
-) -> Result<Ended, TaskFault> {
-    let line = unsent_text(alloc, sending, why)?;
-    write_unanswered(alloc, surroundings, sending, line.as_str())
-}
-
-// The body of an answer as it came.
-fn body_text(answer: &Answer) -> Option<&str> {
-    std::str::from_utf8(answer.body()).ok()
-}
-
-// Prints what the desk says of a command.
-fn told<S: Surroundings>(
-    alloc: Global,
-    surroundings: &mut S,
-    sending: &Sending<'_>,
-    said: &DeskAnswer,
-    answer: &Answer,
-) -> Result<Ended, TaskFault> {
-    match body_text(answer) {
-        Some(body) if sending.json => print_line(alloc, surroundings, body)?,
-        _ => {
-            let line = said_text(alloc, sending.command, sending.before, said)?;
-            print_line(alloc, surroundings, line.as_str())?;
+    // How the command is said again: with its key, and the version that it has.
+    fn again(&self, alloc: Global) -> Result<String, AllocError> {
+        let key = key_text(alloc, self.key)?;
+        let instead = self.instead;
+        match version_of(self.command) {
+            Some(version) => {
+                let version = version.get();
+                format!(in alloc; "--key {key} --version {version}{instead}")
+            }
+            None => format!(in alloc; "--key {key}{instead}"),
         }
     }
-    match said {
-        DeskAnswer::Refused(_) => Ok(Ended::Refused),
-        _ => Ok(Ended::Done),
-    }
-}
 
-// What comes of a command.
-fn outcome<S: Surroundings>(
-    alloc: Global,
-    surroundings: &mut S,
-    desk: &Desk,
-    sending: &Sending<'_>,
-) -> Result<Ended, TaskFault> {
-    match asked(alloc, surroundings, desk, &sending.ask())? {
-        Heard::Said(said, answer) => told(alloc, surroundings, sending, &said, &answer),
-        Heard::NotTheDesk(strange) => not_the_desk(alloc, surroundings, desk, sending, strange),
-        Heard::Unknown(why) => unknown(alloc, surroundings, sending, why),
-        Heard::Unsent(why) => unsent(alloc, surroundings, sending, why),
+    // The line where it isn't known whether the command was done, for this cause.
+    fn open_line(&self, alloc: Global, cause: &str) -> Result<String, AllocError> {
+        let about = subject(alloc, self.command)?;
+        let again = self.again(alloc)?;
+        format!(in alloc;
+            "{about}: {cause}; it isn't known whether this was done. Say it again with {again}"
+        )
     }
-}
 
-/// Sends a command until it is answered, and prints its line. Its key is noted before the first try: where that fails, nothing is sent.
-pub(crate) fn sent<S: Surroundings>(
-    alloc: Global,
-    surroundings: &mut S,
-    desk: &Desk,
-    sending: &Sending<'_>,
-) -> Result<Ended, TaskFault> {
-    let note = note_text(alloc, sending.key, sending.command)?;
-    if let Some(end) = noted(alloc, surroundings, sending.keys, note.as_str())? {
-        return Ok(end);
+    // The line where the command wasn't sent, for this reason.
+    fn unsent_line(&self, alloc: Global, why: Why) -> Result<String, AllocError> {
+        let about = subject(alloc, self.command)?;
+        let again = self.again(alloc)?;
+        let why = why.words();
+        format!(in alloc; "{about}: not done ({why}): say it again with {again}")
     }
-    let end = outcome(alloc, surroundings, desk, sending);
-    match end {
-        Ok(end) => {
-            note_end(alloc, surroundings, sending.keys, note.as_str(), end)?;
-            Ok(end)
+
+    // The machine's status just before it was changed: it is that of the listing only if nothing else has changed it since.
+    fn status_before(&self, state: &MachineState) -> Option<Status> {
+        let before = self.before?;
+        (state.version.get() == before.version.get().saturating_add(1)).then_some(before.status)
+    }
+
+    // The line of what the desk says of the command.
+    fn answered_line(&self, alloc: Global, said: &DeskAnswer) -> Result<String, AllocError> {
+        match said {
+            DeskAnswer::Done | DeskAnswer::Listed => done_line(alloc, self.command),
+            DeskAnswer::Deleted(machine) => deleted_line(alloc, *machine),
+            DeskAnswer::Machine(state) => state_line(alloc, self.status_before(state), state),
+            DeskAnswer::Refused(refusal) => refusal_line(alloc, Some(self.command), *refusal),
         }
-        Err(fault) => Err(fault),
+    }
+}
+
+impl<S: Surroundings> Session<'_, S> {
+    // Prints the line of a command that ends so without an answer: beside the desk's JSON it goes to standard error.
+    fn print_unanswered(&mut self, line: &str, end: TaskEnd) -> Result<TaskEnd, EarlyEnd> {
+        if self.line.json {
+            self.report(line)?;
+        } else {
+            self.print_line(line)?;
+        }
+        Ok(end)
+    }
+
+    // Prints that it isn't known whether a command was done, for this cause.
+    fn print_open(&mut self, sending: &Sending<'_>, cause: &str) -> Result<TaskEnd, EarlyEnd> {
+        let line = sending.open_line(self.alloc, cause)?;
+        self.print_unanswered(line.as_str(), TaskEnd::NoAnswer)
+    }
+
+    fn print_unknown(&mut self, sending: &Sending<'_>, why: Why) -> Result<TaskEnd, EarlyEnd> {
+        let why = why.words();
+        let cause = format!(in self.alloc; "no answer ({why})")?;
+        self.print_open(sending, cause.as_str())
+    }
+
+    fn print_unsent(&mut self, sending: &Sending<'_>, why: Why) -> Result<TaskEnd, EarlyEnd> {
+        let line = sending.unsent_line(self.alloc, why)?;
+        self.print_unanswered(line.as_str(), TaskEnd::Unsent)
+    }
+
+    // Prints what the desk says of a command, as it came or as a line.
+    fn print_answer(
+        &mut self,
+        sending: &Sending<'_>,
+        said: &DeskAnswer,
+        answer: &Answer,
+    ) -> Result<TaskEnd, EarlyEnd> {
+        match answer.text() {
+            Some(text) if self.line.json => self.print_line(text)?,
+            _ => {
+                let line = sending.answered_line(self.alloc, said)?;
+                self.print_line(line.as_str())?;
+            }
+        }
+        match said {
+            DeskAnswer::Refused(_) => Ok(TaskEnd::Refused),
+            _ => Ok(TaskEnd::Done),
+        }
+    }
+
+    fn send_noted(&mut self, sending: &Sending<'_>) -> Result<TaskEnd, EarlyEnd> {
+        let ask = sending.ask();
+        match self.ask(&ask)? {
+            Heard::Said(said, answer) => self.print_answer(sending, &said, &answer),
+            Heard::NotTheDesk(strange) => {
+                let cause = self.strange_text(&ask, strange)?;
+                self.print_open(sending, cause.as_str())
+            }
+            Heard::Unknown(why) => self.print_unknown(sending, why),
+            Heard::Unsent(why) => self.print_unsent(sending, why),
+        }
+    }
+
+    // Sends a command, and notes before and after it.
+    fn send_with_note(&mut self, sending: &Sending<'_>, note: &str) -> Result<TaskEnd, EarlyEnd> {
+        if !self.note(note)? {
+            return Ok(TaskEnd::Misused);
+        }
+        let end = self.send_noted(sending)?;
+        self.note_end(note, end)?;
+        Ok(end)
+    }
+
+    /// Sends a command until it is answered, and prints its line. Its key is noted before the first try: where that fails, nothing is
+    /// sent.
+    pub(crate) fn send(&mut self, sending: &Sending<'_>) -> Result<TaskEnd, EarlyEnd> {
+        let note = sending.note(self.alloc)?;
+        self.send_with_note(sending, note.as_str())
     }
 }

@@ -32,7 +32,7 @@ pub trait Surroundings: Dial {
     fn print(&mut self, text: &str) -> bool;
 
     /// Writes a text to standard error, if that can be.
-    fn tell(&mut self, text: &str);
+    fn eprint(&mut self, text: &str);
 
     /// Whether standard error is a terminal.
     fn is_watched(&self) -> bool;

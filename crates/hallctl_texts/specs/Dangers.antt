@@ -1,9 +1,6 @@
 -- Commands that erase disks or delete machines.
 use Rattle.std.specs.Prelude.{ℕ, Bool, true, false, Option, Some, None}
-use Rattle.hall_events.specs.declared.command.HallCommand.{HallCommand}
-use Rattle.hall_events.specs.declared.command.HallCommand.TheVariants.{OnMachine}
-use Rattle.hall_events.specs.declared.command.MachineCommand.{MachineCommand}
-use Rattle.hall_events.specs.declared.command.MachineCommand.TheVariants.{Delete, Release}
+use Rattle.hall_events.specs.declared.command.{HallCommand.{HallCommand, TheVariants.OnMachine}, MachineCommand.{MachineCommand, TheVariants.{Delete, Release}}}
 
 -- the command on a machine deletes it, or erases its disks
 abbrev pub is_dangerous_on : MachineCommand → Bool

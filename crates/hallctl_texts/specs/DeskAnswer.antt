@@ -1,21 +1,10 @@
 -- What the desk answers to what it was asked (the contents of its answers and their texts are those of hall_events).
 use Rattle.std.specs.Prelude.{◌≡◌, ◌⊎◌, ℕ, List}
-use Rattle.hall_types.specs.Hall.{second}
-use Rattle.hall_types.specs.declared.order.Order.{Order}
-use Rattle.hall_types.specs.declared.refusal.Refusal.{Refusal}
-use Rattle.hall_events.specs.Reply.{Content, ListedMachine, refused, machine_is, machine_gone, done, waiting_orders, machine_list, one_machine, reply_of}
-use Rattle.hall_events.specs.declared.command.HallCommand.{HallCommand}
-use Rattle.hall_events.specs.declared.command.HallCommand.TheVariants.{AddMachine, OnMachine}
-use Rattle.hall_events.specs.declared.command.MachineCommand.{MachineCommand}
-use Rattle.hall_events.specs.declared.command.MachineCommand.TheVariants.{Delete}
-use Rattle.hall_events.specs.declared.reply.Reply.TheVariants.{Http}
-use Rattle.hall_events.specs.declared.reply.BodyKind.TheVariants.{Json}
-use Rattle.hallctl_texts.specs.declared.answers.DeskAnswer.{DeskAnswer}
+use Rattle.hall_types.specs.{Hall.second, declared.{order.Order.Order, refusal.Refusal.Refusal}}
+use Rattle.hall_events.specs.{Reply.{Content, ListedMachine, refused, machine_is, machine_gone, done, waiting_orders, machine_list, one_machine, reply_of}, declared.{command.{HallCommand.{HallCommand, TheVariants.{AddMachine, OnMachine}}, MachineCommand.{MachineCommand, TheVariants.Delete}}, reply.{Reply.TheVariants.Http, BodyKind.TheVariants.Json}}}
+use Rattle.hallctl_texts.specs.declared.{answers.{DeskAnswer.DeskAnswer, MachineState.MachineState, Question.Question}, due.Due.Due}
 use Rattle.hallctl_texts.specs.declared.answers.DeskAnswer.TheVariants as says
-use Rattle.hallctl_texts.specs.declared.answers.MachineState.{MachineState}
-use Rattle.hallctl_texts.specs.declared.answers.Question.{Question}
 use Rattle.hallctl_texts.specs.declared.answers.Question.TheVariants as asks
-use Rattle.hallctl_texts.specs.declared.due.Due.{Due}
 use Rattle.hallctl_texts.specs.declared.due.Due.TheVariants as due
 
 -- ---- commands

@@ -2,4 +2,3 @@ pub mod Dangers
 pub mod DeskAnswer
 pub mod Listings
 pub mod Members
-pub mod Values

@@ -1,7 +1,6 @@
 -- Machines as the desk lists them, and which of them are wanted.
 use Rattle.std.specs.Prelude.{◌≡◌, Option, Some, None}
-use Rattle.hallctl_texts.specs.declared.listings.Filter.{Filter}
-use Rattle.hallctl_texts.specs.declared.listings.ListedMachine.{ListedMachine}
+use Rattle.hallctl_texts.specs.declared.listings.{Filter.Filter, ListedMachine.ListedMachine}
 
 -- the value is the one that is wanted, if one is
 abbrev pub Agrees : {T : Type 0} → Option T → T → Type 0

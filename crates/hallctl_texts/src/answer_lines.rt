@@ -1,11 +1,11 @@
-//! What a command was about, and what it changed, in a line.
+//! What a command was about, and what it changed or why it was refused, in a line.
 use crate::answers::MachineState;
 use hall_events::HallCommand;
-use hall_types::{MacAddress, Number, Status};
+use hall_types::{MacAddress, Number, Refusal, Status};
 use std::alloc::{AllocError, Global};
 
 fn machine_subject(alloc: Global, mac: MacAddress) -> Result<String, AllocError> {
-    let mac = wire_mac::print(alloc, &mac.octets())?;
+    let mac = pxe_vendor::print_mac(alloc, &mac.octets())?;
     format!(in alloc; "machine {mac}")
 }
 
@@ -71,4 +71,21 @@ pub fn done_line(alloc: Global, command: &HallCommand) -> Result<String, AllocEr
     }
     let deed = deed(command);
     format!(in alloc; "{subject} {deed}")
+}
+
+/// A line without a line feed: `machine 1: WrongStatus: The machine's status has no such action`, or without what the command is about
+/// where nothing was commanded.
+pub fn refusal_line(
+    alloc: Global,
+    command: Option<&HallCommand>,
+    refusal: Refusal,
+) -> Result<String, AllocError> {
+    let (name, sentence) = (refusal.name(), refusal.sentence());
+    match command {
+        Some(command) => {
+            let subject = subject(alloc, command)?;
+            format!(in alloc; "{subject}: {name}: {sentence}")
+        }
+        None => format!(in alloc; "{name}: {sentence}"),
+    }
 }

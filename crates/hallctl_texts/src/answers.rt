@@ -5,8 +5,7 @@ ghost use Rattle.hallctl_texts.specs.DeskAnswer.{Answers, Gives, IsDue, IsTextOf
 use crate::due::{Due, due_to};
 use crate::json::value_in;
 use crate::listed_replies::{is_machine_list, is_one_machine, is_order_list};
-use crate::members::state_at;
-use crate::refusals::refusal_at;
+use crate::members::{refusal_at, state_at};
 use crate::replies::{is_done, is_gone, is_refused, is_state};
 use hall_events::HallCommand;
 use hall_types::{Number, Refusal, Status, Version};

@@ -1,7 +1,6 @@
 //! The value of a text of JSON.
 ghost use Rattle.std.specs.Prelude.{◌≡◌, IfOk, option_map};
-ghost use Rattle.serde_json.specs.Read.{read as read_text};
-ghost use Rattle.serde_json.specs.View.{view};
+ghost use Rattle.serde_json.specs.{Read.read as read_text, View.view};
 
 use serde_json::Value;
 use std::alloc::{AllocError, Global};

@@ -1,7 +1,6 @@
 //! Lists and machines are compared with what the desk writes.
 ghost use Rattle.std.specs.Prelude.{◌≡◌, ◌↔◌, List, Some, IfOk, IfSome, IsTrue};
-ghost use Rattle.hall_types.specs.Hall.{second};
-ghost use Rattle.hall_types.specs.declared.order.Order.{Order};
+ghost use Rattle.hall_types.specs.{Hall.second, declared.order.Order.Order};
 ghost use Rattle.hall_events.specs.Reply.{ListedMachine, machine_list, one_machine, reply_of, waiting_orders, with_machine};
 ghost use Rattle.hallctl_texts.specs.DeskAnswer.{Gives, IsTextOf};
 

@@ -4,7 +4,6 @@ ghost use Rattle.hallctl_texts.specs.Listings.{Agrees, LetsThrough, Owns};
 
 use crate::answer_fault::AnswerFault;
 use crate::members::{name_at, name_or_null, number_at, status_at, version_at};
-use crate::values::mac_of;
 use hall_types::{MacAddress, Name, Number, Status, Version};
 use serde_json::Value;
 
@@ -80,7 +79,7 @@ pub(crate) fn addresses(object: &Value) -> Result<&[Value], AnswerFault> {
 
 /// A hardware address in a list of them.
 pub(crate) fn address_in(value: &Value) -> Option<MacAddress> {
-    mac_of(value.as_str()?)
+    value.as_str()?.parse().ok()
 }
 
 fn has_status(wanted: Option<Status>, status: Status) -> bool

@@ -35,7 +35,7 @@ fn push_address(alloc: Global, text: &mut String, address: MacAddress) -> Result
     if !text.is_empty() {
         text.push(',')?;
     }
-    text.push_str(wire_mac::print(alloc, &address.octets())?.as_str())
+    text.push_str(pxe_vendor::print_mac(alloc, &address.octets())?.as_str())
 }
 
 // The addresses of a machine, a comma between each two.

@@ -2,7 +2,6 @@
 use crate::members::{
     count_or_null, name_at, name_or_null, number_at, number_or_null, state_at, text_at,
 };
-use crate::values::mac_of;
 use hall_types::{
     BootCount, Erase, Interface, Machine, MachineUuid, Number, Order, OrderKind, OrderStage,
 };
@@ -55,7 +54,7 @@ pub(crate) fn machine_in(object: &Value) -> Option<Machine> {
 }
 
 fn interface_in(value: &Value, machine: Number) -> Option<Interface> {
-    let mac = mac_of(value.as_str()?)?;
+    let mac = value.as_str()?.parse().ok()?;
     Some(Interface { mac, machine })
 }
 

@@ -1,51 +1,31 @@
 //! What the members of an object of JSON say.
 ghost use Rattle.std.specs.Prelude.{◌≡◌, option_copied};
 ghost use Rattle.serde_json.specs.View.{view};
-ghost use Rattle.hallctl_texts.specs.Members.{count_at, in_range, number_at, state_at, status_at, text_at};
+ghost use Rattle.hallctl_texts.specs.Members.{count_at, number_at, refusal_at, state_at, status_at, text_at};
 
 use crate::answers::MachineState;
-use crate::values::{name_of, status_of};
-use hall_types::{Name, Number, Status, Version};
+use hall_types::{Name, Number, Refusal, Status, Version};
 use serde_json::Value;
-
-fn number_in(number: u64) -> Option<Number>
-    ensures { result ≡ in_range number }
-{
-    Number::new(number).ok()
-}
-
-fn version_in(number: u64) -> Option<Version>
-    ensures { result ≡ in_range number }
-{
-    Version::new(number).ok()
-}
 
 /// A number from 0 up.
 pub(crate) fn count_at(object: &Value, name: &str) -> Option<u64>
     ensures { result ≡ count_at name.now (view object.now) }
 {
-    match object.get(name) {
-        Some(value) => value.as_u64(),
-        None => None,
-    }
+    object.get(name)?.as_u64()
 }
 
 pub(crate) fn number_at(object: &Value, name: &str) -> Option<Number>
     ensures { result ≡ number_at name.now (view object.now) }
 {
-    match count_at(object, name) {
-        Some(number) => number_in(number),
-        None => None,
-    }
+    let number = count_at(object, name)?;
+    Number::new(number).ok()
 }
 
 pub(crate) fn version_at(object: &Value, name: &str) -> Option<Version>
     ensures { result ≡ number_at name.now (view object.now) }
 {
-    match count_at(object, name) {
-        Some(number) => version_in(number),
-        None => None,
-    }
+    let number = count_at(object, name)?;
+    Version::new(number).ok()
 }
 
 pub(crate) fn text_at<'j>(object: &'j Value, name: &str) -> Option<&'j str>
@@ -57,10 +37,15 @@ pub(crate) fn text_at<'j>(object: &'j Value, name: &str) -> Option<&'j str>
 pub(crate) fn status_at(object: &Value) -> Option<Status>
     ensures { result ≡ status_at (view object.now) }
 {
-    match text_at(object, "status") {
-        Some(text) => status_of(text),
-        None => None,
-    }
+    text_at(object, "status")?.parse().ok()
+}
+
+/// The refusal that an object names.
+#[tactic(auto, unfolding(crate::specs::Members::refusal_at))]
+pub(crate) fn refusal_at(object: &Value) -> Option<Refusal>
+    ensures { result ≡ refusal_at (view object.now) }
+{
+    text_at(object, "refusal")?.parse().ok()
 }
 
 /// A machine's number, status and version.
@@ -79,7 +64,7 @@ pub(crate) fn state_at(object: &Value) -> Option<MachineState>
 }
 
 pub(crate) fn name_at(object: &Value, name: &str) -> Option<Name> {
-    name_of(text_at(object, name)?)
+    text_at(object, name)?.parse().ok()
 }
 
 /// What a member says that isn't null, or that it is null; `None` where it is missing or says nothing.

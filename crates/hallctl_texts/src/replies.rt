@@ -3,8 +3,7 @@ ghost use Rattle.std.specs.Prelude.{◌≡◌, ◌↔◌, false, IfOk, IsTrue, s
 ghost use Rattle.hall_types.specs.Hall.{second};
 ghost use Rattle.hall_events.specs.Reply as content;
 ghost use Rattle.hall_events.specs.Reply.{reply_of, status_data};
-ghost use Rattle.serde_json.specs.Written.{compact_text, has_float};
-ghost use Rattle.serde_json.specs.View.{view};
+ghost use Rattle.serde_json.specs.{Written.{compact_text, has_float}, View.view};
 
 use crate::answers::MachineState;
 use hall_events::{BodyKind, Reply};

@@ -1,6 +1,6 @@
 -- How long something may last.
 use Rattle.std.specs.Prelude.{ℕ, ◌*◌, ◌-◌, ◌==◌, nat_le, List, length, take, slice_index, Option, Some, None, if◌then◌else◌}
-use Rattle.hallctl_words.specs.Decimal.{count_in}
+use Rattle.pxe_vendor.specs.Digits.{numeral}
 
 -- a year of 365 days, in seconds
 abbrev pub max_seconds : ℕ
@@ -13,7 +13,7 @@ within unit (Some count) = if nat_le (count * unit) max_seconds then Some (count
 
 -- the time that is so many units
 abbrev pub times_at_most : ℕ → List ℕ → Option ℕ
-times_at_most unit text = within unit (count_in text)
+times_at_most unit text = within unit (numeral text)
 
 -- the time before a unit's letter: `s`, `m` or `h`; without one it is in seconds
 abbrev pub seconds_by : ℕ → List ℕ → List ℕ → Option ℕ

@@ -1,4 +1,3 @@
-pub mod Decimal
 pub mod Durations
 pub mod Spans
 pub mod Words

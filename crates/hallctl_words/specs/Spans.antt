@@ -1,9 +1,9 @@
 -- The machines that words of a command line name.
 use Rattle.std.specs.Prelude.{ℕ, zero, suc, ◌+◌, ◌-◌, ◌==◌, nat_le, List, [], ◌∷◌, ◌++◌, length, take, drop, position, Option, Some, None, option_and_then, if◌then◌else◌}
-use Rattle.hallctl_words.specs.Decimal.{number_in}
+use Rattle.hall_types.specs.Number.{number_of_text}
 use Rattle.hallctl_words.specs.declared.spans.Span.{Span}
-use Rattle.hallctl_words.specs.declared.fault.ValueFault.{ValueFault}
-use Rattle.hallctl_words.specs.declared.fault.ValueFault.TheVariants as value
+use Rattle.command_rows.specs.declared.wrong.Wrong.{Wrong}
+use Rattle.command_rows.specs.declared.wrong.Wrong.TheVariants as wrong
 
 -- the maximum of the machines that one command line names: as many as a hall has
 abbrev pub max_machines : ℕ
@@ -19,7 +19,7 @@ abbrev pub from_to : ℕ → ℕ → Option Span
 from_to first last = if nat_le first last then Some (record { first = first; count = last - first + 1 }) else None
 
 unfoldable pub between : List ℕ → List ℕ → Option Span
-between first last = option_and_then (λ first. option_and_then (from_to first) (number_in last)) (number_in first)
+between first last = option_and_then (λ first. option_and_then (from_to first) (number_of_text last)) (number_of_text first)
 
 -- around a hyphen, or without one
 abbrev pub span_around : List ℕ → Option ℕ → Option Span
@@ -49,6 +49,6 @@ abbrev pub machines_in : List (List ℕ) → Option (List ℕ)
 machines_in words = machines_after [] words
 
 -- the fault is in the words
-abbrev pub IsWordsFault : ValueFault → Type 0
-IsWordsFault (value.Words fault) = Unit {0}
-IsWordsFault value.Memory = ⊥
+abbrev pub IsWordsFault : Wrong → Type 0
+IsWordsFault (wrong.Text text) = Unit {0}
+IsWordsFault wrong.Memory = ⊥

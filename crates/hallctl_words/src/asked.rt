@@ -26,20 +26,12 @@ pub struct Line<'a> {
 /// What is asked for.
 #[derive(Drop)]
 pub enum Wish<'a> {
-    /// The machines that this filter lets through, in this form.
-    Machines(Filter, Form),
-    /// One machine, a line for each of its members.
-    Machine(Which),
-    /// The power orders that wait.
-    Orders,
+    /// What the desk lists is printed.
+    List(Listing),
     /// The commands, which are sent one after another: one, or one for each machine.
     Change(Vec<HallCommand>),
-    /// An operator with a token that is made and written to this file.
-    NewOperator {
-        operator: Name,
-        role: Role,
-        new_token: &'a str,
-    },
+    /// An operator with a token that is made.
+    NewOperator(NewOperator<'a>),
     /// That the machine gets one of these statuses, for at most the seconds of the line's time.
     Wait {
         machine: Number,
@@ -49,6 +41,25 @@ pub enum Wish<'a> {
     Import(&'a str),
     /// The completion for bash.
     Completion,
+}
+
+/// What is listed, and how.
+#[derive(Clone, Copy)]
+pub enum Listing {
+    /// The machines that this filter lets through, in this form.
+    Machines(Filter, Form),
+    /// One machine, a line for each of its members.
+    Machine(Which),
+    /// The power orders that wait.
+    Orders,
+}
+
+/// An operator that is to be added, and the file for its token.
+#[derive(Clone, Copy)]
+pub struct NewOperator<'a> {
+    pub operator: Name,
+    pub role: Role,
+    pub file: &'a str,
 }
 
 /// How a list of machines is printed.

@@ -1,7 +1,7 @@
 //! The completion of command lines for bash.
-use crate::entries::entries;
-use crate::options::{Given, Word};
-use crate::subcommands::{Common, Entry};
+use crate::command_line::rows;
+use crate::options::READING;
+use command_rows::{CommandRow, OptionRow};
 use std::alloc::{AllocError, Global};
 
 const HEAD: &str =
@@ -24,50 +24,47 @@ const TAIL: &str = "    esac
 complete -o default -F _hallctl hallctl
 ";
 
-fn push_option(text: &mut String, word: Word) -> Result<(), AllocError> {
-    let entry = word.entry();
-    if entry.given == Given::Place || entry.given == Given::Places {
-        return Ok(());
-    }
-    text.push_str(" --")?;
-    text.push_str(entry.name)
-}
-
-fn push_options(text: &mut String, words: &[Word]) -> Result<(), AllocError> {
-    for word in words {
-        push_option(text, *word)?;
+fn push_options(text: &mut String, rows: &[OptionRow]) -> Result<(), AllocError> {
+    for row in rows.iter().filter(|row| !row.is_place()) {
+        text.push_str(" --")?;
+        text.push_str(row.name)?;
     }
     Ok(())
 }
 
-// The line of a subcommand.
-fn push_case(text: &mut String, entry: &Entry) -> Result<(), AllocError> {
+// The line of a command.
+fn push_case(text: &mut String, row: &CommandRow) -> Result<(), AllocError> {
     text.push_str("        ")?;
-    text.push_str(entry.name)?;
+    text.push_str(row.name)?;
     text.push_str(") options='--help")?;
-    push_options(text, entry.words)?;
-    push_options(text, entry.common.words())?;
+    push_options(text, row.options)?;
+    push_options(text, row.common)?;
     text.push_str("' ;;\n")
 }
 
-// The line of a command line that has no subcommand yet.
-fn push_front(text: &mut String) -> Result<(), AllocError> {
+// The line of a command line that has no command yet.
+fn push_front(text: &mut String, rows: &[CommandRow]) -> Result<(), AllocError> {
     text.push_str("        '') options='--help --version")?;
-    push_options(text, Common::Reading.words())?;
-    for entry in entries() {
+    push_options(text, READING)?;
+    for row in rows {
         text.push_str(" ")?;
-        text.push_str(entry.name)?;
+        text.push_str(row.name)?;
     }
     text.push_str("' ;;\n")
 }
 
-/// A file for bash that completes subcommands and options, from the same table as the command line.
-pub fn completion(alloc: Global) -> Result<String, AllocError> {
-    let mut text = String::from_str(alloc, HEAD)?;
-    push_front(&mut text)?;
-    for entry in entries() {
-        push_case(&mut text, entry)?;
+fn push_all(text: &mut String, rows: &[CommandRow]) -> Result<(), AllocError> {
+    push_front(text, rows)?;
+    for row in rows {
+        push_case(text, row)?;
     }
-    text.push_str(TAIL)?;
+    text.push_str(TAIL)
+}
+
+/// A file for bash that completes commands and options, from the same rows as the command line.
+pub fn completion(alloc: Global) -> Result<String, AllocError> {
+    let rows = rows(alloc)?;
+    let mut text = String::from_str(alloc, HEAD)?;
+    push_all(&mut text, rows.as_slice())?;
     Ok(text)
 }

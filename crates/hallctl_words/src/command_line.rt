@@ -1,108 +1,198 @@
-//! The command line, built of the tables.
-use crate::entries::entries;
-use crate::lists::push;
-use crate::options::{Given, Word, WordEntry};
-use crate::subcommands::{Common, Entry};
-use clap::{Arg, ArgAction, Command};
+//! The command line: its commands in the order of the help, and what the words of one ask for.
+use crate::asked::{Line, Listing, Wish};
+use crate::durations::seconds_of;
+use crate::hall::hall_command;
+use crate::lists::one;
+use crate::machines::{YES, commands_on};
+use crate::new_operator::add_operator;
+use crate::options::{DESK, JSON, KEY, KEYS, READING, TIMEOUT, TOKEN_FILE};
+use crate::values::key_of;
+use crate::waiting::wait;
+use crate::{hall, listings, machines, new_operator, waiting};
+use command_rows::{CommandRow, Front, OptionRow, Options, Usage, Wrong};
+use hall_events::HallCommand;
+use hall_types::RequestKey;
 use std::alloc::{AllocError, Global};
 
 // The program's version, and the kit that proved it, as README.md has it.
 const VERSION: &str = "2, rattle-kit-13f logic dac8208d650f15bf";
 
-// A value may begin with a hyphen.
-fn option<'a>(alloc: Global, word: &WordEntry) -> Arg<'a> {
-    Arg::new(alloc, word.name)
-        .value_name(word.value)
-        .help(word.help)
-        .action(ArgAction::Set)
-        .allow_hyphen_values(true)
+// How long an answer is tried for, in seconds, where nothing else is said.
+const TRIES: u64 = 60;
+
+// How long a status is waited for.
+const WAITS: u64 = 1800;
+
+static IMPORT: CommandRow = CommandRow {
+    name: "import",
+    about: "Adds the machines of a file of comma-separated values",
+    example: "Example: hallctl import machines.csv",
+    options: &[FILE, KEYS],
+    common: READING,
+};
+
+static COMPLETION: CommandRow = CommandRow {
+    name: "completion",
+    about: "Prints the completion for bash",
+    example: "Example: hallctl completion > /etc/bash_completion.d/hallctl",
+    options: &[],
+    common: &[],
+};
+
+const FILE: OptionRow = OptionRow {
+    name: "file",
+    value: "FILE",
+    help: "The file of machines",
+    must: "a file's path",
+    ..OptionRow::PLACE
+};
+
+/// All commands, in the order of the help.
+pub(crate) fn rows(alloc: Global) -> Result<Vec<CommandRow>, AllocError> {
+    let mut rows = Vec::new(alloc);
+    for row in [
+        &listings::MACHINES,
+        &listings::MACHINE,
+        &listings::ORDERS,
+        &machines::COMMISSION,
+        &machines::TEST,
+        &machines::OVERRIDE,
+        &machines::ALLOCATE,
+        &machines::DEPLOY,
+        &machines::RELEASE,
+        &machines::RESCUE,
+        &machines::EXIT_RESCUE,
+        &machines::ABORT,
+        &machines::BREAK,
+        &machines::FIX,
+        &machines::LOCK,
+        &machines::UNLOCK,
+        &machines::DELETE,
+        &machines::SET_POOL,
+        &hall::ADD_MACHINE,
+        &machines::ADD_INTERFACE,
+        &machines::REMOVE_INTERFACE,
+        &new_operator::ADD_OPERATOR,
+        &hall::DISABLE_OPERATOR,
+        &hall::ADD_POOL,
+        &hall::GRANT,
+        &hall::ADD_IMAGE,
+        &hall::DELETE_IMAGE,
+        &hall::SET_LIVE,
+        &waiting::WAIT,
+        &IMPORT,
+        &COMPLETION,
+    ] {
+        rows.push(*row)?;
+    }
+    Ok(rows)
 }
 
-fn named<'a>(alloc: Global, word: &WordEntry) -> Arg<'a> {
-    option(alloc, word).long(word.name)
+/// Why a command line asks for nothing.
+#[derive(Drop)]
+pub enum LineFault {
+    /// The words are none of the command line's, or ask for help.
+    Usage(Usage),
+    /// An option isn't what it must be.
+    Wrong(Wrong),
 }
 
-fn place<'a>(alloc: Global, word: &WordEntry) -> Arg<'a> {
-    option(alloc, word)
-        .allow_hyphen_values(false)
-        .required(true)
-}
-
-fn flag<'a>(alloc: Global, word: &WordEntry) -> Arg<'a> {
-    Arg::new(alloc, word.name)
-        .long(word.name)
-        .help(word.help)
-        .action(ArgAction::SetTrue)
-}
-
-fn arg<'a>(alloc: Global, word: &WordEntry) -> Arg<'a> {
-    match word.given {
-        Given::Always => named(alloc, word).required(true),
-        Given::Maybe => named(alloc, word),
-        Given::Often => named(alloc, word).action(ArgAction::Append),
-        Given::Flag => flag(alloc, word),
-        Given::Place => place(alloc, word),
-        Given::Places => place(alloc, word).num_args(1..),
+// The commands that are sent.
+fn commands(name: &str, options: &Options<'_>) -> Result<Vec<HallCommand>, Wrong> {
+    match hall_command(name, options)? {
+        Some(command) => Ok(one(options.alloc(), command)?),
+        None => commands_on(name, options),
     }
 }
 
-fn push_args<'a>(alloc: Global, args: &mut Vec<Arg<'a>>, words: &[Word]) -> Result<(), AllocError> {
-    for word in words {
-        push(args, arg(alloc, word.entry()))?;
+fn wish_of<'a>(name: &str, options: &Options<'a>) -> Result<Wish<'a>, Wrong> {
+    match name {
+        "machines" => Ok(Wish::List(listings::machines(options)?)),
+        "machine" => Ok(Wish::List(listings::machine(options)?)),
+        "orders" => Ok(Wish::List(Listing::Orders)),
+        "add-operator" => add_operator(options),
+        "wait" => wait(options),
+        "import" => Ok(Wish::Import(options.required(&FILE)?)),
+        "completion" => Ok(Wish::Completion),
+        _ => Ok(Wish::Change(commands(name, options)?)),
     }
-    Ok(())
 }
 
-// The options of these words, and then the common ones.
-fn args_of<'a>(alloc: Global, words: &[Word], common: Common) -> Result<Vec<Arg<'a>>, AllocError> {
-    let mut args = Vec::new(alloc);
-    push_args(alloc, &mut args, words)?;
-    push_args(alloc, &mut args, common.words())?;
-    Ok(args)
+// How long the desk is tried, or a status is waited for. It is said once, before the command or behind it.
+fn timeout(name: &str, options: &Options<'_>) -> Result<u64, Wrong> {
+    if options.texts(&TIMEOUT)?.len() > 1 {
+        return Err(options.wrong(&TIMEOUT));
+    }
+    let usual = if name == "wait" { WAITS } else { TRIES };
+    let said = options.value_if(&TIMEOUT, |text| seconds_of(text.as_bytes()))?;
+    Ok(said.unwrap_or(usual))
 }
 
-fn new<'a>(
+// Whether one request has the one key, as far as the line says.
+fn is_one(wish: &Wish<'_>) -> bool {
+    match wish {
+        Wish::Change(commands) => commands.len() == 1,
+        Wish::NewOperator(_) => true,
+        _ => false,
+    }
+}
+
+fn key_for(options: &Options<'_>, wish: &Wish<'_>) -> Result<Option<RequestKey>, Wrong> {
+    match options.value_if(&KEY, |text| key_of(text))? {
+        Some(_) if !is_one(wish) => Err(options.wrong(&KEY)),
+        key => Ok(key),
+    }
+}
+
+fn line_with<'a>(options: &Options<'a>, timeout: u64, wish: Wish<'a>) -> Result<Line<'a>, Wrong> {
+    let key = key_for(options, &wish)?;
+    Ok(Line {
+        desk: options.text(&DESK),
+        token_file: options.text(&TOKEN_FILE),
+        timeout,
+        key,
+        keys: options.text(&KEYS),
+        yes: options.is_given(&YES),
+        json: options.is_given(&JSON),
+        wish,
+    })
+}
+
+fn line_of<'a>(options: &Options<'a>) -> Result<Line<'a>, Wrong> {
+    let name = options.command().unwrap_or("");
+    let timeout = timeout(name, options)?;
+    let wish = wish_of(name, options)?;
+    line_with(options, timeout, wish)
+}
+
+fn options_of<'a>(
     alloc: Global,
-    name: &'static str,
-    about: &'static str,
-    example: &'static str,
-) -> Command<'a> {
-    Command::new(alloc, name).about(about).after_help(example)
+    rows: &[CommandRow],
+    words: &'a [String],
+) -> Result<Options<'a>, Usage> {
+    let front = Front {
+        name: "hallctl",
+        version: VERSION,
+        about: "Asks the boot desk of a server hall",
+        after: "Exit status: 0 done, 1 refused, 2 wrong usage, 3 no answer.",
+        options: READING,
+        commands: rows,
+        needs_command: true,
+    };
+    Options::read(alloc, &front, words)
 }
 
-fn push_command<'a>(
-    alloc: Global,
-    commands: &mut Vec<Command<'a>>,
-    entry: &Entry,
-) -> Result<(), AllocError> {
-    let args = args_of(alloc, entry.words, entry.common)?;
-    let command = new(alloc, entry.name, entry.about, entry.example).args(args)?;
-    push(commands, command)
-}
-
-fn commands<'a>(alloc: Global) -> Result<Vec<Command<'a>>, AllocError> {
-    let mut commands = Vec::new(alloc);
-    for entry in entries() {
-        push_command(alloc, &mut commands, entry)?;
+/// What the words of a command line ask for, of which the first is the program's name.
+///
+/// # Errors
+///
+/// `Usage` where the words are none of the command line's or ask for help, and `Wrong` where an option isn't what it must be.
+pub fn read<'a>(alloc: Global, words: &'a [String]) -> Result<Line<'a>, LineFault> {
+    let Ok(rows) = rows(alloc) else {
+        return Err(LineFault::Wrong(Wrong::Memory));
+    };
+    match options_of(alloc, rows.as_slice(), words) {
+        Ok(options) => line_of(&options).map_err(LineFault::Wrong),
+        Err(usage) => Err(LineFault::Usage(usage)),
     }
-    Ok(commands)
-}
-
-// The command line without its options and subcommands.
-fn front<'a>(alloc: Global) -> Command<'a> {
-    new(
-        alloc,
-        "hallctl",
-        "Asks the boot desk of a server hall",
-        "Exit status: 0 done, 1 refused, 2 wrong usage, 3 no answer.",
-    )
-    .version(VERSION)
-    .subcommand_required(true)
-}
-
-/// The command line.
-pub(crate) fn command_line<'a>(alloc: Global) -> Result<Command<'a>, AllocError> {
-    let args = args_of(alloc, &[], Common::Reading)?;
-    let commands = commands(alloc)?;
-    front(alloc).args(args)?.subcommands(commands)
 }

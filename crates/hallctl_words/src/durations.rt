@@ -2,7 +2,7 @@
 ghost use Rattle.std.specs.Prelude.{◌≡◌, ◌≤◌, take, length, slice_index};
 ghost use Rattle.hallctl_words.specs.Durations.{seconds_in, times_at_most};
 
-use crate::decimal::count_of;
+use pxe_vendor::numeral;
 
 // A year of 365 days, in seconds.
 const MAX_SECONDS: u64 = 31_536_000;
@@ -12,7 +12,7 @@ fn times(text: &[u8], unit: u64) -> Option<u64>
     requires { 1 ≤ unit }
     ensures { result ≡ times_at_most unit text.now }
 {
-    match count_of(text) {
+    match numeral(text) {
         Some(count) if count <= MAX_SECONDS / unit => Some(count * unit),
         _ => None,
     }

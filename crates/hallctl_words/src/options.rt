@@ -1,122 +1,111 @@
-//! The options of the subcommands.
-use crate::option_entries;
+//! Options that several commands have.
+use command_rows::OptionRow;
 
-/// How an option is given.
-#[derive(Clone, Copy, PartialEq, Eq)]
-pub(crate) enum Given {
-    /// It has to be given.
-    Always,
-    Maybe,
-    /// As often as is wanted.
-    Often,
-    /// Without a value.
-    Flag,
-    /// By its place.
-    Place,
-    /// By its place, one or more.
-    Places,
-}
+// ---- what values must be
 
-/// What the command line has of an option: its name, its value's name, what its help says, what its value must be, and how it is given.
-#[derive(Clone, Copy)]
-pub(crate) struct WordEntry {
-    pub(crate) name: &'static str,
-    pub(crate) value: &'static str,
-    pub(crate) help: &'static str,
-    pub(crate) must: &'static str,
-    pub(crate) given: Given,
-}
+pub(crate) const NAME: &str = "a name has 1 to 32 characters of a-z, 0-9 and -, the first a letter";
 
-/// An option of a subcommand.
-#[derive(Clone, Copy)]
-pub(crate) enum Word {
-    Desk,
-    TokenFile,
-    Timeout,
-    Json,
-    Key,
-    /// The file of keys.
-    Keys,
-    /// Machines by their numbers, and ranges of numbers.
-    Machines,
-    Machine,
-    /// A machine by its number or an address.
-    Which,
-    Version,
-    Yes,
-    Tests,
-    Erase,
-    Image,
-    Pool,
-    Mac,
-    Arch,
-    Uuid,
-    Status,
-    /// The pool of the machines that a list has.
-    InPool,
-    Owner,
-    Ids,
-    /// An operator, by its place.
-    OperatorName,
-    Role,
-    Digest,
-    NewToken,
-    /// A pool, by its place.
-    PoolName,
-    /// An image, by its place.
-    ImageName,
-    Kernel,
-    Initrd,
-    Arg,
-    For,
-    Or,
-    /// How long is waited for a status.
-    Patience,
-    File,
-}
+pub(crate) const STATUS: &str = "a status is as in Ready or 'Failed commissioning'";
 
-impl Word {
-    pub(crate) fn entry(self) -> &'static WordEntry {
-        match self {
-            Word::Desk => &option_entries::DESK,
-            Word::TokenFile => &option_entries::TOKEN_FILE,
-            Word::Timeout => &option_entries::TIMEOUT,
-            Word::Json => &option_entries::JSON,
-            Word::Key => &option_entries::KEY,
-            Word::Keys => &option_entries::KEYS,
-            Word::Machines => &option_entries::MACHINES,
-            Word::Machine => &option_entries::MACHINE,
-            Word::Which => &option_entries::WHICH,
-            Word::Version => &option_entries::VERSION,
-            Word::Yes => &option_entries::YES,
-            Word::Tests => &option_entries::TESTS,
-            Word::Erase => &option_entries::ERASE,
-            Word::Image => &option_entries::IMAGE,
-            Word::Pool => &option_entries::POOL,
-            Word::Mac => &option_entries::MAC,
-            Word::Arch => &option_entries::ARCH,
-            Word::Uuid => &option_entries::UUID,
-            Word::Status => &option_entries::STATUS,
-            Word::InPool => &option_entries::IN_POOL,
-            Word::Owner => &option_entries::OWNER,
-            Word::Ids => &option_entries::IDS,
-            Word::OperatorName => &option_entries::OPERATOR_NAME,
-            Word::Role => &option_entries::ROLE,
-            Word::Digest => &option_entries::DIGEST,
-            Word::NewToken => &option_entries::NEW_TOKEN,
-            Word::PoolName => &option_entries::POOL_NAME,
-            Word::ImageName => &option_entries::IMAGE_NAME,
-            Word::Kernel => &option_entries::KERNEL,
-            Word::Initrd => &option_entries::INITRD,
-            Word::Arg => &option_entries::ARG,
-            Word::For => &option_entries::FOR,
-            Word::Or => &option_entries::OR,
-            Word::Patience => &option_entries::PATIENCE,
-            Word::File => &option_entries::FILE,
-        }
-    }
+pub(crate) const TIME: &str =
+    "a time is seconds, or as in 30s, 10m, 2h, at most 8760h, and is said once";
 
-    pub(crate) fn name(self) -> &'static str {
-        self.entry().name
-    }
-}
+// ---- options of every command
+
+pub(crate) const DESK: OptionRow = OptionRow {
+    name: "desk",
+    value: "URL",
+    help: "The desk, as http://desk.hall.example; without it HALL_DESK says",
+    must: "a URL is as in http://desk.hall.example",
+    ..OptionRow::MAYBE
+};
+
+pub(crate) const TOKEN_FILE: OptionRow = OptionRow {
+    name: "token-file",
+    value: "FILE",
+    help: "A file whose first line is your token; without it HALL_TOKEN_FILE says",
+    must: "a file's path",
+    ..OptionRow::MAYBE
+};
+
+pub(crate) const TIMEOUT: OptionRow = OptionRow {
+    name: "timeout",
+    value: "TIME",
+    help: "How long the desk is tried without an answer: seconds, or as 2m; 60 without it",
+    must: TIME,
+    ..OptionRow::MAYBE
+};
+
+pub(crate) const KEY: OptionRow = OptionRow {
+    name: "key",
+    value: "UUID",
+    help: "The key of a command that got no answer, which is sent again",
+    must: "a key is a UUID, and is the one command's",
+    ..OptionRow::MAYBE
+};
+
+pub(crate) const KEYS: OptionRow = OptionRow {
+    name: "keys",
+    value: "FILE",
+    help: "Adds each command's key to this file before it is sent, and how it ended",
+    must: "a file's path",
+    ..OptionRow::MAYBE
+};
+
+pub(crate) const JSON: OptionRow = OptionRow {
+    name: "json",
+    help: "Prints the desk's JSON",
+    must: "a flag",
+    ..OptionRow::FLAG
+};
+
+/// What a command that reads shares with all others. It may stand before the command as well.
+pub(crate) const READING: &[OptionRow] = &[DESK, TOKEN_FILE, TIMEOUT, JSON];
+
+/// What commands share that change something: a command's key beside.
+pub(crate) const CHANGING: &[OptionRow] = &[DESK, TOKEN_FILE, TIMEOUT, KEY, KEYS, JSON];
+
+/// What a command shares whose time limit is its own.
+pub(crate) const WAITING: &[OptionRow] = &[DESK, TOKEN_FILE, JSON];
+
+// ---- options of several commands
+
+pub(crate) const MACHINE: OptionRow = OptionRow {
+    name: "machine",
+    value: "MACHINE",
+    help: "The machine's number",
+    must: "a machine's number, without leading zeros",
+    ..OptionRow::PLACE
+};
+
+pub(crate) const POOL: OptionRow = OptionRow {
+    name: "pool",
+    value: "POOL",
+    help: "The pool",
+    must: NAME,
+    ..OptionRow::ALWAYS
+};
+
+pub(crate) const MAC: OptionRow = OptionRow {
+    name: "mac",
+    value: "ADDRESS",
+    help: "The hardware address",
+    must: "a hardware address is as in 52:54:00:12:34:56",
+    ..OptionRow::ALWAYS
+};
+
+pub(crate) const ARCH: OptionRow = OptionRow {
+    name: "arch",
+    value: "ARCH",
+    help: "The architecture: bios, uefi32, uefi64 or arm64",
+    must: "bios, uefi32, uefi64 or arm64",
+    ..OptionRow::ALWAYS
+};
+
+pub(crate) const OPERATOR_NAME: OptionRow = OptionRow {
+    name: "operator",
+    value: "OPERATOR",
+    help: "The operator's name",
+    must: NAME,
+    ..OptionRow::PLACE
+};

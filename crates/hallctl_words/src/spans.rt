@@ -1,12 +1,11 @@
 //! Numbers of machines, and ranges of numbers.
 ghost use Rattle.std.specs.Prelude.{◌≡◌, ◌==◌, ◌<◌, ◌≤◌, ◌+◌, ◌++◌, length, vec_len, map, position, IfOk, IfSome, OnOk, IfErr, Some, None};
-ghost use Rattle.hall_types.specs.Number.{max_number};
+ghost use Rattle.hall_types.specs.Number.{max_number, number_of_text};
 ghost use Rattle.hallctl_words.specs.Spans.{between, machines_in, max_machines, numbers_from, span_in, with_word, IsWordsFault};
 
-use crate::decimal::number_of;
-use crate::fault::ValueFault;
-use crate::options::Word;
+use command_rows::{OptionRow, Wrong};
 use hall_types::Number;
+use pxe_vendor::numeral;
 use std::alloc::{AllocError, Global};
 
 // The maximum of the machines that one command line names: as many as a hall has.
@@ -17,6 +16,16 @@ const MAX_MACHINES: usize = 10_000;
 struct Span {
     first: u64,
     count: u64,
+}
+
+// The number of a machine.
+fn number_of(text: &[u8]) -> Option<Number>
+    ensures { result ≡ number_of_text text.now }
+{
+    match numeral(text) {
+        Some(number) => Number::new(number).ok(),
+        None => None,
+    }
 }
 
 #[tactic(auto, unfolding(crate::specs::Spans::between))]
@@ -72,31 +81,40 @@ fn push_from(machines: &mut Vec<Number>, first: u64, count: u64) -> Result<(), A
     Ok(())
 }
 
-// Adds the machines of the word at this place, if they aren't too many.
-fn push_word(machines: &mut Vec<Number>, word: &str, place: usize) -> Result<(), ValueFault>
+// Adds the machines of a word of this option, if they aren't too many.
+fn push_word(
+    alloc: Global,
+    machines: &mut Vec<Number>,
+    row: &OptionRow,
+    word: &str,
+) -> Result<(), Wrong>
     requires { vec_len machines.old ≤ max_machines }
     ensures ok { OnOk result (with_word machines.old.items word.entry.now ≡ Some machines.new.items) }
     ensures few { OnOk result (vec_len machines.new ≤ max_machines) }
     ensures fault { IfErr result (λ fault. IsWordsFault fault → with_word machines.old.items word.entry.now ≡ None) }
 {
     let Some(span) = span_of(word.as_bytes()) else {
-        return Err(ValueFault::at(Word::Machines, place));
+        return Err(Wrong::of(alloc, row, Some(word)));
     };
     if span.count > (MAX_MACHINES - machines.len()) as u64 {
-        return Err(ValueFault::at(Word::Machines, place));
+        return Err(Wrong::of(alloc, row, Some(word)));
     }
     push_from(machines, span.first, span.count)?;
     Ok(())
 }
 
-/// The machines that words name, each by its number or in a range of numbers as `5-9`: 10,000 at most.
-pub(crate) fn machines_of(alloc: Global, words: &[&str]) -> Result<Vec<Number>, ValueFault>
+/// The machines that words of this option name, each by its number or in a range of numbers as `5-9`: 10,000 at most.
+pub(crate) fn machines_of(
+    alloc: Global,
+    row: &OptionRow,
+    words: &[&str],
+) -> Result<Vec<Number>, Wrong>
     ensures ok { IfOk result (λ machines. machines_in (map (λ word. word.now) words.entry.now) ≡ Some machines.items) }
     ensures fault { IfErr result (λ fault. IsWordsFault fault → machines_in (map (λ word. word.now) words.entry.now) ≡ None) }
 {
     let mut machines = Vec::new(alloc);
-    for (place, word) in words.iter().enumerate() {
-        push_word(&mut machines, word, place)?;
+    for word in words {
+        push_word(alloc, &mut machines, row, word)?;
     }
     Ok(machines)
 }

@@ -1,24 +1,10 @@
 //! The values that words say.
-ghost use Rattle.std.specs.Prelude.{◌≡◌, IfOk, option_map};
+ghost use Rattle.std.specs.Prelude.{◌≡◌, option_map};
 ghost use Rattle.uuid.specs.Text.{parsed};
-ghost use Rattle.hallctl_words.specs.Words.{digest_in, erase_in, uuid_in};
+ghost use Rattle.hallctl_words.specs.Words.{erase_in, uuid_in};
 
-use crate::asked::Which;
-use crate::decimal::number_of;
-use hall_types::{Digest, Erase, MachineUuid, RequestKey};
-use hallctl_texts::mac_of;
-use hex::FromHex;
+use hall_types::{Erase, MachineUuid, RequestKey};
 use uuid::Uuid;
-
-/// The digest of 64 hexadecimal digits in either case.
-pub(crate) fn digest_of(text: &str) -> Option<Digest>
-    ensures { result ≡ digest_in text.now }
-{
-    match <[u8; 32] as FromHex>::from_hex(text) {
-        Ok(octets) => Some(Digest::from(octets)),
-        Err(_) => None,
-    }
-}
 
 // The octets of a UUID, in one of its four spellings.
 fn parsed(text: &str) -> Option<[u8; 16]>
@@ -61,13 +47,4 @@ pub(crate) fn erase_of(text: &str) -> Option<Option<Erase>>
         Ok(erase) => Some(Some(erase)),
         Err(_) => None,
     }
-}
-
-/// The machine with this number, or with this hardware address.
-pub(crate) fn which_of(text: &str) -> Option<Which> {
-    if let Some(mac) = mac_of(text) {
-        return Some(Which::Address(mac));
-    }
-    let number = number_of(text.as_bytes())?;
-    Some(Which::Number(number))
 }

@@ -1,7 +1,5 @@
 -- A line's words, each but the first after a space.
-use Rattle.std.proofs.Common.{◌≡◌, ℕ, List, [], ◌∷◌, ◌++◌, refl, sym, ap, ◌∙◌, append_assoc}
-use Rattle.std.proofs.lemmas.List.{append-nil}
-use Rattle.std.specs.List.{flat_map, join_with_byte}
+use Rattle.std.{proofs.{Common.{◌≡◌, ℕ, List, [], ◌∷◌, ◌++◌, refl, sym, ap, ◌∙◌, append_assoc}, lemmas.List.append-nil}, specs.List.{flat_map, join_with_byte}}
 use Rattle.ipxe_script.specs.Text.{space}
 
 pub join_with_byte-cons : (first : List ℕ) (words : List (List ℕ)) → join_with_byte space (first ∷ words) ≡ first ++ flat_map (λ word. space ∷ word) words

@@ -1,16 +1,6 @@
 -- The words of a script contain no separators, and its purpose is an argument.
-use Rattle.std.proofs.Common.{◌≢◌, ℕ, List, [], ◌∷◌}
-use Rattle.std.specs.Prelude.{◌↔◌, All, Any, codes}
-use Rattle.std.specs.List.{AllByRecursion, flat_map}
-use Rattle.std.proofs.lemmas.Bool.{eqb-false}
-use Rattle.std.proofs.lemmas.List.Elements.{recursion_from_All, All-nil, All-append, All-from_recursion}
-use Rattle.ipxe_script.specs.Word.{IsWord}
-use Rattle.ipxe_script.specs.Text.{line_feed, space}
-use Rattle.ipxe_script.specs.Script.{words_of, spelling, IsLine, IsScript}
-use Rattle.ipxe_script.specs.LineLaws.{space_in_no_word, line_feed_in_no_word, IsApart-from_IsWord, words_are_words}
-use Rattle.ipxe_script.specs.Purpose.{IsKernelWith, IsErasing, IsDeploying}
-use Rattle.ipxe_script.specs.PurposeLaws.{IsArgument-hall, HasKernelWord-spelling}
-use Rattle.ipxe_script.specs.declared.command.Command.{Command}
+use Rattle.std.{proofs.{Common.{◌≢◌, ℕ, List, [], ◌∷◌}, lemmas.{Bool.eqb-false, List.Elements.{recursion_from_All, All-nil, All-append, All-from_recursion}}}, specs.{Prelude.{◌↔◌, All, Any, codes}, List.{AllByRecursion, flat_map}}}
+use Rattle.ipxe_script.specs.{Word.IsWord, Text.{line_feed, space}, Script.{words_of, spelling, IsLine, IsScript}, LineLaws.{space_in_no_word, line_feed_in_no_word, IsApart-from_IsWord, words_are_words}, Purpose.{IsKernelWith, IsErasing, IsDeploying}, PurposeLaws.{IsArgument-hall, HasKernelWord-spelling}, declared.command.Command.Command}
 
 -- ---- no word contains a space or a line feed
 

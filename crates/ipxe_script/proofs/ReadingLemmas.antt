@@ -1,15 +1,6 @@
 -- Reading a script, a step at a time.
-use Rattle.std.proofs.Common.{◌≡◌, ℕ, ◌<◌, ◌≤◌, ◌+◌, List, [], ◌∷◌, ◌++◌, length, get_or, drop, map, Result, Ok, Err, Bor, refl, sym, ap, ◌∙◌, inl, inr, ◌⊎◌, true, arith, add-one, drop-cons, append_assoc, length-append}
-use Rattle.std.proofs.lemmas.Bool.{eq-eqb, ne_eqb}
-use Rattle.std.proofs.lemmas.List.{map_push, drop_all, append-nil}
-use Rattle.std.specs.Prelude.{if◌then◌else◌, count_by, ◌==◌}
-use Rattle.std.proofs.lemmas.List.Splits.{length-slice_split}
-use Rattle.ipxe_script.specs.declared.command.Command.{Command}
-use Rattle.ipxe_script.specs.declared.command.Command.TheVariants.{Sanboot}
-use Rattle.ipxe_script.specs.declared.fault.ScriptFault.{ScriptFault}
-use Rattle.ipxe_script.specs.declared.fault.ScriptFault.TheVariants.{BadWord, NoFinalNewline, Memory}
-use Rattle.ipxe_script.specs.Text.{space, words_in}
-use Rattle.ipxe_script.specs.Understood.{◌>>=◌, are_sanboot_words, sanboot_of, command_of, commands_of, ended_pieces}
+use Rattle.std.{proofs.{Common.{◌≡◌, ℕ, ◌<◌, ◌≤◌, ◌+◌, List, [], ◌∷◌, ◌++◌, length, get_or, drop, map, Result, Ok, Err, Bor, refl, sym, ap, ◌∙◌, inl, inr, ◌⊎◌, true, arith, add-one, drop-cons, append_assoc, length-append}, lemmas.{Bool.{eq-eqb, ne_eqb}, List.{map_push, drop_all, append-nil, Splits.length-slice_split}}}, specs.Prelude.{if◌then◌else◌, count_by, ◌==◌}}
+use Rattle.ipxe_script.specs.{declared.{command.Command.{Command, TheVariants.Sanboot}, fault.ScriptFault.{ScriptFault, TheVariants.{BadWord, NoFinalNewline, Memory}}}, Text.{space, words_in}, Understood.{◌>>=◌, are_sanboot_words, sanboot_of, command_of, commands_of, ended_pieces}}
 
 -- three words, read by their places
 pub sanboot_of-three : (words : List (Bor (List ℕ))) (d : Bor (List ℕ)) → 3 ≤ length words → length words < 4

@@ -1,18 +1,6 @@
 -- What is spelled is understood.
-use Rattle.std.proofs.Common.{◌≡◌, ℕ, ◌≤◌, false, List, [], ◌∷◌, ◌++◌, length, map, Ok, refl, arith}
-use Rattle.std.proofs.lemmas.List.{length-map}
-use Rattle.std.specs.Prelude.{codes}
-use Rattle.std.specs.List.{AllByRecursion, list_any, flat_map}
-use Rattle.std.proofs.lemmas.Bool.{le-ltb, or_from}
-use Rattle.std.proofs.lemmas.List.Elements.{recursion_from_All}
-use Rattle.ipxe_script.specs.Script.{words_of, line_of, spelling, IsWhole, IsLine, IsScript}
-use Rattle.ipxe_script.specs.Understood.{lone_command, kernel_of, initrd_of, sanboot_of, echo_of, command_of, commands_of, is_long_line, are_too_many, lines_of, body_of, understood}
-use Rattle.ipxe_script.specs.declared.command.TheConstants.{MAX_COMMANDS, MAX_WORDS}
-use Rattle.ipxe_script.specs.declared.command.Command.{Command}
-use Rattle.ipxe_script.specs.declared.command.Command.TheVariants.{Kernel, Initrd, Boot, Exit, Sanboot, Echo, Poweroff}
-use Rattle.ipxe_script.specs.LineLaws.{text_of, words_in-text_of, slice_split-lines}
-use Rattle.ipxe_script.proofs.WordLemmas.{list_all-from_IsWord}
-use Rattle.ipxe_script.proofs.ReadingLemmas.{ended_pieces-whole}
+use Rattle.std.{proofs.{Common.{◌≡◌, ℕ, ◌≤◌, false, List, [], ◌∷◌, ◌++◌, length, map, Ok, refl, arith}, lemmas.{List.{length-map, Elements.recursion_from_All}, Bool.{le-ltb, or_from}}}, specs.{Prelude.codes, List.{AllByRecursion, list_any, flat_map}}}
+use Rattle.ipxe_script.{specs.{Script.{words_of, line_of, spelling, IsWhole, IsLine, IsScript}, Understood.{lone_command, kernel_of, initrd_of, sanboot_of, echo_of, command_of, commands_of, is_long_line, are_too_many, lines_of, body_of, understood}, declared.command.{TheConstants.{MAX_COMMANDS, MAX_WORDS}, Command.{Command, TheVariants.{Kernel, Initrd, Boot, Exit, Sanboot, Echo, Poweroff}}}, LineLaws.{text_of, words_in-text_of, slice_split-lines}}, proofs.{WordLemmas.list_all-from_IsWord, ReadingLemmas.ended_pieces-whole}}
 
 pub command_of-words_of : (command : Command) → IsWhole command → command_of (words_of command) ≡ Ok command
 unfolding command_of lone_command kernel_of initrd_of sanboot_of echo_of

@@ -1,25 +1,6 @@
 -- What is understood is a script, and is spelled so.
-use Rattle.std.proofs.Common.{◌≡◌, ℕ, ◌≤◌, ◌&&◌, ◌⊎◌, Bool, true, false, cond, List, [], ◌∷◌, ◌++◌, length, map, drop, Result, Ok, Err, refl, sym, ap, subst, ◌∙◌, inl, inr, arith, append_assoc}
-use Rattle.std.specs.Prelude.{◌==◌, ◌↔◌, IsOk, IfOk, bytes_eq, nat_eq, nat_lt, codes}
-use Rattle.std.specs.List.{AllByRecursion, list_all, list_any, flat_map, join_with_byte, slice_split, starts_with}
-use Rattle.std.proofs.lemmas.Bool.{false≢true, and_parts, or_parts, ltb-false, eqb-true}
-use Rattle.std.proofs.lemmas.Bool.Decides.{Decides-eqb}
-use Rattle.std.proofs.lemmas.List.{nil_from_length, length-map}
-use Rattle.std.proofs.lemmas.List.Elements.{All-from_recursion}
-use Rattle.std.proofs.lemmas.List.Splits.{join_with_byte-slice_split}
-use Rattle.std.proofs.lemmas.Slice.Eq.{bytes_eq-Decides, starts_is}
-use Rattle.ipxe_script.specs.Word.{is_word, is_uri}
-use Rattle.ipxe_script.specs.Script.{words_of, line_of, spelling, IsWhole, IsLine, IsScript}
-use Rattle.ipxe_script.specs.Text.{line_feed, space, words_in}
-use Rattle.ipxe_script.specs.Understood.{◌>>=◌, Gives, uri_of, args_of, lone_command, kernel_of, initrd_of, sanboot_of, are_sanboot_words, echo_of, command_of, commands_of, is_long_line, are_too_many, ended_pieces, lines_of, body_of, understood}
-use Rattle.ipxe_script.specs.declared.command.TheConstants.{MAX_COMMANDS, MAX_WORDS}
-use Rattle.ipxe_script.specs.declared.command.Command.{Command}
-use Rattle.ipxe_script.specs.declared.command.Command.TheVariants.{Kernel, Initrd, Boot, Exit, Sanboot, Echo, Poweroff}
-use Rattle.ipxe_script.specs.declared.fault.ScriptFault.{ScriptFault}
-use Rattle.ipxe_script.specs.declared.fault.ScriptFault.TheVariants.{NoHead, UnknownCommand, BadWord, NoFinalNewline, TooMany, Memory}
-use Rattle.ipxe_script.proofs.WordLemmas.{IsWord-from_list_all}
-use Rattle.ipxe_script.specs.LineLaws.{text_of}
-use Rattle.ipxe_script.proofs.SpellingLemmas.{understood-spelling}
+use Rattle.std.{proofs.{Common.{◌≡◌, ℕ, ◌≤◌, ◌&&◌, ◌⊎◌, Bool, true, false, cond, List, [], ◌∷◌, ◌++◌, length, map, drop, Result, Ok, Err, refl, sym, ap, subst, ◌∙◌, inl, inr, arith, append_assoc}, lemmas.{Bool.{false≢true, and_parts, or_parts, ltb-false, eqb-true, Decides.Decides-eqb}, List.{nil_from_length, length-map, Elements.All-from_recursion, Splits.join_with_byte-slice_split}, Slice.Eq.{bytes_eq-Decides, starts_is}}}, specs.{Prelude.{◌==◌, ◌↔◌, IsOk, IfOk, bytes_eq, nat_eq, nat_lt, codes}, List.{AllByRecursion, list_all, list_any, flat_map, join_with_byte, slice_split, starts_with}}}
+use Rattle.ipxe_script.{specs.{Word.{is_word, is_uri}, Script.{words_of, line_of, spelling, IsWhole, IsLine, IsScript}, Text.{line_feed, space, words_in}, Understood.{◌>>=◌, Gives, uri_of, args_of, lone_command, kernel_of, initrd_of, sanboot_of, are_sanboot_words, echo_of, command_of, commands_of, is_long_line, are_too_many, ended_pieces, lines_of, body_of, understood}, declared.{command.{TheConstants.{MAX_COMMANDS, MAX_WORDS}, Command.{Command, TheVariants.{Kernel, Initrd, Boot, Exit, Sanboot, Echo, Poweroff}}}, fault.ScriptFault.{ScriptFault, TheVariants.{NoHead, UnknownCommand, BadWord, NoFinalNewline, TooMany, Memory}}}, LineLaws.text_of}, proofs.{WordLemmas.IsWord-from_list_all, SpellingLemmas.understood-spelling}}
 
 -- ---- steps that did not fail
 

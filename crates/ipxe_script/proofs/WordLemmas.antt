@@ -1,8 +1,5 @@
 -- Lists of words.
-use Rattle.std.proofs.Common.{◌≡◌, ℕ, true, List, [], ◌∷◌, All, refl}
-use Rattle.std.specs.List.{list_all}
-use Rattle.std.proofs.lemmas.Bool.{and_parts}
-use Rattle.std.proofs.lemmas.List.Elements.{All-nil, All-cons, All-head, All-tail}
+use Rattle.std.{proofs.{Common.{◌≡◌, ℕ, true, List, [], ◌∷◌, All, refl}, lemmas.{Bool.and_parts, List.Elements.{All-nil, All-cons, All-head, All-tail}}}, specs.List.list_all}
 use Rattle.ipxe_script.specs.Word.{is_word, IsWord}
 pub use Rattle.ipxe_script.specs.WordLaws.{IsWord-from_IsUri}
 

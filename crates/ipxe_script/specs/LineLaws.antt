@@ -1,16 +1,6 @@
 -- Laws of lines, for the proofs of callers: the words of a printed line and the lines of a printed script are found again.
-use Rattle.std.proofs.Common.{◌≡◌, ℕ, ◌<◌, true, false, List, [], ◌∷◌, ◌++◌, length, map, All, refl, sym, ap, ◌∙◌, arith, append_assoc}
-use Rattle.std.specs.Prelude.{◌==◌, codes}
-use Rattle.std.specs.List.{AllByRecursion, list_all, flat_map, join_with_byte, slice_split}
-use Rattle.std.proofs.lemmas.Bool.{both_ways, and_parts, ne_eqb, eq-eqb}
-use Rattle.std.proofs.lemmas.List.Elements.{All-nil, All-cons, All-append, recursion_from_All}
-use Rattle.std.proofs.lemmas.List.Splits.{slice_split_none, slice_split_at}
-use Rattle.ipxe_script.specs.Word.{is_first_octet, is_word_octet, is_word, IsWord}
-use Rattle.ipxe_script.specs.WordLaws.{IsWord-from_IsUri, AreWordOctets-from_IsWord}
-use Rattle.ipxe_script.specs.Text.{line_feed, space, lines_in, words_in}
-use Rattle.ipxe_script.specs.Script.{words_of, line_of, spelling, IsWhole, IsLine}
-use Rattle.ipxe_script.specs.declared.command.Command.{Command}
-use Rattle.ipxe_script.specs.declared.command.Command.TheVariants.{Kernel, Initrd, Boot, Exit, Sanboot, Echo, Poweroff}
+use Rattle.std.{proofs.{Common.{◌≡◌, ℕ, ◌<◌, true, false, List, [], ◌∷◌, ◌++◌, length, map, All, refl, sym, ap, ◌∙◌, arith, append_assoc}, lemmas.{Bool.{both_ways, and_parts, ne_eqb, eq-eqb}, List.{Elements.{All-nil, All-cons, All-append, recursion_from_All}, Splits.{slice_split_none, slice_split_at}}}}, specs.{Prelude.{◌==◌, codes}, List.{AllByRecursion, list_all, flat_map, join_with_byte, slice_split}}}
+use Rattle.ipxe_script.specs.{Word.{is_first_octet, is_word_octet, is_word, IsWord}, WordLaws.{IsWord-from_IsUri, AreWordOctets-from_IsWord}, Text.{line_feed, space, lines_in, words_in}, Script.{words_of, line_of, spelling, IsWhole, IsLine}, declared.command.Command.{Command, TheVariants.{Kernel, Initrd, Boot, Exit, Sanboot, Echo, Poweroff}}}
 
 -- no octet of the text is c
 abbrev pub IsApart : ℕ → List ℕ → Type 0

@@ -1,10 +1,6 @@
 -- The purpose that a text gives the kernel which it starts, by a word of the kernel's line.
-use Rattle.std.specs.Prelude.{◌≡◌, ℕ, Bool, true, false, List, nat_eq, bytes_eq, IsTrue, Any, Contains, codes}
-use Rattle.std.specs.List.{starts_with}
-use Rattle.ipxe_script.specs.Word.{is_uri}
-use Rattle.ipxe_script.specs.Text.{lines_in, words_in}
-use Rattle.ipxe_script.specs.declared.command.Command.{Command}
-use Rattle.ipxe_script.specs.declared.command.Command.TheVariants.{Kernel}
+use Rattle.std.specs.{Prelude.{◌≡◌, ℕ, Bool, true, false, List, nat_eq, bytes_eq, IsTrue, Any, Contains, codes}, List.starts_with}
+use Rattle.ipxe_script.specs.{Word.is_uri, Text.{lines_in, words_in}, declared.command.Command.{Command, TheVariants.Kernel}}
 
 -- a line that begins `kernel ` and has this word
 abbrev pub IsKernelLine : List ℕ → List ℕ → Type 0

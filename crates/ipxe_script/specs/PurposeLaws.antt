@@ -1,15 +1,6 @@
 -- Laws of kernel lines, for the proofs of callers: which words the kernel lines of a printed script have.
-use Rattle.std.proofs.Common.{◌≡◌, ℕ, zero, suc, ◌⊎◌, true, false, List, [], ◌∷◌, ◌++◌, map, refl, sym, ap, subst, ◌∙◌, inl, inr, arith}
-use Rattle.std.specs.Prelude.{◌↔◌, Any, Contains, bytes_eq, codes}
-use Rattle.std.specs.List.{AllByRecursion, list_any}
-use Rattle.std.proofs.lemmas.Bool.{false≢true, and_right, or_parts, both_ways}
-use Rattle.std.proofs.lemmas.List.Elements.{recursion_from_All}
-use Rattle.ipxe_script.specs.Word.{is_uri, is_word}
-use Rattle.ipxe_script.specs.Script.{spelling, IsWhole, IsLine, IsScript}
-use Rattle.ipxe_script.specs.LineLaws.{text_of, words_in-text_of, lines_in-spelling}
-use Rattle.ipxe_script.specs.Purpose.{IsKernelLine, HasKernelWord, IsArgument, is_kernel, IsKernelWith}
-use Rattle.ipxe_script.specs.declared.command.Command.{Command}
-use Rattle.ipxe_script.specs.declared.command.Command.TheVariants.{Kernel, Initrd, Boot, Exit, Sanboot, Echo, Poweroff}
+use Rattle.std.{proofs.{Common.{◌≡◌, ℕ, zero, suc, ◌⊎◌, true, false, List, [], ◌∷◌, ◌++◌, map, refl, sym, ap, subst, ◌∙◌, inl, inr, arith}, lemmas.{Bool.{false≢true, and_right, or_parts, both_ways}, List.Elements.recursion_from_All}}, specs.{Prelude.{◌↔◌, Any, Contains, bytes_eq, codes}, List.{AllByRecursion, list_any}}}
+use Rattle.ipxe_script.specs.{Word.{is_uri, is_word}, Script.{spelling, IsWhole, IsLine, IsScript}, LineLaws.{text_of, words_in-text_of, lines_in-spelling}, Purpose.{IsKernelLine, HasKernelWord, IsArgument, is_kernel, IsKernelWith}, declared.command.Command.{Command, TheVariants.{Kernel, Initrd, Boot, Exit, Sanboot, Echo, Poweroff}}}
 
 -- ---- some element of a list
 

@@ -1,11 +1,6 @@
 -- Scripts (https://ipxe.org/scripting): their commands, and the one spelling of them in octets.
-use Rattle.std.specs.Prelude.{⊤, ◌≡◌, ℕ, ◌<◌, ◌≤◌, ◌⊎◌, All, Any, List, [], ◌∷◌, ◌++◌, length, codes}
-use Rattle.std.specs.List.{flat_map, join_with_byte}
-use Rattle.ipxe_script.specs.Word.{IsWord, IsUri}
-use Rattle.ipxe_script.specs.Text.{line_feed, space}
-use Rattle.ipxe_script.specs.declared.command.TheConstants.{MAX_COMMANDS, MAX_WORDS}
-use Rattle.ipxe_script.specs.declared.command.Command.{Command}
-use Rattle.ipxe_script.specs.declared.command.Command.TheVariants.{Kernel, Initrd, Boot, Exit, Sanboot, Echo, Poweroff}
+use Rattle.std.specs.{Prelude.{⊤, ◌≡◌, ℕ, ◌<◌, ◌≤◌, ◌⊎◌, All, Any, List, [], ◌∷◌, ◌++◌, length, codes}, List.{flat_map, join_with_byte}}
+use Rattle.ipxe_script.specs.{Word.{IsWord, IsUri}, Text.{line_feed, space}, declared.command.{TheConstants.{MAX_COMMANDS, MAX_WORDS}, Command.{Command, TheVariants.{Kernel, Initrd, Boot, Exit, Sanboot, Echo, Poweroff}}}}
 
 -- the words of a command's line: its name, and then its arguments
 abbrev pub words_of : Command → List (List ℕ)

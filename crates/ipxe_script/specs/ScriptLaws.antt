@@ -1,10 +1,6 @@
 -- Laws of scripts, for the proofs of callers: which commands make a script.
-use Rattle.std.proofs.Common.{ℕ, ◌+◌, ◌≤◌, All, List, [], ◌∷◌, length, arith}
-use Rattle.std.proofs.lemmas.List.Elements.{All-from_recursion}
-use Rattle.ipxe_script.specs.Word.{IsWord, IsUri}
-use Rattle.ipxe_script.specs.Script.{IsLine, IsScript}
-use Rattle.ipxe_script.specs.declared.command.Command.TheVariants.{Kernel, Initrd, Boot}
-use Rattle.ipxe_script.specs.declared.command.TheConstants.{MAX_WORDS}
+use Rattle.std.proofs.{Common.{ℕ, ◌+◌, ◌≤◌, All, List, [], ◌∷◌, length, arith}, lemmas.List.Elements.All-from_recursion}
+use Rattle.ipxe_script.specs.{Word.{IsWord, IsUri}, Script.{IsLine, IsScript}, declared.command.{Command.TheVariants.{Kernel, Initrd, Boot}, TheConstants.MAX_WORDS}}
 
 -- a kernel with at most 30 arguments, its initrd, and `boot`
 pub IsScript-boot : (uri : List ℕ) (args : List (List ℕ)) (initrd : List ℕ) → IsUri uri → All IsWord args → IsUri initrd → length args + 2 ≤ MAX_WORDS → IsScript (Kernel uri args ∷ Initrd initrd ∷ Boot ∷ [])

@@ -1,6 +1,5 @@
 -- Lines of a text, and words of a line.
-use Rattle.std.specs.Prelude.{ℕ, ◌==◌, List}
-use Rattle.std.specs.List.{slice_split}
+use Rattle.std.specs.{Prelude.{ℕ, ◌==◌, List}, List.slice_split}
 
 -- the octet after each line
 abbrev pub line_feed : ℕ

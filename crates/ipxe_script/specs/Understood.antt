@@ -1,15 +1,7 @@
 -- Reading a script up to its first fault: the inverse of `spelling` as a plain program.
-use Rattle.std.specs.Prelude.{ℕ, Bool, ◌&&◌, ◌||◌, List, [], ◌∷◌, length, drop, Result, Ok, Err, MatchResult, ◌≡◌, ◌⊎◌, nat_eq, nat_lt, ◌==◌, if◌then◌else◌, bytes_eq, codes}
-use Rattle.std.specs.List.{list_any, list_all, starts_with}
-use Rattle.ipxe_script.specs.Word.{is_word, is_uri}
-use Rattle.ipxe_script.specs.Text.{lines_in, words_in}
-use Rattle.ipxe_script.specs.declared.command.TheConstants.{MAX_COMMANDS, MAX_WORDS}
-use Rattle.ipxe_script.specs.declared.command.Command.{Command}
-use Rattle.ipxe_script.specs.declared.command.Command.TheVariants.{Kernel, Initrd, Boot, Exit, Sanboot, Echo, Poweroff}
-use Rattle.ipxe_script.specs.declared.fault.WordFault.{WordFault}
+use Rattle.std.specs.{Prelude.{ℕ, Bool, ◌&&◌, ◌||◌, List, [], ◌∷◌, length, drop, Result, Ok, Err, MatchResult, ◌≡◌, ◌⊎◌, nat_eq, nat_lt, ◌==◌, if◌then◌else◌, bytes_eq, codes}, List.{list_any, list_all, starts_with}}
+use Rattle.ipxe_script.specs.{Word.{is_word, is_uri}, Text.{lines_in, words_in}, declared.{command.{TheConstants.{MAX_COMMANDS, MAX_WORDS}, Command.{Command, TheVariants.{Kernel, Initrd, Boot, Exit, Sanboot, Echo, Poweroff}}}, fault.{WordFault.WordFault, ScriptFault.{ScriptFault, TheVariants.{NoHead, UnknownCommand, BadWord, NoFinalNewline, TooMany, Memory}}}}}
 use Rattle.ipxe_script.specs.declared.fault.WordFault.TheVariants as words
-use Rattle.ipxe_script.specs.declared.fault.ScriptFault.{ScriptFault}
-use Rattle.ipxe_script.specs.declared.fault.ScriptFault.TheVariants.{NoHead, UnknownCommand, BadWord, NoFinalNewline, TooMany, Memory}
 
 -- the first fault is the result
 infixl 10 ◌>>=◌

@@ -1,7 +1,5 @@
 -- Words of an iPXE script (https://ipxe.org/scripting): which texts they are.
-use Rattle.std.specs.Prelude.{ℕ, Bool, false, ◌&&◌, ◌||◌, ◌==◌, List, [], ◌∷◌, length, nat_eq, nat_lt, IsTrue, codes}
-use Rattle.std.specs.Char.{is_ascii_alphanumeric}
-use Rattle.std.specs.List.{list_any, list_all, starts_with}
+use Rattle.std.specs.{Prelude.{ℕ, Bool, false, ◌&&◌, ◌||◌, ◌==◌, List, [], ◌∷◌, length, nat_eq, nat_lt, IsTrue, codes}, Char.is_ascii_alphanumeric, List.{list_any, list_all, starts_with}}
 use Rattle.ipxe_script.specs.declared.word.TheConstants.{MAX_WORD_LEN}
 
 -- the first character of a word is a letter, a digit or one of these four

@@ -1,16 +1,6 @@
 -- Laws of words, for the proofs of callers: which texts are words.
-use Rattle.std.specs.Prelude.{◌≡◌, ℕ, ◌+◌, ◌^◌, ◌<◌, ◌≤◌, ◌==◌, ◌&&◌, ◌||◌, not, Bool, true, false, List, [], ◌∷◌, ◌++◌, length, nat_lt, nat_le, decimal}
-use Rattle.std.specs.List.{list_all}
-use Rattle.std.specs.Int.{IsInRange, is_in_range}
-use Rattle.std.specs.Char.{is_ascii_hexdigit, is_ascii_alphanumeric}
-use Rattle.std.specs.Str.Parse.{AllDigits}
-use Rattle.std.proofs.Common.{refl, ◌∙◌, inl, inr, arith, length-append}
-use Rattle.std.proofs.lemmas.Bool.{false≢true, and_parts, and_from, and_right, or_left, or_from, lt-ltb, lt-leb, le-leb, ne_eqb, cases_lt, agree_below_at}
-use Rattle.std.proofs.lemmas.List.Folds.{list_all-append}
-use Rattle.std.proofs.lemmas.Fmt.{decimal_is_IsNumeral, length-decimal-le}
-use Rattle.std.proofs.lemmas.Str.Parse.{digit_from_value}
-use Rattle.ipxe_script.specs.Word.{is_first_octet, is_word_octet, is_word, is_uri, IsWord, IsUri, AreWordOctets}
-use Rattle.ipxe_script.specs.declared.word.TheConstants.{MAX_WORD_LEN}
+use Rattle.std.{specs.{Prelude.{◌≡◌, ℕ, ◌+◌, ◌^◌, ◌<◌, ◌≤◌, ◌==◌, ◌&&◌, ◌||◌, not, Bool, true, false, List, [], ◌∷◌, ◌++◌, length, nat_lt, nat_le, decimal}, List.list_all, Int.{IsInRange, is_in_range}, Char.{is_ascii_hexdigit, is_ascii_alphanumeric}, Str.Parse.AllDigits}, proofs.{Common.{refl, ◌∙◌, inl, inr, arith, length-append}, lemmas.{Bool.{false≢true, and_parts, and_from, and_right, or_left, or_from, lt-ltb, lt-leb, le-leb, ne_eqb, cases_lt, agree_below_at}, List.Folds.list_all-append, Fmt.{decimal_is_IsNumeral, length-decimal-le}, Str.Parse.digit_from_value}}}
+use Rattle.ipxe_script.specs.{Word.{is_first_octet, is_word_octet, is_word, is_uri, IsWord, IsUri, AreWordOctets}, declared.word.TheConstants.MAX_WORD_LEN}
 
 -- a URI is a word
 pub IsWord-from_IsUri : (text : List ℕ) → IsUri text → IsWord text

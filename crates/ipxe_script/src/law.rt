@@ -1,11 +1,6 @@
 //! Laws of all scripts.
-ghost use Rattle.std.specs.Prelude.{◌≡◌, ◌≢◌, ◌↔◌, List, ℕ, Ok, All, Any, codes};
-ghost use Rattle.std.specs.List.{flat_map};
-ghost use Rattle.ipxe_script.specs.Script.{words_of, spelling, IsScript};
-ghost use Rattle.ipxe_script.specs.Text.{line_feed, space};
-ghost use Rattle.ipxe_script.specs.Purpose.{IsErasing, IsDeploying, IsKernelWith};
-ghost use Rattle.ipxe_script.specs.Understood.{understood};
-ghost use Rattle.ipxe_script.specs.declared.command.Command.{Command};
+ghost use Rattle.std.specs.{Prelude.{◌≡◌, ◌≢◌, ◌↔◌, List, ℕ, Ok, All, Any, codes}, List.flat_map};
+ghost use Rattle.ipxe_script.specs.{Script.{words_of, spelling, IsScript}, Text.{line_feed, space}, Purpose.{IsErasing, IsDeploying, IsKernelWith}, Understood.understood, declared.command.Command.Command};
 
 /// Law: a script has one spelling. It is read as that script, and no other text is.
 pub fn one_spelling()

@@ -1,8 +1,6 @@
 //! Printing the lines of a script.
-ghost use Rattle.std.specs.Prelude.{◌≡◌, ◌++◌, ◌∷◌, string_bytes, OnOk};
-ghost use Rattle.std.specs.List.{flat_map, join_with_byte};
-ghost use Rattle.ipxe_script.specs.Text.{space};
-ghost use Rattle.ipxe_script.specs.Script.{words_of, line_of};
+ghost use Rattle.std.specs.{Prelude.{◌≡◌, ◌++◌, ◌∷◌, string_bytes, OnOk}, List.{flat_map, join_with_byte}};
+ghost use Rattle.ipxe_script.specs.{Text.space, Script.{words_of, line_of}};
 
 use crate::command::Command;
 use crate::word::Word;

@@ -1,10 +1,6 @@
 //! Reading a script.
-ghost use Rattle.std.specs.Prelude.{◌≡◌, ◌<◌, ◌==◌, ◌⊎◌, List, map, IfOk, MatchResult};
-ghost use Rattle.std.specs.List.{list_any, slice_split};
-ghost use Rattle.ipxe_script.specs.Text.{lines_in, words_in};
-ghost use Rattle.ipxe_script.specs.Understood.{Gives, uri_of, args_of, lone_command, kernel_of, initrd_of, are_sanboot_words, sanboot_of, echo_of, command_of, commands_of, is_long_line, are_too_many, ended_pieces, lines_of, body_of, understood};
-ghost use Rattle.ipxe_script.specs.Script.{spelling, IsScript};
-ghost use Rattle.ipxe_script.specs.declared.command.Command.{Command};
+ghost use Rattle.std.specs.{Prelude.{◌≡◌, ◌<◌, ◌==◌, ◌⊎◌, List, map, IfOk, MatchResult}, List.{list_any, slice_split}};
+ghost use Rattle.ipxe_script.specs.{Text.{lines_in, words_in}, Understood.{Gives, uri_of, args_of, lone_command, kernel_of, initrd_of, are_sanboot_words, sanboot_of, echo_of, command_of, commands_of, is_long_line, are_too_many, ended_pieces, lines_of, body_of, understood}, Script.{spelling, IsScript}, declared.command.Command.Command};
 
 use crate::command::{Command, MAX_COMMANDS, MAX_WORDS};
 use crate::fault::ScriptFault;

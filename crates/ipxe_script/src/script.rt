@@ -1,6 +1,5 @@
 //! Scripts, made of commands and printed.
-ghost use Rattle.std.specs.Prelude.{◌≡◌, ◌<◌, ◌≤◌, ◌↔◌, ◌++◌, ◌∷◌, length, string_bytes, All, Any, MatchBool, IsOk, OnOk, IfOk, IsErrOf};
-ghost use Rattle.std.specs.List.{flat_map};
+ghost use Rattle.std.specs.{Prelude.{◌≡◌, ◌<◌, ◌≤◌, ◌↔◌, ◌++◌, ◌∷◌, length, string_bytes, All, Any, MatchBool, IsOk, OnOk, IfOk, IsErrOf}, List.flat_map};
 ghost use Rattle.ipxe_script.specs.Script.{words_of, line_of, spelling, IsWhole, IsBareEcho, IsScript, HasTooManyWords, HasTooMany};
 
 use crate::command::{Command, MAX_COMMANDS, MAX_WORDS};
@@ -21,8 +20,7 @@ pub struct Script {
 
 impl Model for Script {
     ghost use Rattle.std.specs.Prelude.{List};
-    ghost use Rattle.ipxe_script.specs.Script.{IsScript};
-    ghost use Rattle.ipxe_script.specs.declared.command.Command.{Command};
+    ghost use Rattle.ipxe_script.specs.{Script.IsScript, declared.command.Command.Command};
 
     ghost Value = { List Command };
 

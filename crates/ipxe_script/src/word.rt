@@ -1,6 +1,5 @@
 //! Words of a script, and the URIs among them.
-ghost use Rattle.std.specs.Prelude.{◌≡◌, ◌↔◌, IsTrue, IfOk, OnOk, IsErrOf};
-ghost use Rattle.std.specs.List.{list_all};
+ghost use Rattle.std.specs.{Prelude.{◌≡◌, ◌↔◌, IsTrue, IfOk, OnOk, IsErrOf}, List.list_all};
 ghost use Rattle.ipxe_script.specs.Word.{is_first_octet, is_word_octet, is_word, is_uri, is_hall_word, IsWord, IsUri};
 
 use crate::fault::WordFault;

@@ -1,23 +1,14 @@
 -- A hall of the first schema that was carried over, by the words of the model and by those of the tables; and what comes to it.
-use Rattle.std.proofs.Common.{◌≡◌, ◌⊎◌, ℕ, List, [], ◌∷◌, Option, Some, None, Result, Ok, Err, inl, inr, refl, ap, ◌∙◌}
-use Rattle.std.specs.Prelude.{IfOk, if◌then◌else◌, option_map}
+use Rattle.std.{proofs.Common.{◌≡◌, ◌⊎◌, ℕ, List, [], ◌∷◌, Option, Some, None, Result, Ok, Err, inl, inr, refl, ap, ◌∙◌}, specs.Prelude.{IfOk, if◌then◌else◌, option_map}}
 use Rattle.sqlite.specs.Tree.{Trees}
-use Rattle.hall_types.specs.Hall.{Hall, first, new_hall}
-use Rattle.hall_types.specs.Rows.{at}
-use Rattle.hall_types.specs.declared.kinds.Erase.TheVariants.{Full}
-use Rattle.hall_types.specs.declared.machine.Machine.{Machine}
-use Rattle.hall_types.specs.declared.status.Status.{Status}
-use Rattle.hall_types.specs.declared.status.Status.TheVariants.{New, Commissioning, FailedCommissioning, Testing, FailedTesting, Ready, Allocated, Deploying, FailedDeployment, Deployed, Releasing, FailedReleasing, DiskErasing, FailedDiskErasing, EnteringRescue, FailedToEnterRescue, Rescue, ExitingRescue, FailedToExitRescue, Broken}
+use Rattle.hall_types.specs.{Hall.{Hall, first, new_hall}, Rows.at, declared.{kinds.Erase.TheVariants.Full, machine.Machine.Machine, status.Status.{Status, TheVariants.{New, Commissioning, FailedCommissioning, Testing, FailedTesting, Ready, Allocated, Deploying, FailedDeployment, Deployed, Releasing, FailedReleasing, DiskErasing, FailedDiskErasing, EnteringRescue, FailedToEnterRescue, Rescue, ExitingRescue, FailedToExitRescue, Broken}}}}
 use Rattle.life_cycle.specs.Entering.{keeps_erase}
-use Rattle.laws_model.specs.Migration.{IsMigrated, with_kind}
-use Rattle.laws_model.specs.Step.{Step}
-use Rattle.laws_migration.specs.FirstSchema.{IsFirstRun}
-use Rattle.laws_migration.specs.Origin.{carried_over}
-use Rattle.hall_desk.specs.History.{AllLead, BeginsWith, Item, Origin}
-use Rattle.hall_desk.specs.Headline.{Headline}
+use Rattle.hall_laws.specs.{Migration.{IsMigrated, with_kind}, Step.Step, FirstSchema.IsFirstRun, Origin.carried_over}
+use Rattle.hall_desk.specs.{History.{AllLead, BeginsWith, Item, Origin}, Headline.Headline}
 use Rattle.laws_stores.specs.Migrating.{GoesOn}
 use Rattle.sql_schema.specs.Spelling.{SpellHall}
 use Rattle.sql_tables.specs.Migrating.{BecomeHall, IsCarriedOver, SpellFirst, is_erasing, with_full}
+use Rattle.hall_store.specs.declared.store.HallStore.{Ghosts}
 
 -- ---- the same statuses
 
@@ -67,11 +58,11 @@ module _ (keeps : Keeps) (admin digest : List ℕ) (steps : List Step) (db : Tre
   pub begun : Headline (carried_over admin digest steps) [] next
   begun = keeps (carried_over admin digest steps) next [] next (h, run, over) refl
 
-pub goes_on : {S F M : Type 0} (clean : S → Type 0) (holds : S → Hall → Type 0) (leaves : S → List Hall → Type 0) (db : Trees) (r : Result (S × M) F) → Keeps
-    → IfOk r (λ done. clean done.0 → (h : Hall) → BecomeHall db h → holds done.0 h) → IfOk r (λ done. clean done.0 → (h : Hall) → BecomeHall db h → leaves done.0 (h ∷ []))
-    → IfOk r (λ done. clean done.0 → (admin digest : List ℕ) (steps : List Step) (h next : Hall) → IsFirstRun (new_hall first admin digest) steps h → SpellFirst db h → IsMigrated h next
-    → GoesOn holds leaves done.0 (carried_over admin digest steps) next)
-goes_on clean holds leaves db (Ok done) keeps held settled = λ is admin digest steps h next run spelt over.
+pub goes_on : {S F M : Type 0} (g : Ghosts S) (db : Trees) (r : Result (S × M) F) → Keeps
+    → IfOk r (λ done. g.is_clean done.0 → (h : Hall) → BecomeHall db h → g.holds done.0 h) → IfOk r (λ done. g.is_clean done.0 → (h : Hall) → BecomeHall db h → g.leaves done.0 (h ∷ []))
+    → IfOk r (λ done. g.is_clean done.0 → (admin digest : List ℕ) (steps : List Step) (h next : Hall) → IsFirstRun (new_hall first admin digest) steps h → SpellFirst db h → IsMigrated h next
+    → GoesOn g done.0 (carried_over admin digest steps) next)
+goes_on g db (Ok done) keeps held settled = λ is admin digest steps h next run spelt over.
     let become = become keeps admin digest steps db h next run spelt over in
     record {
       held = held is next become;
@@ -82,7 +73,7 @@ goes_on clean holds leaves db (Ok done) keeps held settled = λ is admin digest 
       };
       laws = λ items end led. keeps (carried_over admin digest steps) next items end (h, run, over) led;
     }
-goes_on clean holds leaves db (Err fault) keeps held settled = tt
+goes_on g db (Err fault) keeps held settled = tt
 
 -- what a stop leaves on the way
 pub left : (db : Trees) (old : Type 0) (next : Hall) (origin : Origin) → Headline origin [] next → old ⊎ SpellHall db next → old ⊎ ((end : Hall) × SpellHall db end × Headline origin [] end)

@@ -1,14 +1,11 @@
 -- Of halls that a stop may leave, the one that its tables spell.
-use Rattle.std.proofs.Common.{◌≡◌, ℕ, List, [], ◌∷◌, Result, Ok, Err, inl, inr, subst, sym}
-use Rattle.std.specs.Prelude.{IfOk}
-use Rattle.std.specs.List.{AllByRecursion}
+use Rattle.std.{proofs.Common.{◌≡◌, ℕ, List, [], ◌∷◌, Result, Ok, Err, inl, inr, subst, sym}, specs.{Prelude.IfOk, List.AllByRecursion}}
 use Rattle.sqlite.specs.Tree.{Trees}
 use Rattle.hall_types.specs.Hall.{Hall}
 use Rattle.sqlite_rules.specs.Lists.{Has}
 use Rattle.sql_schema.specs.Spelling.{SpellHall}
-use Rattle.hall_desk.specs.History.{Item, Origin}
-use Rattle.hall_desk.specs.Headline.{Headline}
-use Rattle.hall_desk.specs.Stops.{IsEnd, IsSettled}
+use Rattle.hall_desk.specs.{History.{Item, Origin}, Headline.Headline, Stops.{IsEnd, IsSettled}}
+use Rattle.hall_store.specs.declared.store.HallStore.{Ghosts}
 
 pub of_halls : (db : Trees) (origin : Origin) (IsOne : List Item → Type 0) (h : Hall) (halls : List Hall) → Has halls h → SpellHall db h
     → AllByRecursion (IsEnd origin IsOne) halls → (end : Hall) × SpellHall db end × IsEnd origin IsOne end
@@ -17,11 +14,11 @@ of_halls db origin IsOne h (x ∷ halls) (inl is) spells all = (h, spells, subst
 of_halls db origin IsOne h (x ∷ halls) (inr has) spells all = of_halls db origin IsOne h halls has spells all.1
 
 -- a store that was opened has the hall to which a history leads
-pub opened : {S F : Type 0} (clean : S → Type 0) (holds : S → Hall → Type 0) (leaves : S → List Hall → Type 0) (db : Trees) (r : Result S F)
-    → IfOk r (λ store. clean store → (h : Hall) → SpellHall db h → holds store h) → IfOk r (λ store. clean store → (h : Hall) → SpellHall db h → leaves store (h ∷ []))
-    → IfOk r (λ store. clean store → (origin : Origin) (items : List Item) (h : Hall) → Headline origin items h → SpellHall db h → IsSettled holds leaves store origin items)
-opened clean holds leaves db (Ok store) held settled = λ is origin items h headline spells. record {
+pub opened : {S F : Type 0} (g : Ghosts S) (db : Trees) (r : Result S F)
+    → IfOk r (λ store. g.is_clean store → (h : Hall) → SpellHall db h → g.holds store h) → IfOk r (λ store. g.is_clean store → (h : Hall) → SpellHall db h → g.leaves store (h ∷ []))
+    → IfOk r (λ store. g.is_clean store → (origin : Origin) (items : List Item) (h : Hall) → Headline origin items h → SpellHall db h → IsSettled g store origin items)
+opened g db (Ok store) held settled = λ is origin items h headline spells. record {
   history = record { end = h; held = held is h spells; headline = headline };
   settled = settled is h spells;
 }
-opened clean holds leaves db (Err fault) held settled = tt
+opened g db (Err fault) held settled = tt

@@ -1,13 +1,8 @@
 //! A hall of the first schema that is carried over: its history goes on.
 ghost use Rattle.std.specs.Prelude.{◌⊎◌, ℕ, List, [], IfOk};
-ghost use Rattle.sqlite.specs.Held.{state};
-ghost use Rattle.sqlite.specs.State.{HasCleanDisk};
-ghost use Rattle.sqlite.specs.Tree.{Trees};
+ghost use Rattle.sqlite.specs.{Held.state, State.HasCleanDisk, Tree.Trees};
 ghost use Rattle.hall_types.specs.Hall.{Hall, first, new_hall};
-ghost use Rattle.laws_migration.specs.FirstSchema.{IsFirstRun};
-ghost use Rattle.laws_migration.specs.Origin.{carried_over};
-ghost use Rattle.laws_model.specs.Migration.{IsMigrated};
-ghost use Rattle.laws_model.specs.Step.{Step};
+ghost use Rattle.hall_laws.specs.{FirstSchema.IsFirstRun, Origin.carried_over, Migration.IsMigrated, Step.Step};
 ghost use Rattle.hall_desk.specs.Headline.{Headline};
 ghost use Rattle.hall_sql.specs.Opening.{connection_after};
 ghost use Rattle.sql_schema.specs.Spelling.{SpellHall};
@@ -34,7 +29,7 @@ pub fn migrated_goes_on<S: Alter>(
 ) -> Result<(SqlStore<S>, Migrated), Refused<S, OpenFault>>
     ensures goes_on { IfOk result (λ done. ⟦<SqlStore<S> as HallStore>⟧.is_clean done.0 → (admin digest : List ℕ) (steps : List Step) (h next : Hall)
         → IsFirstRun (new_hall first admin digest) steps h → SpellFirst (state S.Store conn).now.trees h → IsMigrated h next
-        → GoesOn ⟦<SqlStore<S> as HallStore>⟧.holds ⟦<SqlStore<S> as HallStore>⟧.leaves done.0 (carried_over admin digest steps) next) }
+        → GoesOn ⟦<SqlStore<S> as HallStore>⟧ done.0 (carried_over admin digest steps) next) }
     ensures stop { HasCleanDisk (state S.Store (connection_after result)) → (admin digest : List ℕ) (steps : List Step) (h next : Hall)
         → IsFirstRun (new_hall first admin digest) steps h → SpellFirst (state S.Store conn).now.trees h → IsMigrated h next
         → (db : Trees) → (state S.Store (connection_after result)).may_leave db

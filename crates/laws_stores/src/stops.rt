@@ -1,15 +1,10 @@
 //! A hall in SQLite over a stop, and what comes to it once its tables are opened again.
 ghost use Rattle.std.specs.Prelude.{ℕ, List, IfOk};
-ghost use Rattle.sqlite.specs.Held.{state};
-ghost use Rattle.sqlite.specs.Tree.{Trees};
+ghost use Rattle.sqlite.specs.{Held.state, Tree.Trees};
 ghost use Rattle.pxe_vendor.specs.Place.{Site};
 ghost use Rattle.hall_types.specs.Hall.{Hall};
 ghost use Rattle.sql_schema.specs.Spelling.{SpellHall};
-ghost use Rattle.hall_desk.specs.Headline.{Headline};
-ghost use Rattle.hall_desk.specs.History.{Item, Origin};
-ghost use Rattle.hall_desk.specs.Stops.{AndCutRun, IsEnd, IsLeft, IsSettled, OrUnanswered, OrUnreplied};
-ghost use Rattle.hall_desk.specs.declared.arrival.Answer.{Answer};
-ghost use Rattle.hall_desk.specs.declared.arrival.Arrival.{Arrival};
+ghost use Rattle.hall_desk.specs.{Headline.Headline, History.{Item, Origin}, Stops.{AndCutRun, IsEnd, IsLeft, IsSettled, OrUnanswered, OrUnreplied}, declared.arrival.{Answer.Answer, Arrival.Arrival}};
 ghost use Rattle.hall_events.specs.declared.event.Event.{Event};
 ghost use Rattle.hall_sql.specs.Store.{connection};
 
@@ -23,13 +18,13 @@ use std::alloc::Global;
 /// histories leads.
 pub fn stops_leave_ends<S: Alter>(store: &SqlStore<S>)
     ensures answer { (origin : Origin) (past : List Item) (site : Site) (arrival : Arrival)
-        → IsLeft ⟦<SqlStore<S> as HallStore>⟧.leaves store.now origin (OrUnanswered past site arrival)
+        → IsLeft ⟦<SqlStore<S> as HallStore>⟧ store.now origin (OrUnanswered past site arrival)
         → (db : Trees) → (state S.Store (connection store.now)).may_leave db → (h : Hall) × SpellHall db h × IsEnd origin (OrUnanswered past site arrival) h }
     ensures run { (origin : Origin) (past : List Item) (site : Site) (arrivals : List Arrival) (answers : List Answer)
-        → IsLeft ⟦<SqlStore<S> as HallStore>⟧.leaves store.now origin (AndCutRun past site arrivals answers)
+        → IsLeft ⟦<SqlStore<S> as HallStore>⟧ store.now origin (AndCutRun past site arrivals answers)
         → (db : Trees) → (state S.Store (connection store.now)).may_leave db → (h : Hall) × SpellHall db h × IsEnd origin (AndCutRun past site arrivals answers) h }
     ensures step { (origin : Origin) (past : List Item) (site : Site) (e : Event) (moment : ℕ) (fresh : List ℕ)
-        → IsLeft ⟦<SqlStore<S> as HallStore>⟧.leaves store.now origin (OrUnreplied past site e moment fresh)
+        → IsLeft ⟦<SqlStore<S> as HallStore>⟧ store.now origin (OrUnreplied past site e moment fresh)
         → (db : Trees) → (state S.Store (connection store.now)).may_leave db → (h : Hall) × SpellHall db h × IsEnd origin (OrUnreplied past site e moment fresh) h }
 {
     let _ = store;
@@ -47,7 +42,7 @@ pub fn open_again<S: Alter>(
 ) -> Result<SqlStore<S>, Refused<S, OpenFault>>
     ensures { IfOk result (λ store. ⟦<SqlStore<S> as HallStore>⟧.is_clean store → (origin : Origin) (items : List Item) (h : Hall)
         → Headline origin items h → SpellHall (state S.Store conn).now.trees h
-        → IsSettled ⟦<SqlStore<S> as HallStore>⟧.holds ⟦<SqlStore<S> as HallStore>⟧.leaves store origin items) }
+        → IsSettled ⟦<SqlStore<S> as HallStore>⟧ store origin items) }
 {
     SqlStore::open(alloc, conn)
 }

@@ -1,15 +1,7 @@
 -- What the proofs of the laws cite: the laws whose names have a dash, and the one on single lines of the table.
-use Rattle.std.proofs.Common.{◌≡◌, ◌≤◌, ◌&&◌, Bool, true, false, length, refl}
-use Rattle.std.specs.Prelude.{nat_le}
-use Rattle.std.specs.List.{list_all, filter}
-use Rattle.std.proofs.lemmas.Bool.{and_parts, leb-true}
-use Rattle.hall_types.specs.Status.{status_number}
-use Rattle.hall_types.specs.declared.status.Status.{Status}
-use Rattle.life_cycle.specs.declared.signal.Signal.{Signal}
-use Rattle.life_cycle.specs.Table.{transitions, leads}
-use Rattle.life_cycle.specs.TableLaws.{statuses, signals, each_status, each_signal}
-use Rattle.life_cycle.specs.StepLaws.{is_some-limit_of, is_some-expired, is_some-fourth_boot}
-use Rattle.life_cycle.specs.EnteringLaws.{is_some-deadline}
+use Rattle.std.{proofs.{Common.{◌≡◌, ◌≤◌, ◌&&◌, Bool, true, false, length, refl}, lemmas.Bool.{and_parts, leb-true}}, specs.{Prelude.nat_le, List.{list_all, filter}}}
+use Rattle.hall_types.specs.{Status.{status_number, statuses}, declared.status.Status.Status}
+use Rattle.life_cycle.specs.{declared.signal.Signal.Signal, Table.{transitions, leads}, TableLaws.{signals, each_status, each_signal}, StepLaws.{is_some-limit_of, is_some-expired, is_some-fourth_boot}, EnteringLaws.is_some-deadline}
 
 pub ruleset limits = (is_some-limit_of)
 

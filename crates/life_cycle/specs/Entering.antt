@@ -1,14 +1,7 @@
 -- Entering a status: what it makes of a machine.
-use Rattle.std.specs.Prelude.{ℕ, ◌+◌, Bool, true, false, Option, Some, None, option_map, unwrap_or, if◌then◌else◌}
-use Rattle.hall_types.specs.Number.{next_number, next_version}
-use Rattle.hall_types.specs.declared.status.Status.{Status}
-use Rattle.hall_types.specs.declared.status.Status.TheVariants.{Commissioning, Testing, Ready, Deploying, Deployed, Releasing, DiskErasing, FailedDiskErasing, EnteringRescue, FailedToEnterRescue, Rescue, ExitingRescue, FailedToExitRescue, Broken}
-use Rattle.hall_types.specs.declared.kinds.OrderKind.{OrderKind}
-use Rattle.hall_types.specs.declared.kinds.OrderStage.TheVariants.{Waiting}
-use Rattle.hall_types.specs.declared.machine.Machine.{Machine}
-use Rattle.hall_types.specs.declared.number.Numbers.{Numbers}
-use Rattle.life_cycle.specs.declared.step.Step.{Step}
-use Rattle.life_cycle.specs.declared.entering.Entered.{Entered}
+use Rattle.std.specs.Prelude.{ℕ, ◌+◌, Bool, true, false, Option, Some, None, option_map, if◌then◌else◌}
+use Rattle.hall_types.specs.{Number.{next_number, next_version}, declared.{status.Status.{Status, TheVariants.{Commissioning, Testing, Ready, Deploying, Deployed, Releasing, DiskErasing, FailedDiskErasing, EnteringRescue, FailedToEnterRescue, Rescue, ExitingRescue, FailedToExitRescue, Broken}}, kinds.{OrderKind.OrderKind, OrderStage.TheVariants.Waiting}, machine.Machine.Machine, number.Numbers.Numbers}}
+use Rattle.life_cycle.specs.declared.{step.Step.Step, entering.Entered.Entered}
 
 -- the maximum number of seconds in a status, nothing where there is no limit
 unfoldable pub limit_of : Status → Option ℕ

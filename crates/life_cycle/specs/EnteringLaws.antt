@@ -1,28 +1,9 @@
 -- What entering a status makes of a machine, field by field, and what a machine remembers.
-use Rattle.std.specs.Prelude.{◌≡◌, ◌⊎◌, ◌||◌, not, ℕ, ◌+◌, Bool, true, false, Option, Some, None, is_some, option_map, unwrap_or, if◌then◌else◌}
-use Rattle.std.specs.List.{list_all}
-use Rattle.std.proofs.Common.{refl, sym, ap, subst, inl, inr, ◌∙◌}
-use Rattle.std.proofs.lemmas.Bool.{both_ways, not-true, or_cases}
-use Rattle.std.proofs.lemmas.Option.{none-some}
-use Rattle.hall_types.specs.Number.{next_number}
-use Rattle.hall_types.specs.declared.status.Status.{Status}
-use Rattle.hall_types.specs.declared.status.Status.TheVariants.{EnteringRescue}
-use Rattle.hall_types.specs.declared.kinds.OrderKind.{OrderKind}
-use Rattle.hall_types.specs.declared.kinds.OrderStage.TheVariants.{Waiting}
-use Rattle.hall_types.specs.declared.machine.Machine.{Machine}
-use Rattle.hall_types.specs.declared.number.Numbers.{Numbers}
-use Rattle.hall_types.specs.declared.order.Order.{Order}
+use Rattle.std.{specs.{Prelude.{◌≡◌, ◌⊎◌, ◌||◌, not, ℕ, ◌+◌, Bool, true, false, Option, Some, None, is_some, option_map, unwrap_or, if◌then◌else◌}, List.list_all}, proofs.{Common.{refl, sym, ap, subst, inl, inr, ◌∙◌}, lemmas.{Bool.{both_ways, not-true, or_cases}, Option.none-some}}}
+use Rattle.hall_types.specs.{Number.{next_number, next_version}, Status.statuses, declared.{status.Status.{Status, TheVariants.EnteringRescue}, kinds.{OrderKind.OrderKind, OrderStage.TheVariants.Waiting}, machine.Machine.Machine, number.Numbers.Numbers, order.Order.Order}}
 use Rattle.life_cycle.specs.declared.action.Action.TheVariants as act
-use Rattle.life_cycle.specs.declared.signal.Signal.{Signal}
-use Rattle.life_cycle.specs.declared.signal.Signal.TheVariants.{By}
-use Rattle.life_cycle.specs.declared.step.Step.{Step}
-use Rattle.life_cycle.specs.declared.entering.Entered.{Entered}
-use Rattle.life_cycle.specs.Table.{step_of}
-use Rattle.life_cycle.specs.Entering.{back_after, boot_after, entered, entered_by, entered_plain, entered_queued, is_origin, is_rescue, keeps_erase, keeps_owner, kept, limit_of, machine_in}
-use Rattle.hall_types.specs.Number.{next_version}
-use Rattle.life_cycle.specs.Laws.{IsRemembered}
-use Rattle.life_cycle.specs.TableLaws.{each_status, only_if, only_if_true, statuses}
-use Rattle.life_cycle.specs.StepLaws.{rescue_enters, ways_to_rescue}
+use Rattle.hall_types.specs.declared.act.Act.TheVariants as does
+use Rattle.life_cycle.specs.{declared.{signal.Signal.{Signal, TheVariants.By}, step.Step.Step, entering.Entered.Entered}, Table.step_of, Entering.{back_after, boot_after, entered, entered_by, entered_plain, entered_queued, is_origin, is_rescue, keeps_erase, keeps_owner, kept, limit_of, machine_in}, Laws.IsRemembered, TableLaws.{each_status, only_if, only_if_true}, StepLaws.{rescue_enters, ways_to_rescue}}
 
 -- ---- the two ways to enter a status
 
@@ -172,7 +153,7 @@ back_after-begins from status back rescue origin =
     ap (λ b. if b then (if is_origin from then Some from else back) else None) rescue ∙ ap (λ b. if b then Some from else back) origin
 
 -- a rescue that begins from Deployed or Broken remembers that very status
-pub rescue_begins : (m : Machine) (step : Step) (moment : ℕ) (numbers : Numbers) (e : Entered) → IsRemembered m.back → is_origin m.status ≡ true → step_of m (By act.Rescue) ≡ Some step → entered m step moment numbers ≡ Some e → e.machine.back ≡ Some m.status
+pub rescue_begins : (m : Machine) (step : Step) (moment : ℕ) (numbers : Numbers) (e : Entered) → IsRemembered m.back → is_origin m.status ≡ true → step_of m (By (act.Act does.Rescue)) ≡ Some step → entered m step moment numbers ≡ Some e → e.machine.back ≡ Some m.status
 rescue_begins m step moment numbers e r origin by is =
     entered-back m step moment numbers e is
     ∙ back_after-begins m.status step.status m.back (entering_is_rescue step.status (rescue_enters m step r by)) origin

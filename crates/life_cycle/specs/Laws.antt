@@ -1,13 +1,9 @@
 -- What the laws of the life cycle speak of.
 use Rattle.std.specs.Prelude.{List, [], ◌∷◌, Option, Some, None, Bool, true, IsTrue}
-use Rattle.hall_types.specs.declared.status.Status.{Status}
-use Rattle.hall_types.specs.declared.status.Status.TheVariants.{Commissioning, Testing, Deploying, Releasing, DiskErasing, EnteringRescue, ExitingRescue}
-use Rattle.hall_types.specs.declared.kinds.OrderKind.{OrderKind}
-use Rattle.hall_types.specs.declared.kinds.OrderKind.TheVariants.{Cycle, Off}
+use Rattle.hall_types.specs.declared.{status.Status.{Status, TheVariants.{Commissioning, Testing, Deploying, Releasing, DiskErasing, EnteringRescue, ExitingRescue}}, kinds.OrderKind.{OrderKind, TheVariants.{Cycle, Off}}}
 use Rattle.life_cycle.specs.declared.action.Action.TheVariants as act
-use Rattle.life_cycle.specs.declared.signal.Signal.{Signal}
-use Rattle.life_cycle.specs.declared.signal.Signal.TheVariants.{By}
-use Rattle.life_cycle.specs.Entering.{is_origin}
+use Rattle.hall_types.specs.declared.act.Act.TheVariants as does
+use Rattle.life_cycle.specs.{declared.signal.Signal.{Signal, TheVariants.By}, Entering.is_origin}
 
 abbrev pub is_remembered : Option Status → Bool
 is_remembered None = true
@@ -31,7 +27,7 @@ order_into other = None
 
 -- after an abort the machine is switched off
 abbrev pub order_with : Signal → Status → Option OrderKind
-order_with (By act.Abort) status = Some Off
+order_with (By (act.Act does.Abort)) status = Some Off
 order_with other status = order_into status
 
 -- the statuses that have a limit

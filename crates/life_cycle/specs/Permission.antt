@@ -1,21 +1,15 @@
 -- Who may act on a machine.
-use Rattle.std.specs.Prelude.{ℕ, Bool, true, false, ◌||◌, List, Option, Some, None, Result, Ok, Err, if◌then◌else◌}
-use Rattle.std.specs.Str.{bytes_eq}
-use Rattle.hall_types.specs.declared.kinds.Role.{Role}
+use Rattle.std.specs.{Prelude.{ℕ, Bool, true, false, ◌||◌, List, Option, Some, None, Result, Ok, Err, if◌then◌else◌}, Str.bytes_eq}
+use Rattle.hall_types.specs.declared.{kinds.Role.Role, operator.Operator.Operator, machine.Machine.Machine, refusal.Refusal.{Refusal, TheVariants.{NotOwner, NotMember}}}
 use Rattle.hall_types.specs.declared.kinds.Role.TheVariants as role
-use Rattle.hall_types.specs.declared.operator.Operator.{Operator}
-use Rattle.hall_types.specs.declared.machine.Machine.{Machine}
-use Rattle.hall_types.specs.declared.refusal.Refusal.{Refusal}
-use Rattle.hall_types.specs.declared.refusal.Refusal.TheVariants.{NotOwner, NotMember}
-use Rattle.life_cycle.specs.declared.signal.Signal.TheVariants.{By}
-use Rattle.life_cycle.specs.declared.action.Action.{Action}
+use Rattle.life_cycle.specs.{declared.{signal.Signal.TheVariants.By, action.{Action.Action, Who.{Who, TheVariants.{Admin, MemberOrAdmin, Owner, OwnerOrAdmin, Nobody}}}}, Table.who_gives}
 use Rattle.life_cycle.specs.declared.action.Action.TheVariants as act
-use Rattle.life_cycle.specs.Table.{Who, admin, member_or_admin, owner, owner_or_admin, nobody, who_gives}
+use Rattle.hall_types.specs.declared.act.Act.TheVariants as does
 
 -- who may act: what the table says of the action; the owner or an admin may lock and unlock, which have no row
 abbrev pub who_acts : Action → Who
-who_acts act.Lock = owner_or_admin
-who_acts act.Unlock = owner_or_admin
+who_acts (act.Act does.Lock) = OwnerOrAdmin
+who_acts (act.Act does.Unlock) = OwnerOrAdmin
 who_acts action = who_gives (By action)
 
 abbrev pub is_admin_role : Role → Bool
@@ -36,11 +30,11 @@ is_owner o m = is_owner_in m.owner o.name
 
 -- why these may not act, nothing if they may; nothing for an admin's action, since the role is asked for before
 abbrev pub permission_for : Who → Operator → Machine → Bool → Option Refusal
-permission_for admin o m member = None
-permission_for member_or_admin o m member = if is_admin o || member then None else Some NotMember
-permission_for owner o m member = if is_owner o m then None else Some NotOwner
-permission_for owner_or_admin o m member = if is_admin o || is_owner o m then None else Some NotOwner
-permission_for nobody o m member = None
+permission_for Admin o m member = None
+permission_for MemberOrAdmin o m member = if is_admin o || member then None else Some NotMember
+permission_for Owner o m member = if is_owner o m then None else Some NotOwner
+permission_for OwnerOrAdmin o m member = if is_admin o || is_owner o m then None else Some NotOwner
+permission_for Nobody o m member = None
 
 -- the answer: the refusal, if there is one
 abbrev pub refused_if : Option Refusal → Result (Unit {0}) Refusal

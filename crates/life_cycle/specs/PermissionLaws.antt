@@ -1,17 +1,11 @@
 -- Laws of permission: what only the owner of a machine may do.
-use Rattle.std.specs.Prelude.{◌≡◌, Bool, true, false, Option, Some, None, is_some, if◌then◌else◌}
-use Rattle.std.proofs.Common.{refl, ap}
-use Rattle.std.proofs.lemmas.Bool.{true≢false}
-use Rattle.hall_types.specs.declared.operator.Operator.{Operator}
-use Rattle.hall_types.specs.declared.machine.Machine.{Machine}
-use Rattle.hall_types.specs.declared.refusal.Refusal.{Refusal}
-use Rattle.hall_types.specs.declared.refusal.Refusal.TheVariants.{NotOwner}
+use Rattle.std.{specs.Prelude.{◌≡◌, Bool, true, false, Option, Some, None, is_some, if◌then◌else◌}, proofs.{Common.{refl, ap}, lemmas.Bool.true≢false}}
+use Rattle.hall_types.specs.declared.{operator.Operator.Operator, machine.Machine.Machine, refusal.Refusal.{Refusal, TheVariants.NotOwner}}
 use Rattle.life_cycle.specs.declared.action.Action.TheVariants as act
-use Rattle.life_cycle.specs.Table.{owner, who_gives}
-use Rattle.life_cycle.specs.Permission.{is_owner, permission_for, who_acts}
+use Rattle.life_cycle.specs.{declared.action.Who.TheVariants.Owner, Table.who_gives, Permission.{is_owner, permission_for, who_acts}}
 
 -- what is given to the owner alone is refused to all others
-pub owner_alone : (o : Operator) (m : Machine) (member : Bool) → permission_for owner o m member ≡ None → is_owner o m ≡ true
+pub owner_alone : (o : Operator) (m : Machine) (member : Bool) → permission_for Owner o m member ≡ None → is_owner o m ≡ true
 owner_alone o m member = by (is_owner o m)
   where
     by : (is : Bool) → (if is then None else Some NotOwner) ≡ None → is ≡ true

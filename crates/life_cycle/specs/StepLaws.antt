@@ -1,27 +1,11 @@
 -- The laws of steps: which signals lead to a status and out of it, and where a step leads.
-use Rattle.std.specs.Prelude.{◌≡◌, ◌≢◌, ◌⊎◌, ℕ, ◌==◌, ◌&&◌, ◌||◌, not, Bool, true, false, List, [], ◌∷◌, All, Option, Some, None, get_or, is_some}
-use Rattle.std.specs.List.{list_all}
-use Rattle.std.proofs.Common.{refl, sym, ap, subst, ◌∙◌, inl, inr}
-use Rattle.std.proofs.Math.Bool.{beq}
-use Rattle.std.proofs.lemmas.Bool.{and_parts, or_cases, both_ways, eqb-true, false≢true, not-true}
-use Rattle.std.proofs.lemmas.List.Elements.{All-weaker}
-use Rattle.std.proofs.lemmas.List.Sums.{AllPass-from_list_all}
-use Rattle.hall_types.specs.Status.{status_number}
-use Rattle.hall_types.specs.declared.status.Status.{Status}
-use Rattle.hall_types.specs.declared.status.Status.TheVariants.{Deploying, Deployed, DiskErasing, FailedDiskErasing, EnteringRescue, ExitingRescue}
+use Rattle.std.{specs.{Prelude.{◌≡◌, ◌≢◌, ◌⊎◌, ℕ, ◌==◌, ◌&&◌, ◌||◌, not, Bool, true, false, List, [], ◌∷◌, All, Option, Some, None, get_or, is_some}, List.list_all}, proofs.{Common.{refl, sym, ap, subst, ◌∙◌, inl, inr}, Math.Bool.beq, lemmas.{Bool.{and_parts, or_cases, both_ways, eqb-true, false≢true, not-true}, List.{Elements.All-weaker, Sums.AllPass-from_list_all}}}}
+use Rattle.hall_types.specs.{Status.{status_number, statuses}, declared.{status.Status.{Status, TheVariants.{Deploying, Deployed, DiskErasing, FailedDiskErasing, EnteringRescue, ExitingRescue}}, machine.Machine.Machine, kinds.OrderKind.{OrderKind, TheVariants.{Cycle, Off}}}}
 use Rattle.hall_types.specs.declared.kinds.Progress.TheVariants as progress
 use Rattle.hall_types.specs.declared.kinds.Outcome.TheVariants as outcome
-use Rattle.hall_types.specs.declared.machine.Machine.{Machine}
-use Rattle.hall_types.specs.declared.kinds.OrderKind.{OrderKind}
-use Rattle.hall_types.specs.declared.kinds.OrderKind.TheVariants.{Cycle, Off}
 use Rattle.life_cycle.specs.declared.action.Action.TheVariants as act
-use Rattle.life_cycle.specs.declared.signal.Signal.{Signal}
-use Rattle.life_cycle.specs.declared.signal.Signal.TheVariants.{By, Report, Answer, Expired, FourthBoot}
-use Rattle.life_cycle.specs.declared.step.Step.{Step}
-use Rattle.life_cycle.specs.Table.{Who, admin, member_or_admin, owner, owner_or_admin, nobody, Target, to, back, Transition, transitions, is_among, status_at, step_to, step_of, who_gives}
-use Rattle.life_cycle.specs.Entering.{is_origin, is_rescue, limit_of}
-use Rattle.life_cycle.specs.Laws.{IsRemembered, limited, order_into, order_with, working}
-use Rattle.life_cycle.specs.TableLaws.{statuses, is_status, is_signal, is_status-same, same_status, same_signal, each_status, led, same_step, same_back, StepTest, passes, only_if, only_if_true, each_step, each_start}
+use Rattle.hall_types.specs.declared.act.Act.TheVariants as does
+use Rattle.life_cycle.specs.{declared.{action.Who.{Who, TheVariants.{Admin, MemberOrAdmin, Owner, OwnerOrAdmin, Nobody}}, signal.Signal.{Signal, TheVariants.{By, Report, Answer, Expired, FourthBoot}}, step.Step.Step}, Table.{Target, to, back, Transition, transitions, is_among, status_at, step_to, step_of, who_gives}, Entering.{is_origin, is_rescue, limit_of}, Laws.{IsRemembered, limited, order_into, order_with, working}, TableLaws.{is_status, is_signal, is_status-same, same_status, same_signal, each_status, led, same_step, same_back, StepTest, passes, only_if, only_if_true, each_step, each_start}}
 
 -- ---- statuses that one signal leads to
 
@@ -100,24 +84,24 @@ ways_to_deployed m signal step e deployed =
 
 abbrev leaves_deployed : Signal → Status → Bool
 leaves_deployed signal from =
-    only_if (is_status from Deployed) (is_signal signal (By act.Release) || (is_signal signal (By act.ReleaseErasing) || is_signal signal (By act.Rescue)))
+    only_if (is_status from Deployed) (is_signal signal (By act.Release) || (is_signal signal (By act.ReleaseErasing) || is_signal signal (By (act.Act does.Rescue))))
 
 all_leave : list_all (λ (t : Transition). leaves_deployed t.signal t.from) transitions ≡ true
 unfolding status_number
 all_leave = refl
 
 -- Deployed is left only by release without erasing, by release with erasing, and by rescue
-pub ways_from_deployed : (m : Machine) (signal : Signal) (step : Step) → step_of m signal ≡ Some step → m.status ≡ Deployed → (signal ≡ By act.Release) ⊎ ((signal ≡ By act.ReleaseErasing) ⊎ (signal ≡ By act.Rescue))
+pub ways_from_deployed : (m : Machine) (signal : Signal) (step : Step) → step_of m signal ≡ Some step → m.status ≡ Deployed → (signal ≡ By act.Release) ⊎ ((signal ≡ By act.ReleaseErasing) ⊎ (signal ≡ By (act.Act does.Rescue)))
 ways_from_deployed m signal step e is =
     by (or_cases (is_signal signal (By act.Release)) _ (only_if_true (is_status m.status Deployed) _ (each_start leaves_deployed m signal step all_leave e) (is_status-same m.status Deployed is)))
   where
-    by_erasing : (is_signal signal (By act.ReleaseErasing) ≡ true) ⊎ (is_signal signal (By act.Rescue) ≡ true) → (signal ≡ By act.ReleaseErasing) ⊎ (signal ≡ By act.Rescue)
+    by_erasing : (is_signal signal (By act.ReleaseErasing) ≡ true) ⊎ (is_signal signal (By (act.Act does.Rescue)) ≡ true) → (signal ≡ By act.ReleaseErasing) ⊎ (signal ≡ By (act.Act does.Rescue))
     by_erasing (inl t) = inl (same_signal signal (By act.ReleaseErasing) t)
-    by_erasing (inr t) = inr (same_signal signal (By act.Rescue) t)
+    by_erasing (inr t) = inr (same_signal signal (By (act.Act does.Rescue)) t)
 
-    by : (is_signal signal (By act.Release) ≡ true) ⊎ ((is_signal signal (By act.ReleaseErasing) || is_signal signal (By act.Rescue)) ≡ true) → (signal ≡ By act.Release) ⊎ ((signal ≡ By act.ReleaseErasing) ⊎ (signal ≡ By act.Rescue))
+    by : (is_signal signal (By act.Release) ≡ true) ⊎ ((is_signal signal (By act.ReleaseErasing) || is_signal signal (By (act.Act does.Rescue))) ≡ true) → (signal ≡ By act.Release) ⊎ ((signal ≡ By act.ReleaseErasing) ⊎ (signal ≡ By (act.Act does.Rescue)))
     by (inl t) = inl (same_signal signal (By act.Release) t)
-    by (inr t) = inr (by_erasing (or_cases (is_signal signal (By act.ReleaseErasing)) (is_signal signal (By act.Rescue)) t))
+    by (inr t) = inr (by_erasing (or_cases (is_signal signal (By act.ReleaseErasing)) (is_signal signal (By (act.Act does.Rescue))) t))
 
 -- ---- each step changes the status
 
@@ -136,16 +120,16 @@ steps_change_status m signal step r e same =
 -- ---- rescue
 
 abbrev rescued : StepTest
-rescued signal from at order = only_if (is_signal signal (By act.Rescue)) (is_status at EnteringRescue)
+rescued signal from at order = only_if (is_signal signal (By (act.Act does.Rescue))) (is_status at EnteringRescue)
 
 all_rescued : list_all (passes rescued) transitions ≡ true
 unfolding status_number
 all_rescued = refl
 
 -- `rescue` leads to Entering rescue
-pub rescue_enters : (m : Machine) (step : Step) → IsRemembered m.back → step_of m (By act.Rescue) ≡ Some step → step.status ≡ EnteringRescue
+pub rescue_enters : (m : Machine) (step : Step) → IsRemembered m.back → step_of m (By (act.Act does.Rescue)) ≡ Some step → step.status ≡ EnteringRescue
 rescue_enters m step r e =
-    same_status step.status EnteringRescue (each_step rescued m (By act.Rescue) step all_rescued r e)
+    same_status step.status EnteringRescue (each_step rescued m (By (act.Act does.Rescue)) step all_rescued r e)
 
 abbrev into_rescue : StepTest
 into_rescue signal from at order = only_if (is_rescue at) (is_rescue from || is_origin from)
@@ -244,21 +228,18 @@ orders_by_target m signal step r e =
 -- ---- who may give a signal
 
 abbrev who_number : Who → ℕ
-who_number admin = 0
-who_number member_or_admin = 1
-who_number owner = 2
-who_number owner_or_admin = 3
-who_number nobody = 4
+who_number Admin = 0
+who_number MemberOrAdmin = 1
+who_number Owner = 2
+who_number OwnerOrAdmin = 3
+who_number Nobody = 4
 
 abbrev whos : List Who
-whos = admin ∷ member_or_admin ∷ owner ∷ owner_or_admin ∷ nobody ∷ []
+whos = Admin ∷ MemberOrAdmin ∷ Owner ∷ OwnerOrAdmin ∷ Nobody ∷ []
 
-who_at : (w : Who) → get_or whos (who_number w) nobody ≡ w
-who_at admin = refl
-who_at member_or_admin = refl
-who_at owner = refl
-who_at owner_or_admin = refl
-who_at nobody = refl
+who_at : (w : Who) → get_or whos (who_number w) Nobody ≡ w
+who_at Admin = refl
+who_at w = refl
 
 abbrev who_fits : Transition → Bool
 who_fits t = who_number t.who == who_number (who_gives t.signal)
@@ -269,7 +250,7 @@ all_who_fit = refl
 
 who_of : (t : Transition) → who_fits t ≡ true → t.who ≡ who_gives t.signal
 who_of t e =
-    sym (who_at t.who) ∙ ap (λ (n : ℕ). get_or whos n nobody) (eqb-true (who_number t.who) (who_number (who_gives t.signal)) e) ∙ who_at (who_gives t.signal)
+    sym (who_at t.who) ∙ ap (λ (n : ℕ). get_or whos n Nobody) (eqb-true (who_number t.who) (who_number (who_gives t.signal)) e) ∙ who_at (who_gives t.signal)
 
 -- all lines of a signal name the same operators
 pub one_who : All (λ t. t.who ≡ who_gives t.signal) transitions

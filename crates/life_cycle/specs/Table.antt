@@ -1,29 +1,12 @@
 -- The life cycle of machines as a table (after the node statuses and actions of MAAS): which signal leads from
 -- which statuses where, who may give it, and which order goes to the power operator with it.
-use Rattle.std.specs.Prelude.{ℕ, Bool, true, not, ◌==◌, ◌&&◌, List, [], ◌∷◌, map, Option, Some, None, if◌then◌else◌}
-use Rattle.std.specs.List.{flat_map, list_any}
-use Rattle.hall_types.specs.Status.{status_number}
-use Rattle.hall_types.specs.declared.status.Status.{Status}
-use Rattle.hall_types.specs.declared.status.Status.TheVariants.{New, Commissioning, FailedCommissioning, Testing, FailedTesting, Ready, Allocated, Deploying, FailedDeployment, Deployed, Releasing, FailedReleasing, DiskErasing, FailedDiskErasing, EnteringRescue, FailedToEnterRescue, Rescue, ExitingRescue, FailedToExitRescue, Broken}
-use Rattle.hall_types.specs.declared.kinds.OrderKind.{OrderKind}
-use Rattle.hall_types.specs.declared.kinds.OrderKind.TheVariants.{Cycle, Off}
+use Rattle.std.specs.{Prelude.{ℕ, ◌+◌, Bool, true, not, ◌==◌, ◌&&◌, List, [], ◌∷◌, map, Option, Some, None, if◌then◌else◌}, List.{flat_map, list_any}}
+use Rattle.hall_types.specs.{Act.act_place, Status.status_number, declared.{status.Status.{Status, TheVariants.{New, Commissioning, FailedCommissioning, Testing, FailedTesting, Ready, Allocated, Deploying, FailedDeployment, Deployed, Releasing, FailedReleasing, DiskErasing, FailedDiskErasing, EnteringRescue, FailedToEnterRescue, Rescue, ExitingRescue, FailedToExitRescue, Broken}}, kinds.OrderKind.{OrderKind, TheVariants.{Cycle, Off}}, machine.Machine.Machine}}
 use Rattle.hall_types.specs.declared.kinds.Progress.TheVariants as progress
 use Rattle.hall_types.specs.declared.kinds.Outcome.TheVariants as outcome
-use Rattle.hall_types.specs.declared.machine.Machine.{Machine}
-use Rattle.life_cycle.specs.declared.action.Action.{Action}
+use Rattle.life_cycle.specs.declared.{action.{Action.Action, Who.{Who, TheVariants.{Admin, MemberOrAdmin, Owner, OwnerOrAdmin, Nobody}}}, signal.Signal.{Signal, TheVariants.{By, Report, Answer, Expired, FourthBoot}}, step.Step.Step}
 use Rattle.life_cycle.specs.declared.action.Action.TheVariants as act
-use Rattle.life_cycle.specs.declared.signal.Signal.{Signal}
-use Rattle.life_cycle.specs.declared.signal.Signal.TheVariants.{By, Report, Answer, Expired, FourthBoot}
-use Rattle.life_cycle.specs.declared.step.Step.{Step}
-
--- who may give a signal: an admin, a member of the machine's pool or an admin, only its owner, its owner or an
--- admin, no operator
-pub data Who : Type 0 where
-  admin : Who
-  member_or_admin : Who
-  owner : Who
-  owner_or_admin : Who
-  nobody : Who
+use Rattle.hall_types.specs.declared.act.Act.TheVariants as does
 
 -- where a row leads: to a status, or back to the status that the rescue began from
 pub data Target : Type 0 where
@@ -71,60 +54,51 @@ breakable = Ready ∷ Allocated ∷ FailedTesting ∷ FailedDeployment ∷ Faile
 -- the table
 abbrev pub table : List Row
 table =
-    row (By act.Commission ∷ []) (each commissionable (to Commissioning)) always admin (Some Cycle)
-    ∷ row (By act.Test ∷ []) (each (Ready ∷ FailedTesting ∷ []) (to Testing)) always admin (Some Cycle)
-    ∷ row (By act.Override ∷ []) ((FailedTesting, to Ready) ∷ []) always admin None
-    ∷ row (By act.Allocate ∷ []) ((Ready, to Allocated) ∷ []) always member_or_admin None
-    ∷ row (By act.Deploy ∷ []) (each (Allocated ∷ FailedDeployment ∷ []) (to Deploying)) always owner (Some Cycle)
-    ∷ row (By act.Release ∷ []) (each releasable (to Releasing)) always owner_or_admin (Some Off)
-    ∷ row (By act.ReleaseErasing ∷ []) (each releasable (to DiskErasing)) always owner (Some Cycle)
-    ∷ row (By act.Abort ∷ [])
+    row (By act.Commission ∷ []) (each commissionable (to Commissioning)) always Admin (Some Cycle)
+    ∷ row (By (act.Act does.Test) ∷ []) (each (Ready ∷ FailedTesting ∷ []) (to Testing)) always Admin (Some Cycle)
+    ∷ row (By (act.Act does.Override) ∷ []) ((FailedTesting, to Ready) ∷ []) always Admin None
+    ∷ row (By (act.Act does.Allocate) ∷ []) ((Ready, to Allocated) ∷ []) always MemberOrAdmin None
+    ∷ row (By act.Deploy ∷ []) (each (Allocated ∷ FailedDeployment ∷ []) (to Deploying)) always Owner (Some Cycle)
+    ∷ row (By act.Release ∷ []) (each releasable (to Releasing)) always OwnerOrAdmin (Some Off)
+    ∷ row (By act.ReleaseErasing ∷ []) (each releasable (to DiskErasing)) always Owner (Some Cycle)
+    ∷ row (By (act.Act does.Abort) ∷ [])
     ((Commissioning, to New) ∷ (Testing, to FailedTesting) ∷ (Deploying, to Allocated) ∷ (DiskErasing, to FailedDiskErasing) ∷ [])
-    always owner_or_admin (Some Off)
-    ∷ row (By act.Rescue ∷ []) (each (Deployed ∷ Broken ∷ FailedToEnterRescue ∷ []) (to EnteringRescue)) always owner_or_admin (Some Cycle)
-    ∷ row (By act.ExitRescue ∷ []) (each (Rescue ∷ FailedToEnterRescue ∷ FailedToExitRescue ∷ []) (to ExitingRescue)) always owner_or_admin (Some Cycle)
-    ∷ row (By act.Break ∷ []) (each breakable (to Broken)) always owner_or_admin None
-    ∷ row (By act.Fix ∷ []) ((Broken, to Ready) ∷ []) always admin None
-    ∷ row (Report progress.Started ∷ []) ((EnteringRescue, to Rescue) ∷ []) always nobody None
-    ∷ row (Report progress.Done ∷ []) ((Commissioning, to Testing) ∷ []) tests_asked nobody (Some Cycle)
-    ∷ row (Report progress.Done ∷ []) ((Commissioning, to Ready) ∷ []) no_tests nobody None
-    ∷ row (Report progress.Done ∷ []) ((Testing, to Ready) ∷ (Deploying, to Deployed) ∷ []) always nobody None
-    ∷ row (Report progress.Done ∷ []) ((DiskErasing, to Releasing) ∷ []) always nobody (Some Off)
-    ∷ row (Answer outcome.Done ∷ []) ((Releasing, to Ready) ∷ (ExitingRescue, back) ∷ []) always nobody None
+    always OwnerOrAdmin (Some Off)
+    ∷ row (By (act.Act does.Rescue) ∷ []) (each (Deployed ∷ Broken ∷ FailedToEnterRescue ∷ []) (to EnteringRescue)) always OwnerOrAdmin (Some Cycle)
+    ∷ row (By (act.Act does.ExitRescue) ∷ []) (each (Rescue ∷ FailedToEnterRescue ∷ FailedToExitRescue ∷ []) (to ExitingRescue)) always OwnerOrAdmin (Some Cycle)
+    ∷ row (By (act.Act does.Break) ∷ []) (each breakable (to Broken)) always OwnerOrAdmin None
+    ∷ row (By (act.Act does.Fix) ∷ []) ((Broken, to Ready) ∷ []) always Admin None
+    ∷ row (Report progress.Started ∷ []) ((EnteringRescue, to Rescue) ∷ []) always Nobody None
+    ∷ row (Report progress.Done ∷ []) ((Commissioning, to Testing) ∷ []) tests_asked Nobody (Some Cycle)
+    ∷ row (Report progress.Done ∷ []) ((Commissioning, to Ready) ∷ []) no_tests Nobody None
+    ∷ row (Report progress.Done ∷ []) ((Testing, to Ready) ∷ (Deploying, to Deployed) ∷ []) always Nobody None
+    ∷ row (Report progress.Done ∷ []) ((DiskErasing, to Releasing) ∷ []) always Nobody (Some Off)
+    ∷ row (Answer outcome.Done ∷ []) ((Releasing, to Ready) ∷ (ExitingRescue, back) ∷ []) always Nobody None
     ∷ row (Report progress.Failed ∷ Answer outcome.Failed ∷ Expired ∷ FourthBoot ∷ [])
     ((Commissioning, to FailedCommissioning) ∷ (Testing, to FailedTesting) ∷ (Deploying, to FailedDeployment) ∷ (DiskErasing, to FailedDiskErasing) ∷ (EnteringRescue, to FailedToEnterRescue) ∷ [])
-    always nobody None
-    ∷ row (Answer outcome.Failed ∷ Expired ∷ []) ((Releasing, to FailedReleasing) ∷ (ExitingRescue, to FailedToExitRescue) ∷ []) always nobody None
+    always Nobody None
+    ∷ row (Answer outcome.Failed ∷ Expired ∷ []) ((Releasing, to FailedReleasing) ∷ (ExitingRescue, to FailedToExitRescue) ∷ []) always Nobody None
     ∷ []
 
 -- ---- what the table says
 
+-- each signal has a number of its own
 abbrev pub action_number : Action → ℕ
 action_number act.Commission = 0
-action_number act.Test = 1
-action_number act.Override = 2
-action_number act.Allocate = 3
-action_number act.Deploy = 4
-action_number act.Release = 5
-action_number act.ReleaseErasing = 6
-action_number act.Abort = 7
-action_number act.Rescue = 8
-action_number act.ExitRescue = 9
-action_number act.Break = 10
-action_number act.Fix = 11
-action_number act.Lock = 12
-action_number act.Unlock = 13
+action_number act.Deploy = 1
+action_number act.Release = 2
+action_number act.ReleaseErasing = 3
+action_number (act.Act a) = 11 + act_place a
 
--- each signal has a number of its own
 abbrev pub signal_number : Signal → ℕ
 signal_number (By action) = action_number action
-signal_number (Report progress.Started) = 14
-signal_number (Report progress.Done) = 15
-signal_number (Report progress.Failed) = 16
-signal_number (Answer outcome.Done) = 17
-signal_number (Answer outcome.Failed) = 18
-signal_number Expired = 19
-signal_number FourthBoot = 20
+signal_number (Report progress.Started) = 4
+signal_number (Report progress.Done) = 5
+signal_number (Report progress.Failed) = 6
+signal_number (Answer outcome.Done) = 7
+signal_number (Answer outcome.Failed) = 8
+signal_number Expired = 9
+signal_number FourthBoot = 10
 
 -- one line of a row: one signal, one status, and where it leads
 pub record Transition : Type 0 where
@@ -173,7 +147,7 @@ step_of m signal = step_in transitions m signal
 
 -- who may give a signal: what the table's first row with it says
 abbrev pub who_in : List Transition → Signal → Who
-who_in [] signal = nobody
+who_in [] signal = Nobody
 who_in (t ∷ ts) signal = if signal_number t.signal == signal_number signal then t.who else who_in ts signal
 
 unfoldable pub who_gives : Signal → Who

@@ -1,84 +1,31 @@
 -- What the table says of each step: what holds of each line of the table holds of each step of a machine.
-use Rattle.std.specs.Prelude.{◌≡◌, ℕ, zero, suc, ◌==◌, ◌&&◌, Bool, true, false, List, [], ◌∷◌, Option, Some, None, get_or, unwrap_or, if◌then◌else◌}
-use Rattle.std.specs.List.{list_all}
-use Rattle.std.proofs.Common.{refl, sym, ap, subst, ◌∙◌}
-use Rattle.std.proofs.lemmas.Bool.{and_parts, eqb-true, eq-eqb, false≢true}
-use Rattle.std.proofs.lemmas.Option.{none-some}
-use Rattle.hall_types.specs.Status.{status_number}
-use Rattle.hall_types.specs.declared.status.Status.{Status}
-use Rattle.hall_types.specs.declared.status.Status.TheVariants.{New, Commissioning, FailedCommissioning, Testing, FailedTesting, Ready, Allocated, Deploying, FailedDeployment, Deployed, Releasing, FailedReleasing, DiskErasing, FailedDiskErasing, EnteringRescue, FailedToEnterRescue, Rescue, ExitingRescue, FailedToExitRescue, Broken}
+use Rattle.std.{specs.{Prelude.{◌≡◌, ℕ, zero, suc, ◌==◌, ◌&&◌, Bool, true, false, List, [], ◌∷◌, Option, Some, None, get_or, unwrap_or, if◌then◌else◌, map}, List.list_all}, proofs.{Common.{refl, sym, ap, subst, ◌∙◌}, lemmas.{Bool.{and_parts, eqb-true, eq-eqb, false≢true}, Option.none-some}}}
+use Rattle.hall_types.specs.{Act.acts, Status.{status_number, statuses}, declared.{status.Status.{Status, TheVariants.{New, Deployed, Broken}}, machine.Machine.Machine, kinds.OrderKind.OrderKind}}
 use Rattle.hall_types.specs.declared.kinds.Progress.TheVariants as progress
 use Rattle.hall_types.specs.declared.kinds.Outcome.TheVariants as outcome
-use Rattle.hall_types.specs.declared.machine.Machine.{Machine}
-use Rattle.hall_types.specs.declared.kinds.OrderKind.{OrderKind}
 use Rattle.life_cycle.specs.declared.action.Action.TheVariants as act
-use Rattle.life_cycle.specs.declared.signal.Signal.{Signal}
-use Rattle.life_cycle.specs.declared.signal.Signal.TheVariants.{By, Report, Answer, Expired, FourthBoot}
-use Rattle.life_cycle.specs.declared.step.Step.{Step}
-use Rattle.life_cycle.specs.Table.{Target, to, back, Transition, transitions, signal_number, holds, leads, status_at, step_to, step_in, step_of}
-use Rattle.life_cycle.specs.Entering.{is_origin}
-use Rattle.life_cycle.specs.Laws.{IsRemembered}
+use Rattle.hall_types.specs.declared.act.Act.TheVariants as does
+use Rattle.life_cycle.specs.{declared.{signal.Signal.{Signal, TheVariants.{By, Report, Answer, Expired, FourthBoot}}, step.Step.Step}, Table.{Target, to, back, Transition, transitions, signal_number, holds, leads, status_at, step_to, step_in, step_of}, Entering.is_origin, Laws.IsRemembered}
 
 -- ---- numbers identify statuses and signals
 
-abbrev pub statuses : List Status
-statuses =
-    New ∷ Commissioning ∷ FailedCommissioning ∷ Testing ∷ FailedTesting ∷ Ready ∷ Allocated ∷ Deploying ∷ FailedDeployment ∷ Deployed
-    ∷ Releasing ∷ FailedReleasing ∷ DiskErasing ∷ FailedDiskErasing ∷ EnteringRescue ∷ FailedToEnterRescue ∷ Rescue ∷ ExitingRescue ∷ FailedToExitRescue ∷ Broken
-    ∷ []
-
 abbrev pub signals : List Signal
 signals =
-    By act.Commission ∷ By act.Test ∷ By act.Override ∷ By act.Allocate ∷ By act.Deploy ∷ By act.Release ∷ By act.ReleaseErasing
-    ∷ By act.Abort ∷ By act.Rescue ∷ By act.ExitRescue ∷ By act.Break ∷ By act.Fix ∷ By act.Lock ∷ By act.Unlock
+    By act.Commission ∷ By act.Deploy ∷ By act.Release ∷ By act.ReleaseErasing
     ∷ Report progress.Started ∷ Report progress.Done ∷ Report progress.Failed ∷ Answer outcome.Done ∷ Answer outcome.Failed ∷ Expired ∷ FourthBoot
-    ∷ []
+    ∷ map (λ a. By (act.Act a)) acts
 
 status_in : (s : Status) → get_or statuses (status_number s) New ≡ s
 unfolding status_number
 status_in New = refl
-status_in Commissioning = refl
-status_in FailedCommissioning = refl
-status_in Testing = refl
-status_in FailedTesting = refl
-status_in Ready = refl
-status_in Allocated = refl
-status_in Deploying = refl
-status_in FailedDeployment = refl
-status_in Deployed = refl
-status_in Releasing = refl
-status_in FailedReleasing = refl
-status_in DiskErasing = refl
-status_in FailedDiskErasing = refl
-status_in EnteringRescue = refl
-status_in FailedToEnterRescue = refl
-status_in Rescue = refl
-status_in ExitingRescue = refl
-status_in FailedToExitRescue = refl
-status_in Broken = refl
+status_in s = refl
 
 signal_in : (s : Signal) → get_or signals (signal_number s) Expired ≡ s
 signal_in (By act.Commission) = refl
-signal_in (By act.Test) = refl
-signal_in (By act.Override) = refl
-signal_in (By act.Allocate) = refl
-signal_in (By act.Deploy) = refl
-signal_in (By act.Release) = refl
-signal_in (By act.ReleaseErasing) = refl
-signal_in (By act.Abort) = refl
-signal_in (By act.Rescue) = refl
-signal_in (By act.ExitRescue) = refl
-signal_in (By act.Break) = refl
-signal_in (By act.Fix) = refl
-signal_in (By act.Lock) = refl
-signal_in (By act.Unlock) = refl
+signal_in (By (act.Act does.Test)) = refl
 signal_in (Report progress.Started) = refl
-signal_in (Report progress.Done) = refl
-signal_in (Report progress.Failed) = refl
 signal_in (Answer outcome.Done) = refl
-signal_in (Answer outcome.Failed) = refl
-signal_in Expired = refl
-signal_in FourthBoot = refl
+signal_in s = refl
 
 -- whether two statuses are one
 abbrev pub is_status : Status → Status → Bool
@@ -120,7 +67,7 @@ each_signal p h s =
     subst (λ (x : Signal). p x ≡ true) (signal_in s) (all_at p Expired signals (signal_number s) (expired_of p h) h)
   where
     expired_of : (p : Signal → Bool) → list_all p signals ≡ true → p Expired ≡ true
-    expired_of p h = all_at p (By act.Commission) signals 19 (and_parts (p (By act.Commission)) _ h).0 h
+    expired_of p h = all_at p (By act.Commission) signals 9 (and_parts (p (By act.Commission)) _ h).0 h
 
 -- ---- the line of the table by which a machine takes a step
 

@@ -2,34 +2,49 @@
 ghost use Rattle.std.specs.Prelude.{◌≡◌, None, Some, if◌then◌else◌};
 ghost use Rattle.life_cycle.specs.Permission.{is_admin, is_owner, permission_for, refused_if, who_acts};
 
-use hall_types::{Machine, Operator, Refusal, Role};
+use hall_types::{Act, Machine, Operator, Refusal, Role};
 
-/// What an operator can do with a machine. Twelve of these have rows in the table of the life cycle;
-/// locking and unlocking have none, since they leave the status as it is.
+/// What an operator can do with a machine. Locking and unlocking have no rows in the table of the life cycle, since they
+/// leave the status as it is.
 #[derive(Clone, Copy)]
 pub enum Action {
     Commission,
-    Test,
-    /// Take a machine whose tests failed as ready.
-    Override,
-    Allocate,
     Deploy,
     /// Release with the disks left as they are.
     Release,
     /// Release with the disks erased, quickly or fully.
     ReleaseErasing,
-    /// End what the machine is doing, before it is done.
-    Abort,
-    /// Boot the machine into rescue.
-    Rescue,
-    ExitRescue,
-    /// Mark the machine as broken.
-    Break,
-    /// Mark a broken machine as ready.
-    Fix,
-    /// Refuse other actions on the machine until it is unlocked.
-    Lock,
-    Unlock,
+    Act(Act),
+}
+
+/// Who may give a signal.
+#[derive(Clone, Copy, PartialEq, Eq)]
+pub enum Who {
+    Admin,
+    /// A member of the machine's pool, or an admin.
+    MemberOrAdmin,
+    Owner,
+    OwnerOrAdmin,
+    /// No operator.
+    Nobody,
+}
+
+impl Action {
+    /// Who may take it, where the machine's status allows it.
+    #[tactic(auto, unfolding(crate::specs::Table::who_gives))]
+    pub fn who(self) -> Who
+        ensures { result ≡ who_acts self }
+    {
+        match self {
+            Action::Commission | Action::Act(Act::Test | Act::Override | Act::Fix) => Who::Admin,
+            Action::Act(Act::Allocate) => Who::MemberOrAdmin,
+            Action::Deploy | Action::ReleaseErasing => Who::Owner,
+            Action::Release
+            | Action::Act(
+                Act::Rescue | Act::Abort | Act::Lock | Act::Unlock | Act::ExitRescue | Act::Break,
+            ) => Who::OwnerOrAdmin,
+        }
+    }
 }
 
 fn is_admin(operator: &Operator) -> bool
@@ -64,7 +79,6 @@ fn allowed_if(is_allowed: bool, refusal: Refusal) -> Result<(), Refusal>
 ///
 /// `NotMember` if the action needs a member of the pool or an admin, `NotOwner` if it needs the owner, or
 /// the owner or an admin, and the operator is none of these.
-#[tactic(auto, unfolding(crate::specs::Table::who_gives))]
 pub fn may(
     operator: &Operator,
     machine: &Machine,
@@ -75,16 +89,10 @@ pub fn may(
 {
     let owner = is_owner(operator, machine);
     let admin = is_admin(operator);
-    match action {
-        Action::Commission | Action::Test | Action::Override | Action::Fix => Ok(()),
-        Action::Allocate => allowed_if(admin || member, Refusal::NotMember),
-        Action::Deploy | Action::ReleaseErasing => allowed_if(owner, Refusal::NotOwner),
-        Action::Release
-        | Action::Abort
-        | Action::Rescue
-        | Action::ExitRescue
-        | Action::Break
-        | Action::Lock
-        | Action::Unlock => allowed_if(admin || owner, Refusal::NotOwner),
+    match action.who() {
+        Who::Admin | Who::Nobody => Ok(()),
+        Who::MemberOrAdmin => allowed_if(admin || member, Refusal::NotMember),
+        Who::Owner => allowed_if(owner, Refusal::NotOwner),
+        Who::OwnerOrAdmin => allowed_if(admin || owner, Refusal::NotOwner),
     }
 }

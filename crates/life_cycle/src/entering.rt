@@ -1,6 +1,5 @@
 //! Entering a status.
-ghost use Rattle.std.specs.Prelude.{◌≡◌, ◌↔◌, ◌≤◌, IsSome, IsErr, IfSome};
-ghost use Rattle.std.specs.Result.{result_ok};
+ghost use Rattle.std.specs.{Prelude.{◌≡◌, ◌↔◌, ◌≤◌, IsSome, IsErr, IfSome}, Result.result_ok};
 ghost use Rattle.hall_types.specs.Number.{max_number};
 ghost use Rattle.life_cycle.specs.Entering.{back_after, boot_after, entered, is_rescue, keeps_erase, keeps_owner, limit_of, machine_in};
 

@@ -1,22 +1,11 @@
 //! Laws of the life cycle.
-ghost use Rattle.std.specs.Prelude.{◌≡◌, ◌≢◌, ◌≤◌, ◌⊎◌, ◌↔◌, ℕ, length, All, Bool, true, Some, None, IsSome, IsTrue, is_some};
-ghost use Rattle.std.specs.List.{filter};
-ghost use Rattle.hall_types.specs.declared.status.Status.{Status};
-ghost use Rattle.hall_types.specs.declared.status.Status.TheVariants.{Deployed, Deploying, DiskErasing, ExitingRescue, FailedDiskErasing};
+ghost use Rattle.std.specs.{Prelude.{◌≡◌, ◌≢◌, ◌≤◌, ◌⊎◌, ◌↔◌, ℕ, length, All, Bool, true, Some, None, IsSome, IsTrue, is_some}, List.filter};
+ghost use Rattle.hall_types.specs.declared.{status.Status.{Status, TheVariants.{Deployed, Deploying, DiskErasing, ExitingRescue, FailedDiskErasing}}, machine.Machine.Machine, operator.Operator.Operator, number.Numbers.Numbers};
 ghost use Rattle.hall_types.specs.declared.kinds.Progress.TheVariants as progress;
 ghost use Rattle.hall_types.specs.declared.kinds.Outcome.TheVariants as outcome;
-ghost use Rattle.hall_types.specs.declared.machine.Machine.{Machine};
-ghost use Rattle.hall_types.specs.declared.operator.Operator.{Operator};
-ghost use Rattle.hall_types.specs.declared.number.Numbers.{Numbers};
-ghost use Rattle.life_cycle.specs.Table.{is_among, leads, step_of, transitions, who_gives};
-ghost use Rattle.life_cycle.specs.Permission.{is_owner, permission_for, who_acts};
-ghost use Rattle.life_cycle.specs.Entering.{entered, is_origin, is_rescue, limit_of};
-ghost use Rattle.life_cycle.specs.Laws.{IsRemembered, limited, order_with, working};
-ghost use Rattle.life_cycle.specs.declared.signal.Signal.{Signal};
-ghost use Rattle.life_cycle.specs.declared.signal.Signal.TheVariants.{Answer, By, Expired, FourthBoot, Report};
+ghost use Rattle.life_cycle.specs.{Table.{is_among, leads, step_of, transitions, who_gives}, Permission.{is_owner, permission_for, who_acts}, Entering.{entered, is_origin, is_rescue, limit_of}, Laws.{IsRemembered, limited, order_with, working}, declared.{signal.Signal.{Signal, TheVariants.{Answer, By, Expired, FourthBoot, Report}}, step.Step.Step, entering.Entered.Entered}};
 ghost use Rattle.life_cycle.specs.declared.action.Action.TheVariants as act;
-ghost use Rattle.life_cycle.specs.declared.step.Step.{Step};
-ghost use Rattle.life_cycle.specs.declared.entering.Entered.{Entered};
+ghost use Rattle.hall_types.specs.declared.act.Act.TheVariants as does;
 
 /// In one status a signal has at most one row of the table.
 #[tactic(auto, using(crate::proofs::LawLemmas::one_transition))]
@@ -60,7 +49,7 @@ pub fn ways_to_deployed()
 #[tactic(auto, using(crate::specs::StepLaws::ways_from_deployed))]
 pub fn ways_from_deployed()
     ensures { (m : Machine) (signal : Signal) (step : Step) → step_of m signal ≡ Some step → m.status ≡ Deployed
-        → (signal ≡ By act.Release) ⊎ ((signal ≡ By act.ReleaseErasing) ⊎ (signal ≡ By act.Rescue)) }
+        → (signal ≡ By act.Release) ⊎ ((signal ≡ By act.ReleaseErasing) ⊎ (signal ≡ By (act.Act does.Rescue))) }
 {}
 
 /// Only release with erasing leads to Disk erasing, and only the machine's owner may release it so.
@@ -125,7 +114,7 @@ pub fn remembered_in_rescue()
 #[tactic(auto, using(crate::specs::StepLaws::rescue_ends))]
 pub fn rescue_returns()
     ensures begins { (m : Machine) (step : Step) (moment : ℕ) (numbers : Numbers) (e : Entered) → IsRemembered m.back
-        → is_origin m.status ≡ true → step_of m (By act.Rescue) ≡ Some step
+        → is_origin m.status ≡ true → step_of m (By (act.Act does.Rescue)) ≡ Some step
         → entered m step moment numbers ≡ Some e → e.machine.back ≡ Some m.status }
     ensures keeps { (m : Machine) (step : Step) (moment : ℕ) (numbers : Numbers) (e : Entered)
         → is_rescue m.status ≡ true → is_rescue step.status ≡ true

@@ -7,7 +7,7 @@ mod laws;
 mod signal;
 mod step;
 
-pub use action::{Action, may};
+pub use action::{Action, Who, may};
 pub use entering::{Entered, Exhausted, enter};
 pub use laws::{
     fourth_boots, limits_expire, one_transition, one_who, orders_by_target, remembered_in_rescue,

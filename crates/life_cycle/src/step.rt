@@ -4,13 +4,13 @@
 ghost use Rattle.std.specs.Prelude.{◌≡◌};
 ghost use Rattle.hall_types.specs.declared.kinds.Progress.TheVariants as progress;
 ghost use Rattle.hall_types.specs.declared.kinds.Outcome.TheVariants as outcome;
-ghost use Rattle.life_cycle.specs.Table.{breakable, commissionable, is_among, releasable, step_of};
+ghost use Rattle.life_cycle.specs.{Table.{breakable, commissionable, is_among, releasable, step_of}, declared.signal.Signal.TheVariants.{Answer, By, Expired, FourthBoot, Report}};
 ghost use Rattle.life_cycle.specs.declared.action.Action.TheVariants as act;
-ghost use Rattle.life_cycle.specs.declared.signal.Signal.TheVariants.{Answer, By, Expired, FourthBoot, Report};
+ghost use Rattle.hall_types.specs.declared.act.Act.TheVariants as does;
 
 use crate::action::Action;
 use crate::signal::Signal;
-use hall_types::{Machine, OrderKind, Outcome, Progress, Status};
+use hall_types::{Act, Machine, OrderKind, Outcome, Progress, Status};
 
 /// The status to enter, and the kind of the order that is queued with it.
 #[derive(Clone, Copy)]
@@ -44,26 +44,26 @@ fn acted(machine: &Machine, action: Action) -> Option<Step>
 {
     let (status, order) = match (action, machine.status) {
         (Action::Commission, status) if is_commissionable(status) => (Status::Commissioning, CYCLE),
-        (Action::Test, Status::Ready | Status::FailedTesting) => (Status::Testing, CYCLE),
-        (Action::Override, Status::FailedTesting) => (Status::Ready, None),
-        (Action::Allocate, Status::Ready) => (Status::Allocated, None),
+        (Action::Act(Act::Test), Status::Ready | Status::FailedTesting) => (Status::Testing, CYCLE),
+        (Action::Act(Act::Override), Status::FailedTesting) => (Status::Ready, None),
+        (Action::Act(Act::Allocate), Status::Ready) => (Status::Allocated, None),
         (Action::Deploy, Status::Allocated | Status::FailedDeployment) => (
             Status::Deploying,
             CYCLE,
         ),
         (Action::Release, status) if is_releasable(status) => (Status::Releasing, OFF),
         (Action::ReleaseErasing, status) if is_releasable(status) => (Status::DiskErasing, CYCLE),
-        (Action::Abort, _) => return aborted(machine),
-        (Action::Rescue, Status::Deployed | Status::Broken | Status::FailedToEnterRescue) => (
-            Status::EnteringRescue,
-            CYCLE,
-        ),
+        (Action::Act(Act::Abort), _) => return aborted(machine),
         (
-            Action::ExitRescue,
+            Action::Act(Act::Rescue),
+            Status::Deployed | Status::Broken | Status::FailedToEnterRescue,
+        ) => (Status::EnteringRescue, CYCLE),
+        (
+            Action::Act(Act::ExitRescue),
             Status::Rescue | Status::FailedToEnterRescue | Status::FailedToExitRescue,
         ) => (Status::ExitingRescue, CYCLE),
-        (Action::Break, status) if is_breakable(status) => (Status::Broken, None),
-        (Action::Fix, Status::Broken) => (Status::Ready, None),
+        (Action::Act(Act::Break), status) if is_breakable(status) => (Status::Broken, None),
+        (Action::Act(Act::Fix), Status::Broken) => (Status::Ready, None),
         _ => return None,
     };
     Some(Step { status, order })
@@ -114,7 +114,7 @@ fn is_breakable(status: Status) -> bool
 
 /// The step after an abort.
 fn aborted(machine: &Machine) -> Option<Step>
-    ensures { result ≡ step_of machine.now (By act.Abort) }
+    ensures { result ≡ step_of machine.now (By (act.Act does.Abort)) }
 {
     let status = match machine.status {
         Status::Commissioning => Status::New,

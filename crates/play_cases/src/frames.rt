@@ -21,8 +21,8 @@ pub(crate) use print_result;
 /// The hardware address of a text.
 pub fn address(rest: &str, out: &mut Out) -> Played {
     let text = text_of(out.alloc(), rest)?;
-    match wire_mac::read(text.as_slice()) {
-        Some(address) => out.push(wire_mac::print(out.alloc(), &address)?.as_str()),
+    match pxe_vendor::read_mac(text.as_slice()) {
+        Some(address) => out.push(pxe_vendor::print_mac(out.alloc(), &address)?.as_str()),
         None => out.push("none"),
     }
     Ok(())

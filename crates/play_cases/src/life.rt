@@ -1,8 +1,8 @@
 //! The life cycle of machines.
 use cases::{CaseFault, Out, Played};
 use hall_types::{
-    Arch, BootCount, Digest, Erase, LastIssued, Machine, Moment, Name, Number, Numbers, Operator,
-    Outcome, Progress, Refusal, Role, Status, Version,
+    Act, Arch, Digest, Erase, LastIssued, Machine, Moment, Name, Number, Numbers, Operator,
+    Outcome, Progress, Refusal, Role, Status,
 };
 use life_cycle::Signal::{self, *};
 use life_cycle::{Action, Entered, Step, enter, may, next};
@@ -10,19 +10,19 @@ use play_log::{halves, moment, name, number, status};
 
 const SIGNALS: [(&str, Signal); 21] = [
     ("commission", By(Action::Commission)),
-    ("test", By(Action::Test)),
-    ("override", By(Action::Override)),
-    ("allocate", By(Action::Allocate)),
+    ("test", By(Action::Act(Act::Test))),
+    ("override", By(Action::Act(Act::Override))),
+    ("allocate", By(Action::Act(Act::Allocate))),
     ("deploy", By(Action::Deploy)),
     ("release", By(Action::Release)),
     ("release erasing", By(Action::ReleaseErasing)),
-    ("abort", By(Action::Abort)),
-    ("rescue", By(Action::Rescue)),
-    ("exit rescue", By(Action::ExitRescue)),
-    ("break", By(Action::Break)),
-    ("fix", By(Action::Fix)),
-    ("lock", By(Action::Lock)),
-    ("unlock", By(Action::Unlock)),
+    ("abort", By(Action::Act(Act::Abort))),
+    ("rescue", By(Action::Act(Act::Rescue))),
+    ("exit rescue", By(Action::Act(Act::ExitRescue))),
+    ("break", By(Action::Act(Act::Break))),
+    ("fix", By(Action::Act(Act::Fix))),
+    ("lock", By(Action::Act(Act::Lock))),
+    ("unlock", By(Action::Act(Act::Unlock))),
     ("report started", Report(Progress::Started)),
     ("report done", Report(Progress::Done)),
     ("report failed", Report(Progress::Failed)),
@@ -40,22 +40,9 @@ fn signal(text: &str) -> Result<Signal, CaseFault> {
 // The first machine, in version 1, for which an order with this number waits, none if it is 0.
 fn beginning(pool: Name, status: Status, order: LastIssued) -> Entered {
     let machine = Machine {
-        id: Number::FIRST,
-        arch: Arch::Uefi64,
-        uuid: None,
-        pool,
         status,
-        owner: None,
-        image: None,
-        tests: false,
-        back: None,
-        erase: None,
-        locked: false,
-        version: Version::FIRST,
-        deadline: None,
-        boot: None,
-        boots: BootCount::NONE,
         waiting: Number::new(order.get()).ok(),
+        ..Machine::new(Number::FIRST, Arch::Uefi64, pool, None)
     };
     let numbers = Numbers {
         machine: LastIssued::NONE,

@@ -1,8 +1,8 @@
 //! Values in cases.
 use cases::CaseFault;
 use hall_types::{
-    Arch, Digest, LastIssued, MacAddress, MachineUuid, Moment, Name, Number, Numbered, Numbers,
-    Port, RequestKey, Status, Token, Version,
+    Arch, Digest, LastIssued, MacAddress, MachineUuid, Moment, Name, Number, Numbers, Port,
+    RequestKey, Status, Token, Version,
 };
 use hex::FromHex;
 use pxe_vendor::Place;
@@ -49,9 +49,7 @@ pub fn numbers(machine: &str) -> Result<Numbers, CaseFault> {
 
 /// The status with this text.
 pub fn status(text: &str) -> Result<Status, CaseFault> {
-    let mut statuses = (0..=u8::MAX).filter_map(|number| Status::with_number(number));
-    let found = statuses.find(|status| status.text() == text);
-    found.ok_or(CaseFault::Form)
+    text.parse::<Status>().map_err(|_| CaseFault::Form)
 }
 
 /// The port with this word.
@@ -86,8 +84,7 @@ pub fn arch(word: &str) -> Result<Arch, CaseFault> {
 
 /// The hardware address with these digits.
 pub fn mac(word: &str) -> Result<MacAddress, CaseFault> {
-    let octets = wire_mac::read(word.as_bytes()).ok_or(CaseFault::Form)?;
-    Ok(MacAddress::from(octets))
+    word.parse::<MacAddress>().map_err(|_| CaseFault::Form)
 }
 
 // 16 octets in hexadecimal.
@@ -107,11 +104,10 @@ pub fn key(word: &str) -> Result<RequestKey, CaseFault> {
 
 /// The boot's token with these 32 digits.
 pub fn token(word: &str) -> Result<Token, CaseFault> {
-    Ok(Token::from(sixteen(word)?))
+    word.parse::<Token>().map_err(|_| CaseFault::Form)
 }
 
 /// The digest with these 64 digits.
 pub fn digest(word: &str) -> Result<Digest, CaseFault> {
-    let octets = <[u8; 32] as FromHex>::from_hex(word).map_err(|_| CaseFault::Form)?;
-    Ok(Digest::from(octets))
+    word.parse::<Digest>().map_err(|_| CaseFault::Form)
 }

@@ -1,34 +1,20 @@
 //! Answers and receipts, and the octets of their responses.
-ghost use Rattle.std.specs.Prelude.{IsTrue};
-ghost use Rattle.hall_http.specs.Response.{IsStatus};
-
 use cases::{CaseFault, Out, Played};
 use hall_events::{MachineList, Reply};
-use hall_http::{UNAVAILABLE, bytes_of};
+use hall_http::{UNAVAILABLE, bytes_of, is_response};
 use hall_types::OrderKind::{self, Cycle, Off};
 use hall_types::{
-    Arch, BootCount, Erase, Interface, MacAddress, Machine, Name, Number, Order, OrderStage,
-    Receipt, RequestKey, Status, Text, Version,
+    Arch, Erase, Interface, MacAddress, Machine, Name, Number, Order, OrderStage, Receipt,
+    RequestKey, Status, Text, Version,
 };
 use ipxe_script::read;
 use play_log::{halves, issued, name, uuid, version};
 use std::alloc::Global;
 
-fn is_status(status: u16) -> bool
-    ensures { IsTrue result → IsStatus status }
-{
-    matches!(
-        status,
-        200 | 400 | 401 | 403 | 404 | 405 | 409 | 410 | 411 | 412 | 413 | 423 | 503
-    )
-}
-
 fn print_response(reply: &Reply, out: &mut Out) -> Played {
     match reply {
-        Reply::Http { status, .. } if is_status(*status) => {
-            out.escaped(bytes_of(out.alloc(), reply)?.as_slice());
-        }
         Reply::File(file) => out.show(format_args!("file {}", file.as_str())),
+        _ if is_response(reply) => out.escaped(bytes_of(out.alloc(), reply)?.as_slice()),
         _ => out.push("no response"),
     }
     Ok(())
@@ -36,22 +22,9 @@ fn print_response(reply: &Reply, out: &mut Out) -> Played {
 
 fn ready(pool: Name, version: Version) -> Machine {
     Machine {
-        id: Number::FIRST,
-        arch: Arch::Uefi64,
-        uuid: None,
-        pool,
         status: Status::Ready,
-        owner: None,
-        image: None,
-        tests: false,
-        back: None,
-        erase: None,
-        locked: false,
         version,
-        deadline: None,
-        boot: None,
-        boots: BootCount::NONE,
-        waiting: None,
+        ..Machine::new(Number::FIRST, Arch::Uefi64, pool, None)
     }
 }
 

@@ -4,13 +4,13 @@ use cases::{CaseFault, Out, Played};
 use desk_lines::{
     Backup, Failures, arrival_text, backup_line, lost_line, moment_text, unstamped_line,
 };
-use desk_values::LogFormat;
 use dhcp_frame::read;
 use hall_desk::{Account, Answer, Arrival, Came, Input, Notes};
+use hall_report::LogFormat;
 use hall_types::{Client, Port};
+use hallboot_tasks::turn_line;
 use play_log::{arrival, first, halves, moment, number, numbers};
 use pxe_vendor::{NotServed, client};
-use serve_lines::turn_line;
 use serve_sockets::{Close, Handover, Kind, Said, Turn};
 use std::alloc::Global;
 use std::net::{IpAddr, Ipv4Addr, SocketAddr};

@@ -1,8 +1,8 @@
 //! Reading and writing: runs over one frame with what they are given, and readers and writers whose failures are noted.
 use cases::{Out, Played, Short, Slow, text_of};
 use desk_operations::{Exit, frame_run, parse, read_input};
-use desk_values::moment_of;
 use hall_http::Noted;
+use hall_types::Moment;
 use play_log::{halves, number, place, port};
 
 // How a run ends, `PORT TEXT`, from a reader of so many octets a call that fails at a call, to a writer that takes so many and then fails.
@@ -69,9 +69,9 @@ pub fn whole(rest: &str, out: &mut Out) -> Played {
 
 /// The moment of a text.
 pub fn seconds(rest: &str, out: &mut Out) -> Played {
-    match moment_of(rest) {
-        Some(moment) => out.show(moment.get()),
-        None => out.push("none"),
+    match rest.parse::<Moment>() {
+        Ok(moment) => out.show(moment.get()),
+        Err(_) => out.push("none"),
     }
     Ok(())
 }

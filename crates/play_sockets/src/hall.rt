@@ -2,9 +2,7 @@
 use crate::stage::Stage;
 use cases::{CaseFault, Out, Played, Player};
 use hall_store::{HallStore, Probe};
-use hall_types::{
-    Arch, BootCount, Change, Interface, MacAddress, Machine, RowWrite, Status, Version,
-};
+use hall_types::{Arch, Change, Interface, MacAddress, Machine, RowWrite};
 use play_log::{admin, issued, name, number};
 use std::alloc::Global;
 use store_memory::MemoryStore;
@@ -14,24 +12,7 @@ const ADMIN: &str = "ada ba7816bf8f01cfea414140de5dae2223b00361a396177a9cb410ff6
 
 // A new machine in the pool that every hall has, and its eight interfaces, 52:54:00:HH:HH:00 to 52:54:00:HH:HH:07, where HH:HH is its number.
 fn rows_of(alloc: Global, number: u64) -> Result<Vec<RowWrite>, CaseFault> {
-    let machine = Machine {
-        id: issued(number)?,
-        arch: Arch::Uefi64,
-        uuid: None,
-        pool: name("default")?,
-        status: Status::New,
-        owner: None,
-        image: None,
-        tests: false,
-        back: None,
-        erase: None,
-        locked: false,
-        version: Version::FIRST,
-        deadline: None,
-        boot: None,
-        boots: BootCount::NONE,
-        waiting: None,
-    };
+    let machine = Machine::new(issued(number)?, Arch::Uefi64, name("default")?, None);
     let mut rows = Vec::new(alloc);
     rows.push(RowWrite::PutMachine { machine, was: None })?;
     let [.., high, low] = number.to_be_bytes();

@@ -2,10 +2,10 @@
 use crate::client::Client;
 use cases::{Out, Played};
 use desk_lines::{arrival_text, is_of_note};
-use desk_values::LogFormat;
 use hall_desk::{Account, Answer, Arrival};
+use hall_report::LogFormat;
 use hall_types::{Moment, Port};
-use serve_lines::turn_line;
+use hallboot_tasks::turn_line;
 use serve_sockets::{Handover, Kind, Said, Turn, TurnLog};
 use std::alloc::Global;
 

@@ -6,8 +6,8 @@ use crate::hall::Hall;
 use cases::{CaseFault, Out, Played};
 use hall_store::HallStore;
 use hall_types::{
-    Arch, Boot, BootCount, Change, Interface, Machine, Number, Numbers, Order, OrderKind,
-    OrderStage, Purpose, Receipt, RowWrite, Stage, Text, Token, Version,
+    Arch, Boot, Change, Interface, Machine, Number, Numbers, Order, OrderKind, OrderStage, Purpose,
+    Receipt, RowWrite, Stage, Text, Token, Version,
 };
 use play_log::{first, issued, key, last, mac, moment, name, number, status, uuid, version};
 use std::alloc::Global;
@@ -38,22 +38,17 @@ fn machine(id: &str, words: &str) -> Result<Machine, CaseFault> {
     let (its_uuid, words) = first(words);
     let (owner, image) = first(words);
     Ok(Machine {
-        id: numbered(id)?,
-        arch: Arch::Uefi64,
-        uuid: some(its_uuid).map(uuid).transpose()?,
-        pool: name(pool)?,
         status: status(its_status)?,
         owner: some(owner).map(name).transpose()?,
         image: some(image).map(name).transpose()?,
-        tests: false,
-        back: None,
-        erase: None,
-        locked: false,
         version: version_of(its_version)?,
         deadline: some(deadline).map(deadline_of).transpose()?,
-        boot: None,
-        boots: BootCount::NONE,
-        waiting: None,
+        ..Machine::new(
+            numbered(id)?,
+            Arch::Uefi64,
+            name(pool)?,
+            some(its_uuid).map(uuid).transpose()?,
+        )
     })
 }
 

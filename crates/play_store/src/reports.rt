@@ -3,8 +3,7 @@ use crate::hall::Hall;
 use crate::records::Row;
 use cases::{CaseFault, Out, Played, Short, string_of};
 use desk_operations::{Imported, export};
-use desk_values::{Fault, What};
-use hall_report::import_rows;
+use hall_report::{Fault, What, import_rows};
 use hall_store::HallStore;
 use play_log::{digest, first, issued, moment, number};
 

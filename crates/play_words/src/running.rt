@@ -3,7 +3,7 @@ use crate::stage::{Sent, Stage};
 use crate::words::{line_of, words_of};
 use cases::{CaseFault, Out, Played};
 use hallctl_requests::BearerToken;
-use hallctl_tasks::{Desk, DeskAddress, carried_out};
+use hallctl_tasks::{Desk, DeskAddress, Session};
 use hallctl_words::Line;
 use std::alloc::Global;
 
@@ -44,8 +44,14 @@ impl Stage<'_> {
     // Carries out a line, and gives its exit status.
     fn carry_out(&mut self, line: &Line<'_>) -> Result<u8, CaseFault> {
         let desk = desk(self.rt.alloc(), line.timeout).ok_or(CaseFault::Memory)?;
-        match carried_out(self.rt.alloc(), self, &desk, line) {
-            Ok(ended) => Ok(ended.status()),
+        let mut session = Session {
+            alloc: self.rt.alloc(),
+            surroundings: self,
+            desk: &desk,
+            line,
+        };
+        match session.carry_out() {
+            Ok(end) => Ok(end.status()),
             Err(fault) => {
                 self.err.line(fault.words());
                 Ok(1)

@@ -141,7 +141,7 @@ impl Dial for Stage<'_> {
         if self.is_watched
             && let Ok(text) = goes_on_text(alloc, "desk.hall.example:8080", why, milliseconds)
         {
-            self.tell(text.as_str());
+            self.eprint(text.as_str());
         }
     }
 
@@ -160,7 +160,7 @@ impl Surroundings for Stage<'_> {
         true
     }
 
-    fn tell(&mut self, text: &str) {
+    fn eprint(&mut self, text: &str) {
         self.err.push(text);
     }
 

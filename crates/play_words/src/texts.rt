@@ -5,10 +5,10 @@ use hall_events::HallCommand;
 use hall_types::Status;
 use hallctl_texts::{
     AnswerFault, DeskAnswer, Question, deleted_line, desk_answer, done_line, is_dangerous, listed,
-    mac_of, machine_ids, machine_json, machine_lines, machine_table, machine_with, order_table,
-    refusal_line, state_line, status_of, value_of, warning, with_version,
+    machine_ids, machine_json, machine_lines, machine_table, machine_with, order_table,
+    refusal_line, state_line, value_of, warning, with_version,
 };
-use hallctl_words::{Form, Wish};
+use hallctl_words::{Form, Listing, Wish};
 use serde_json::Value;
 use std::alloc::Global;
 
@@ -35,9 +35,9 @@ fn show(text: Text, out: &mut Out) -> Played {
 fn list_text(alloc: Global, wish: &Wish<'_>, json: &str) -> Text {
     let list = value_in(alloc, json)?;
     match wish {
-        Wish::Machines(filter, Form::Table) => machine_table(alloc, &list, filter),
-        Wish::Machines(filter, Form::Json) => machine_json(alloc, &list, filter),
-        Wish::Machines(filter, Form::Ids) => machine_ids(alloc, &list, filter),
+        Wish::List(Listing::Machines(filter, Form::Table)) => machine_table(alloc, &list, filter),
+        Wish::List(Listing::Machines(filter, Form::Json)) => machine_json(alloc, &list, filter),
+        Wish::List(Listing::Machines(filter, Form::Ids)) => machine_ids(alloc, &list, filter),
         _ => order_table(alloc, &list),
     }
 }
@@ -52,9 +52,9 @@ fn show_list(words: &str, json: &str, out: &mut Out) -> Played {
 // The members of one machine.
 fn lines_text(alloc: Global, machine: &str, json: &str) -> Text {
     let answer = value_in(alloc, json)?;
-    let object = match mac_of(machine) {
-        Some(address) => machine_with(&answer, address)?,
-        None => Some(&answer),
+    let object = match machine.parse() {
+        Ok(address) => machine_with(&answer, address)?,
+        Err(_) => Some(&answer),
     };
     match object {
         Some(object) => machine_lines(alloc, object),
@@ -100,7 +100,7 @@ fn show_answer(words: &str, before: &str, answer: &str, out: &mut Out) -> Played
         "-" => None,
         _ => Some(command_of(out.alloc(), words)?),
     };
-    let said = answer_text(out.alloc(), command.as_ref(), status_of(before), answer);
+    let said = answer_text(out.alloc(), command.as_ref(), before.parse().ok(), answer);
     show(said, out)
 }
 

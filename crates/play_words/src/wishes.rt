@@ -1,8 +1,9 @@
 //! What a command line of hallctl asks for.
 use crate::words::words_of;
 use cases::{CaseFault, Out, Played};
+use command_rows::Wrong;
 use hallctl_texts::Filter;
-use hallctl_words::{Form, Line, LineFault, Which, Wish, read};
+use hallctl_words::{Form, Line, LineFault, Listing, NewOperator, Which, Wish, read};
 
 fn show_filter(filter: &Filter, form: Form, out: &mut Out) {
     let form = match form {
@@ -18,15 +19,22 @@ fn show_filter(filter: &Filter, form: Form, out: &mut Out) {
     }
 }
 
-fn show(wish: &Wish<'_>, out: &mut Out) -> Played {
-    match wish {
-        Wish::Machines(filter, form) => show_filter(filter, *form, out),
-        Wish::Machine(Which::Number(id)) => out.show(format_args!("machine {}", id.get())),
-        Wish::Machine(Which::Address(mac)) => {
-            let mac = wire_mac::print(out.alloc(), &mac.octets())?;
+fn show_listing(listing: &Listing, out: &mut Out) -> Played {
+    match listing {
+        Listing::Machines(filter, form) => show_filter(filter, *form, out),
+        Listing::Machine(Which::Number(id)) => out.show(format_args!("machine {}", id.get())),
+        Listing::Machine(Which::Address(mac)) => {
+            let mac = pxe_vendor::print_mac(out.alloc(), &mac.octets())?;
             out.show(format_args!("machine with {mac}"));
         }
-        Wish::Orders => out.push("orders"),
+        Listing::Orders => out.push("orders"),
+    }
+    Ok(())
+}
+
+fn show(wish: &Wish<'_>, out: &mut Out) -> Played {
+    match wish {
+        Wish::List(listing) => show_listing(listing, out)?,
         Wish::Change(commands) => {
             out.push("send");
             for command in commands.as_slice() {
@@ -34,13 +42,15 @@ fn show(wish: &Wish<'_>, out: &mut Out) -> Played {
                 out.show(format_args!(" {text}"));
             }
         }
-        Wish::NewOperator {
-            operator,
-            role,
-            new_token,
-        } => {
+        Wish::NewOperator(
+            NewOperator {
+                operator,
+                role,
+                file,
+            },
+        ) => {
             let role = role.text();
-            out.show(format_args!("new operator {operator}, {role}, token to {new_token}"));
+            out.show(format_args!("new operator {operator}, {role}, token to {file}"));
         }
         Wish::Wait { machine, statuses } => {
             out.show(format_args!("wait for machine {}", machine.get()));
@@ -81,11 +91,8 @@ pub(crate) fn show_wish(line: &str, out: &mut Out) -> Played {
     match read(out.alloc(), words.as_slice()) {
         Ok(line) => show_line(&line, out)?,
         Err(LineFault::Usage(usage)) => out.show(format_args!("status {}", usage.status())),
-        Err(LineFault::Words(words)) => {
-            let line = words.line(out.alloc())?;
-            out.show(format_args!("status 2, {line}"));
-        }
-        Err(LineFault::Memory) => return Err(CaseFault::Memory),
+        Err(LineFault::Wrong(Wrong::Text(line))) => out.show(format_args!("status 2, {line}")),
+        Err(LineFault::Wrong(Wrong::Memory)) => return Err(CaseFault::Memory),
     }
     Ok(())
 }

@@ -1,5 +1,6 @@
 //! The words of a command line.
 use cases::CaseFault;
+use command_rows::Wrong;
 use hallctl_words::{Line, LineFault, read};
 use std::alloc::Global;
 
@@ -20,7 +21,7 @@ pub(crate) fn words_of(alloc: Global, program: &str, line: &str) -> Result<Vec<S
 pub(crate) fn line_of<'a>(alloc: Global, words: &'a [String]) -> Result<Line<'a>, CaseFault> {
     match read(alloc, words) {
         Ok(line) => Ok(line),
-        Err(LineFault::Memory) => Err(CaseFault::Memory),
+        Err(LineFault::Wrong(Wrong::Memory)) => Err(CaseFault::Memory),
         Err(_) => Err(CaseFault::Form),
     }
 }

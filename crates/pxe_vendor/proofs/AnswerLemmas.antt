@@ -1,14 +1,7 @@
 -- A reply's fields and options are those of the answer.
-use Rattle.std.proofs.Common.{◌≡◌, ◌<◌, ◌≤◌, ℕ, length, List, [], ◌∷◌, Some, None, ap, ◌∙◌, refl, subst, arith}
-use Rattle.std.specs.Prelude.{◌↔◌, map, codes, Any, All}
-use Rattle.std.proofs.lemmas.List.Elements.{All-from_recursion}
-use Rattle.dhcp_frame.specs.Area.{Entry}
-use Rattle.dhcp_frame.specs.Reply.{Reply, reply_of, entry_of, area_octets}
-use Rattle.dhcp_frame.specs.declared.reply.ReplyFields.{ReplyFields}
-use Rattle.dhcp_frame.specs.declared.reply.DhcpOption.{DhcpOption}
-use Rattle.pxe_vendor.specs.Answer.{answer_options, answer_type, vendor_tags}
-use Rattle.pxe_vendor.specs.Place.{Site}
-use Rattle.pxe_vendor.specs.declared.clients.Client.{Client}
+use Rattle.std.{proofs.{Common.{◌≡◌, ◌<◌, ◌≤◌, ℕ, length, List, [], ◌∷◌, Some, None, ap, ◌∙◌, refl, subst, arith}, lemmas.List.Elements.All-from_recursion}, specs.Prelude.{◌↔◌, map, codes, Any, All}}
+use Rattle.dhcp_frame.specs.{Area.Entry, Reply.{Reply, reply_of, entry_of, area_octets}, declared.reply.{ReplyFields.ReplyFields, DhcpOption.DhcpOption}}
+use Rattle.pxe_vendor.specs.{Answer.{answer_options, answer_type, vendor_tags}, Place.Site, declared.clients.Client.Client}
 
 pub reply_of-same : (f : ReplyFields) (os : List DhcpOption) (r : Reply) → reply_of f [] ≡ record r { options = [] } → map entry_of os ≡ r.options → reply_of f os ≡ r
 reply_of-same f os r fields options =

@@ -1,11 +1,6 @@
 -- The first known architecture, one number at a time.
-use Rattle.std.proofs.Common.{◌≡◌, ℕ, ◌+◌, ◌*◌, ◌<◌, true, false, List, [], ◌∷◌, ◌++◌, length, Option, Some, None, refl, ap, ◌∙◌, arith}
-use Rattle.std.specs.Prelude.{is_some, slice_index, slice_range}
-use Rattle.std.specs.List.{AllByRecursion}
-use Rattle.std.specs.Option.{option_or}
-use Rattle.pxe_vendor.specs.Arch.{arch_of_dhcp_number, numbers_of, names_arch, class_numbers, first_known, FirstKnown}
-use Rattle.pxe_vendor.specs.Digits.{decimal_value}
-use Rattle.pxe_vendor.specs.declared.arch.Arch.{Arch}
+use Rattle.std.{proofs.Common.{◌≡◌, ℕ, ◌+◌, ◌*◌, ◌<◌, true, false, List, [], ◌∷◌, ◌++◌, length, Option, Some, None, refl, ap, ◌∙◌, arith}, specs.{Prelude.{is_some, slice_index, slice_range}, List.AllByRecursion, Option.option_or}}
+use Rattle.pxe_vendor.specs.{Arch.{arch_of_dhcp_number, numbers_of, names_arch, class_numbers, first_known, FirstKnown}, Digits.decimal_value, declared.arch.Arch.Arch}
 
 option_or-some : (o p : Option Arch) → is_some o ≡ true → option_or o p ≡ o
 option_or-some None p h = absurd cc

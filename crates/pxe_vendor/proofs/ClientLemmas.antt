@@ -1,26 +1,7 @@
 -- The program `client_of` identifies the client that sent a message.
-use Rattle.std.proofs.Common.{◌≡◌, ℕ, Bool, true, false, List, [], ◌∷◌, ◌++◌, length, take, drop, Option, Some, None, Result, Ok, Err, refl, sym, ap, subst, ◌∙◌, inl, inr, arith}
-use Rattle.std.specs.Prelude.{IfOk, ◌⊎◌, nat_eq, codes, ok_or, unwrap_or, if◌then◌else◌}
-use Rattle.std.specs.Option.{option_map}
-use Rattle.std.specs.Cmp.Lexicographic.{pointwise}
-use Rattle.std.proofs.lemmas.Bool.{cases_eq, eq-eqb, ne_eqb}
-use Rattle.std.proofs.lemmas.Bool.Decides.{nat_tests}
-use Rattle.std.proofs.lemmas.List.{take-append-drop}
-use Rattle.dhcp_frame.specs.Area.{Entry, reading, value_of}
-use Rattle.dhcp_frame.specs.Message.{Message}
-use Rattle.dhcp_frame.specs.AreaLaws.{reading-from_Reads, Reads-from_reading}
-use Rattle.pxe_vendor.specs.Arch.{numbers_of, class_numbers, first_known}
-use Rattle.pxe_vendor.specs.Client.{IsClient, HasItem, message_type, uuid_of, is_ipxe, boot_item}
-use Rattle.pxe_vendor.specs.Served.{◌>>=◌, kind_of, class_of, item_of, decided, client_of, Answers}
-use Rattle.pxe_vendor.specs.Values.{values_of}
-use Rattle.pxe_vendor.specs.declared.values.Values.{Values}
-use Rattle.pxe_vendor.specs.declared.arch.Arch.{Arch}
-use Rattle.pxe_vendor.specs.declared.clients.Kind.{Kind}
-use Rattle.pxe_vendor.specs.declared.clients.Kind.TheVariants.{Discover, Request}
-use Rattle.pxe_vendor.specs.declared.clients.Client.{Client}
-use Rattle.pxe_vendor.specs.declared.serve.NotServed.{NotServed}
-use Rattle.pxe_vendor.specs.declared.serve.NotServed.TheVariants.{NotPxe, NoArch, BadVendor, Memory}
-use Rattle.pxe_vendor.proofs.ArchLemmas.{FirstKnown-from_first_known, first_known-from_FirstKnown}
+use Rattle.std.{proofs.{Common.{◌≡◌, ℕ, Bool, true, false, List, [], ◌∷◌, ◌++◌, length, take, drop, Option, Some, None, Result, Ok, Err, refl, sym, ap, subst, ◌∙◌, inl, inr, arith}, lemmas.{Bool.{cases_eq, eq-eqb, ne_eqb, Decides.nat_tests}, List.take-append-drop}}, specs.{Prelude.{IfOk, ◌⊎◌, nat_eq, codes, ok_or, unwrap_or, if◌then◌else◌}, Option.option_map, Cmp.Lexicographic.pointwise}}
+use Rattle.dhcp_frame.specs.{Area.{Entry, reading, value_of}, Message.Message, AreaLaws.{reading-from_Reads, Reads-from_reading}}
+use Rattle.pxe_vendor.{specs.{Arch.{numbers_of, class_numbers, first_known}, Client.{IsClient, HasItem, message_type, uuid_of, is_ipxe, boot_item}, Served.{◌>>=◌, kind_of, class_of, item_of, decided, client_of, Answers}, Values.values_of, declared.{values.Values.Values, arch.Arch.Arch, clients.{Kind.{Kind, TheVariants.{Discover, Request}}, Client.Client}, serve.NotServed.{NotServed, TheVariants.{NotPxe, NoArch, BadVendor, Memory}}}}, proofs.ArchLemmas.{FirstKnown-from_first_known, first_known-from_FirstKnown}}
 
 -- ---- the boot item, one tag at a time
 

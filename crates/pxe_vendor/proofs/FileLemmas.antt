@@ -1,16 +1,6 @@
 -- A boot file's name has no zero octet and fits the file field.
-use Rattle.std.proofs.Common.{◌≡◌, ◌≢◌, ℕ, ◌≤◌, Bool, true, false, List, [], ◌∷◌, ◌++◌, length, refl, sym, ap, ◌∙◌, arith, length-append}
-use Rattle.std.specs.Prelude.{All, codes, nat_le, not, ◌==◌, ◌&&◌}
-use Rattle.std.specs.List.{list_all}
-use Rattle.std.specs.Char.{is_ascii_alphanumeric}
-use Rattle.std.proofs.lemmas.Bool.{and_parts, leb-true}
-use Rattle.std.proofs.lemmas.List.Elements.{All-nil, All-cons, All-append}
-use Rattle.wire_mac.specs.MacText.{IsMacText}
-use Rattle.wire_mac.specs.MacLaws.{IsMacText-high, length-IsMacText}
-use Rattle.pxe_vendor.specs.BootFile.{loader_file}
-use Rattle.pxe_vendor.specs.Place.{is_host, is_host_octet}
-use Rattle.pxe_vendor.specs.declared.arch.Arch.{Arch}
-use Rattle.pxe_vendor.specs.declared.arch.Arch.TheVariants.{Bios, Uefi32, Uefi64, Arm64}
+use Rattle.std.{proofs.{Common.{◌≡◌, ◌≢◌, ℕ, ◌≤◌, Bool, true, false, List, [], ◌∷◌, ◌++◌, length, refl, sym, ap, ◌∙◌, arith, length-append}, lemmas.{Bool.{and_parts, leb-true}, List.Elements.{All-nil, All-cons, All-append}}}, specs.{Prelude.{All, codes, nat_le, not, ◌==◌, ◌&&◌}, List.list_all, Char.is_ascii_alphanumeric}}
+use Rattle.pxe_vendor.specs.{MacText.IsMacText, MacLaws.{IsMacText-high, length-IsMacText}, BootFile.loader_file, Place.{is_host, is_host_octet}, declared.arch.Arch.{Arch, TheVariants.{Bios, Uefi32, Uefi64, Arm64}}}
 
 abbrev pub IsNamed : List ℕ → Type 0
 IsNamed file = All (λ octet. octet ≢ 0) file

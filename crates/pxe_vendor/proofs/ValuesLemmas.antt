@@ -1,11 +1,7 @@
 -- Joining the values of several codes in one pass.
-use Rattle.std.proofs.Common.{◌≡◌, ℕ, List, [], ◌∷◌, ◌++◌, Option, Some, None, refl, inl, inr}
-use Rattle.std.specs.Prelude.{unwrap_or, ◌==◌}
-use Rattle.std.proofs.lemmas.Bool.{cases_eq, eq-eqb, ne_eqb}
-use Rattle.dhcp_frame.specs.Area.{Entry, value_of}
-use Rattle.dhcp_frame.specs.ValueLaws.{joined_then, joined_then-nothing, joined_then-more}
-use Rattle.pxe_vendor.specs.Values.{values_of, push_if, pushed}
-use Rattle.pxe_vendor.specs.declared.values.Values.{Values}
+use Rattle.std.{proofs.{Common.{◌≡◌, ℕ, List, [], ◌∷◌, ◌++◌, Option, Some, None, refl, inl, inr}, lemmas.Bool.{cases_eq, eq-eqb, ne_eqb}}, specs.Prelude.{unwrap_or, ◌==◌}}
+use Rattle.dhcp_frame.specs.{Area.{Entry, value_of}, ValueLaws.{joined_then, joined_then-nothing, joined_then-more}}
+use Rattle.pxe_vendor.specs.{Values.{values_of, push_if, pushed}, declared.values.Values.Values}
 
 -- ---- one more value
 

@@ -1,14 +1,7 @@
 -- The answer to a client: an OFFER to a DISCOVER, an ACK to a REQUEST (PXE 2.1; RFC 2131 section 4.3).
 use Rattle.std.specs.Prelude.{ℕ, List, [], ◌∷◌, ◌++◌, Option, Some, None, codes}
-use Rattle.dhcp_frame.specs.Area.{Entry}
-use Rattle.dhcp_frame.specs.Message.{Message}
-use Rattle.dhcp_frame.specs.Reply.{Reply, area_octets, zeros}
-use Rattle.dhcp_frame.specs.declared.option_codes.TheConstants.{MESSAGE_TYPE, SERVER_IDENTIFIER, VENDOR_CLASS, MACHINE_IDENTIFIER, VENDOR_OPTIONS}
-use Rattle.pxe_vendor.specs.Place.{Site}
-use Rattle.pxe_vendor.specs.declared.numbers.TheConstants.{OFFER, ACK, DISCOVERY_CONTROL, USE_BOOT_FILE, BOOT_ITEM}
-use Rattle.pxe_vendor.specs.declared.clients.Kind.{Kind}
-use Rattle.pxe_vendor.specs.declared.clients.Kind.TheVariants.{Discover, Request}
-use Rattle.pxe_vendor.specs.declared.clients.Client.{Client}
+use Rattle.dhcp_frame.specs.{Area.Entry, Message.Message, Reply.{Reply, area_octets, zeros}, declared.option_codes.TheConstants.{MESSAGE_TYPE, SERVER_IDENTIFIER, VENDOR_CLASS, MACHINE_IDENTIFIER, VENDOR_OPTIONS}}
+use Rattle.pxe_vendor.specs.{Place.Site, declared.{numbers.TheConstants.{OFFER, ACK, DISCOVERY_CONTROL, USE_BOOT_FILE, BOOT_ITEM}, clients.{Kind.{Kind, TheVariants.{Discover, Request}}, Client.Client}}}
 
 -- the message type of the answer (RFC 2132 section 9.6)
 abbrev pub answer_type : Kind → ℕ

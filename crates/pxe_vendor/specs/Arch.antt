@@ -1,13 +1,6 @@
 -- Processor architectures (RFC 4578 section 2.1, and the registry of RFC 5970 section 3.3).
-use Rattle.std.specs.Prelude.{◌≡◌, ℕ, ◌+◌, ◌*◌, List, [], ◌∷◌, ◌++◌, Option, Some, None, ◌==◌, ◌||◌, ◌&&◌, if◌then◌else◌, codes, Bool, length, nat_le, slice_range, nat_eq}
-use Rattle.std.specs.Option.{option_or}
-use Rattle.std.specs.List.{AllByRecursion, starts_with, list_all}
-use Rattle.std.specs.Char.{is_ascii_digit}
-use Rattle.std.specs.Cmp.Lexicographic.{pointwise}
-use Rattle.pxe_vendor.specs.Digits.{decimal_value}
-use Rattle.pxe_vendor.specs.declared.arch.TheConstants.{DIGITS_START, DIGITS_END}
-use Rattle.pxe_vendor.specs.declared.arch.Arch.{Arch}
-use Rattle.pxe_vendor.specs.declared.arch.Arch.TheVariants.{Bios, Uefi32, Uefi64, Arm64}
+use Rattle.std.specs.{Prelude.{◌≡◌, ℕ, ◌+◌, ◌*◌, List, [], ◌∷◌, ◌++◌, Option, Some, None, ◌==◌, ◌||◌, ◌&&◌, if◌then◌else◌, codes, Bool, length, nat_le, slice_range, nat_eq}, Option.option_or, List.{AllByRecursion, starts_with, list_all}, Char.is_ascii_digit, Cmp.Lexicographic.pointwise}
+use Rattle.pxe_vendor.specs.{Digits.decimal_value, declared.arch.{TheConstants.{DIGITS_START, DIGITS_END}, Arch.{Arch, TheVariants.{Bios, Uefi32, Uefi64, Arm64}}}}
 
 -- the word of an architecture in texts
 unfoldable pub arch_text : Arch → List ℕ

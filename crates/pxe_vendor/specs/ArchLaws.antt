@@ -1,11 +1,6 @@
 -- Laws of the words of architectures: each is the word of one architecture.
-use Rattle.std.specs.Prelude.{◌≡◌, ℕ, Bool, true, false, List, Option, Some, if◌then◌else◌, nat_eq}
-use Rattle.std.specs.Cmp.Lexicographic.{pointwise, bytes_decides}
-use Rattle.std.proofs.Common.{refl, ap, ◌∙◌, None}
-use Rattle.std.proofs.lemmas.Option.{same_Some}
-use Rattle.pxe_vendor.specs.Arch.{arch_text, arch_in}
-use Rattle.pxe_vendor.specs.declared.arch.Arch.{Arch}
-use Rattle.pxe_vendor.specs.declared.arch.Arch.TheVariants.{Bios, Uefi32, Uefi64, Arm64}
+use Rattle.std.{specs.{Prelude.{◌≡◌, ℕ, Bool, true, false, List, Option, Some, if◌then◌else◌, nat_eq}, Cmp.Lexicographic.{pointwise, bytes_decides}}, proofs.{Common.{refl, ap, ◌∙◌, None}, lemmas.Option.same_Some}}
+use Rattle.pxe_vendor.specs.{Arch.{arch_text, arch_in}, declared.arch.Arch.{Arch, TheVariants.{Bios, Uefi32, Uefi64, Arm64}}}
 
 -- each architecture's word is read as that architecture
 pub arch_in-arch_text : (arch : Arch) → arch_in (arch_text arch) ≡ Some arch

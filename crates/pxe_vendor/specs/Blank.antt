@@ -1,6 +1,5 @@
 -- UUIDs that identify no machine (SMBIOS, DSP0134 section 7.2.1).
-use Rattle.std.specs.Prelude.{ℕ, Bool, List, ◌==◌, ◌||◌}
-use Rattle.std.specs.List.{list_all}
+use Rattle.std.specs.{Prelude.{ℕ, Bool, List, ◌==◌, ◌||◌}, List.list_all}
 
 -- octets that are all 0 or all 255 identify no machine
 abbrev pub is_blank : List ℕ → Bool

@@ -1,10 +1,6 @@
 -- The boot file for a client.
 use Rattle.std.specs.Prelude.{List, ℕ, ◌++◌, codes, if◌then◌else◌}
-use Rattle.wire_mac.specs.MacText.{mac_text}
-use Rattle.pxe_vendor.specs.Place.{Site}
-use Rattle.pxe_vendor.specs.declared.arch.Arch.{Arch}
-use Rattle.pxe_vendor.specs.declared.arch.Arch.TheVariants.{Bios, Uefi32, Uefi64, Arm64}
-use Rattle.pxe_vendor.specs.declared.clients.Client.{Client}
+use Rattle.pxe_vendor.specs.{MacText.mac_text, Place.Site, declared.{arch.Arch.{Arch, TheVariants.{Bios, Uefi32, Uefi64, Arm64}}, clients.Client.Client}}
 
 -- the loader of an architecture: iPXE, built for it
 unfoldable pub loader_file : Arch → List ℕ

@@ -1,15 +1,7 @@
 -- The PXE client that sent a DHCP message (PXE 2.1; RFC 4578; RFC 3004).
-use Rattle.std.specs.Prelude.{◌≡◌, ℕ, Bool, false, List, [], ◌∷◌, ◌++◌, Option, Some, None, unwrap_or, take, length, ◌==◌, ◌&&◌, ◌||◌, not, if◌then◌else◌, codes, nat_eq}
-use Rattle.std.specs.Cmp.Lexicographic.{pointwise}
-use Rattle.dhcp_frame.specs.Area.{Entry, Reads, value_of}
-use Rattle.dhcp_frame.specs.Message.{Message}
-use Rattle.dhcp_frame.specs.declared.option_codes.TheConstants.{VENDOR_OPTIONS, MESSAGE_TYPE, VENDOR_CLASS, USER_CLASS, CLIENT_ARCHITECTURES, MACHINE_IDENTIFIER}
-use Rattle.pxe_vendor.specs.declared.numbers.TheConstants.{DISCOVER, REQUEST, BOOT_ITEM, BOOT_ITEM_LEN, UUID_LEN, UUID_TYPE}
-use Rattle.pxe_vendor.specs.Arch.{numbers_of, class_numbers, FirstKnown}
-use Rattle.pxe_vendor.specs.Blank.{is_blank}
-use Rattle.pxe_vendor.specs.declared.clients.Kind.{Kind}
-use Rattle.pxe_vendor.specs.declared.clients.Kind.TheVariants.{Discover, Request}
-use Rattle.pxe_vendor.specs.declared.clients.Client.{Client}
+use Rattle.std.specs.{Prelude.{◌≡◌, ℕ, Bool, false, List, [], ◌∷◌, ◌++◌, Option, Some, None, unwrap_or, take, length, ◌==◌, ◌&&◌, ◌||◌, not, if◌then◌else◌, codes, nat_eq}, Cmp.Lexicographic.pointwise}
+use Rattle.dhcp_frame.specs.{Area.{Entry, Reads, value_of}, Message.Message, declared.option_codes.TheConstants.{VENDOR_OPTIONS, MESSAGE_TYPE, VENDOR_CLASS, USER_CLASS, CLIENT_ARCHITECTURES, MACHINE_IDENTIFIER}}
+use Rattle.pxe_vendor.specs.{declared.{numbers.TheConstants.{DISCOVER, REQUEST, BOOT_ITEM, BOOT_ITEM_LEN, UUID_LEN, UUID_TYPE}, clients.{Kind.{Kind, TheVariants.{Discover, Request}}, Client.Client}}, Arch.{numbers_of, class_numbers, FirstKnown}, Blank.is_blank}
 
 -- the type of a client's message (RFC 2132 section 9.6)
 abbrev pub message_type : Kind → ℕ

@@ -8,3 +8,6 @@ pub mod Served
 pub mod Place
 pub mod Answer
 pub mod BootFile
+pub mod MacText
+pub mod DigitLaws
+pub mod MacLaws

@@ -1,7 +1,5 @@
 -- The addresses of the services that boot machines.
-use Rattle.std.specs.Prelude.{ℕ, Bool, false, List, [], ◌∷◌, length, ◌==◌, ◌&&◌, ◌||◌, nat_le}
-use Rattle.std.specs.List.{list_all}
-use Rattle.std.specs.Char.{is_ascii_alphanumeric}
+use Rattle.std.specs.{Prelude.{ℕ, Bool, false, List, [], ◌∷◌, length, ◌==◌, ◌&&◌, ◌||◌, nat_le}, List.list_all, Char.is_ascii_alphanumeric}
 use Rattle.pxe_vendor.specs.declared.place.TheConstants.{MAX_HOST_LEN}
 
 -- the IP addresses of the boot server and of the next server, which has the boot files, and the host of the scripts

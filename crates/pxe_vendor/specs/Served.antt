@@ -1,21 +1,7 @@
 -- Identifying the client that sent a message, up to the first cause not to serve it: the program for `IsClient`.
-use Rattle.std.specs.Prelude.{◌≡◌, ◌⊎◌, ℕ, List, [], ◌∷◌, Option, Some, None, Result, Ok, Err, MatchResult, ok_or, unwrap_or, ◌++◌, take, ◌==◌, if◌then◌else◌, codes, nat_eq}
-use Rattle.std.specs.List.{starts_with}
-use Rattle.std.specs.Option.{option_map}
-use Rattle.dhcp_frame.specs.Area.{reading, value_of}
-use Rattle.dhcp_frame.specs.Message.{Message}
-use Rattle.dhcp_frame.specs.declared.option_codes.TheConstants.{USER_CLASS, MACHINE_IDENTIFIER}
-use Rattle.pxe_vendor.specs.declared.numbers.TheConstants.{DISCOVER, REQUEST}
-use Rattle.pxe_vendor.specs.Arch.{numbers_of, class_numbers, first_known}
-use Rattle.pxe_vendor.specs.Client.{uuid_of, is_ipxe, boot_item}
-use Rattle.pxe_vendor.specs.Values.{values_of}
-use Rattle.pxe_vendor.specs.declared.arch.Arch.{Arch}
-use Rattle.pxe_vendor.specs.declared.clients.Kind.{Kind}
-use Rattle.pxe_vendor.specs.declared.values.Values.{Values}
-use Rattle.pxe_vendor.specs.declared.clients.Kind.TheVariants.{Discover, Request}
-use Rattle.pxe_vendor.specs.declared.clients.Client.{Client}
-use Rattle.pxe_vendor.specs.declared.serve.NotServed.{NotServed}
-use Rattle.pxe_vendor.specs.declared.serve.NotServed.TheVariants.{NoType, OtherType, NotPxe, NoArch, BadVendor, Memory}
+use Rattle.std.specs.{Prelude.{◌≡◌, ◌⊎◌, ℕ, List, [], ◌∷◌, Option, Some, None, Result, Ok, Err, MatchResult, ok_or, unwrap_or, ◌++◌, take, ◌==◌, if◌then◌else◌, codes, nat_eq}, List.starts_with, Option.option_map}
+use Rattle.dhcp_frame.specs.{Area.{reading, value_of}, Message.Message, declared.option_codes.TheConstants.{USER_CLASS, MACHINE_IDENTIFIER}}
+use Rattle.pxe_vendor.specs.{declared.{numbers.TheConstants.{DISCOVER, REQUEST}, arch.Arch.Arch, clients.{Kind.{Kind, TheVariants.{Discover, Request}}, Client.Client}, values.Values.Values, serve.NotServed.{NotServed, TheVariants.{NoType, OtherType, NotPxe, NoArch, BadVendor, Memory}}}, Arch.{numbers_of, class_numbers, first_known}, Client.{uuid_of, is_ipxe, boot_item}, Values.values_of}
 
 -- a step, and then another one, up to the first cause
 infixl 10 ◌>>=◌

@@ -1,7 +1,6 @@
 -- The joined values of the options that identify a client.
 use Rattle.std.specs.Prelude.{ℕ, Bool, true, false, List, [], ◌++◌, Option, Some, unwrap_or, ◌==◌}
-use Rattle.dhcp_frame.specs.Area.{Entry, value_of}
-use Rattle.dhcp_frame.specs.declared.option_codes.TheConstants.{VENDOR_OPTIONS, MESSAGE_TYPE, VENDOR_CLASS, USER_CLASS, CLIENT_ARCHITECTURES, MACHINE_IDENTIFIER}
+use Rattle.dhcp_frame.specs.{Area.{Entry, value_of}, declared.option_codes.TheConstants.{VENDOR_OPTIONS, MESSAGE_TYPE, VENDOR_CLASS, USER_CLASS, CLIENT_ARCHITECTURES, MACHINE_IDENTIFIER}}
 use Rattle.pxe_vendor.specs.declared.values.Values.{Values}
 
 -- the joined values in a list of options

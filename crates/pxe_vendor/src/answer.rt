@@ -1,11 +1,7 @@
 //! Writing the answer to a client.
 ghost use Rattle.std.specs.Prelude.{◌≡◌, ◌≢◌, ◌<◌, ◌≤◌, ◌↔◌, ◌==◌, nat_lt, Err, [], All, IfOk, IsErrOf, length, take, unwrap_or};
-ghost use Rattle.dhcp_frame.specs.Area.{Reads};
-ghost use Rattle.dhcp_frame.specs.Message.{options_area};
-ghost use Rattle.dhcp_frame.specs.declared.reply.TheConstants.{MAX_FILE_LEN};
-ghost use Rattle.dhcp_frame.specs.Reply.{entry_of, reply_octets, file_name, area_octets, reply_of};
-ghost use Rattle.pxe_vendor.specs.BootFile.{boot_file_of};
-ghost use Rattle.pxe_vendor.specs.Answer.{answer_to, answer_options, answer_type, answer_ciaddr, vendor_tags};
+ghost use Rattle.dhcp_frame.specs.{Area.Reads, Message.options_area, declared.reply.TheConstants.MAX_FILE_LEN, Reply.{entry_of, reply_octets, file_name, area_octets, reply_of}};
+ghost use Rattle.pxe_vendor.specs.{BootFile.boot_file_of, Answer.{answer_to, answer_options, answer_type, answer_ciaddr, vendor_tags}};
 
 use crate::clients::{Client, Kind};
 use crate::file::boot_file;

@@ -38,8 +38,7 @@ pub struct UnknownArch;
 /// Reads an architecture's word: `bios`, `uefi32`, `uefi64` or `arm64`.
 impl FromStr for Arch {
     ghost use Rattle.std.specs.Prelude.{◌≡◌, ok_or};
-    ghost use Rattle.pxe_vendor.specs.Arch.{arch_in};
-    ghost use Rattle.pxe_vendor.specs.declared.arch.UnknownArch.{UnknownArch};
+    ghost use Rattle.pxe_vendor.specs.{Arch.arch_in, declared.arch.UnknownArch.UnknownArch};
 
     type Err = UnknownArch;
 

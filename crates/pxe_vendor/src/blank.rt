@@ -1,6 +1,5 @@
 //! UUIDs that identify no machine.
-ghost use Rattle.std.specs.Prelude.{◌≡◌, ◌==◌};
-ghost use Rattle.std.specs.List.{list_all};
+ghost use Rattle.std.specs.{Prelude.{◌≡◌, ◌==◌}, List.list_all};
 ghost use Rattle.pxe_vendor.specs.Blank.{is_blank};
 
 fn are_all(octets: &[u8], value: u8) -> bool

@@ -1,8 +1,6 @@
 //! Numbers in decimal digits, as vendor classes, requests and options have them.
-ghost use Rattle.std.specs.Prelude.{◌≡◌, ◌≤◌, true, length};
-ghost use Rattle.std.specs.List.{list_all};
-ghost use Rattle.std.specs.Char.{is_ascii_digit};
-ghost use Rattle.pxe_vendor.specs.Digits.{decimal_value};
+ghost use Rattle.std.specs.{Prelude.{◌≡◌, ◌≤◌, true, length}, List.list_all, Char.is_ascii_digit};
+ghost use Rattle.pxe_vendor.specs.Digits.{decimal_value, is_numeral, numeral};
 
 /// Whether all octets are decimal digits.
 pub fn are_digits(text: &[u8]) -> bool
@@ -22,4 +20,21 @@ pub fn decimal(text: &[u8]) -> u64
         n = n * 10 + u64::from(*digit - b'0');
     }
     n
+}
+
+fn is_numeral(text: &[u8]) -> bool
+    ensures { result ≡ is_numeral text.now }
+{
+    1 <= text.len() && text.len() <= 16 && are_digits(text) && (text.len() == 1 || text[0] != b'0')
+}
+
+/// The number that 1 to 16 decimal digits write, without a leading zero but in `0`.
+pub fn numeral(text: &[u8]) -> Option<u64>
+    ensures { result ≡ numeral text.now }
+{
+    if is_numeral(text) {
+        Some(decimal(text))
+    } else {
+        None
+    }
 }

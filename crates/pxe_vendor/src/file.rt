@@ -33,7 +33,7 @@ pub fn script_url(alloc: Global, place: &Place, mac: &[u8; 6]) -> Result<String,
     let mut url = String::from_str(alloc, "http://")?;
     url.push_str(place.host())?;
     url.push_str("/ipxe/")?;
-    wire_mac::push(&mut url, mac)?;
+    crate::push_mac(&mut url, mac)?;
     Ok(url)
 }
 

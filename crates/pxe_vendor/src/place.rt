@@ -1,6 +1,5 @@
 //! The addresses of the services that boot machines.
-ghost use Rattle.std.specs.Prelude.{◌≡◌, false, IsOk, IfOk, IsErrOf, IsTrue, ◌↔◌, string_bytes};
-ghost use Rattle.std.specs.List.{list_all};
+ghost use Rattle.std.specs.{Prelude.{◌≡◌, false, IsOk, IfOk, IsErrOf, IsTrue, ◌↔◌, string_bytes}, List.list_all};
 ghost use Rattle.pxe_vendor.specs.Place.{Site, is_host, is_host_octet};
 
 use std::alloc::{AllocError, Global};

@@ -1,11 +1,7 @@
 //! Identifying the client that sent a message.
-ghost use Rattle.std.specs.Prelude.{◌≡◌, ◌⊎◌, ◌↔◌, ◌++◌, [], ℕ, List, unwrap_or, Option, Some, None, Ok, IfOk, IsErrOf, MatchResult, ok_or, option_copied, length, nat_eq, codes, ◌==◌, if◌then◌else◌};
-ghost use Rattle.std.specs.List.{starts_with};
+ghost use Rattle.std.specs.{Prelude.{◌≡◌, ◌⊎◌, ◌↔◌, ◌++◌, [], ℕ, List, unwrap_or, Option, Some, None, Ok, IfOk, IsErrOf, MatchResult, ok_or, option_copied, length, nat_eq, codes, ◌==◌, if◌then◌else◌}, List.starts_with};
 ghost use Rattle.dhcp_frame.specs.Message.{Message};
-ghost use Rattle.pxe_vendor.specs.Arch.{first_known, class_numbers, numbers_of};
-ghost use Rattle.pxe_vendor.specs.Client.{IsClient, uuid_of, is_ipxe, boot_item};
-ghost use Rattle.pxe_vendor.specs.Served.{Answers, kind_of, class_of, item_of, decided, client_of};
-ghost use Rattle.pxe_vendor.specs.Values.{values_of};
+ghost use Rattle.pxe_vendor.specs.{Arch.{first_known, class_numbers, numbers_of}, Client.{IsClient, uuid_of, is_ipxe, boot_item}, Served.{Answers, kind_of, class_of, item_of, decided, client_of}, Values.values_of};
 
 use crate::arch;
 use crate::arch::Arch;

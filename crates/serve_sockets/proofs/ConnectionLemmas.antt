@@ -1,12 +1,6 @@
 -- What a connection reads and writes.
-use Rattle.std.proofs.Common.{◌≡◌, ◌≢◌, ◌<◌, ◌≤◌, ◌+◌, ◌-◌, ◌==◌, ◌++◌, ◌∙◌, ℕ, Bool, true, false, Fits, w64, List, [], Option, Result, Ok, drop, if◌then◌else◌, length, min, take, ap, append-nil, arith, length-append, subst, sym}
-use Rattle.std.proofs.lemmas.Bool.{eqb-false}
-use Rattle.std.proofs.lemmas.List.{drop-drop, drop_all, length-drop, length-take, take-append-drop, take-append-le, take_all}
-use Rattle.std.specs.Io.KnownBytes.{Appends, Consumes, Keeps, WriteAppends, append_known}
-use Rattle.std.proofs.KnownBytes.{append_known-kept, append_known-moved}
+use Rattle.std.{proofs.{Common.{◌≡◌, ◌≢◌, ◌<◌, ◌≤◌, ◌+◌, ◌-◌, ◌++◌, ◌∙◌, ℕ, Bool, true, false, Fits, w64, List, [], Option, Result, Ok, drop, if◌then◌else◌, length, min, take, ap, append-nil, arith, length-append, subst, sym}, lemmas.List.{drop-drop, drop_all, length-drop, length-take, take-append-drop, take-append-le, take_all}, KnownBytes.{append_known-kept, append_known-moved}}, specs.Io.KnownBytes.{Appends, Consumes, Keeps, WriteAppends, append_known}}
 use Rattle.serve_sockets.specs.Connection.{Moves}
-use Rattle.serve_sockets.specs.declared.connection.Put.{Put}
-use Rattle.serve_sockets.specs.declared.connection.Put.TheVariants as put
 
 -- ---- reads
 
@@ -84,14 +78,3 @@ module _ (old new : Option (List ℕ)) where
   written_none {E} left rest buffer n made wrote is none at =
       let taken : Appends old new (take n buffer) = subst (λ (r : Result ℕ E). WriteAppends old new r buffer) is wrote in
       append_known-moved old new [] rest left (subst (λ (k : ℕ). Appends old new (take k buffer)) none taken) at
-
--- the how-manieth thing a write may come to
-abbrev pub rank : Put → ℕ
-rank put.Waits = 0
-rank put.More = 1
-rank put.Done = 2
-rank put.Failed = 3
-
--- a write doesn't come to two things
-pub put_differs : (P : Type 0) (a b : Put) → (rank a == rank b) ≡ false → a ≡ b → P
-put_differs P a b unlike same = absurd (eqb-false (rank a) (rank b) unlike (ap rank same))

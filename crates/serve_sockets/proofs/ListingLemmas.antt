@@ -1,8 +1,7 @@
 -- Which requests ask for a list.
-use Rattle.std.proofs.Common.{◌≡◌, ℕ, List, Option, None, Some, Ok, sym}
-use Rattle.std.specs.Prelude.{IfSome}
+use Rattle.std.{proofs.Common.{◌≡◌, ℕ, List, Option, None, Some, Ok, sym}, specs.Prelude.IfSome}
 use Rattle.hall_events.specs.declared.event.Event.{Event}
-use Rattle.http_requests.specs.Request.{IsEvent}
+use Rattle.hall_http.specs.Request.{IsEvent}
 use Rattle.serve_sockets.specs.Listing.{AsksForList, list_bearer}
 
 -- the octets of an event ask for a list with the token that the event has

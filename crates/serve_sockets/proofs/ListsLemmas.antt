@@ -1,14 +1,6 @@
 -- Which connection is the first of those that are wanted.
-use Rattle.std.proofs.Common.{◌≡◌, ◌<◌, ◌≤◌, ◌+◌, ◌∙◌, ℕ, Bool, true, false, List, Option, Some, None, cond, get_or, length, nat_lt, ap, arith, refl, sym}
-use Rattle.std.proofs.lemmas.List.{get_or_default}
-use Rattle.std.specs.List.{position}
-use Rattle.std.proofs.lemmas.Bool.{ltb-true, ltb-false}
-use Rattle.std.proofs.lemmas.List.Quantifiers.{position-Some}
-use Rattle.std.proofs.lemmas.Option.{slice_get_read}
-use Rattle.serve_sockets.specs.Lists.{wants_at, wants_held, wants_in}
-use Rattle.serve_sockets.specs.Table.{number_at}
-use Rattle.serve_sockets.specs.declared.connection.Connection.{Connection}
-use Rattle.serve_sockets.specs.declared.lists.Wanted.{Wanted}
+use Rattle.std.{proofs.{Common.{◌≡◌, ◌<◌, ◌≤◌, ◌+◌, ◌∙◌, ℕ, Bool, true, false, List, Option, Some, None, cond, get_or, length, nat_lt, ap, arith, refl, sym}, lemmas.{List.{get_or_default, Quantifiers.position-Some}, Bool.{ltb-true, ltb-false}, Option.slice_get_read}}, specs.List.position}
+use Rattle.serve_sockets.specs.{Lists.{wants_at, wants_held, wants_in}, Table.number_at, declared.{connection.Connection.Connection, lists.Wanted.Wanted}}
 
 -- a number that is smaller in the code is no greater in a clause
 pub older_by : (a b x y : ℕ) → a ≡ x → b ≡ y → nat_lt a b ≡ true → x ≤ y

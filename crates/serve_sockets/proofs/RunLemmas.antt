@@ -1,17 +1,11 @@
 -- A run, and then another.
-use Rattle.std.proofs.Common.{List, [], ◌∷◌, ◌++◌, append_assoc, inl, inr, refl, subst, sym}
-use Rattle.std.specs.Prelude.{◌⊎◌, ⊤}
-use Rattle.std.specs.List.{AllByRecursion}
+use Rattle.std.{proofs.Common.{List, [], ◌∷◌, ◌++◌, append_assoc, inl, inr, refl, subst, sym}, specs.{Prelude.{◌⊎◌, ⊤}, List.AllByRecursion}}
 use Rattle.pxe_vendor.specs.Place.{Site}
 use Rattle.hall_types.specs.Hall.{Hall}
 use Rattle.boot_desk.specs.Sound.{IsSound}
-use Rattle.hall_desk.specs.Attempt.{IsAnswered, IsKept, IsOnlyRead, IsTorn}
-use Rattle.hall_desk.specs.History.{AllLead, IsCutRun, Item, came_unanswered, exchanges}
-use Rattle.hall_desk.specs.Octets.{HasMissed, IsArrivalRun, IsArrivalStep, IsGiven}
-use Rattle.hall_desk.specs.Stops.{AreGiven, HasRun, IsCutEnd}
-use Rattle.hall_desk.specs.declared.arrival.Answer.{Answer}
-use Rattle.hall_desk.specs.declared.arrival.Arrival.{Arrival}
+use Rattle.hall_desk.specs.{Attempt.{IsAnswered, IsKept, IsOnlyRead, IsTorn}, History.{AllLead, IsCutRun, Item, came_unanswered, exchanges}, Octets.{HasMissed, IsArrivalRun, IsArrivalStep, IsGiven}, Stops.{AreGiven, HasRun, IsCutEnd}, declared.arrival.{Answer.Answer, Arrival.Arrival}}
 use Rattle.serve_sockets.proofs.SilenceLemmas.{silent_idle}
+use Rattle.hall_store.specs.declared.store.HallStore.{Ghosts}
 
 pub all_append : (P : Hall → Type 0) (xs ys : List Hall) → AllByRecursion P xs → AllByRecursion P ys → AllByRecursion P (xs ++ ys)
 all_append P [] ys a b = b
@@ -78,9 +72,9 @@ given_then site h mid [] ys (a ∷ is) bs run all = absurd run
 given_then site h mid (x ∷ xs) ys [] bs run all = absurd run
 given_then site h mid (x ∷ xs) ys (a ∷ is) bs run all = given_then site run.0 mid xs ys is bs run.2 (all.1 run.0 run.1)
 
-module _ {S : Type 0} (holds : S → Hall → Type 0) (leaves : S → List Hall → Type 0) (site : Site) (h : Hall) where
-  module _ (old mid new : S) (xs ys : List Arrival) (is bs : List Answer) (first : HasRun holds leaves old mid site h xs is)
-      (then : HasRun holds leaves mid new site first.ran.end ys bs) where
+module _ {S : Type 0} (g : Ghosts S) (site : Site) (h : Hall) where
+  module _ (old mid new : S) (xs ys : List Arrival) (is bs : List Answer) (first : HasRun g old mid site h xs is)
+      (then : HasRun g mid new site first.ran.end ys bs) where
     ends_first : (halls : List Hall) → AllByRecursion (IsCutEnd site h xs is) halls → AllByRecursion (IsCutEnd site h (xs ++ ys) (is ++ bs)) halls
     ends_first [] all = tt
     ends_first (x ∷ halls) all = ((all.0.0, cut_first site xs ys is bs all.0.0 all.0.1, all.0.2), ends_first halls all.1)
@@ -96,16 +90,16 @@ module _ {S : Type 0} (holds : S → Hall → Type 0) (leaves : S → List Hall 
       ends_then halls all.1,
     )
 
-    stop_then : (hs : List Hall) → leaves old hs → (more : List Hall) × leaves new (more ++ hs) × AllByRecursion (IsCutEnd site h (xs ++ ys) (is ++ bs)) more
+    stop_then : (hs : List Hall) → g.leaves old hs → (more : List Hall) × g.leaves new (more ++ hs) × AllByRecursion (IsCutEnd site h (xs ++ ys) (is ++ bs)) more
     stop_then hs left =
         let one = first.stop hs left in
         let two = then.stop (one.0 ++ hs) one.1 in (
           two.0 ++ one.0,
-          subst (leaves new) (sym (append_assoc two.0 one.0 hs)) two.1,
+          subst (g.leaves new) (sym (append_assoc two.0 one.0 hs)) two.1,
           all_append (IsCutEnd site h (xs ++ ys) (is ++ bs)) two.0 one.0 (ends_then two.0 two.2) (ends_first one.0 one.2),
         )
 
-    pub has_run_then : HasRun holds leaves old new site h (xs ++ ys) (is ++ bs)
+    pub has_run_then : HasRun g old new site h (xs ++ ys) (is ++ bs)
     has_run_then = record {
       ran = record {
         end = then.ran.end;
@@ -120,19 +114,19 @@ module _ {S : Type 0} (holds : S → Hall → Type 0) (leaves : S → List Hall 
     }
 
   -- nothing came, and the store was only read
-  pub has_run_none : (old new : S) → IsOnlyRead holds leaves old new → holds old h → IsSound h → HasRun holds leaves old new site h [] []
+  pub has_run_none : (old new : S) → IsOnlyRead g old new → g.holds old h → IsSound h → HasRun g old new site h [] []
   has_run_none old new only held sound = record {
     ran = record { end = h; run = refl; held = only.same h held; sound = sound };
     settled = λ left all. only.stop h held (h ∷ []) left;
     stop = λ hs left. ([], only.stop h held hs left, tt);
   }
 
-  module _ (old new : S) (arrival : Arrival) (a : Answer) (it : IsAnswered holds leaves old new site arrival.input arrival.moment arrival.fresh a) (held : holds old h)
+  module _ (old new : S) (arrival : Arrival) (a : Answer) (it : IsAnswered g old new site arrival.input arrival.moment arrival.fresh a) (held : g.holds old h)
       (sound : IsSound h) where
-    stop_one : (hs : List Hall) → leaves old hs → (more : List Hall) × leaves new (more ++ hs) × AllByRecursion (IsCutEnd site h (arrival ∷ []) (a ∷ [])) more
+    stop_one : (hs : List Hall) → g.leaves old hs → (more : List Hall) × g.leaves new (more ++ hs) × AllByRecursion (IsCutEnd site h (arrival ∷ []) (a ∷ [])) more
     stop_one hs left = (torn.next ∷ [], torn.left, (by torn.step, tt))
       where
-        torn : IsTorn holds leaves old new site arrival.input arrival.moment arrival.fresh h hs
+        torn : IsTorn g old new site arrival.input arrival.moment arrival.fresh h hs
         torn = it.crash h held sound hs left
 
         by : IsArrivalStep site h arrival.input arrival.moment arrival.fresh torn.answer torn.next → IsCutEnd site h (arrival ∷ []) (a ∷ []) torn.next
@@ -140,16 +134,16 @@ module _ {S : Type 0} (holds : S → Hall → Type 0) (leaves : S → List Hall 
         by (inr missed) = ([], tt, missed.same)
 
     -- what counts as not having come, and was given its answer, is a silence that leaves all as it was
-    still : HasMissed h arrival.input a h → IsGiven site h arrival.input arrival.moment arrival.fresh a → leaves old (h ∷ []) → leaves new (h ∷ [])
+    still : HasMissed h arrival.input a h → IsGiven site h arrival.input arrival.moment arrival.fresh a → g.leaves old (h ∷ []) → g.leaves new (h ∷ [])
     still missed (inl given) left = absurd (given missed.answer)
     still missed (inr silent) left = it.still h held (silent_idle site h arrival.input arrival.moment arrival.fresh silent) (h ∷ []) left
 
     -- one arrival came
-    pub has_run_one : HasRun holds leaves old new site h (arrival ∷ []) (a ∷ [])
+    pub has_run_one : HasRun g old new site h (arrival ∷ []) (a ∷ [])
     has_run_one = by (it.step h held sound)
       where
-        by : IsKept holds leaves old new site arrival.input arrival.moment arrival.fresh h a ⊎ (HasMissed h arrival.input a h × holds new h)
-            → HasRun holds leaves old new site h (arrival ∷ []) (a ∷ [])
+        by : IsKept g old new site arrival.input arrival.moment arrival.fresh h a ⊎ (HasMissed h arrival.input a h × g.holds new h)
+            → HasRun g old new site h (arrival ∷ []) (a ∷ [])
         by (inl kept) = record {
           ran = record { end = kept.next; run = (kept.next, inl kept.come, refl); held = kept.held; sound = kept.sound };
           settled = λ left all. kept.settled left;

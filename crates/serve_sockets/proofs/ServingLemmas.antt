@@ -1,42 +1,30 @@
 -- What follows once a request is decided.
-use Rattle.std.proofs.Common.{◌≡◌, ◌⊎◌, ℕ, List, ◌∷◌, ◌++◌, Option, Result, Some, None, [], inl, inr, sym, ◌∙◌, ap, subst, append_assoc, append-nil}
-use Rattle.std.specs.Prelude.{IfSome}
-use Rattle.std.specs.Io.KnownBytes.{Consumes, IsAtEnd}
+use Rattle.std.{proofs.Common.{◌≡◌, ◌⊎◌, ℕ, List, ◌∷◌, ◌++◌, Option, Result, Some, None, [], inl, inr, sym, ◌∙◌, ap, subst, append_assoc, append-nil}, specs.{Prelude.IfSome, Io.KnownBytes.{Consumes, IsAtEnd}}}
 use Rattle.pxe_vendor.specs.Place.{Site}
 use Rattle.hall_types.specs.Hall.{Hall}
-use Rattle.desk_views.specs.Look.{IsLook}
-use Rattle.http_requests.specs.Decided.{IsDecided}
-use Rattle.hall_desk.specs.Attempt.{IsAnswered, IsKept, IsOnlyRead, IsTorn}
-use Rattle.hall_desk.specs.AttemptLaws.{answered_on, missed_same}
-use Rattle.hall_desk.specs.Octets.{octets_of}
-use Rattle.hall_desk.specs.declared.arrival.Answer.{Answer}
-use Rattle.hall_desk.specs.declared.arrival.Answer.TheVariants.{Unavailable}
-use Rattle.hall_desk.specs.declared.arrival.Input.{Input}
-use Rattle.hall_desk.specs.declared.arrival.Input.TheVariants.{Request}
-use Rattle.serve_sockets.specs.Connection.{Moves}
-use Rattle.serve_sockets.specs.Serving.{IfRequest, IsRequest, IsWaiting}
-use Rattle.serve_sockets.specs.Turn.{Tells}
-use Rattle.serve_sockets.specs.declared.serving.Step.{Step}
-use Rattle.serve_sockets.specs.declared.serving.Step.TheVariants as step
-use Rattle.serve_sockets.specs.declared.turn.Handover.{Handover}
+use Rattle.desk_command.specs.Look.{IsLook}
+use Rattle.hall_http.specs.Decided.{IsDecided}
+use Rattle.hall_desk.specs.{Attempt.{IsAnswered, IsKept, IsOnlyRead, IsTorn}, AttemptLaws.{answered_on, missed_same}, Octets.octets_of, declared.arrival.{Answer.{Answer, TheVariants.Unavailable}, Input.{Input, TheVariants.Request}}}
+use Rattle.serve_sockets.specs.{Connection.Moves, Serving.{IfRequest, IsRequest, IsWaiting}, Turn.Tells, declared.{serving.Step.Step, turn.Handover.Handover}}
+use Rattle.hall_store.specs.declared.store.HallStore.{Ghosts}
 
-module _ {S : Type 0} (holds : S → Hall → Type 0) (leaves : S → List Hall → Type 0) (old new : S) (site : Site) (moment : ℕ) (fresh : List ℕ) where
+module _ {S : Type 0} (g : Ghosts S) (old new : S) (site : Site) (moment : ℕ) (fresh : List ℕ) where
   -- an answer to what was read is one to all that was to be read
   answered_whole : (read octets all : List ℕ) (rest after : Option (List ℕ)) (a : Answer) → Consumes rest after octets → all ≡ read ++ octets
-      → (IsAtEnd after ⊎ IsDecided all) → IsAnswered holds leaves old new site (Request all) moment fresh a
-      → IfSome rest (λ more. IsAnswered holds leaves old new site (Request (read ++ more)) moment fresh a)
+      → (IsAtEnd after ⊎ IsDecided all) → IsAnswered g old new site (Request all) moment fresh a
+      → IfSome rest (λ more. IsAnswered g old new site (Request (read ++ more)) moment fresh a)
   answered_whole read octets all None after a f k g it = tt
   answered_whole read octets all (Some more) None a f k g it = absurd f
   answered_whole read octets all (Some more) (Some left) a f k (inl e) it =
       let same : all ≡ read ++ more = k ∙ ap (λ t. read ++ t) (sym (f ∙ ap (λ t. octets ++ t) e ∙ append-nil octets)) in
-      subst (λ (o : List ℕ). IsAnswered holds leaves old new site (Request o) moment fresh a) same it
+      subst (λ (o : List ℕ). IsAnswered g old new site (Request o) moment fresh a) same it
   answered_whole read octets all (Some more) (Some left) a f k (inr d) it =
       let same : all ++ left ≡ read ++ more = ap (λ t. t ++ left) k ∙ append_assoc read octets left ∙ ap (λ t. read ++ t) (sym f) in
-      subst (λ (o : List ℕ). IsAnswered holds leaves old new site (Request o) moment fresh a) same (answered_on holds leaves old new site moment fresh all left d a it)
+      subst (λ (o : List ℕ). IsAnswered g old new site (Request o) moment fresh a) same (answered_on g old new site moment fresh all left d a it)
 
   -- the answer that waits for a decided request is that to all that the client sends
   whole_request : (read all left : List ℕ) (rest after : Option (List ℕ)) (handover : Handover) → Moves rest after read all → (IsAtEnd after ⊎ IsDecided all)
-      → IsWaiting holds leaves old new site moment fresh all left handover → IsRequest holds leaves old new site moment fresh read rest left handover
+      → IsWaiting g old new site moment fresh all left handover → IsRequest g old new site moment fresh read rest left handover
   whole_request read all left rest after handover moves ends it = record {
     octets = all;
     said = it.said;
@@ -48,26 +36,22 @@ module _ {S : Type 0} (holds : S → Hall → Type 0) (leaves : S → List Hall 
 
   -- likewise of a step
   pub whole_step : (s : Step) (read all left : List ℕ) (rest after : Option (List ℕ)) → Moves rest after read all → (IsAtEnd after ⊎ IsDecided all)
-      → IfRequest s (IsWaiting holds leaves old new site moment fresh all left) → IfRequest s (IsRequest holds leaves old new site moment fresh read rest left)
-  whole_step (step.Handed handover) read all left rest after moves ends it = whole_request read all left rest after handover moves ends it
-  whole_step step.Waits read all left rest after moves ends it = tt
-  whole_step step.Moved read all left rest after moves ends it = tt
-  whole_step step.PutOff read all left rest after moves ends it = tt
-  whole_step step.Done read all left rest after moves ends it = tt
-  whole_step step.Failed read all left rest after moves ends it = tt
+      → IfRequest s (IsWaiting g old new site moment fresh all left) → IfRequest s (IsRequest g old new site moment fresh read rest left)
+  whole_step (Step.Handed handover) read all left rest after moves ends it = whole_request read all left rest after handover moves ends it
+  whole_step s read all left rest after moves ends it = tt
 
 -- a store stays as it is where nothing is asked
-pub read_same : {S : Type 0} (holds : S → Hall → Type 0) (leaves : S → List Hall → Type 0) (s : S) → IsOnlyRead holds leaves s s
-read_same holds leaves s = record { same = λ h held. held; stop = λ h held hs left. left }
+pub read_same : {S : Type 0} (g : Ghosts S) (s : S) → IsOnlyRead g s s
+read_same g s = record { same = λ h held. held; stop = λ h held hs left. left }
 
 -- what a look leaves of a store
-pub read_by_look : {S Y E : Type 0} (holds : S → Hall → Type 0) (leaves : S → List Hall → Type 0) (old new : S) (r : Result Y E) (Right : Hall → Y → Type 0)
-    → IsLook holds leaves old new r Right → IsOnlyRead holds leaves old new
-read_by_look holds leaves old new r Right it = record { same = it.same; stop = it.crash }
+pub read_by_look : {S Y E : Type 0} (g : Ghosts S) (old new : S) (r : Result Y E) (Right : Hall → Y → Type 0)
+    → IsLook g old new r Right → IsOnlyRead g old new
+read_by_look g old new r Right it = record { same = it.same; stop = it.crash }
 
-module _ {S : Type 0} (holds : S → Hall → Type 0) (leaves : S → List Hall → Type 0) (old mid new : S) (site : Site) (what : Input) (moment : ℕ) (fresh : List ℕ)
-    (only : IsOnlyRead holds leaves old mid) where
-  kept_after : (h : Hall) (a : Answer) → holds old h → IsKept holds leaves mid new site what moment fresh h a → IsKept holds leaves old new site what moment fresh h a
+module _ {S : Type 0} (g : Ghosts S) (old mid new : S) (site : Site) (what : Input) (moment : ℕ) (fresh : List ℕ)
+    (only : IsOnlyRead g old mid) where
+  kept_after : (h : Hall) (a : Answer) → g.holds old h → IsKept g mid new site what moment fresh h a → IsKept g old new site what moment fresh h a
   kept_after h a held it = record {
     next = it.next;
     come = it.come;
@@ -76,11 +60,11 @@ module _ {S : Type 0} (holds : S → Hall → Type 0) (leaves : S → List Hall 
     settled = λ left. it.settled (only.stop h held (h ∷ []) left);
   }
 
-  torn_after : (h : Hall) (hs : List Hall) → IsTorn holds leaves mid new site what moment fresh h hs → IsTorn holds leaves old new site what moment fresh h hs
+  torn_after : (h : Hall) (hs : List Hall) → IsTorn g mid new site what moment fresh h hs → IsTorn g old new site what moment fresh h hs
   torn_after h hs it = record { next = it.next; answer = it.answer; step = it.step; left = it.left }
 
   -- what was answered after the store was read is an answer over the store before
-  pub answered_after : (a : Answer) → IsAnswered holds leaves mid new site what moment fresh a → IsAnswered holds leaves old new site what moment fresh a
+  pub answered_after : (a : Answer) → IsAnswered g mid new site what moment fresh a → IsAnswered g old new site what moment fresh a
   answered_after a it = record {
     step = λ h held sound. elim (it.step h (only.same h held) sound) [ inl kept ↦ inl (kept_after h a held kept) | inr missed ↦ inr missed ];
     idle = λ h held none. it.idle h (only.same h held) none;
@@ -90,32 +74,32 @@ module _ {S : Type 0} (holds : S → Hall → Type 0) (leaves : S → List Hall 
   }
 
 -- a request that waits for its answer after the store was read
-pub waiting_after : {S : Type 0} (holds : S → Hall → Type 0) (leaves : S → List Hall → Type 0) (old mid new : S) (from site : Site) (moment : ℕ) (fresh : List ℕ)
-    (octets left : List ℕ) (handover : Handover) → from ≡ site → IsOnlyRead holds leaves old mid → IsWaiting holds leaves mid new from moment fresh octets left handover
-    → IsWaiting holds leaves old new site moment fresh octets left handover
-waiting_after holds leaves old mid new from site moment fresh octets left handover same only it =
-    let here : IsWaiting holds leaves mid new site moment fresh octets left handover =
-    subst (λ (at : Site). IsWaiting holds leaves mid new at moment fresh octets left handover) same it in
+pub waiting_after : {S : Type 0} (g : Ghosts S) (old mid new : S) (from site : Site) (moment : ℕ) (fresh : List ℕ)
+    (octets left : List ℕ) (handover : Handover) → from ≡ site → IsOnlyRead g old mid → IsWaiting g mid new from moment fresh octets left handover
+    → IsWaiting g old new site moment fresh octets left handover
+waiting_after g old mid new from site moment fresh octets left handover same only it =
+    let here : IsWaiting g mid new site moment fresh octets left handover =
+    subst (λ (at : Site). IsWaiting g mid new at moment fresh octets left handover) same it in
     record {
       said = here.said;
       tells = here.tells;
-      answered = answered_after holds leaves old mid new site (Request octets) moment fresh only here.said here.answered;
+      answered = answered_after g old mid new site (Request octets) moment fresh only here.said here.answered;
       waits = here.waits;
     }
 
 -- a request that is refused for want of memory counts as not having come
-pub refused_request : {S : Type 0} (holds : S → Hall → Type 0) (leaves : S → List Hall → Type 0) → ((s : S) (h : Hall) (hs : List Hall) → leaves s hs → leaves s (h ∷ hs))
+pub refused_request : {S : Type 0} (g : Ghosts S) → ((s : S) (h : Hall) (hs : List Hall) → g.leaves s hs → g.leaves s (h ∷ hs))
     → (s : S) (site : Site) (moment : ℕ) (fresh : List ℕ) (read octets left : List ℕ) (rest : Option (List ℕ)) (handover : Handover)
     → Tells handover (Request octets) Unavailable → left ≡ octets_of Unavailable
-    → IsRequest holds leaves s s site moment fresh read rest left handover
-refused_request holds leaves wider s site moment fresh read octets left rest handover tells waits = record {
+    → IsRequest g s s site moment fresh read rest left handover
+refused_request g wider s site moment fresh read octets left rest handover tells waits = record {
   octets = octets;
   said = Unavailable;
   tells = tells;
-  answered = missed_same holds leaves wider s site moment fresh (Request octets);
-  whole = elim rest as (λ r. IfSome r (λ more. IsAnswered holds leaves s s site (Request (read ++ more)) moment fresh Unavailable)) [
+  answered = missed_same g wider s site moment fresh (Request octets);
+  whole = elim rest as (λ r. IfSome r (λ more. IsAnswered g s s site (Request (read ++ more)) moment fresh Unavailable)) [
     | None ↦ tt
-    | Some more ↦ missed_same holds leaves wider s site moment fresh (Request (read ++ more))
+    | Some more ↦ missed_same g wider s site moment fresh (Request (read ++ more))
   ];
   waits = waits;
 }

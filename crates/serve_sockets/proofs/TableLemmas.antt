@@ -1,11 +1,6 @@
 -- What slots hold, and the numbers of their connections.
-use Rattle.std.proofs.Common.{◌≡◌, ◌<◌, ◌≤◌, ◌+◌, ◌-◌, ◌∙◌, ℕ, Bool, Bor, Fits, w64, true, false, cond, List, Option, Some, None, IfSome, replicate, suc, zero, count_by, is_some, nat_lt, not, ◌&&◌, length, slice_get, slice_index_or, slice_set, ap, arith, refl, subst, sym}
-use Rattle.std.proofs.lemmas.Bool.{ltb-true, ltb-false}
-use Rattle.std.proofs.lemmas.List.Sums.{count_by-le-length, sum_by-set}
-use Rattle.std.proofs.lemmas.Option.{slice_get_past, slice_get_read}
-use Rattle.std.specs.Option.{option_copied, unwrap_or}
-use Rattle.serve_sockets.specs.Table.{is_late_held, is_marked, late_at, number_at, number_in}
-use Rattle.serve_sockets.specs.declared.connection.Connection.{Connection}
+use Rattle.std.{proofs.{Common.{◌≡◌, ◌<◌, ◌≤◌, ◌+◌, ◌-◌, ◌∙◌, ℕ, Bool, Bor, Fits, w64, true, false, cond, List, Option, Some, None, IfSome, replicate, suc, zero, count_by, is_some, nat_lt, not, ◌&&◌, length, slice_get, slice_index_or, slice_set, ap, arith, refl, subst, sym}, lemmas.{Bool.{ltb-true, ltb-false}, List.Sums.{count_by-le-length, sum_by-set}, Option.{slice_get_past, slice_get_read}}}, specs.Option.{option_copied, unwrap_or}}
+use Rattle.serve_sockets.specs.{Table.{is_late_held, is_marked, late_at, number_at, number_in}, declared.connection.Connection.Connection}
 
 -- of slots that are free none has a connection
 pub none_open : (A : Type 0) (places : ℕ) → 0 ≡ count_by is_some (replicate {A = Option A} places None)

@@ -1,88 +1,124 @@
--- The turn that a step of a connection leads to.
-use Rattle.std.proofs.Common.{◌≡◌, ◌≢◌, ◌<◌, ◌+◌, ◌%◌, ℕ, Bool, true, false, ◌&&◌, ◌||◌, List, Option, ap, arith, refl, subst, sym}
-use Rattle.pxe_vendor.specs.Place.{Site}
-use Rattle.hall_types.specs.Hall.{Hall}
-use Rattle.hall_desk.specs.declared.arrival.Answer.{Answer}
-use Rattle.hall_desk.specs.declared.arrival.Answer.TheVariants as answer
-use Rattle.hall_desk.specs.declared.arrival.Input.TheVariants.{Request}
-use Rattle.serve_sockets.specs.Serving.{IfRequest, IsOnlyMoved, IsRequest, PutsOff}
-use Rattle.serve_sockets.specs.Turn.{HandsDatagram, HandsNothing, IfHanded, IsHanded, IsOfDatagram, IsPutOff, is_unavailable, said_of}
-use Rattle.serve_sockets.specs.declared.serving.Step.{Step}
-use Rattle.serve_sockets.specs.declared.serving.Step.TheVariants as step
-use Rattle.serve_sockets.specs.declared.turn.Handover.{Handover}
-use Rattle.serve_sockets.specs.declared.turn.Kind.{Kind}
-use Rattle.serve_sockets.specs.declared.turn.Kind.TheVariants as kind
-use Rattle.serve_sockets.specs.declared.turn.Said.{Said}
-use Rattle.serve_sockets.specs.declared.turn.Said.TheVariants as said
-use Rattle.serve_sockets.specs.declared.turn.Turn.{Turn}
-use Rattle.serve_sockets.specs.declared.turn.Turn.TheVariants as turn
+-- What turns do with the desk, and when one is a quiet moment.
+use Rattle.std.proofs.{Common.{◌≡◌, ◌≢◌, ◌<◌, ◌+◌, ◌%◌, ◌∙◌, ℕ, Bool, true, false, ◌&&◌, ◌||◌, List, Option, ap, arith, refl, subst, sym}, lemmas.Bool.false≢true}
+use Rattle.hall_desk.specs.{Desk.{site_of, store_of}, declared.{arrival.{Answer.Answer, Input.TheVariants.Request}, desk.Desk.Desk}}
+use Rattle.serve_sockets.specs.{Service.{IsPaced, is_opening_of, turns_of}, Serving.{IfRequest, IsOnlyMoved, IsRequest, IsStep, PutsOff}, Turn.{HandsDatagram, HandsNothing, IfHanded, IsOfDatagram, IsPutOff, IsTurn, KeepsDesk, is_unavailable, said_of}, declared.{service.Service.Service, serving.Step.Step, turn.{Handover.Handover, Kind.Kind, Said.Said, Stamp.Stamp, Turn.Turn}}}
+use Rattle.hall_store.specs.declared.store.HallStore.{Ghosts}
+
+-- ---- what is done with the desk
 
 -- a turn that hands nothing over has no fact of what it handed
-pub no_handover : (t : Turn) (P : Handover → Type 0) → HandsNothing t → IfHanded t P
-no_handover (turn.Handed handover) P nothing = absurd nothing
-no_handover (turn.Unsent handover) P nothing = absurd nothing
-no_handover (turn.Accepted from instead_of) P nothing = tt
-no_handover (turn.Moved from) P nothing = tt
-no_handover (turn.PutOff from) P nothing = tt
-no_handover (turn.Closed from cause) P nothing = tt
-no_handover turn.Nothing P nothing = tt
-no_handover turn.Failed P nothing = tt
-
--- nor has one that puts a request off
-pub off_no_handover : (t : Turn) (P : Handover → Type 0) → IsPutOff t → IfHanded t P
-off_no_handover (turn.Handed handover) P off = absurd off
-off_no_handover (turn.Unsent handover) P off = absurd off
-off_no_handover (turn.Accepted from instead_of) P off = tt
-off_no_handover (turn.Moved from) P off = tt
-off_no_handover (turn.PutOff from) P off = tt
-off_no_handover (turn.Closed from cause) P off = tt
-off_no_handover turn.Nothing P off = tt
-off_no_handover turn.Failed P off = tt
+no_handover : (t : Turn) (P : Handover → Type 0) → HandsNothing t → IfHanded t P
+no_handover (Turn.Handed handover) P nothing = absurd nothing
+no_handover (Turn.Unsent handover) P nothing = absurd nothing
+no_handover t P nothing = tt
 
 -- a turn that hands nothing over, and asks nothing, puts nothing off
-pub not_off : (t : Turn) → HandsNothing t → IsPutOff t → ⊥
-not_off (turn.Handed handover) nothing off = off
-not_off (turn.Unsent handover) nothing off = off
-not_off (turn.Accepted from instead_of) nothing off = off
-not_off (turn.Moved from) nothing off = off
-not_off (turn.PutOff from) nothing off = nothing
-not_off (turn.Closed from cause) nothing off = off
-not_off turn.Nothing nothing off = off
-not_off turn.Failed nothing off = off
+not_off : (t : Turn) → HandsNothing t → IsPutOff t → ⊥
+not_off (Turn.PutOff from) nothing off = nothing
+not_off t nothing off = off
+
+-- nor does it hand a datagram over
+not_frame : (t : Turn) → HandsNothing t → HandsDatagram t → ⊥
+not_frame (Turn.Handed handover) nothing frame = nothing
+not_frame (Turn.Unsent handover) nothing frame = nothing
+not_frame t nothing frame = frame
 
 -- a request is no datagram
-pub of_request : (k : Kind) → k ≡ kind.Request → IsOfDatagram k → ⊥
+of_request : (k : Kind) → k ≡ Kind.Request → IsOfDatagram k → ⊥
 of_request k same it = subst IsOfDatagram same it
 
 -- nor is a quiet moment
-pub of_quiet : (k : Kind) → k ≡ kind.Quiet → IsOfDatagram k → ⊥
+pub of_quiet : (k : Kind) → k ≡ Kind.Quiet → IsOfDatagram k → ⊥
 of_quiet k same it = subst IsOfDatagram same it
 
--- a turn whose handover is of no datagram
-pub no_datagram : (t : Turn) → IfHanded t (λ handover. IsOfDatagram handover.kind → ⊥) → HandsDatagram t → ⊥
-no_datagram (turn.Handed handover) none it = none it
-no_datagram (turn.Unsent handover) none it = none it
-no_datagram (turn.Accepted from instead_of) none it = it
-no_datagram (turn.Moved from) none it = it
-no_datagram (turn.PutOff from) none it = it
-no_datagram (turn.Closed from cause) none it = it
-no_datagram turn.Nothing none it = it
-no_datagram turn.Failed none it = it
+-- a step that handed nothing over has no fact of its request
+no_request : (s : Step) (P : Handover → Type 0) → IsOnlyMoved s → IfRequest s P
+no_request (Step.Handed handover) P moved = absurd moved
+no_request s P moved = tt
+
+-- nor does it put one off
+not_put : (s : Step) → IsOnlyMoved s → PutsOff s → ⊥
+not_put Step.PutOff moved off = moved
+not_put s moved off = off
+
+module _ {S : Type 0} (g : Ghosts S) where
+  pub keeps_same : (desk : Desk S) → KeepsDesk g desk desk
+  keeps_same desk = record { clean = λ clean. clean; site = refl; enlists = refl }
+
+  pub keeps_then : (old mid new : Desk S) → KeepsDesk g old mid → KeepsDesk g mid new → KeepsDesk g old new
+  keeps_then old mid new first then = record {
+    clean = λ clean. first.clean (then.clean clean);
+    site = then.site ∙ first.site;
+    enlists = then.enlists ∙ first.enlists;
+  }
+
+  -- a turn that hands nothing over
+  pub nothing_handed : (desk : Desk S) (stamp : Stamp) (t : Turn) → HandsNothing t → IsTurn g desk desk stamp t
+  nothing_handed desk stamp t nothing = record {
+    kept = keeps_same desk;
+    handed = λ clean. no_handover t _ nothing;
+    same = λ it. refl;
+    read = λ clean off. absurd (not_off t nothing off);
+    unlisted = λ off frame. absurd (not_frame t nothing frame);
+  }
+
+  -- a step that hands nothing over
+  pub only_moved : (desk : Desk S) (P : Handover → Type 0) (s : Step) → IsOnlyMoved s → IsStep g desk desk P s
+  only_moved desk P s moved = record {
+    kept = keeps_same desk;
+    request = λ clean. no_request s P moved;
+    same = λ it. refl;
+    read = λ clean off. absurd (not_put s moved off);
+  }
+
+  module _ (old new : Desk S) (stamp : Stamp) (read : List ℕ) (rest : Option (List ℕ)) (left : List ℕ) where
+    abbrev Asks : Handover → Type 0
+    Asks handover = IsRequest g (store_of old) (store_of new) (site_of old) stamp.moment stamp.fresh read rest left handover
+
+    handed_turn : (handover : Handover) → IsStep g old new Asks (Step.Handed handover) → IsTurn g old new stamp (Turn.Handed handover)
+    handed_turn handover it = record {
+      kept = it.kept;
+      handed = λ clean.
+          let asked = it.request clean in
+          record { what = Request asked.octets; said = asked.said; tells = asked.tells; answered = asked.answered };
+      same = λ nothing. absurd nothing;
+      read = λ clean off. absurd off;
+      unlisted = λ off frame clean. absurd (of_request handover.kind (it.request clean).tells.kind frame);
+    }
+
+    off_turn : (t : Turn) → IsPutOff t → IsStep g old new Asks Step.PutOff → IsTurn g old new stamp t
+    off_turn (Turn.PutOff from) off it = record {
+      kept = it.kept;
+      handed = λ clean. tt;
+      same = λ nothing. absurd nothing;
+      read = λ clean off. it.read clean tt;
+      unlisted = λ off frame. absurd frame;
+    }
+    off_turn t off it = absurd off
+
+    -- what the step did is what the turn did
+    pub step_turn : (s : Step) (t : Turn) → IfRequest s (λ handover. t ≡ Turn.Handed handover) → (IsOnlyMoved s → HandsNothing t) → (PutsOff s → IsPutOff t)
+        → IsStep g old new Asks s → IsTurn g old new stamp t
+    step_turn (Step.Handed handover) t same moved off it = subst (λ (made : Turn). IsTurn g old new stamp made) (sym same) (handed_turn handover it)
+    step_turn Step.PutOff t same moved off it = off_turn t (off tt) it
+    step_turn s t same moved off it = subst (λ (desk : Desk S). IsTurn g old desk stamp t) (sym (it.same tt)) (nothing_handed old stamp t (moved tt))
+
+-- ---- when a turn is a quiet moment
 
 -- whether it is said that an arrival counts as not having come
 abbrev is_told : Said → Bool
-is_told said.Silence = false
-is_told said.Unavailable = true
-is_told (said.Frame len) = false
-is_told (said.Response status len) = false
+is_told Said.Silence = false
+is_told Said.Unavailable = true
+is_told (Said.Frame len) = false
+is_told (Said.Response status len) = false
 
 -- an answer of which that is said is Unavailable
-pub told_unavailable : (k : Kind) (a : Answer) → said_of k a ≡ said.Unavailable → is_unavailable a ≡ true
-told_unavailable (kind.Datagram port) (answer.Octets octets) same = ap is_told same
-told_unavailable kind.Request (answer.Octets octets) same = ap is_told same
-told_unavailable kind.Quiet (answer.Octets octets) same = ap is_told same
-told_unavailable k answer.Unavailable same = refl
-told_unavailable k answer.Silence same = ap is_told same
+pub told_unavailable : (k : Kind) (a : Answer) → said_of k a ≡ Said.Unavailable → is_unavailable a ≡ true
+told_unavailable (Kind.Datagram port) (Answer.Octets octets) same = ap is_told same
+told_unavailable Kind.Request (Answer.Octets octets) same = ap is_told same
+told_unavailable Kind.Quiet (Answer.Octets octets) same = ap is_told same
+told_unavailable k Answer.Unavailable same = refl
+told_unavailable k Answer.Silence same = ap is_told same
 
 still_by : (is moved : Bool) → is && (moved || true) ≡ is
 still_by true true = refl
@@ -94,43 +130,33 @@ pub still_opening : (is moved unavailable : Bool) → unavailable ≡ true → i
 still_opening is moved unavailable told = subst (λ (b : Bool). is && (moved || b) ≡ is) (sym told) (still_by is moved)
 
 -- a turn that isn't the eighth one doesn't come after the seventh
-pub not_eighth : (turns : ℕ) → turns ≡ 7 → (turns + 1) % 8 ≢ 0 → ⊥
+not_eighth : (turns : ℕ) → turns ≡ 7 → (turns + 1) % 8 ≢ 0 → ⊥
 not_eighth turns last other = other (ap (λ (n : ℕ). (n + 1) % 8) last)
 
 -- turns are counted up to seven
 pub turns_within : (turns : ℕ) → (turns + 1) % 8 < 8
 turns_within turns = omega arith
 
--- what the step handed over is what the turn did
-pub turn_handed : (s : Step) (t : Turn) (P Q : Handover → Type 0) → ((handover : Handover) → P handover → Q handover)
-    → IfRequest s (λ handover. t ≡ turn.Handed handover) → (IsOnlyMoved s → HandsNothing t) → (PutsOff s → IsPutOff t) → IfRequest s P → IfHanded t Q
-turn_handed (step.Handed handover) t P Q then same moved off it = subst (λ (made : Turn). IfHanded made Q) (sym same) (then handover it)
-turn_handed step.Waits t P Q then same moved off it = no_handover t Q (moved tt)
-turn_handed step.Moved t P Q then same moved off it = no_handover t Q (moved tt)
-turn_handed step.PutOff t P Q then same moved off it = off_no_handover t Q (off tt)
-turn_handed step.Done t P Q then same moved off it = no_handover t Q (moved tt)
-turn_handed step.Failed t P Q then same moved off it = no_handover t Q (moved tt)
+module _ {S : Type 0} (old new : Service S) where
+  -- a turn that is a quiet moment
+  pub quiet_pace : (handover : Handover) → handover.kind ≡ Kind.Quiet → turns_of new ≡ (turns_of old + 1) % 8
+      → (is_opening_of old ≡ false → is_opening_of new ≡ false) → (handover.said ≡ Said.Unavailable → is_opening_of new ≡ is_opening_of old)
+      → IsPaced old new (Turn.Handed handover)
+  quiet_pace handover kind counted opened shut = record {
+    turns = counted;
+    eighth = λ last. kind;
+    opening = λ is. kind;
+    opened = opened;
+    shut = shut;
+  }
 
--- a turn that hands nothing over comes from a step that does not
-pub step_moved : (s : Step) (t : Turn) → IfRequest s (λ handover. t ≡ turn.Handed handover) → (PutsOff s → IsPutOff t) → HandsNothing t → IsOnlyMoved s
-step_moved (step.Handed handover) t same off nothing = subst (λ (made : Turn). HandsNothing made) same nothing
-step_moved step.Waits t same off nothing = tt
-step_moved step.Moved t same off nothing = tt
-step_moved step.PutOff t same off nothing = not_off t nothing (off tt)
-step_moved step.Done t same off nothing = tt
-step_moved step.Failed t same off nothing = tt
-
--- a turn that puts a request off comes from a step that does
-pub step_off : (s : Step) (t : Turn) → IfRequest s (λ handover. t ≡ turn.Handed handover) → (IsOnlyMoved s → HandsNothing t) → IsPutOff t → PutsOff s
-step_off (step.Handed handover) t same moved off = subst (λ (made : Turn). IsPutOff made) same off
-step_off step.Waits t same moved off = not_off t (moved tt) off
-step_off step.Moved t same moved off = not_off t (moved tt) off
-step_off step.PutOff t same moved off = tt
-step_off step.Done t same moved off = not_off t (moved tt) off
-step_off step.Failed t same moved off = not_off t (moved tt) off
-
-module _ {S : Type 0} (holds : S → Hall → Type 0) (leaves : S → List Hall → Type 0) (old new : S) (site : Site) (moment : ℕ) (fresh : List ℕ) where
-  -- a request that a step handed over was handed to the desk
-  pub request_handed : (read : List ℕ) (rest : Option (List ℕ)) (left : List ℕ) (handover : Handover)
-      → IsRequest holds leaves old new site moment fresh read rest left handover → IsHanded holds leaves old new site moment fresh handover
-  request_handed read rest left handover it = record { what = Request it.octets; said = it.said; tells = it.tells; answered = it.answered }
+  -- a turn that need not be one
+  pub other_pace : (t : Turn) → is_opening_of old ≡ false → (turns_of old + 1) % 8 ≢ 0 → turns_of new ≡ (turns_of old + 1) % 8
+      → is_opening_of new ≡ is_opening_of old → IsPaced old new t
+  other_pace t begun other counted same = record {
+    turns = counted;
+    eighth = λ last. absurd (not_eighth (turns_of old) last other);
+    opening = λ is. absurd (false≢true (sym begun ∙ is));
+    opened = λ is. same ∙ is;
+    shut = λ it. same;
+  }

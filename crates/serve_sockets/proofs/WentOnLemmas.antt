@@ -1,17 +1,9 @@
 -- How the hall goes on by turns.
 use Rattle.std.proofs.Common.{◌≡◌, ◌≤◌, ◌+◌, ℕ, List, [], ◌∷◌, ◌++◌, Option, Some, None, arith, inl, inr, length-append, refl, subst, sym}
 use Rattle.pxe_vendor.specs.Place.{Site}
-use Rattle.hall_types.specs.Hall.{Hall}
-use Rattle.hall_desk.specs.Attempt.{IsOnlyRead}
-use Rattle.hall_desk.specs.declared.arrival.Arrival.{Arrival}
-use Rattle.serve_sockets.specs.Stamps.{AreStamped, IsPassed, ended, handed, passed}
-use Rattle.serve_sockets.specs.Turn.{AreServed, HandsNothing, IfHanded, IsHanded, IsPutOff}
-use Rattle.serve_sockets.specs.declared.turn.Handover.{Handover}
-use Rattle.serve_sockets.specs.declared.turn.Stamp.{Stamp}
-use Rattle.serve_sockets.specs.declared.turn.Turn.{Turn}
-use Rattle.serve_sockets.specs.declared.turn.Turn.TheVariants as turn
-use Rattle.serve_sockets.proofs.RunLemmas.{has_run_none, has_run_one, has_run_then}
-use Rattle.serve_sockets.proofs.ServingLemmas.{read_same}
+use Rattle.hall_desk.specs.{Attempt.IsOnlyRead, declared.arrival.Arrival.Arrival}
+use Rattle.serve_sockets.{specs.{Stamps.{AreStamped, IsPassed, ended, handed, passed}, Turn.{AreServed, HandsNothing, IfHanded, IsHanded, IsPutOff}, declared.turn.{Handover.Handover, Stamp.Stamp, Turn.Turn}}, proofs.{RunLemmas.{has_run_none, has_run_one, has_run_then}, ServingLemmas.read_same}}
+use Rattle.hall_store.specs.declared.store.HallStore.{Ghosts}
 
 module _ {C : Type 0} (gives : C → Option Stamp → C → Type 0) where
   stamped_then : {c d e : C} {xs ys : List Arrival} → AreStamped gives c xs d → AreStamped gives d ys e → AreStamped gives c (xs ++ ys) e
@@ -24,20 +16,20 @@ module _ {C : Type 0} (gives : C → Option Stamp → C → Type 0) where
   stamped_from c d e xs (inl same) rest = subst (λ (from : C). AreStamped gives from xs e) same rest
   stamped_from c d e xs (inr gave) rest = passed gave rest
 
-module _ {S C : Type 0} (holds : S → Hall → Type 0) (leaves : S → List Hall → Type 0) (gives : C → Option Stamp → C → Type 0) where
+module _ {S C : Type 0} (g : Ghosts S) (gives : C → Option Stamp → C → Type 0) where
   -- no turn was served
-  pub served_none : (s : S) (c : C) (site : Site) (most : ℕ) → AreServed holds leaves gives s s c c site most
+  pub served_none : (s : S) (c : C) (site : Site) (most : ℕ) → AreServed g gives s s c c site most
   served_none s c site most = record {
     arrivals = [];
     answers = [];
     few = omega arith;
     stamped = ended;
-    run = λ h held sound. has_run_none holds leaves site h s s (read_same holds leaves s) held sound;
+    run = λ h held sound. has_run_none g site h s s (read_same g s) held sound;
   }
 
   -- what took so many turns at most took no more than any larger number of them
-  pub served_within : (old new : S) (source source' : C) (site : Site) (m n : ℕ) → m ≤ n → AreServed holds leaves gives old new source source' site m
-      → AreServed holds leaves gives old new source source' site n
+  pub served_within : (old new : S) (source source' : C) (site : Site) (m n : ℕ) → m ≤ n → AreServed g gives old new source source' site m
+      → AreServed g gives old new source source' site n
   served_within old new source source' site m n within it = record {
     arrivals = it.arrivals;
     answers = it.answers;
@@ -47,10 +39,10 @@ module _ {S C : Type 0} (holds : S → Hall → Type 0) (leaves : S → List Hal
   }
 
   -- some turns, and then some more
-  pub served_then : (old mid new : S) (c d e : C) (from site : Site) (m n : ℕ) → from ≡ site → AreServed holds leaves gives old mid c d site m
-      → AreServed holds leaves gives mid new d e from n → AreServed holds leaves gives old new c e site (m + n)
+  pub served_then : (old mid new : S) (c d e : C) (from site : Site) (m n : ℕ) → from ≡ site → AreServed g gives old mid c d site m
+      → AreServed g gives mid new d e from n → AreServed g gives old new c e site (m + n)
   served_then old mid new c d e from site m n same first then =
-      let more : AreServed holds leaves gives mid new d e site n = subst (λ (at : Site). AreServed holds leaves gives mid new d e at n) same then in
+      let more : AreServed g gives mid new d e site n = subst (λ (at : Site). AreServed g gives mid new d e at n) same then in
       record {
         arrivals = first.arrivals ++ more.arrivals;
         answers = first.answers ++ more.answers;
@@ -58,23 +50,23 @@ module _ {S C : Type 0} (holds : S → Hall → Type 0) (leaves : S → List Hal
         stamped = stamped_then gives first.stamped more.stamped;
         run = λ h held sound.
             let before = first.run h held sound in
-            has_run_then holds leaves site h old mid new first.arrivals more.arrivals first.answers more.answers before
+            has_run_then g site h old mid new first.arrivals more.arrivals first.answers more.answers before
             (more.run before.ran.end before.ran.held before.ran.sound);
       }
 
   -- the source gave no stamp
-  pub served_unstamped : (s : S) (c d e : C) (site : Site) → IsPassed gives c d → gives d None e → AreServed holds leaves gives s s c e site 1
+  pub served_unstamped : (s : S) (c d e : C) (site : Site) → IsPassed gives c d → gives d None e → AreServed g gives s s c e site 1
   served_unstamped s c d e site waited missed = record {
     arrivals = [];
     answers = [];
     few = omega arith;
     stamped = stamped_from gives c d e [] waited (passed missed ended);
-    run = λ h held sound. has_run_none holds leaves site h s s (read_same holds leaves s) held sound;
+    run = λ h held sound. has_run_none g site h s s (read_same g s) held sound;
   }
 
   module _ (old new : S) (c d e : C) (site : Site) (waited : IsPassed gives c d) (stamp : Stamp) (gave : gives d (Some stamp) e) where
     -- one arrival was handed to the desk
-    served_by : (handover : Handover) → IsHanded holds leaves old new site stamp.moment stamp.fresh handover → AreServed holds leaves gives old new c e site 1
+    served_by : (handover : Handover) → IsHanded g old new site stamp.moment stamp.fresh handover → AreServed g gives old new c e site 1
     served_by handover it =
         let arrival : Arrival = record { moment = stamp.moment; fresh = stamp.fresh; input = it.what } in
         record {
@@ -82,30 +74,26 @@ module _ {S C : Type 0} (holds : S → Hall → Type 0) (leaves : S → List Hal
           answers = it.said ∷ [];
           few = omega arith;
           stamped = stamped_from gives c d e (arrival ∷ []) waited (handed gave refl refl ended);
-          run = λ h held sound. has_run_one holds leaves site h old new arrival it.said it.answered held sound;
+          run = λ h held sound. has_run_one g site h old new arrival it.said it.answered held sound;
         }
 
     -- nothing came, and the store was only read
-    served_reading : IsOnlyRead holds leaves old new → AreServed holds leaves gives old new c e site 1
+    served_reading : IsOnlyRead g old new → AreServed g gives old new c e site 1
     served_reading only = record {
       arrivals = [];
       answers = [];
       few = omega arith;
       stamped = stamped_from gives c d e [] waited (passed gave ended);
-      run = λ h held sound. has_run_none holds leaves site h old new only held sound;
+      run = λ h held sound. has_run_none g site h old new only held sound;
     }
 
-    served_still : new ≡ old → AreServed holds leaves gives old new c e site 1
-    served_still same = served_reading (subst (λ (s : S). IsOnlyRead holds leaves old s) (sym same) (read_same holds leaves old))
+    served_still : new ≡ old → AreServed g gives old new c e site 1
+    served_still same = served_reading (subst (λ (s : S). IsOnlyRead g old s) (sym same) (read_same g old))
 
     -- one turn
-    pub served_one : (t : Turn) → IfHanded t (IsHanded holds leaves old new site stamp.moment stamp.fresh) → (HandsNothing t → new ≡ old)
-        → (IsPutOff t → IsOnlyRead holds leaves old new) → AreServed holds leaves gives old new c e site 1
-    served_one (turn.Handed handover) it same read = served_by handover it
-    served_one (turn.Unsent handover) it same read = served_by handover it
-    served_one (turn.Accepted from instead_of) it same read = served_still (same tt)
-    served_one (turn.Moved from) it same read = served_still (same tt)
-    served_one (turn.PutOff from) it same read = served_reading (read tt)
-    served_one (turn.Closed from cause) it same read = served_still (same tt)
-    served_one turn.Nothing it same read = served_still (same tt)
-    served_one turn.Failed it same read = served_still (same tt)
+    pub served_one : (t : Turn) → IfHanded t (IsHanded g old new site stamp.moment stamp.fresh) → (HandsNothing t → new ≡ old)
+        → (IsPutOff t → IsOnlyRead g old new) → AreServed g gives old new c e site 1
+    served_one (Turn.Handed handover) it same read = served_by handover it
+    served_one (Turn.Unsent handover) it same read = served_by handover it
+    served_one (Turn.PutOff from) it same read = served_reading (read tt)
+    served_one t it same read = served_still (same tt)

@@ -1,11 +1,6 @@
 -- Which connection goes, and how many undecided ones each group has.
-use Rattle.std.proofs.Common.{◌≡◌, ◌≢◌, ◌<◌, ◌≤◌, ◌+◌, ◌==◌, ◌∙◌, ℕ, Fits, w16, Bool, true, false, List, Option, Some, None, IfSome, MatchOption, cond, length, nat_lt, slice_index, slice_index_or, slice_set, take, ap, arith, refl, subst, sym}
-use Rattle.std.proofs.lemmas.Bool.{eqb-false, eqb-true, ltb-true, ltb-false}
-use Rattle.std.proofs.lemmas.List.{take_all, length-take, get_or-set_other, get_or-set_same}
-use Rattle.std.proofs.lemmas.List.Sums.{count_by-le-length, sum_by_more}
-use Rattle.serve_sockets.specs.Table.{number_at}
-use Rattle.serve_sockets.specs.Yielding.{IsAhead, IsTally, crowd_at, crowd_by, crowd_of, group_in, is_group}
-use Rattle.serve_sockets.specs.declared.connection.Connection.{Connection}
+use Rattle.std.proofs.{Common.{◌≡◌, ◌≢◌, ◌<◌, ◌≤◌, ◌+◌, ◌==◌, ◌∙◌, ℕ, Fits, w16, Bool, true, false, List, Option, Some, None, IfSome, MatchOption, cond, length, nat_lt, slice_index, slice_index_or, slice_set, take, ap, arith, refl, subst, sym}, lemmas.{Bool.{eqb-false, eqb-true, ltb-true, ltb-false}, List.{take_all, length-take, get_or-set_other, get_or-set_same, Sums.{count_by-le-length, sum_by_more}}}}
+use Rattle.serve_sockets.specs.{Table.number_at, Yielding.{IsAhead, IsTally, crowd_at, crowd_by, crowd_of, group_in, is_group}, declared.connection.Connection.Connection}
 
 -- a smaller number is no greater
 pub less_than : (a b : ℕ) → nat_lt a b ≡ true → a ≤ b

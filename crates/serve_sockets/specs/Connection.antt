@@ -1,13 +1,8 @@
 -- What a connection sent, and what of its answer it has taken.
-use Rattle.std.specs.Prelude.{◌≡◌, ◌⊎◌, ℕ, ◌-◌, List, [], ◌++◌, Bool, false, Option, None, Some, drop, is_some, nat_lt, not, ◌&&◌, if◌then◌else◌}
-use Rattle.std.specs.Io.KnownBytes.{Consumes, IsAtEnd, Keeps}
-use Rattle.http_requests.specs.Decided.{IsDecided}
+use Rattle.std.specs.{Prelude.{◌≡◌, ◌⊎◌, ℕ, ◌-◌, List, [], ◌++◌, Bool, false, Option, None, Some, drop, is_some, nat_lt, not, ◌&&◌, if◌then◌else◌}, Io.KnownBytes.{Consumes, IsAtEnd, Keeps}}
+use Rattle.hall_http.specs.Decided.{IsDecided}
 use Rattle.hall_desk.specs.Octets.{octets_of}
-use Rattle.serve_sockets.specs.Group.{group_of}
-use Rattle.serve_sockets.specs.declared.connection.Connection.{Connection}
-use Rattle.serve_sockets.specs.declared.connection.Sending.{Sending}
-use Rattle.serve_sockets.specs.declared.connection.Taken.{Taken}
-use Rattle.serve_sockets.specs.declared.connection.Taken.TheVariants as taken
+use Rattle.serve_sockets.specs.{Group.group_of, declared.connection.{Connection.Connection, Put.Put, Sending.Sending, Taken.Taken}}
 
 -- the octets of an answer that are to be written yet
 abbrev pub rest_of : Option Sending → List ℕ
@@ -64,6 +59,13 @@ module _ {T : Type 0} where
   abbrev pub left_of : Connection T → List ℕ
   left_of connection = rest_of connection.sending
 
+  -- no octets are left of the answer, or the client took some and has its time anew, or its time goes on
+  abbrev pub IsPut : ℕ → Put → Connection T → Connection T → Type 0
+  IsPut now Put.Waits old new = since_of new ≡ since_of old
+  IsPut now Put.More old new = since_of new ≡ now
+  IsPut now Put.Done old new = left_of new ≡ []
+  IsPut now Put.Failed old new = Unit {0}
+
 -- octets left the stream, and stand at the end of the input in order
 pub record Moves (old new : Option (List ℕ)) (before after : List ℕ) : Type 0 where
   pub octets : List ℕ
@@ -72,8 +74,8 @@ pub record Moves (old new : Option (List ℕ)) (before after : List ℕ) : Type 
 
 -- what a read made of what the stream has left, and of the input
 abbrev pub IsTaken : Taken → Option (List ℕ) → Option (List ℕ) → List ℕ → List ℕ → Type 0
-IsTaken taken.Waits old new before after = Keeps old new × (after ≡ before)
-IsTaken taken.More old new before after = Moves old new before after
-IsTaken taken.Whole old new before after = Moves old new before after × (IsAtEnd new ⊎ IsDecided after)
-IsTaken taken.NoMemory old new before after = Unit {0}
-IsTaken taken.Failed old new before after = Unit {0}
+IsTaken Taken.Waits old new before after = Keeps old new × (after ≡ before)
+IsTaken Taken.More old new before after = Moves old new before after
+IsTaken Taken.Whole old new before after = Moves old new before after × (IsAtEnd new ⊎ IsDecided after)
+IsTaken Taken.NoMemory old new before after = Unit {0}
+IsTaken Taken.Failed old new before after = Unit {0}

@@ -1,11 +1,5 @@
 -- Groups of addresses, by which connections are counted.
-use Rattle.std.specs.Prelude.{ℕ, ◌+◌, ◌*◌, ◌%◌, Bool, List, [], ◌∷◌, nat_eq, slice_index, if◌then◌else◌}
-use Rattle.std.specs.List.{starts_with}
-use Rattle.std.specs.Net.Addr.{ipv4_octets, ipv6_segments}
-use Rattle.std.specs.Net.Socket.{socket_ip}
-use Rattle.std.specs.declared.net.ip_addr.IpAddr.{IpAddr}
-use Rattle.std.specs.declared.net.ip_addr.IpAddr.TheVariants.{V4, V6}
-use Rattle.std.specs.declared.net.socket_addr.SocketAddr.{SocketAddr}
+use Rattle.std.specs.{Prelude.{ℕ, ◌+◌, ◌*◌, ◌%◌, Bool, List, [], ◌∷◌, nat_eq, slice_index, if◌then◌else◌}, List.starts_with, Net.{Addr.{ipv4_octets, ipv6_segments}, Socket.socket_ip}, declared.net.{ip_addr.IpAddr.{IpAddr, TheVariants.{V4, V6}}, socket_addr.SocketAddr.SocketAddr}}
 
 -- an IPv4-mapped address, `::ffff:a.b.c.d` (RFC 4291 section 2.5.5.2)
 abbrev pub is_ipv4_mapped : List ℕ → Bool

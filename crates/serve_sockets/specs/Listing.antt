@@ -1,13 +1,12 @@
 -- Requests that ask for a list, which takes long and may wait.
 use Rattle.std.specs.Prelude.{◌≡◌, ℕ, List, Option, None, Some, Ok}
 use Rattle.hall_events.specs.declared.event.Event.{Event}
-use Rattle.hall_events.specs.declared.event.Event.TheVariants as event
-use Rattle.http_requests.specs.Request.{IsEvent}
+use Rattle.hall_http.specs.Request.{IsEvent}
 
 -- the digest of the token with which an event asks for all machines or all orders
 abbrev pub list_bearer : Event → Option (List ℕ)
-list_bearer (event.Machines bearer) = bearer
-list_bearer (event.Orders bearer) = bearer
+list_bearer (Event.Machines bearer) = bearer
+list_bearer (Event.Orders bearer) = bearer
 list_bearer other = None
 
 -- the octets ask for all machines or all orders, with a token of this digest

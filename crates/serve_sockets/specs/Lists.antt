@@ -1,16 +1,12 @@
 -- Requests for lists: which one is called next, and which open list goes for one that waits.
 use Rattle.std.specs.Prelude.{◌≡◌, ◌<◌, ◌≤◌, ℕ, List, Bool, true, false, Option, None, Some, length, slice_get}
-use Rattle.serve_sockets.specs.Connection.{is_called, is_put_off, is_slow}
-use Rattle.serve_sockets.specs.Table.{number_at}
-use Rattle.serve_sockets.specs.declared.connection.Connection.{Connection}
-use Rattle.serve_sockets.specs.declared.lists.Wanted.{Wanted}
-use Rattle.serve_sockets.specs.declared.lists.Wanted.TheVariants as wanted
+use Rattle.serve_sockets.specs.{Connection.{is_called, is_put_off, is_slow}, Table.number_at, declared.{connection.Connection.Connection, lists.Wanted.Wanted}}
 
 module _ {T : Type 0} where
   -- whether a connection is wanted: its request is put off, or its list was called longer than a minute ago
   abbrev pub wants : Wanted → Connection T → Bool
-  wants wanted.PutOff connection = is_put_off connection
-  wants (wanted.Slow now) connection = is_slow now connection
+  wants Wanted.PutOff connection = is_put_off connection
+  wants (Wanted.Slow now) connection = is_slow now connection
 
   -- whether a slot has such a connection
   abbrev pub wants_in : Wanted → Option (Connection T) → Bool

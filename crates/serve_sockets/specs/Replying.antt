@@ -1,26 +1,21 @@
 -- Which replies are sent.
 use Rattle.std.specs.Prelude.{◌≡◌, ℕ, List, Some}
 use Rattle.pxe_vendor.specs.Place.{Site}
-use Rattle.hall_types.specs.Hall.{Hall}
-use Rattle.hall_desk.specs.Attempt.{GivesAnswer}
-use Rattle.hall_desk.specs.declared.arrival.Answer.{Answer}
-use Rattle.hall_desk.specs.declared.arrival.Answer.TheVariants as answer
-use Rattle.hall_desk.specs.declared.arrival.Input.TheVariants.{Datagram}
-use Rattle.serve_sockets.specs.Turn.{Tells}
-use Rattle.serve_sockets.specs.declared.replying.Way.{Way}
-use Rattle.serve_sockets.specs.declared.turn.Handover.{Handover}
+use Rattle.hall_desk.specs.{Attempt.GivesAnswer, declared.arrival.{Answer.Answer, Input.TheVariants.Datagram}}
+use Rattle.serve_sockets.specs.{Turn.Tells, declared.{replying.Way.Way, turn.Handover.Handover}}
+use Rattle.hall_store.specs.declared.store.HallStore.{Ghosts}
 
 -- the octets of a reply were sent that way, once, and nothing for another answer; `sends` says what one call sends
 abbrev pub IsSent : {P : Type 0} → (P → Way → List ℕ → P → Type 0) → P → Way → Answer → P → Type 0
-IsSent sends sender way (answer.Octets octets) sender' = sends sender way octets sender'
-IsSent sends sender way answer.Unavailable sender' = sender' ≡ sender
-IsSent sends sender way answer.Silence sender' = sender' ≡ sender
+IsSent sends sender way (Answer.Octets octets) sender' = sends sender way octets sender'
+IsSent sends sender way Answer.Unavailable sender' = sender' ≡ sender
+IsSent sends sender way Answer.Silence sender' = sender' ≡ sender
 
 -- a datagram was handed to the desk, and its own answer was sent the way that it came
-pub record IsReplied {S P : Type 0} (clean : S → Type 0) (holds : S → Hall → Type 0) (leaves : S → List Hall → Type 0) (sends : P → Way → List ℕ → P → Type 0)
+pub record IsReplied {S P : Type 0} (g : Ghosts S) (sends : P → Way → List ℕ → P → Type 0)
     (old new : S) (sender sender' : P) (site : Site) (moment : ℕ) (fresh : List ℕ) (way : Way) (octets : List ℕ) (handover : Handover) : Type 0 where
   pub said : Answer
   pub tells : Tells handover (Datagram way.port octets) said
   pub from : handover.from ≡ Some way.client
-  pub answered : GivesAnswer clean holds leaves old new site (Datagram way.port octets) moment fresh said
+  pub answered : GivesAnswer g old new site (Datagram way.port octets) moment fresh said
   pub sent : IsSent sends sender way said sender'

@@ -1,9 +1,7 @@
 -- Whose turn it is, up and round.
 use Rattle.std.specs.Prelude.{◌≡◌, ◌<◌, ◌≤◌, ◌+◌, ℕ, List, Bool, true, false, Some, length, slice_get, slice_set, nat_lt, if◌then◌else◌}
 use Rattle.hall_types.specs.declared.port.Port.TheVariants.{Boot, Discover}
-use Rattle.serve_sockets.specs.declared.ring.Origin.{Origin}
-use Rattle.serve_sockets.specs.declared.ring.Origin.TheVariants.{Connection, Listener, Port}
-use Rattle.serve_sockets.specs.declared.ring.Ring.{Ring}
+use Rattle.serve_sockets.specs.declared.ring.{Origin.{Origin, TheVariants.{Connection, Listener, Port}}, Ring.Ring}
 
 -- the seat of the discover socket, of the boot socket, of the listener, or of a connection
 abbrev pub IsAt : ℕ → Origin → Type 0

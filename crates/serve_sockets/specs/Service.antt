@@ -1,8 +1,7 @@
 -- What a service is made of.
-use Rattle.std.specs.Prelude.{ℕ, Bool}
+use Rattle.std.specs.Prelude.{◌≡◌, ◌+◌, ◌%◌, ℕ, Bool, true, false}
 use Rattle.hall_desk.specs.declared.desk.Desk.{Desk}
-use Rattle.serve_sockets.specs.declared.service.Service.{Service}
-use Rattle.serve_sockets.specs.declared.sockets.Sockets.{Sockets}
+use Rattle.serve_sockets.specs.{Turn.{IsQuiet, IsUnavailable}, declared.{service.Service.Service, sockets.Sockets.Sockets, turn.Turn.Turn}}
 
 module _ {S : Type 0} where
   -- the desk to which what comes is handed
@@ -20,3 +19,12 @@ module _ {S : Type 0} where
   -- whether its turns are quiet moments, since none has left each machine as it was
   abbrev pub is_opening_of : Service S → Bool
   is_opening_of service = service.is_opening
+
+  -- A turn is counted. It is a quiet moment if it is an eighth one, and until one has left each machine as it was; one that is Unavailable
+  -- ends that for none.
+  pub record IsPaced (old new : Service S) (turn : Turn) : Type 0 where
+    pub turns : turns_of new ≡ (turns_of old + 1) % 8
+    pub eighth : turns_of old ≡ 7 → IsQuiet turn
+    pub opening : is_opening_of old ≡ true → IsQuiet turn
+    pub opened : is_opening_of old ≡ false → is_opening_of new ≡ false
+    pub shut : IsUnavailable turn → is_opening_of new ≡ is_opening_of old

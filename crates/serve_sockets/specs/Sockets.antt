@@ -1,7 +1,6 @@
 -- What sockets are made of.
 use Rattle.std.specs.Prelude.{ℕ, length}
-use Rattle.serve_sockets.specs.Table.{slots_of}
-use Rattle.serve_sockets.specs.declared.sockets.Sockets.{Sockets}
+use Rattle.serve_sockets.specs.{Table.slots_of, declared.sockets.Sockets.Sockets}
 
 -- how many places there are for connections
 abbrev pub places_of : Sockets → ℕ

@@ -1,8 +1,6 @@
 -- The open connections, each in a slot.
 use Rattle.std.specs.Prelude.{◌≡◌, ◌<◌, ◌≤◌, ◌-◌, ℕ, List, Bool, true, false, not, ◌&&◌, Option, None, Some, length, nat_le, slice_get, unwrap_or}
-use Rattle.serve_sockets.specs.Connection.{is_put_off, number_of, since_of}
-use Rattle.serve_sockets.specs.declared.connection.Connection.{Connection}
-use Rattle.serve_sockets.specs.declared.table.Table.{Table}
+use Rattle.serve_sockets.specs.{Connection.{is_put_off, number_of, since_of}, declared.{connection.Connection.Connection, table.Table.Table}}
 
 -- whether the seat of a slot is marked
 abbrev pub is_marked : List Bool → ℕ → Bool

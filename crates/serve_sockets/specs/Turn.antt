@@ -3,38 +3,23 @@ use Rattle.std.specs.Prelude.{◌≡◌, ◌≤◌, ◌+◌, ◌-◌, ◌*◌, �
 use Rattle.pxe_vendor.specs.Place.{Site}
 use Rattle.hall_types.specs.Hall.{Hall}
 use Rattle.boot_desk.specs.Sound.{IsSound}
-use Rattle.hall_desk.specs.Attempt.{IsAnswered}
-use Rattle.hall_desk.specs.Headline.{HasHistory}
-use Rattle.hall_desk.specs.History.{Item, Origin, exchanges}
-use Rattle.hall_desk.specs.Stops.{AndCutRun, AreGiven, HasRun, IsLeft, IsSettled}
-use Rattle.hall_desk.specs.declared.arrival.Answer.{Answer}
-use Rattle.hall_desk.specs.declared.arrival.Answer.TheVariants as answer
-use Rattle.hall_desk.specs.declared.arrival.Arrival.{Arrival}
-use Rattle.hall_desk.specs.declared.arrival.Input.{Input}
-use Rattle.hall_desk.specs.declared.arrival.Input.TheVariants as input
-use Rattle.serve_sockets.specs.Stamps.{AreStamped}
-use Rattle.serve_sockets.specs.declared.turn.Handover.{Handover}
-use Rattle.serve_sockets.specs.declared.turn.Kind.{Kind}
-use Rattle.serve_sockets.specs.declared.turn.Kind.TheVariants as kind
-use Rattle.serve_sockets.specs.declared.turn.Said.{Said}
-use Rattle.serve_sockets.specs.declared.turn.Said.TheVariants as said
-use Rattle.serve_sockets.specs.declared.turn.Stamp.{Stamp}
-use Rattle.serve_sockets.specs.declared.turn.Turn.{Turn}
-use Rattle.serve_sockets.specs.declared.turn.Turn.TheVariants as turn
+use Rattle.hall_desk.specs.{Attempt.{IsAnswered, IsOnlyRead}, Desk.{enlists_of, site_of, store_of}, Headline.HasHistory, History.{Item, Origin, exchanges}, Stops.{AndCutRun, AreGiven, HasRun, IsLeft, IsSettled}, declared.{arrival.{Answer.Answer, Arrival.Arrival, Input.Input}, desk.Desk.Desk}}
+use Rattle.serve_sockets.specs.{Stamps.AreStamped, declared.turn.{Handover.Handover, Kind.Kind, Said.Said, Stamp.Stamp, Turn.Turn}}
+use Rattle.hall_store.specs.declared.store.HallStore.{Ghosts}
 
 -- ---- handovers
 
 -- what came
 abbrev pub kind_of : Input → Kind
-kind_of (input.Datagram port octets) = kind.Datagram port
-kind_of (input.Request octets) = kind.Request
-kind_of input.Quiet = kind.Quiet
+kind_of (Input.Datagram port octets) = Kind.Datagram port
+kind_of (Input.Request octets) = Kind.Request
+kind_of Input.Quiet = Kind.Quiet
 
 -- the octets that came
 abbrev pub octets_in : Input → List ℕ
-octets_in (input.Datagram port octets) = octets
-octets_in (input.Request octets) = octets
-octets_in input.Quiet = []
+octets_in (Input.Datagram port octets) = octets
+octets_in (Input.Request octets) = octets
+octets_in Input.Quiet = []
 
 -- the number of a digit's octet
 abbrev pub digit_at : List ℕ → ℕ → ℕ
@@ -46,21 +31,25 @@ status_in octets = 100 * digit_at octets 9 + 10 * digit_at octets 10 + digit_at 
 
 -- what is said of the octets of an answer
 abbrev pub said_in : Kind → List ℕ → Said
-said_in (kind.Datagram port) octets = said.Frame (length octets)
-said_in kind.Request octets = said.Response (status_in octets) (length octets)
-said_in kind.Quiet octets = said.Frame (length octets)
+said_in (Kind.Datagram port) octets = Said.Frame (length octets)
+said_in Kind.Request octets = Said.Response (status_in octets) (length octets)
+said_in Kind.Quiet octets = Said.Frame (length octets)
 
 -- what is said of an answer
 abbrev pub said_of : Kind → Answer → Said
-said_of what (answer.Octets octets) = said_in what octets
-said_of what answer.Unavailable = said.Unavailable
-said_of what answer.Silence = said.Silence
+said_of what (Answer.Octets octets) = said_in what octets
+said_of what Answer.Unavailable = Said.Unavailable
+said_of what Answer.Silence = Said.Silence
 
 -- whether an arrival counts as not having come
 abbrev pub is_unavailable : Answer → Bool
-is_unavailable (answer.Octets octets) = false
-is_unavailable answer.Unavailable = true
-is_unavailable answer.Silence = false
+is_unavailable (Answer.Octets octets) = false
+is_unavailable Answer.Unavailable = true
+is_unavailable Answer.Silence = false
+
+-- what comes at the moment of a stamp, with its fresh octets
+abbrev pub arrival_of : Stamp → Input → Arrival
+arrival_of stamp input = record { moment = stamp.moment; fresh = stamp.fresh; input = input }
 
 -- a log is told of an arrival and of its answer
 pub record Tells (handover : Handover) (what : Input) (a : Answer) : Type 0 where
@@ -72,103 +61,86 @@ pub record Tells (handover : Handover) (what : Input) (a : Answer) : Type 0 wher
 
 -- the turn handed nothing to the desk, and asked it nothing
 abbrev pub HandsNothing : Turn → Type 0
-HandsNothing (turn.Handed handover) = ⊥
-HandsNothing (turn.Unsent handover) = ⊥
-HandsNothing (turn.Accepted from instead_of) = Unit {0}
-HandsNothing (turn.Moved from) = Unit {0}
-HandsNothing (turn.PutOff from) = ⊥
-HandsNothing (turn.Closed from cause) = Unit {0}
-HandsNothing turn.Nothing = Unit {0}
-HandsNothing turn.Failed = Unit {0}
+HandsNothing (Turn.Handed handover) = ⊥
+HandsNothing (Turn.Unsent handover) = ⊥
+HandsNothing (Turn.PutOff from) = ⊥
+HandsNothing turn = Unit {0}
 
 -- the turn put a request for a list off
 abbrev pub IsPutOff : Turn → Type 0
-IsPutOff (turn.Handed handover) = ⊥
-IsPutOff (turn.Unsent handover) = ⊥
-IsPutOff (turn.Accepted from instead_of) = ⊥
-IsPutOff (turn.Moved from) = ⊥
-IsPutOff (turn.PutOff from) = Unit {0}
-IsPutOff (turn.Closed from cause) = ⊥
-IsPutOff turn.Nothing = ⊥
-IsPutOff turn.Failed = ⊥
+IsPutOff (Turn.PutOff from) = Unit {0}
+IsPutOff turn = ⊥
 
 -- a fact of what the turn handed to the desk, if it did
 abbrev pub IfHanded : Turn → (Handover → Type 0) → Type 0
-IfHanded (turn.Handed handover) P = P handover
-IfHanded (turn.Unsent handover) P = P handover
-IfHanded (turn.Accepted from instead_of) P = Unit {0}
-IfHanded (turn.Moved from) P = Unit {0}
-IfHanded (turn.PutOff from) P = Unit {0}
-IfHanded (turn.Closed from cause) P = Unit {0}
-IfHanded turn.Nothing P = Unit {0}
-IfHanded turn.Failed P = Unit {0}
+IfHanded (Turn.Handed handover) P = P handover
+IfHanded (Turn.Unsent handover) P = P handover
+IfHanded turn P = Unit {0}
 
 -- the turn was a quiet moment
 abbrev pub IsQuiet : Turn → Type 0
-IsQuiet (turn.Handed handover) = handover.kind ≡ kind.Quiet
-IsQuiet (turn.Unsent handover) = ⊥
-IsQuiet (turn.Accepted from instead_of) = ⊥
-IsQuiet (turn.Moved from) = ⊥
-IsQuiet (turn.PutOff from) = ⊥
-IsQuiet (turn.Closed from cause) = ⊥
-IsQuiet turn.Nothing = ⊥
-IsQuiet turn.Failed = ⊥
+IsQuiet (Turn.Handed handover) = handover.kind ≡ Kind.Quiet
+IsQuiet turn = ⊥
 
 -- what the turn handed to the desk counts as not having come
 abbrev pub IsUnavailable : Turn → Type 0
-IsUnavailable (turn.Handed handover) = handover.said ≡ said.Unavailable
-IsUnavailable (turn.Unsent handover) = handover.said ≡ said.Unavailable
-IsUnavailable (turn.Accepted from instead_of) = ⊥
-IsUnavailable (turn.Moved from) = ⊥
-IsUnavailable (turn.PutOff from) = ⊥
-IsUnavailable (turn.Closed from cause) = ⊥
-IsUnavailable turn.Nothing = ⊥
-IsUnavailable turn.Failed = ⊥
+IsUnavailable (Turn.Handed handover) = handover.said ≡ Said.Unavailable
+IsUnavailable (Turn.Unsent handover) = handover.said ≡ Said.Unavailable
+IsUnavailable turn = ⊥
 
 -- what came is a datagram
 abbrev pub IsOfDatagram : Kind → Type 0
-IsOfDatagram (kind.Datagram port) = Unit {0}
-IsOfDatagram kind.Request = ⊥
-IsOfDatagram kind.Quiet = ⊥
+IsOfDatagram (Kind.Datagram port) = Unit {0}
+IsOfDatagram Kind.Request = ⊥
+IsOfDatagram Kind.Quiet = ⊥
 
 -- the turn handed a datagram to the desk
 abbrev pub HandsDatagram : Turn → Type 0
-HandsDatagram (turn.Handed handover) = IsOfDatagram handover.kind
-HandsDatagram (turn.Unsent handover) = IsOfDatagram handover.kind
-HandsDatagram (turn.Accepted from instead_of) = ⊥
-HandsDatagram (turn.Moved from) = ⊥
-HandsDatagram (turn.PutOff from) = ⊥
-HandsDatagram (turn.Closed from cause) = ⊥
-HandsDatagram turn.Nothing = ⊥
-HandsDatagram turn.Failed = ⊥
+HandsDatagram (Turn.Handed handover) = IsOfDatagram handover.kind
+HandsDatagram (Turn.Unsent handover) = IsOfDatagram handover.kind
+HandsDatagram turn = ⊥
 
--- `holds` says which hall a store has, and `leaves` that a stop leaves one of these halls
-module _ {S : Type 0} (holds : S → Hall → Type 0) (leaves : S → List Hall → Type 0) (old new : S) (site : Site) where
+module _ {S : Type 0} (g : Ghosts S) (old new : S) (site : Site) where
   -- an arrival was handed to the desk at a moment, with fresh octets, and answered
   pub record IsHanded (moment : ℕ) (fresh : List ℕ) (handover : Handover) : Type 0 where
     pub what : Input
     pub said : Answer
     pub tells : Tells handover what said
-    pub answered : IsAnswered holds leaves old new site what moment fresh said
+    pub answered : IsAnswered g old new site what moment fresh said
+
+-- A desk serves the same place and enlists as before; and if its store took no wrong answer of a disk for a right one, it took none before.
+pub record KeepsDesk {S : Type 0} (g : Ghosts S) (old new : Desk S) : Type 0 where
+  pub clean : g.is_clean (store_of new) → g.is_clean (store_of old)
+  pub site : site_of new ≡ site_of old
+  pub enlists : enlists_of new ≡ enlists_of old
+
+-- What a turn did with the desk. At most one arrival was handed to it, with a stamp's moment and fresh octets; the hall was only read
+-- where a request was put off, and where the desk enlists none and a datagram came.
+pub record IsTurn {S : Type 0} (g : Ghosts S) (old new : Desk S) (stamp : Stamp) (turn : Turn) : Type 0 where
+  pub kept : KeepsDesk g old new
+  pub handed : g.is_clean (store_of new) → IfHanded turn (IsHanded g (store_of old) (store_of new) (site_of old) stamp.moment stamp.fresh)
+  pub same : HandsNothing turn → new ≡ old
+  pub read : g.is_clean (store_of new) → IsPutOff turn → IsOnlyRead g (store_of old) (store_of new)
+  pub unlisted : enlists_of old ≡ false → HandsDatagram turn → g.is_clean (store_of new) → IsOnlyRead g (store_of old) (store_of new)
 
 -- Turns were served: so many arrivals at most were handed to the desk, one at a time, each with the moment and the fresh octets of a stamp
 -- of its own that the source gave.
-pub record AreServed {S C : Type 0} (holds : S → Hall → Type 0) (leaves : S → List Hall → Type 0) (gives : C → Option Stamp → C → Type 0)
+pub record AreServed {S C : Type 0} (g : Ghosts S) (gives : C → Option Stamp → C → Type 0)
     (old new : S) (source source' : C) (site : Site) (most : ℕ) : Type 0 where
   pub arrivals : List Arrival
   pub answers : List Answer
   pub few : length arrivals ≤ most
   pub stamped : AreStamped gives source arrivals source'
-  pub run : (h : Hall) → holds old h → IsSound h → HasRun holds leaves old new site h arrivals answers
+  pub run : (h : Hall) → g.holds old h → IsSound h → HasRun g old new site h arrivals answers
 
 -- That is what came to the hall since it was new. Of a store that was settled a stop leaves the hall after some of the arrivals, or
 -- after one more whose answer wasn't given; and the hall at their end alone, if each was given its answer.
-pub record WentOn {S C : Type 0} (holds : S → Hall → Type 0) (leaves : S → List Hall → Type 0) (gives : C → Option Stamp → C → Type 0)
+pub record WentOn {S C : Type 0} (g : Ghosts S) (gives : C → Option Stamp → C → Type 0)
     (old new : S) (source source' : C) (site : Site) (most : ℕ) : Type 0 where
-  pub served : AreServed holds leaves gives old new source source' site most
-  pub history : (origin : Origin) (past : List Item) → HasHistory holds old origin past
-      → HasHistory holds new origin (past ++ exchanges site served.arrivals served.answers)
-  pub settled : (origin : Origin) (past : List Item) → (was : IsSettled holds leaves old origin past) → AreGiven site was.history.end served.arrivals served.answers
-      → IsSettled holds leaves new origin (past ++ exchanges site served.arrivals served.answers)
-  pub stop : (origin : Origin) (past : List Item) → IsSettled holds leaves old origin past
-      → IsLeft leaves new origin (AndCutRun past site served.arrivals served.answers)
+  pub served : AreServed g gives old new source source' site most
+  pub history : (origin : Origin) (past : List Item) → HasHistory g old origin past
+      → HasHistory g new origin (past ++ exchanges site served.arrivals served.answers)
+  pub settled : (origin : Origin) (past : List Item) → (was : IsSettled g old origin past) → AreGiven site was.history.end served.arrivals served.answers
+      → IsSettled g new origin (past ++ exchanges site served.arrivals served.answers)
+  pub stop : (origin : Origin) (past : List Item) → IsSettled g old origin past
+      → IsLeft g new origin (AndCutRun past site served.arrivals served.answers)

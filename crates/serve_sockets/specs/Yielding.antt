@@ -1,8 +1,6 @@
 -- Which connection goes for another one where there is no room.
 use Rattle.std.specs.Prelude.{◌≡◌, ◌<◌, ◌≤◌, ℕ, List, Bool, false, ◌==◌, Option, None, Some, count_by, length, slice_get, slice_index}
-use Rattle.serve_sockets.specs.Connection.{undecided_group}
-use Rattle.serve_sockets.specs.Table.{number_at}
-use Rattle.serve_sockets.specs.declared.connection.Connection.{Connection}
+use Rattle.serve_sockets.specs.{Connection.undecided_group, Table.number_at, declared.connection.Connection.Connection}
 
 -- whether a group is this one
 abbrev pub is_group : ℕ → Option ℕ → Bool

@@ -1,6 +1,5 @@
 //! One connection: what it sent, and what of its answer it has taken.
-ghost use Rattle.std.specs.Prelude.{◌≡◌, ◌≤◌, ◌-◌, ◌<◌, [], IfSome, IsTrue, Some, length, nat_le, not, ◌&&◌, vec_len, true, false};
-ghost use Rattle.std.specs.Io.KnownBytes.{Keeps, append_known};
+ghost use Rattle.std.specs.{Prelude.{◌≡◌, ◌≤◌, ◌-◌, ◌<◌, [], IfSome, IsTrue, Some, length, nat_le, not, ◌&&◌, vec_len, true, false}, Io.KnownBytes.{Keeps, append_known}};
 ghost use Rattle.hall_desk.specs.Octets.{octets_of};
 
 use crate::group::group;
@@ -260,14 +259,12 @@ impl<T: Read> Connection<T> {
 }
 
 impl<T: Write> Connection<T> {
-    ghost use Rattle.serve_sockets.specs.Connection.{left_of, number_of, since_of, stream_of};
+    ghost use Rattle.serve_sockets.specs.Connection.{IsPut, left_of, number_of, stream_of};
 
     /// Writes once. What the client takes of the answer prolongs the connection's time.
     pub(crate) fn put(&mut self, now: u64) -> Put
         ensures octets { Keeps (append_known (T.contents (stream_of self.old)) (left_of self.old)) (append_known (T.contents (stream_of self.new)) (left_of self.new)) }
-        ensures done { result ≡ Put.Done → left_of self.new ≡ [] }
-        ensures more { result ≡ Put.More → since_of self.new ≡ now }
-        ensures waits { result ≡ Put.Waits → since_of self.new ≡ since_of self.old }
+        ensures put { IsPut now result self.old self.new }
         ensures number { number_of self.new ≡ number_of self.old }
     {
         let Some(sending) = &mut self.sending else {

@@ -1,6 +1,5 @@
 //! Groups of addresses, by which connections are counted.
-ghost use Rattle.std.specs.Prelude.{◌≡◌, ◌<◌};
-ghost use Rattle.std.specs.Net.Addr.{ipv6_segments};
+ghost use Rattle.std.specs.{Prelude.{◌≡◌, ◌<◌}, Net.Addr.ipv6_segments};
 ghost use Rattle.serve_sockets.specs.Group.{group_of, host_group, ipv6_group};
 
 use std::net::{IpAddr, Ipv6Addr, SocketAddr};

@@ -1,9 +1,7 @@
 //! Handing what came to the desk.
 ghost use Rattle.std.specs.Prelude.{◌≡◌, false};
-ghost use Rattle.hall_desk.specs.Account.{IsDatagram};
-ghost use Rattle.hall_desk.specs.Attempt.{GivesAnswer, IsOnlyRead};
-ghost use Rattle.hall_desk.specs.Desk.{enlists_of, site_of, store_of};
-ghost use Rattle.hall_desk.specs.declared.arrival.Input.TheVariants as input;
+ghost use Rattle.hall_desk.specs.{Answering.Answers, Attempt.{GivesAnswer, IsOnlyRead}, Desk.{enlists_of, site_of, store_of}};
+ghost use Rattle.serve_sockets.specs.Turn.{arrival_of};
 
 use crate::turn::{Stamp, TurnLog};
 use hall_desk::{Answer, Arrival, Desk, Input};
@@ -20,12 +18,7 @@ fn hand_watched<S: HallStore, L: TurnLog>(
     stamp: Stamp,
     input: Input,
 ) -> (Answer, bool)
-    ensures site { site_of desk.new ≡ site_of desk.old }
-    ensures enlists { enlists_of desk.new ≡ enlists_of desk.old }
-    ensures answered { GivesAnswer S.HallStore.is_clean S.HallStore.holds S.HallStore.leaves (store_of desk.old) (store_of desk.new)
-        (site_of desk.old) input stamp.moment stamp.fresh result.0 }
-    ensures unlisted { enlists_of desk.old ≡ false → IsDatagram input → S.HallStore.is_clean (store_of desk.new)
-        → IsOnlyRead S.HallStore.holds S.HallStore.leaves (store_of desk.old) (store_of desk.new) }
+    ensures { Answers S.HallStore desk.old desk.new (arrival_of stamp input) result.0 }
 {
     let arrival = Arrival {
         moment: stamp.moment,
@@ -48,12 +41,7 @@ pub(crate) fn hand<S: HallStore, L: TurnLog>(
     stamp: Stamp,
     input: Input,
 ) -> Answer
-    ensures site { site_of desk.new ≡ site_of desk.old }
-    ensures enlists { enlists_of desk.new ≡ enlists_of desk.old }
-    ensures answered { GivesAnswer S.HallStore.is_clean S.HallStore.holds S.HallStore.leaves (store_of desk.old) (store_of desk.new)
-        (site_of desk.old) input stamp.moment stamp.fresh result }
-    ensures unlisted { enlists_of desk.old ≡ false → IsDatagram input → S.HallStore.is_clean (store_of desk.new)
-        → IsOnlyRead S.HallStore.holds S.HallStore.leaves (store_of desk.old) (store_of desk.new) }
+    ensures { Answers S.HallStore desk.old desk.new (arrival_of stamp input) result }
 {
     let (answer, _) = hand_watched(alloc, desk, log, stamp, input);
     answer
@@ -66,10 +54,7 @@ pub(crate) fn hand_quiet<S: HallStore, L: TurnLog>(
     log: &mut L,
     stamp: Stamp,
 ) -> (Answer, bool)
-    ensures site { site_of desk.new ≡ site_of desk.old }
-    ensures enlists { enlists_of desk.new ≡ enlists_of desk.old }
-    ensures answered { GivesAnswer S.HallStore.is_clean S.HallStore.holds S.HallStore.leaves (store_of desk.old) (store_of desk.new)
-        (site_of desk.old) input.Quiet stamp.moment stamp.fresh result.0 }
+    ensures { Answers S.HallStore desk.old desk.new (arrival_of stamp Input.Quiet) result.0 }
 {
     hand_watched(alloc, desk, log, stamp, Input::Quiet)
 }
@@ -85,10 +70,10 @@ pub(crate) fn hand_datagram<S: HallStore, L: TurnLog>(
 ) -> Answer
     ensures site { site_of desk.new ≡ site_of desk.old }
     ensures enlists { enlists_of desk.new ≡ enlists_of desk.old }
-    ensures answered { GivesAnswer S.HallStore.is_clean S.HallStore.holds S.HallStore.leaves (store_of desk.old) (store_of desk.new)
-        (site_of desk.old) (input.Datagram port octets.now) stamp.moment stamp.fresh result }
+    ensures answered { GivesAnswer S.HallStore (store_of desk.old) (store_of desk.new)
+        (site_of desk.old) (Input.Datagram port octets.now) stamp.moment stamp.fresh result }
     ensures unlisted { enlists_of desk.old ≡ false → S.HallStore.is_clean (store_of desk.new)
-        → IsOnlyRead S.HallStore.holds S.HallStore.leaves (store_of desk.old) (store_of desk.new) }
+        → IsOnlyRead S.HallStore (store_of desk.old) (store_of desk.new) }
 {
     match Vec::from_slice(alloc, octets) {
         Ok(octets) => {

@@ -1,7 +1,6 @@
 //! Requests for lists: which one is called next, and which open list goes for one that waits.
 ghost use Rattle.std.specs.Prelude.{◌≡◌, ◌<◌, ◌≤◌, IfNone, IfSome, None, Some, count_by, false, length, position, true};
-ghost use Rattle.serve_sockets.specs.Table.{number_at};
-ghost use Rattle.serve_sockets.specs.Lists.{IsFirst, is_open, wants_at, wants_in};
+ghost use Rattle.serve_sockets.specs.{Table.number_at, Lists.{IsFirst, is_open, wants_at, wants_in}};
 
 use crate::connection::Connection;
 use crate::number::number_at;

@@ -32,9 +32,9 @@ pub enum BindFault {
 
 impl From<AllocError> for BindFault {
     ghost use Rattle.std.specs.Prelude.{◌≡◌};
-    ghost use Rattle.serve_sockets.specs.declared.ports.BindFault.TheVariants as fault;
+    ghost use Rattle.serve_sockets.specs.declared.ports.BindFault.{BindFault};
 
-    ghost from_gives = { λ refused given. given ≡ fault.Memory };
+    ghost from_gives = { λ refused given. given ≡ BindFault.Memory };
 
     fn from(_: AllocError) -> BindFault {
         BindFault::Memory
@@ -43,9 +43,9 @@ impl From<AllocError> for BindFault {
 
 impl From<io::Error> for BindFault {
     ghost use Rattle.std.specs.Prelude.{◌≡◌};
-    ghost use Rattle.serve_sockets.specs.declared.ports.BindFault.TheVariants as fault;
+    ghost use Rattle.serve_sockets.specs.declared.ports.BindFault.{BindFault};
 
-    ghost from_gives = { λ refused given. given ≡ fault.Bind };
+    ghost from_gives = { λ refused given. given ≡ BindFault.Bind };
 
     fn from(_: io::Error) -> BindFault {
         BindFault::Bind

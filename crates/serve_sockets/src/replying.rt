@@ -1,7 +1,6 @@
 //! Replies to datagrams.
 ghost use Rattle.std.specs.Prelude.{◌≡◌, false};
-ghost use Rattle.hall_desk.specs.Attempt.{IsOnlyRead};
-ghost use Rattle.hall_desk.specs.Desk.{enlists_of, site_of, store_of};
+ghost use Rattle.hall_desk.specs.{Attempt.IsOnlyRead, Desk.{enlists_of, site_of, store_of}};
 ghost use Rattle.serve_sockets.specs.Replying.{IsReplied, IsSent};
 
 use crate::handing::hand_datagram;
@@ -56,10 +55,10 @@ pub(crate) fn reply<S: HallStore, L: TurnLog, P: SendReply>(
 ) -> (Handover, bool)
     ensures site { site_of desk.new ≡ site_of desk.old }
     ensures enlists { enlists_of desk.new ≡ enlists_of desk.old }
-    ensures replied { IsReplied S.HallStore.is_clean S.HallStore.holds S.HallStore.leaves P.SendReply.may_send (store_of desk.old) (store_of desk.new)
+    ensures replied { IsReplied S.HallStore P.SendReply.may_send (store_of desk.old) (store_of desk.new)
         sender.old sender.new (site_of desk.old) stamp.moment stamp.fresh way octets.now result.0 }
     ensures unlisted { enlists_of desk.old ≡ false → S.HallStore.is_clean (store_of desk.new)
-        → IsOnlyRead S.HallStore.holds S.HallStore.leaves (store_of desk.old) (store_of desk.new) }
+        → IsOnlyRead S.HallStore (store_of desk.old) (store_of desk.new) }
 {
     let answer = hand_datagram(alloc, desk, log, stamp, way.port, octets);
     let kind = Kind::Datagram(way.port);

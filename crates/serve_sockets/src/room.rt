@@ -1,7 +1,6 @@
 //! What sockets need of memory, and where it says that something is.
 ghost use Rattle.std.specs.Prelude.{◌≡◌, ◌<◌, ◌≤◌, ◌+◌, length};
-ghost use Rattle.serve_sockets.specs.Ring.{ready_of};
-ghost use Rattle.serve_sockets.specs.Table.{slots_of};
+ghost use Rattle.serve_sockets.specs.{Ring.ready_of, Table.slots_of};
 
 use crate::ring::Ring;
 use crate::table::Table;

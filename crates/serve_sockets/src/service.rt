@@ -39,13 +39,9 @@ fn is_still_opening(is_opening: bool, moved: bool, answer: &Answer) -> bool
 }
 
 impl<S: HallStore> Service<S> {
-    ghost use Rattle.std.specs.Prelude.{◌≡◌, ◌≢◌, ◌<◌, ◌+◌, ◌-◌, ◌%◌, true, false, IfSome, unwrap_or};
-    ghost use Rattle.hall_desk.specs.Attempt.{IsOnlyRead};
-    ghost use Rattle.hall_desk.specs.Desk.{enlists_of, site_of, store_of};
-    ghost use Rattle.serve_sockets.specs.Service.{desk_of, is_opening_of, sockets_of, turns_of};
-    ghost use Rattle.serve_sockets.specs.Sockets.{places_of};
-    ghost use Rattle.serve_sockets.specs.Stamps.{IsPassed};
-    ghost use Rattle.serve_sockets.specs.Turn.{AreServed, HandsDatagram, HandsNothing, IfHanded, IsHanded, IsPutOff, IsQuiet, IsUnavailable, WentOn};
+    ghost use Rattle.std.specs.Prelude.{◌≡◌, ◌≢◌, ◌<◌, ◌-◌, true, false, IfSome, unwrap_or};
+    ghost use Rattle.hall_desk.specs.Desk.{site_of, store_of};
+    ghost use Rattle.serve_sockets.specs.{Service.{IsPaced, desk_of, is_opening_of, sockets_of, turns_of}, Sockets.places_of, Stamps.IsPassed, Turn.{AreServed, IsTurn, KeepsDesk, WentOn}};
 
     /// The service of a desk. It begins by quiet moments.
     pub fn new(alloc: Global, desk: Desk<S>, sockets: Sockets) -> Service<S>
@@ -103,21 +99,8 @@ impl<S: HallStore> Service<S> {
     /// sent to where the datagram came from; that of a request waits until the client takes it. A datagram leaves the hall of a
     /// desk that enlists none as it is, and what a stop may leave. The log is told of the arrival; the turn isn't noted.
     pub fn turn<L: TurnLog>(&mut self, stamp: Stamp, log: &mut L) -> Turn
-        ensures clean { S.HallStore.is_clean (store_of (desk_of self.new)) → S.HallStore.is_clean (store_of (desk_of self.old)) }
-        ensures site { site_of (desk_of self.new) ≡ site_of (desk_of self.old) }
-        ensures enlists { enlists_of (desk_of self.new) ≡ enlists_of (desk_of self.old) }
-        ensures handed { S.HallStore.is_clean (store_of (desk_of self.new)) → IfHanded result (IsHanded S.HallStore.holds S.HallStore.leaves
-            (store_of (desk_of self.old)) (store_of (desk_of self.new)) (site_of (desk_of self.old)) stamp.moment stamp.fresh) }
-        ensures same { HandsNothing result → desk_of self.new ≡ desk_of self.old }
-        ensures read { S.HallStore.is_clean (store_of (desk_of self.new)) → IsPutOff result → IsOnlyRead S.HallStore.holds S.HallStore.leaves
-            (store_of (desk_of self.old)) (store_of (desk_of self.new)) }
-        ensures unlisted { enlists_of (desk_of self.old) ≡ false → HandsDatagram result → S.HallStore.is_clean (store_of (desk_of self.new))
-            → IsOnlyRead S.HallStore.holds S.HallStore.leaves (store_of (desk_of self.old)) (store_of (desk_of self.new)) }
-        ensures turns { turns_of self.new ≡ (turns_of self.old + 1) % 8 }
-        ensures eighth { turns_of self.old ≡ 7 → IsQuiet result }
-        ensures opening { is_opening_of self.old ≡ true → IsQuiet result }
-        ensures opened { is_opening_of self.old ≡ false → is_opening_of self.new ≡ false }
-        ensures shut { IsUnavailable result → is_opening_of self.new ≡ is_opening_of self.old }
+        ensures desk { IsTurn S.HallStore (desk_of self.old) (desk_of self.new) stamp result }
+        ensures pace { IsPaced self.old self.new result }
     {
         self.sockets.pass(stamp.millis);
         self.turns = (self.turns + 1) % 8;
@@ -145,11 +128,7 @@ impl<S: HallStore> Service<S> {
 
     // Nothing came.
     fn quiet<L: TurnLog>(&mut self, stamp: Stamp, log: &mut L) -> Handover
-        ensures clean { S.HallStore.is_clean (store_of (desk_of self.new)) → S.HallStore.is_clean (store_of (desk_of self.old)) }
-        ensures site { site_of (desk_of self.new) ≡ site_of (desk_of self.old) }
-        ensures enlists { enlists_of (desk_of self.new) ≡ enlists_of (desk_of self.old) }
-        ensures handed { S.HallStore.is_clean (store_of (desk_of self.new)) → IsHanded S.HallStore.holds S.HallStore.leaves
-            (store_of (desk_of self.old)) (store_of (desk_of self.new)) (site_of (desk_of self.old)) stamp.moment stamp.fresh result }
+        ensures desk { IsTurn S.HallStore (desk_of self.old) (desk_of self.new) stamp (Turn.Handed result) }
         ensures kind { result.kind ≡ Kind.Quiet }
         ensures turns { turns_of self.new ≡ turns_of self.old }
         ensures opened { is_opening_of self.old ≡ false → is_opening_of self.new ≡ false }
@@ -164,16 +143,7 @@ impl<S: HallStore> Service<S> {
 
     // Receives a datagram, and sends its answer to where it came from.
     fn datagram<L: TurnLog>(&mut self, port: Port, stamp: Stamp, log: &mut L) -> Turn
-        ensures clean { S.HallStore.is_clean (store_of (desk_of self.new)) → S.HallStore.is_clean (store_of (desk_of self.old)) }
-        ensures site { site_of (desk_of self.new) ≡ site_of (desk_of self.old) }
-        ensures enlists { enlists_of (desk_of self.new) ≡ enlists_of (desk_of self.old) }
-        ensures handed { S.HallStore.is_clean (store_of (desk_of self.new)) → IfHanded result (IsHanded S.HallStore.holds S.HallStore.leaves
-            (store_of (desk_of self.old)) (store_of (desk_of self.new)) (site_of (desk_of self.old)) stamp.moment stamp.fresh) }
-        ensures same { HandsNothing result → desk_of self.new ≡ desk_of self.old }
-        ensures read { S.HallStore.is_clean (store_of (desk_of self.new)) → IsPutOff result → IsOnlyRead S.HallStore.holds S.HallStore.leaves
-            (store_of (desk_of self.old)) (store_of (desk_of self.new)) }
-        ensures unlisted { enlists_of (desk_of self.old) ≡ false → HandsDatagram result → S.HallStore.is_clean (store_of (desk_of self.new))
-            → IsOnlyRead S.HallStore.holds S.HallStore.leaves (store_of (desk_of self.old)) (store_of (desk_of self.new)) }
+        ensures desk { IsTurn S.HallStore (desk_of self.old) (desk_of self.new) stamp result }
         ensures turns { turns_of self.new ≡ turns_of self.old }
         ensures opening { is_opening_of self.new ≡ is_opening_of self.old }
     {
@@ -195,16 +165,7 @@ impl<S: HallStore> Service<S> {
     // Has a connection go on by one step.
     fn connection<L: TurnLog>(&mut self, slot: usize, stamp: Stamp, log: &mut L) -> Turn
         requires { slot < places_of (sockets_of self.old) }
-        ensures clean { S.HallStore.is_clean (store_of (desk_of self.new)) → S.HallStore.is_clean (store_of (desk_of self.old)) }
-        ensures site { site_of (desk_of self.new) ≡ site_of (desk_of self.old) }
-        ensures enlists { enlists_of (desk_of self.new) ≡ enlists_of (desk_of self.old) }
-        ensures handed { S.HallStore.is_clean (store_of (desk_of self.new)) → IfHanded result (IsHanded S.HallStore.holds S.HallStore.leaves
-            (store_of (desk_of self.old)) (store_of (desk_of self.new)) (site_of (desk_of self.old)) stamp.moment stamp.fresh) }
-        ensures same { HandsNothing result → desk_of self.new ≡ desk_of self.old }
-        ensures read { S.HallStore.is_clean (store_of (desk_of self.new)) → IsPutOff result → IsOnlyRead S.HallStore.holds S.HallStore.leaves
-            (store_of (desk_of self.old)) (store_of (desk_of self.new)) }
-        ensures unlisted { enlists_of (desk_of self.old) ≡ false → HandsDatagram result → S.HallStore.is_clean (store_of (desk_of self.new))
-            → IsOnlyRead S.HallStore.holds S.HallStore.leaves (store_of (desk_of self.old)) (store_of (desk_of self.new)) }
+        ensures desk { IsTurn S.HallStore (desk_of self.old) (desk_of self.new) stamp result }
         ensures turns { turns_of self.new ≡ turns_of self.old }
         ensures opening { is_opening_of self.new ≡ is_opening_of self.old }
     {
@@ -241,10 +202,8 @@ impl<S: HallStore> Service<S> {
 
     // Serves one turn with a stamp of the source, if it has one, and says whether it found the store shut.
     fn serve_turn<C: Source, L: TurnLog>(&mut self, source: &mut C, log: &mut L) -> bool
-        ensures clean { S.HallStore.is_clean (store_of (desk_of self.new)) → S.HallStore.is_clean (store_of (desk_of self.old)) }
-        ensures site { site_of (desk_of self.new) ≡ site_of (desk_of self.old) }
-        ensures enlists { enlists_of (desk_of self.new) ≡ enlists_of (desk_of self.old) }
-        ensures served { S.HallStore.is_clean (store_of (desk_of self.new)) → AreServed S.HallStore.holds S.HallStore.leaves C.Source.may_give
+        ensures kept { KeepsDesk S.HallStore (desk_of self.old) (desk_of self.new) }
+        ensures served { S.HallStore.is_clean (store_of (desk_of self.new)) → AreServed S.HallStore C.Source.may_give
             (store_of (desk_of self.old)) (store_of (desk_of self.new)) source.old source.new (site_of (desk_of self.old)) 1 }
     {
         self.wait(source);
@@ -272,10 +231,8 @@ impl<S: HallStore> Service<S> {
         turns: u64,
     ) -> Option<u64>
         ensures left { IfSome result (λ left. left < turns) }
-        ensures clean { S.HallStore.is_clean (store_of (desk_of self.new)) → S.HallStore.is_clean (store_of (desk_of self.old)) }
-        ensures site { site_of (desk_of self.new) ≡ site_of (desk_of self.old) }
-        ensures enlists { enlists_of (desk_of self.new) ≡ enlists_of (desk_of self.old) }
-        ensures went_on { S.HallStore.is_clean (store_of (desk_of self.new)) → WentOn S.HallStore.holds S.HallStore.leaves C.Source.may_give
+        ensures kept { KeepsDesk S.HallStore (desk_of self.old) (desk_of self.new) }
+        ensures went_on { S.HallStore.is_clean (store_of (desk_of self.new)) → WentOn S.HallStore C.Source.may_give
             (store_of (desk_of self.old)) (store_of (desk_of self.new)) source.old source.new (site_of (desk_of self.old)) (turns - unwrap_or result 0) }
     {
         histories_keep_the_laws();

@@ -1,13 +1,7 @@
 //! Serving a connection by steps.
 ghost use Rattle.std.specs.Prelude.{◌≡◌};
-ghost use Rattle.hall_desk.specs.Attempt.{IsOnlyRead};
-ghost use Rattle.hall_desk.specs.Desk.{enlists_of, site_of, store_of};
-ghost use Rattle.hall_desk.specs.Octets.{octets_of};
-ghost use Rattle.hall_desk.specs.declared.arrival.Answer.TheVariants.{Unavailable};
-ghost use Rattle.hall_desk.specs.declared.arrival.Input.TheVariants.{Request};
-ghost use Rattle.serve_sockets.specs.Connection.{input_of, left_of, stream_of};
-ghost use Rattle.serve_sockets.specs.Serving.{IfRequest, IsOnlyMoved, IsRequest, IsWaiting, PutsOff};
-ghost use Rattle.serve_sockets.specs.Turn.{Tells};
+ghost use Rattle.hall_desk.specs.{Attempt.IsOnlyRead, Desk.{site_of, store_of}, Octets.octets_of, declared.arrival.{Answer.TheVariants.Unavailable, Input.TheVariants.Request}};
+ghost use Rattle.serve_sockets.specs.{Connection.{input_of, left_of, stream_of}, Serving.{IsOnlyMoved, IsRequest, IsStep, IsWaiting}, Turn.{KeepsDesk, Tells}};
 
 use crate::connection::{Connection, Put, Taken};
 use crate::handing::hand;
@@ -44,10 +38,8 @@ fn hand_request<T, S: HallStore, L: TurnLog>(
     stamp: Stamp,
     now: u64,
 ) -> Handover
-    ensures clean { S.HallStore.is_clean (store_of desk.new) → S.HallStore.is_clean (store_of desk.old) }
-    ensures site { site_of desk.new ≡ site_of desk.old }
-    ensures enlists { enlists_of desk.new ≡ enlists_of desk.old }
-    ensures waits { S.HallStore.is_clean (store_of desk.new) → IsWaiting S.HallStore.holds S.HallStore.leaves (store_of desk.old) (store_of desk.new) (site_of desk.old)
+    ensures kept { KeepsDesk S.HallStore desk.old desk.new }
+    ensures waits { S.HallStore.is_clean (store_of desk.new) → IsWaiting S.HallStore (store_of desk.old) (store_of desk.new) (site_of desk.old)
         stamp.moment stamp.fresh (input_of connection.old) (left_of connection.new) result }
 {
     let from = connection.from();
@@ -75,9 +67,8 @@ fn refuse<T>(connection: &mut Connection<T>, alloc: Global, now: u64) -> Handove
 
 // Whether an operator who is enabled has a token of this digest. The hall is only read.
 fn is_known<S: HallStore>(desk: &mut Desk<S>, digest: Digest) -> bool
-    ensures site { site_of desk.new ≡ site_of desk.old }
-    ensures enlists { enlists_of desk.new ≡ enlists_of desk.old }
-    ensures read { S.HallStore.is_clean (store_of desk.new) → S.HallStore.is_clean (store_of desk.old) × IsOnlyRead S.HallStore.holds S.HallStore.leaves (store_of desk.old) (store_of desk.new) }
+    ensures kept { KeepsDesk S.HallStore desk.old desk.new }
+    ensures read { S.HallStore.is_clean (store_of desk.new) → IsOnlyRead S.HallStore (store_of desk.old) (store_of desk.new) }
 {
     match desk.sender(Some(digest)) {
         Ok(sender) => sender.is_some(),
@@ -87,9 +78,8 @@ fn is_known<S: HallStore>(desk: &mut Desk<S>, digest: Digest) -> bool
 
 // Whether a request asks for a list, with the token of an operator who is enabled, and hasn't waited yet. The hall is only read.
 fn may_wait<T, S: HallStore>(connection: &Connection<T>, alloc: Global, desk: &mut Desk<S>) -> bool
-    ensures site { site_of desk.new ≡ site_of desk.old }
-    ensures enlists { enlists_of desk.new ≡ enlists_of desk.old }
-    ensures read { S.HallStore.is_clean (store_of desk.new) → S.HallStore.is_clean (store_of desk.old) × IsOnlyRead S.HallStore.holds S.HallStore.leaves (store_of desk.old) (store_of desk.new) }
+    ensures kept { KeepsDesk S.HallStore desk.old desk.new }
+    ensures read { S.HallStore.is_clean (store_of desk.new) → IsOnlyRead S.HallStore (store_of desk.old) (store_of desk.new) }
 {
     if connection.is_called() {
         return false;
@@ -109,13 +99,8 @@ fn decide<T, S: HallStore, L: TurnLog>(
     stamp: Stamp,
     now: u64,
 ) -> Step
-    ensures clean { S.HallStore.is_clean (store_of desk.new) → S.HallStore.is_clean (store_of desk.old) }
-    ensures site { site_of desk.new ≡ site_of desk.old }
-    ensures enlists { enlists_of desk.new ≡ enlists_of desk.old }
-    ensures waits { S.HallStore.is_clean (store_of desk.new) → IfRequest result (IsWaiting S.HallStore.holds S.HallStore.leaves (store_of desk.old) (store_of desk.new) (site_of desk.old)
-        stamp.moment stamp.fresh (input_of connection.old) (left_of connection.new)) }
-    ensures same { IsOnlyMoved result → desk.new ≡ desk.old }
-    ensures read { S.HallStore.is_clean (store_of desk.new) → PutsOff result → IsOnlyRead S.HallStore.holds S.HallStore.leaves (store_of desk.old) (store_of desk.new) }
+    ensures { IsStep S.HallStore desk.old desk.new (IsWaiting S.HallStore (store_of desk.old) (store_of desk.new) (site_of desk.old)
+        stamp.moment stamp.fresh (input_of connection.old) (left_of connection.new)) result }
 {
     if may_wait(connection, alloc, desk) {
         connection.put_off();
@@ -134,13 +119,8 @@ fn take<T: Read, S: HallStore, L: TurnLog>(
     now: u64,
     buffer: &mut [u8],
 ) -> Step
-    ensures clean { S.HallStore.is_clean (store_of desk.new) → S.HallStore.is_clean (store_of desk.old) }
-    ensures site { site_of desk.new ≡ site_of desk.old }
-    ensures enlists { enlists_of desk.new ≡ enlists_of desk.old }
-    ensures request { S.HallStore.is_clean (store_of desk.new) → IfRequest result (IsRequest S.HallStore.holds S.HallStore.leaves (store_of desk.old) (store_of desk.new) (site_of desk.old)
-        stamp.moment stamp.fresh (input_of connection.old) (T.remaining (stream_of connection.old)) (left_of connection.new)) }
-    ensures same { IsOnlyMoved result → desk.new ≡ desk.old }
-    ensures read { S.HallStore.is_clean (store_of desk.new) → PutsOff result → IsOnlyRead S.HallStore.holds S.HallStore.leaves (store_of desk.old) (store_of desk.new) }
+    ensures { IsStep S.HallStore desk.old desk.new (IsRequest S.HallStore (store_of desk.old) (store_of desk.new) (site_of desk.old)
+        stamp.moment stamp.fresh (input_of connection.old) (T.remaining (stream_of connection.old)) (left_of connection.new)) result }
 {
     match connection.take(alloc, buffer) {
         Taken::Waits => Step::Waits,
@@ -174,13 +154,8 @@ pub(crate) fn advance<T: Read + Write, S: HallStore, L: TurnLog>(
     now: u64,
     buffer: &mut [u8],
 ) -> Step
-    ensures clean { S.HallStore.is_clean (store_of desk.new) → S.HallStore.is_clean (store_of desk.old) }
-    ensures site { site_of desk.new ≡ site_of desk.old }
-    ensures enlists { enlists_of desk.new ≡ enlists_of desk.old }
-    ensures request { S.HallStore.is_clean (store_of desk.new) → IfRequest result (IsRequest S.HallStore.holds S.HallStore.leaves (store_of desk.old) (store_of desk.new) (site_of desk.old)
-        stamp.moment stamp.fresh (input_of connection.old) (T.remaining (stream_of connection.old)) (left_of connection.new)) }
-    ensures same { IsOnlyMoved result → desk.new ≡ desk.old }
-    ensures read { S.HallStore.is_clean (store_of desk.new) → PutsOff result → IsOnlyRead S.HallStore.holds S.HallStore.leaves (store_of desk.old) (store_of desk.new) }
+    ensures { IsStep S.HallStore desk.old desk.new (IsRequest S.HallStore (store_of desk.old) (store_of desk.new) (site_of desk.old)
+        stamp.moment stamp.fresh (input_of connection.old) (T.remaining (stream_of connection.old)) (left_of connection.new)) result }
 {
     if connection.is_answered() {
         put(connection, now)

@@ -1,11 +1,6 @@
 //! The sockets of a service, and its open connections.
 ghost use Rattle.std.specs.Prelude.{◌≡◌, ◌<◌, ◌≤◌, ◌+◌, IfErr, IfOk, IfSome, length, vec_len};
-ghost use Rattle.serve_sockets.specs.Ring.{IsPlace, ready_of};
-ghost use Rattle.serve_sockets.specs.ServedTime.{served_of};
-ghost use Rattle.serve_sockets.specs.Serving.{IfRequest, IsOnlyMoved, PutsOff};
-ghost use Rattle.serve_sockets.specs.Stamps.{IsPassed};
-ghost use Rattle.serve_sockets.specs.Table.{slots_of};
-ghost use Rattle.serve_sockets.specs.Turn.{HandsNothing, IsPutOff};
+ghost use Rattle.serve_sockets.specs.{Ring.{IsPlace, ready_of}, ServedTime.served_of, Serving.{IfRequest, IsOnlyMoved, PutsOff}, Stamps.IsPassed, Table.slots_of, Turn.{HandsNothing, IsPutOff}};
 
 use crate::connection::Connection;
 use crate::lists::Wanted;

@@ -26,9 +26,7 @@ pub(crate) struct Table<T> {
 
 impl<T: Drop> Table<T> {
     ghost use Rattle.std.specs.Prelude.{IfNone, IfOk, IfSome, MatchOption, None, Some, ◌==◌, is_none, length, nat_le, position, replicate, slice_get, slice_set};
-    ghost use Rattle.serve_sockets.specs.Table.{IsNextLate, NoneLate, late_at, slots_of};
-    ghost use Rattle.serve_sockets.specs.Lists.{IsFirst, is_open, wants_in};
-    ghost use Rattle.serve_sockets.specs.Yielding.{Goes};
+    ghost use Rattle.serve_sockets.specs.{Table.{IsNextLate, NoneLate, late_at, slots_of}, Lists.{IsFirst, is_open, wants_in}, Yielding.Goes};
 
     /// So many slots, all of which are free.
     pub(crate) fn new(alloc: Global, places: usize) -> Result<Table<T>, AllocError>

@@ -3,6 +3,8 @@
 
 mod fault;
 mod file;
+mod joining;
 
 pub use fault::FileFault;
 pub use file::{Ended, StoreTask, create, migrate, over};
+pub use joining::{Unjoined, one_file};

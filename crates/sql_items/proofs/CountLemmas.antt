@@ -1,16 +1,10 @@
 -- Counts as rows by pool and status, and what the statements on them answer and write.
-use Rattle.sql_schema.specs.Words.{finds_kept, lists_kept, adds_kept, changes_kept, removes_kept, number_order, equal_numbers, count_key, of_counts, in_rows, SpellHall, Spells, is_in, next_rowid, AllByRecursion, option_to_list, bytes_eq, Row, column, map-map, filter-map, filter_same, filter_all, all_of, all_weaker, all_unmap, map_back, Hall, StandUnder, AllByRecursion-listed, key-same, at-put, at-gone, Rows, at, listed, same_key, how_many, CountRow, count_columns, number, and_true, AreRising, AreRising-listed, listed_with_key, same_pair, Entry, item_of, rowid_of, Counts, HallRows, nat_tests, Error, Null, Text, Int, lit, binary, is_true, Binary, Compare, Eq, State, Shown, HasCleanDisk, Survives, FailsToQuery, CommitsShowing, Database, never_follows, counts_go_alone, IsWithin, IsTableRead, within, asked, parameter, equals, cell, rising, IsBefore, shown_answer, sets, shown_same, hall_schema, counts_table, nat_cmp, ordering_then, slice_cmp, Value, Output, value_cmp-Int, value_cmp-Text, status_number, Status, list_counts_is, list_counts_query}
-use Rattle.sql_items.specs.CountStatements.{find_count_is, add_count_is, set_count_is, remove_count_is}
-use Rattle.std.proofs.Common.{◌≡◌, ◌&&◌, ◌==◌, ◌≤◌, ℕ, zero, suc, Bool, true, false, cond, if◌then◌else◌, List, [], ◌∷◌, map, filter, Option, Some, None, refl, sym, ap, subst, ◌∙◌, arith, ◌<◌, pos, ap₂, Ordering, Less, Equal, Greater, Result, IfOk, IfErr}
+use Rattle.sql_schema.specs.{Words.{finds_kept, lists_kept, adds_kept, changes_kept, removes_kept, number_order, equal_numbers, count_key, of_counts, in_rows, SpellHall, Spells, is_in, next_rowid, AllByRecursion, option_to_list, bytes_eq, Row, column, map-map, filter-map, filter_same, filter_all, all_of, all_weaker, all_unmap, map_back, Hall, StandUnder, AllByRecursion-listed, key-same, at-put, at-gone, Rows, at, listed, same_key, how_many, CountRow, count_columns, number, and_true, AreRising, AreRising-listed, listed_with_key, same_pair, Entry, item_of, rowid_of, Counts, HallRows, nat_tests, Error, Null, Text, Int, lit, binary, is_true, Binary, Compare, Eq, State, Shown, HasCleanDisk, Survives, FailsToQuery, CommitsShowing, Database, never_follows, counts_go_alone, IsWithin, IsTableRead, within, asked, parameter, equals, cell, rising, IsBefore, shown_answer, sets, shown_same, hall_schema, counts_table, nat_cmp, ordering_then, slice_cmp, Value, Output, value_cmp-Int, value_cmp-Text, status_number, Status, list_counts_is, list_counts_query}, Writing.Makes, declared.creating.TheConstants.LIST_COUNTS}
+use Rattle.sql_items.specs.{CountStatements.{find_count_is, add_count_is, set_count_is, remove_count_is}, Counts.{counting, with_count, text_from, count_values}, declared.counts.TheConstants.{ADD_COUNT, FIND_COUNT, REMOVE_COUNT, SET_COUNT}}
+use Rattle.std.{proofs.Common.{◌≡◌, ◌&&◌, ◌==◌, ◌≤◌, ℕ, zero, suc, Bool, true, false, cond, if◌then◌else◌, List, [], ◌∷◌, map, filter, Option, Some, None, refl, sym, ap, subst, ◌∙◌, arith, ◌<◌, pos, ap₂, Ordering, Less, Equal, Greater, Result, IfOk, IfErr}, specs.List.Sorted.IsStrictlySortedBy}
 use Rattle.hall_types.specs.Rows.{pairs, numbers}
-use Rattle.sql_items.specs.Counts.{counting, with_count, text_from, count_values}
 use Rattle.sql_schema.specs.ValueLaws as value
-use Rattle.sql_schema.specs.Writing.{Makes}
-use Rattle.std.specs.List.Sorted.{IsStrictlySortedBy}
-use Rattle.hall_store.specs.declared.count.Count.{Count}
-use Rattle.hall_store.specs.Counts.{AreCounts as AreHallCounts, count_cmp, counted, is_about}
-use Rattle.sql_items.specs.declared.counts.TheConstants.{ADD_COUNT, FIND_COUNT, REMOVE_COUNT, SET_COUNT}
-use Rattle.sql_schema.specs.declared.creating.TheConstants.{LIST_COUNTS}
+use Rattle.hall_store.specs.{declared.count.Count.Count, Counts.{AreCounts as AreHallCounts, count_cmp, counted, is_about}}
 
 abbrev key_of : CountRow → List (List ℕ)
 key_of c = count_key c.pool c.status

@@ -1,14 +1,9 @@
 -- What the query of the machine that expires next asks.
-use Rattle.sql_schema.specs.Words.{of_machines, AllByRecursion, option_to_list, is_le, is_lt, match_ordering, nat_tests, IsPermutation-refl, IsPermutation-cons, IsPermutation-sym, IsPermutation-trans, Binary, is_true, from_truth, Row, Output, IsAscending, Compare, Le, value_cmp-Int, ascending-filter, ascending_weaker, all-permutation, all_has, listed, Hall, has_come, is_due, next_expired, sooner, soonest, next_expired-is, Machine, number, or_null, machine_columns, machine_values, and_true, all_passed, IsPermutation-map, AreRising, AreRising-put_in, put_in, put_in-permutes, number_order, numbered_entries, machines, kept_row, at_most, rising, IsBefore, items_by}
-use Rattle.sql_items.specs.MachineStatements.{find_expired_query, find_expired_is}
-use Rattle.std.proofs.Common.{◌≡◌, ◌<◌, ℕ, pos, nat_le, nat_lt, int_cmp, List, [], ◌∷◌, map, filter, take, slice_get, Bool, true, false, cond, Option, Some, None, option_map, Less, Equal, Greater, refl, ap, ap₂, subst, ◌∙◌, arith, IsPermutation}
-use Rattle.std.specs.Prelude.{unwrap_or}
+use Rattle.sql_schema.specs.{Words.{of_machines, AllByRecursion, option_to_list, is_le, is_lt, match_ordering, nat_tests, IsPermutation-refl, IsPermutation-cons, IsPermutation-sym, IsPermutation-trans, Binary, is_true, from_truth, Row, Output, IsAscending, Compare, Le, value_cmp-Int, ascending-filter, ascending_weaker, all-permutation, all_has, listed, Hall, has_come, is_due, next_expired, sooner, soonest, next_expired-is, Machine, number, or_null, machine_columns, machine_values, and_true, all_passed, IsPermutation-map, AreRising, AreRising-put_in, put_in, put_in-permutes, number_order, numbered_entries, machines, kept_row, at_most, rising, IsBefore, items_by}, AskingLaws.asks_by}
+use Rattle.sql_items.{specs.{MachineStatements.{find_expired_query, find_expired_is}, MachineRows.{AsksMachine, in_row, row_values}, declared.finding.TheConstants.FIND_EXPIRED}, proofs.FindingLemmas.{in_number_order, machines_stand}}
+use Rattle.std.{proofs.Common.{◌≡◌, ◌<◌, ℕ, pos, nat_le, nat_lt, int_cmp, List, [], ◌∷◌, map, filter, take, slice_get, Bool, true, false, cond, Option, Some, None, option_map, Less, Equal, Greater, refl, ap, ap₂, subst, ◌∙◌, arith, IsPermutation}, specs.Prelude.unwrap_or}
 use Rattle.sqlite.specs.Ops.{binary}
 use Rattle.hall_types.specs.Rows.{numbers, texts}
-use Rattle.sql_items.specs.MachineRows.{AsksMachine, in_row, row_values}
-use Rattle.sql_schema.specs.AskingLaws.{asks_by}
-use Rattle.sql_items.proofs.FindingLemmas.{in_number_order, machines_stand}
-use Rattle.sql_items.specs.declared.finding.TheConstants.{FIND_EXPIRED}
 
 -- ---- machines with deadlines, in the order of these and then of their numbers
 

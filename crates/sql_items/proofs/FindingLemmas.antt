@@ -1,15 +1,9 @@
 -- What the queries of machines ask.
-use Rattle.sql_schema.specs.Words.{equal_keys, rises, finds_kept, lists_kept, machines, of_machines, SpellHall, list_any, option_to_list, nat_tests, take-map, slice_get-map, Text, Blob, Binary, binary, is_true, Trees, IsAscending, Compare, Eq, all_of, ascending_weaker, filter_all, map-map, slice_get-filter, Rows, at, listed, StandUnder, has_uuid, is_named, machine_with_uuid, Hall, Machine, number, or_null, machine_columns, machine_values, and_true, AreRising-listed, list_machines_is, equals, cell, rising, find_machine_is}
-use Rattle.sql_items.specs.MachineStatements.{find_machine_with_image_is, find_uuid_is}
+use Rattle.sql_schema.specs.{Words.{equal_keys, rises, finds_kept, lists_kept, machines, of_machines, SpellHall, list_any, option_to_list, nat_tests, take-map, slice_get-map, Text, Blob, Binary, binary, is_true, Trees, IsAscending, Compare, Eq, all_of, ascending_weaker, filter_all, map-map, slice_get-filter, Rows, at, listed, StandUnder, has_uuid, is_named, machine_with_uuid, Hall, Machine, number, or_null, machine_columns, machine_values, and_true, AreRising-listed, list_machines_is, equals, cell, rising, find_machine_is}, Asking.Asks, AskingLaws.asks_by, declared.{creating.TheConstants.FIND_MACHINE, opening.TheConstants.LIST_MACHINES}}
+use Rattle.sql_items.specs.{MachineStatements.{find_machine_with_image_is, find_uuid_is}, MachineRows.{AsksMachine, number_values, in_row, row_values}, declared.finding.TheConstants.{FIND_MACHINE_WITH_IMAGE, FIND_UUID}}
 use Rattle.std.proofs.Common.{◌≡◌, ◌||◌, ◌<◌, ℕ, cond, List, [], ◌∷◌, map, filter, take, slice_get, Bool, true, false, Option, Some, None, option_map, Less, refl, sym, ap, subst, ◌∙◌, arith, is_some}
 use Rattle.hall_types.specs.Rows.{numbers}
 use Rattle.sql_schema.specs.ValueLaws as value
-use Rattle.sql_schema.specs.Asking.{Asks}
-use Rattle.sql_items.specs.MachineRows.{AsksMachine, number_values, in_row, row_values}
-use Rattle.sql_schema.specs.AskingLaws.{asks_by}
-use Rattle.sql_items.specs.declared.finding.TheConstants.{FIND_MACHINE_WITH_IMAGE, FIND_UUID}
-use Rattle.sql_schema.specs.declared.creating.TheConstants.{FIND_MACHINE}
-use Rattle.sql_schema.specs.declared.opening.TheConstants.{LIST_MACHINES}
 
 -- the machines of a hall that is spelt stand under their numbers
 pub machines_stand : (db : Trees) (h : Hall) → SpellHall db h → StandUnder (λ (m : Machine). m.id) h.machines

@@ -1,13 +1,10 @@
 -- What the statements on images answer and write.
 use Rattle.sqlite.specs.Listing.{understood}
 use Rattle.sqlite_tied.specs.Compute.{everything}
-use Rattle.sql_schema.specs.Words.{finds_kept, adds_kept, removes_kept, images, HallRows, next_rowid, texts, at, of_images, option_to_list, Error, Null, Text, Row, column, lit, State, HasCleanDisk, Survives, Shown, FailsToQuery, CommitsShowing, Hall, BootImage, arch_number, same_text, put_cases, gone_found, images_go_alone, same_arch, HasWords, number, image_columns, joined, words_in, IsTableRead, asked, within, and_true, parameter, equals, cell, rising, sets, hall_schema, images_table, Insert, Delete, Values, from_one, only, IsCommandText, find_image_is}
+use Rattle.sql_schema.specs.{Words.{finds_kept, adds_kept, removes_kept, images, HallRows, next_rowid, texts, at, of_images, option_to_list, Error, Null, Text, Row, column, lit, State, HasCleanDisk, Survives, Shown, FailsToQuery, CommitsShowing, Hall, BootImage, arch_number, same_text, put_cases, gone_found, images_go_alone, same_arch, HasWords, number, image_columns, joined, words_in, IsTableRead, asked, within, and_true, parameter, equals, cell, rising, sets, hall_schema, images_table, Insert, Delete, Values, from_one, only, IsCommandText, find_image_is}, Writing.Makes, declared.creating.TheConstants.FIND_IMAGE}
 use Rattle.std.proofs.Common.{◌≡◌, inl, inr, ℕ, List, [], ◌∷◌, map, slice_get, Option, None, Some, Result, IfOk, IfErr, refl, sym, ap, subst, ◌∙◌}
 use Rattle.sql_schema.specs.ValueLaws as value
-use Rattle.sql_schema.specs.Writing.{Makes}
-use Rattle.sql_items.specs.Changes.{with_image, without_image}
-use Rattle.sql_items.specs.declared.images.TheConstants.{ADD_IMAGE, REMOVE_IMAGE}
-use Rattle.sql_schema.specs.declared.creating.TheConstants.{FIND_IMAGE}
+use Rattle.sql_items.specs.{Changes.{with_image, without_image}, declared.images.TheConstants.{ADD_IMAGE, REMOVE_IMAGE}}
 
 -- a new image
 add_image_is : IsCommandText hall_schema ADD_IMAGE.now (Insert 4 (Values (lit Null ∷ parameter 0 ∷ parameter 1 ∷ parameter 2 ∷ parameter 3 ∷ parameter 4 ∷ []) 6))

@@ -1,12 +1,7 @@
 -- Machines joined with their kinds of erasing are those of the hall.
 use Rattle.sql_schema.specs.Words.{AllByRecursion, filter_map, cons_option, nat_tests, drop-drop, IsAscending, Erase, Machine, Wipe, wipe_of}
 use Rattle.std.proofs.Common.{◌≡◌, ◌+◌, ◌==◌, ◌<◌, ◌++◌, ℕ, zero, suc, List, [], ◌∷◌, map, drop, drop-cons, append_assoc, get_or, length, slice_get, true, false, cond, Option, Some, None, option_map, refl, sym, ap, subst, ◌∙◌, arith}
-use Rattle.sql_items.specs.declared.wipes.Erasing.{Erasing}
-use Rattle.sql_items.specs.Wipes.{erasing}
-use Rattle.sql_items.specs.MachineRows.{in_row}
-use Rattle.sql_items.specs.Joining.{joined, kind_at, kind_of, past}
-use Rattle.sql_items.proofs.ListLemmas.{all_mapped}
-use Rattle.sql_items.proofs.WipeLemmas.{wipe_machine}
+use Rattle.sql_items.{specs.{declared.wipes.Erasing.Erasing, Wipes.erasing, MachineRows.in_row, Joining.{joined, kind_at, kind_of, past}}, proofs.{ListLemmas.all_mapped, WipeLemmas.wipe_machine}}
 
 -- ---- a step of the walk
 

@@ -1,12 +1,10 @@
 -- What the statements on machines write: a row that still has its version, with RETURNING, and a row that goes after its children.
 use Rattle.sql_schema.specs.Words.{number_key, number_is_free, equal_keys, adds_kept, sets_kept_if, removes_alone, IsKept, TableOf, kept_row, parameters_from, machines, interfaces, boots, orders, wipes, HallRows, cell, equals, lit, Null, Text, Keys, Rows, numbers, at, listed, same_key, of_boots, of_interfaces, of_machines, of_orders, of_wipes, list_any, take-map, Value, Row, cast, cast_row, row_at, with_rowid, Chosen, bound, bound_value, State, ExecutesInside, Shown, ValueRef, all_from, Has, filter_same, any_from_none, key-same, same_number, arch_number, status_number, Hall, Machine, no_row_points, any_along, uncounted, hall_schema, machines_table, interfaces_table, boots_table, orders_table, wipes_table, belongs_to_machine, never_follows, machines_go_alone, number, truth_number, or_null, machine_columns, machine_values, sets, IsWithin, within, shown_within}
-use Rattle.sql_items.specs.MachineStatements.{add_machine_is, set_machine_is, remove_machine_is}
+use Rattle.sql_items.specs.{MachineStatements.{add_machine_is, set_machine_is, remove_machine_is}, Machines.{with_machine, without_row, checked_values, HasNoChild, HasVersion}, declared.machines.TheConstants.{ADD_MACHINE, REMOVE_MACHINE, SET_MACHINE}}
 use Rattle.std.proofs.Common.{◌≡◌, ◌&&◌, ◌||◌, ◌==◌, inl, inr, ℕ, pos, List, [], ◌∷◌, map, length, take, Bool, false, Option, Some, None, Ok, refl, sym, ap, ap₂, subst, ◌∙◌, int_eq, IsPermutation, arith}
 use Rattle.sqlite_schema.specs.declared.schema.Kind.{Kind}
 use Rattle.sqlite.specs.Kind.TheVariants as kind
 use Rattle.sql_schema.specs.ValueLaws as value
-use Rattle.sql_items.specs.Machines.{with_machine, without_row, checked_values, HasNoChild, HasVersion}
-use Rattle.sql_items.specs.declared.machines.TheConstants.{ADD_MACHINE, REMOVE_MACHINE, SET_MACHINE}
 
 -- ---- a column that may be NULL keeps its values
 

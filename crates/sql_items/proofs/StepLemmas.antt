@@ -1,7 +1,6 @@
 -- A statement that shows rows inside a transaction is a step.
-use Rattle.sql_schema.specs.Words.{Error, Row, State, Shown, FailsToQuery, IsTooLate, query_keeps, query_mode}
+use Rattle.sql_schema.specs.{Words.{Error, Row, State, Shown, FailsToQuery, IsTooLate, query_keeps, query_mode}, Steps.IsStep}
 use Rattle.std.proofs.Common.{◌⊎◌, ℕ, List, Ok, Err}
-use Rattle.sql_schema.specs.Steps.{IsStep}
 
 module _ (sql : List ℕ) (params : Row) (old new : State) where
   pub shows : {X : Type 0} (rows_of : X → List Row) (x : X) → Shown sql params old new (rows_of x) → IsStep old new {E = Error} (Ok x) (λ y. Shown sql params old new (rows_of y))

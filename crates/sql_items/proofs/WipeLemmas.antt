@@ -1,19 +1,8 @@
 -- What the statements on kinds of erasing ask and write.
-use Rattle.sql_schema.specs.Words.{equal_keys, rises, number_is_free, finds_kept, lists_kept, adds_kept, removes_kept, wipes, HallRows, of_wipes, wipe_of, filter_map, option_to_list, State, all_of, filter_all, map-map, all_has, Has, Rows, at, numbers, listed, StandUnder, erase_number, AllByRecursion-listed, Hall, Erase, Machine, wipes_go_alone, Wipe, number, wipe_columns, within, AreRising-listed, same_lists, listed_at, at_listed, add_wipe_is, equals, cell, rising, sets, hall_schema, wipes_table, find_wipe_is}
-use Rattle.sql_items.specs.MachineStatements.{list_wipes_is, remove_wipe_is}
-use Rattle.std.proofs.Common.{◌≡◌, ℕ, [], ◌∷◌, map, true, Option, Some, None, Less, refl, sym, ap, subst₂, ◌∙◌, option_map}
-use Rattle.std.specs.Prelude.{option_and_then}
+use Rattle.sql_schema.specs.{Words.{equal_keys, rises, number_is_free, finds_kept, lists_kept, adds_kept, removes_kept, wipes, HallRows, of_wipes, wipe_of, filter_map, option_to_list, State, all_of, filter_all, map-map, all_has, Has, Rows, at, numbers, listed, StandUnder, erase_number, AllByRecursion-listed, Hall, Erase, Machine, wipes_go_alone, Wipe, number, wipe_columns, within, AreRising-listed, same_lists, listed_at, at_listed, add_wipe_is, equals, cell, rising, sets, hall_schema, wipes_table, find_wipe_is}, Asking.Asks, Writing.Makes, AskingLaws.asks_by, declared.{creating.TheConstants.FIND_WIPE, opening.TheConstants.ADD_WIPE}}
+use Rattle.sql_items.{specs.{MachineStatements.{list_wipes_is, remove_wipe_is}, declared.wipes.{Erasing.Erasing, TheConstants.{LIST_WIPES, REMOVE_WIPE}}, Wipes.{with_wipe, erasing, erasing_values, erasings}}, proofs.{ListLemmas.{all_mapped, ascending_mapped, mapped_has}, FindingLemmas.{machines_stand, shown_as}}}
+use Rattle.std.{proofs.Common.{◌≡◌, ℕ, [], ◌∷◌, map, true, Option, Some, None, Less, refl, sym, ap, subst₂, ◌∙◌, option_map}, specs.Prelude.option_and_then}
 use Rattle.sql_schema.specs.ValueLaws as value
-use Rattle.sql_schema.specs.Asking.{Asks}
-use Rattle.sql_schema.specs.Writing.{Makes}
-use Rattle.sql_items.specs.declared.wipes.Erasing.{Erasing}
-use Rattle.sql_items.specs.Wipes.{with_wipe, erasing, erasing_values, erasings}
-use Rattle.sql_schema.specs.AskingLaws.{asks_by}
-use Rattle.sql_items.proofs.ListLemmas.{all_mapped, ascending_mapped, mapped_has}
-use Rattle.sql_items.proofs.FindingLemmas.{machines_stand, shown_as}
-use Rattle.sql_items.specs.declared.wipes.TheConstants.{LIST_WIPES, REMOVE_WIPE}
-use Rattle.sql_schema.specs.declared.creating.TheConstants.{FIND_WIPE}
-use Rattle.sql_schema.specs.declared.opening.TheConstants.{ADD_WIPE}
 
 -- ---- the rows of the table, as machines have them
 

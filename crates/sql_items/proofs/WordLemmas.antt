@@ -1,8 +1,7 @@
 -- Words in one text.
 use Rattle.sql_schema.specs.Words.{slice_split, join_by, join_with_byte, AllByRecursion, joined, words_in}
 use Rattle.std.proofs.Common.{◌≡◌, map, ◌==◌, ℕ, List, [], ◌∷◌, ◌++◌, length, flat_map, false, refl, sym, ap, ◌∙◌, true≢false, append-nil}
-use Rattle.ipxe_script.specs.LineLaws.{each_apart, slice_split-join, space_in_no_word}
-use Rattle.ipxe_script.specs.Word.{is_word, IsWord}
+use Rattle.ipxe_script.specs.{LineLaws.{each_apart, slice_split-join, space_in_no_word}, Word.{is_word, IsWord}}
 
 -- texts joined by a space
 join_more : {X : Type 0} (f : X → List ℕ) (first : List ℕ) (xs : List X) → first ++ flat_map (λ x. 32 ∷ f x) xs ≡ joined (first ∷ map f xs)

@@ -1,22 +1,10 @@
 -- Laws of the tables of interfaces, boots and orders: what their statements ask and write.
 use Rattle.sqlite.specs.Listing.{understood}
 use Rattle.sqlite_tied.specs.Compute.{everything}
-use Rattle.sql_schema.specs.Words.{interfaces, boots, orders, parameters_from, HallRows, equal_keys, equal_numbers, rises, sets, key-same, same_text, lit, op2, Null, Blob, Int, of_boots, of_interfaces, of_orders, option_to_list, State, value_cmp-Blob, Hall, at, listed, numbers, interfaces_of, waiting, waits, Interface, interfaces_go_alone, boots_go_alone, orders_go_alone, number, interface_columns, boot_columns, boot_values, order_columns, order_values, and_true, equals, IsBefore, cell, Boot, Binary, Compare, Eq, OrderStage, Order, Values, parameter, IsQueryText, IsCommandText, IsReturningText, hall_schema, find_interface_is, find_boot_is, find_order_is}
-use Rattle.sql_schema.specs.TableStatements.{IsTable, shows_query, add_command, set_command, remove_command}
-use Rattle.sql_schema.specs.TableStatementLaws.{finds, lists, adds, puts, removes, removes_where}
+use Rattle.sql_schema.specs.{Words.{interfaces, boots, orders, parameters_from, HallRows, equal_keys, equal_numbers, rises, sets, key-same, same_text, lit, op2, Null, Blob, Int, of_boots, of_interfaces, of_orders, option_to_list, State, value_cmp-Blob, Hall, at, listed, numbers, interfaces_of, waiting, waits, Interface, interfaces_go_alone, boots_go_alone, orders_go_alone, number, interface_columns, boot_columns, boot_values, order_columns, order_values, and_true, equals, IsBefore, cell, Boot, Binary, Compare, Eq, OrderStage, Order, Values, parameter, IsQueryText, IsCommandText, IsReturningText, hall_schema, find_interface_is, find_boot_is, find_order_is}, TableStatements.{IsTable, shows_query, add_command, set_command, remove_command}, TableStatementLaws.{finds, lists, adds, puts, removes, removes_where}, Asking.Asks, Writing.{Makes, Puts}, AskingLaws.shows_all, declared.creating.TheConstants.{FIND_INTERFACE, FIND_BOOT, FIND_ORDER}}
 use Rattle.std.proofs.Common.{◌≡◌, ◌==◌, ℕ, pos, List, [], ◌∷◌, true, None, Less, refl, sym, ap, ◌∙◌, drop, int_eq, codes}
-use Rattle.hall_types.specs.Rows.{texts}
-use Rattle.sql_schema.specs.Asking.{Asks}
-use Rattle.sql_schema.specs.Writing.{Makes, Puts}
-use Rattle.sql_schema.specs.AskingLaws.{shows_all}
-use Rattle.sql_items.specs.Interfaces.{with_interface, without_interface, without_interfaces}
-use Rattle.sql_items.specs.declared.boots.TheConstants.{ADD_BOOT, REMOVE_BOOTS, SET_BOOT}
-use Rattle.sql_items.specs.declared.interfaces.TheConstants.{ADD_INTERFACE, FIND_INTERFACES, LIST_INTERFACES, REMOVE_INTERFACE, REMOVE_INTERFACES}
-use Rattle.sql_items.specs.declared.orders.TheConstants.{ADD_ORDER, LIST_WAITING_ORDERS, REMOVE_ORDERS, SET_ORDER}
-use Rattle.sql_schema.specs.declared.creating.TheConstants.{FIND_INTERFACE, FIND_BOOT, FIND_ORDER}
-use Rattle.hall_types.specs.Kinds.{order_stage_number}
-use Rattle.sql_items.specs.Boots.{with_boot, without_boots}
-use Rattle.sql_items.specs.Orders.{with_order, without_orders}
+use Rattle.hall_types.specs.{Rows.texts, Kinds.order_stage_number}
+use Rattle.sql_items.specs.{Interfaces.{with_interface, without_interface, without_interfaces}, declared.{boots.TheConstants.{ADD_BOOT, REMOVE_BOOTS, SET_BOOT}, interfaces.TheConstants.{ADD_INTERFACE, FIND_INTERFACES, LIST_INTERFACES, REMOVE_INTERFACE, REMOVE_INTERFACES}, orders.TheConstants.{ADD_ORDER, LIST_WAITING_ORDERS, REMOVE_ORDERS, SET_ORDER}}, Boots.{with_boot, without_boots}, Orders.{with_order, without_orders}}
 use Rattle.sql_schema.specs.ValueLaws as value
 use Rattle.hall_types.specs.declared.kinds.OrderStage.TheVariants as stage
 

@@ -1,17 +1,10 @@
 -- Laws of the table of live images: what its statements ask and write.
 use Rattle.sqlite.specs.Listing.{understood}
 use Rattle.sqlite_tied.specs.Compute.{everything}
-use Rattle.sql_schema.specs.Queries.{first_from}
-use Rattle.sql_schema.specs.Words.{lives, parameters_from, equal_keys, rises, lists_kept, sets, list_any, option_to_list, bytes_eq, Null, Int, Text, lit, Error, Row, State, HasCleanDisk, Survives, Shown, FailsToQuery, CommitsShowing, Hall, arch_number, key-same, at, listed, numbers, Live, same_arch, number, live_columns, live_values, IsTableRead, asked, and_true, parameter, equals, cell, rising, of_lives, Values, IsQueryText, IsCommandText, IsReturningText, hall_schema, find_live_is}
-use Rattle.sql_schema.specs.TableStatements.{IsTable, add_command, set_command}
-use Rattle.sql_schema.specs.TableStatementLaws.{finds, puts}
+use Rattle.sql_schema.specs.{Queries.first_from, Words.{lives, parameters_from, equal_keys, rises, lists_kept, sets, list_any, option_to_list, bytes_eq, Null, Int, Text, lit, Error, Row, State, HasCleanDisk, Survives, Shown, FailsToQuery, CommitsShowing, Hall, arch_number, key-same, at, listed, numbers, Live, same_arch, number, live_columns, live_values, IsTableRead, asked, and_true, parameter, equals, cell, rising, of_lives, Values, IsQueryText, IsCommandText, IsReturningText, hall_schema, find_live_is}, TableStatements.{IsTable, add_command, set_command}, TableStatementLaws.{finds, puts}, Asking.Asks, Writing.Puts, declared.creating.TheConstants.FIND_LIVE}
 use Rattle.std.proofs.Common.{◌≡◌, ◌||◌, ◌==◌, not, ℕ, pos, Bool, true, false, cond, List, [], ◌∷◌, map, filter, take, length, Result, IfOk, IfErr, refl, ap, ◌∙◌, drop, codes}
 use Rattle.sql_schema.specs.ValueLaws as value
-use Rattle.sql_schema.specs.Asking.{Asks}
-use Rattle.sql_schema.specs.Writing.{Puts}
-use Rattle.sql_items.specs.Changes.{with_live}
-use Rattle.sql_items.specs.declared.lives.TheConstants.{ADD_LIVE, FIND_LIVE_WITH_IMAGE, SET_LIVE}
-use Rattle.sql_schema.specs.declared.creating.TheConstants.{FIND_LIVE}
+use Rattle.sql_items.specs.{Changes.with_live, declared.lives.TheConstants.{ADD_LIVE, FIND_LIVE_WITH_IMAGE, SET_LIVE}}
 
 -- the live image of an architecture that had none
 add_live_is : IsCommandText hall_schema ADD_LIVE.now (add_command lives)

@@ -1,7 +1,6 @@
 -- Laws of rows of machines: what their columns make of them, and that a row is that of one machine, but for how its disks are erased.
 use Rattle.sql_schema.specs.Words.{option_to_list, Value, Null, Text, Blob, Row, column, Hall, erase_number, at, status_number, Machine, number, or_null, same_arch, same_erase, same_status, same_truth}
-use Rattle.std.proofs.Common.{◌≡◌, ℕ, zero, suc, [], ◌∷◌, drop, length, map, Option, Some, None, option_map, refl, sym, ap, ap₂, ◌∙◌}
-use Rattle.std.specs.Prelude.{option_and_then}
+use Rattle.std.{proofs.Common.{◌≡◌, ℕ, zero, suc, [], ◌∷◌, drop, length, map, Option, Some, None, option_map, refl, sym, ap, ap₂, ◌∙◌}, specs.Prelude.option_and_then}
 use Rattle.sql_items.specs.MachineRows.{found_whole, in_row, number_values, row_values}
 
 -- ---- a row is its columns

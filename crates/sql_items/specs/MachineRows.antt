@@ -1,7 +1,6 @@
 -- Rows of the table of machines, which say all of a machine but how its disks are erased.
-use Rattle.sql_schema.specs.Words.{option_to_list, Row, Trees, erase_number, at, Hall, Machine, number, machine_values, SpellHall}
+use Rattle.sql_schema.specs.{Words.{option_to_list, Row, Trees, erase_number, at, Hall, Machine, number, machine_values, SpellHall}, Asking.Asks}
 use Rattle.std.specs.Prelude.{◌≡◌, ◌++◌, ℕ, List, [], ◌∷◌, Option, Some, None, map, option_map}
-use Rattle.sql_schema.specs.Asking.{Asks}
 use Rattle.sql_items.specs.Wipes.{erase_of}
 
 -- a machine as its row says it

@@ -1,13 +1,9 @@
 -- Statements on machines and kinds of erasing: each text, and what it is over the tables of a hall. RETURNING reads the parameters, NULL, and then the stored row with its rowid.
 use Rattle.sqlite.specs.Listing.{understood}
 use Rattle.sqlite_tied.specs.Compute.{everything}
-use Rattle.sql_schema.specs.TableStatements.{shows_query, add_command, remove_command}
-use Rattle.sql_schema.specs.Queries.{first_from}
-use Rattle.sql_schema.specs.Words.{machines, wipes, Null, lit, Query, Update, Values, parameter, cell, equals, at_most, rising, from_one, only, IsQueryText, IsCommandText, IsReturningText, hall_schema}
+use Rattle.sql_schema.specs.{TableStatements.{shows_query, add_command, remove_command}, Queries.first_from, Words.{machines, wipes, Null, lit, Query, Update, Values, parameter, cell, equals, at_most, rising, from_one, only, IsQueryText, IsCommandText, IsReturningText, hall_schema}}
 use Rattle.std.proofs.Common.{refl, [], ◌∷◌, codes}
-use Rattle.sql_items.specs.declared.finding.TheConstants.{FIND_UUID, FIND_MACHINE_WITH_IMAGE, FIND_EXPIRED}
-use Rattle.sql_items.specs.declared.machines.TheConstants.{ADD_MACHINE, SET_MACHINE, REMOVE_MACHINE}
-use Rattle.sql_items.specs.declared.wipes.TheConstants.{LIST_WIPES, REMOVE_WIPE}
+use Rattle.sql_items.specs.declared.{finding.TheConstants.{FIND_UUID, FIND_MACHINE_WITH_IMAGE, FIND_EXPIRED}, machines.TheConstants.{ADD_MACHINE, SET_MACHINE, REMOVE_MACHINE}, wipes.TheConstants.{LIST_WIPES, REMOVE_WIPE}}
 
 -- a new machine
 pub add_machine_is : IsCommandText hall_schema ADD_MACHINE.now (add_command machines)

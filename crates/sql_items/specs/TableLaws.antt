@@ -1,20 +1,11 @@
 -- Laws of the tables of operators, pools, members and receipts: what their statements ask and write.
 use Rattle.sqlite.specs.Listing.{understood}
 use Rattle.sqlite_tied.specs.Compute.{everything}
-use Rattle.sql_schema.specs.Words.{parameters_from, operators, pools, members, receipts, HallRows, pair_tests, sets, option_to_list, bytes_eq, Int, Text, Blob, State, slice_get-filter, value_cmp-Text, at, put, listed, same_text, key-same, Hall, pair, operator_with_digest, Operator, Pool, Member, Receipt, operator_columns, pool_columns, member_columns, receipt_columns, and_true, add_operator_is, add_pool_is, cell, equals, parameter, of_operators, of_pools, of_members, of_receipts, Values, IsQueryText, IsCommandText, IsReturningText, hall_schema, find_operator_is, find_pool_is, find_member_is, find_receipt_is}
-use Rattle.sql_schema.specs.TableStatements.{IsTable, shows_query, add_command, set_command}
-use Rattle.sql_schema.specs.TableStatementLaws.{finds, lists, adds, puts}
+use Rattle.sql_schema.specs.{Words.{parameters_from, operators, pools, members, receipts, HallRows, pair_tests, sets, option_to_list, bytes_eq, Int, Text, Blob, State, slice_get-filter, value_cmp-Text, at, put, listed, same_text, key-same, Hall, pair, operator_with_digest, Operator, Pool, Member, Receipt, operator_columns, pool_columns, member_columns, receipt_columns, and_true, add_operator_is, add_pool_is, cell, equals, parameter, of_operators, of_pools, of_members, of_receipts, Values, IsQueryText, IsCommandText, IsReturningText, hall_schema, find_operator_is, find_pool_is, find_member_is, find_receipt_is}, TableStatements.{IsTable, shows_query, add_command, set_command}, TableStatementLaws.{finds, lists, adds, puts}, Asking.Asks, Writing.{Makes, Puts}, declared.{creating.TheConstants.{FIND_MEMBER, FIND_OPERATOR, FIND_POOL, FIND_RECEIPT}, opening.TheConstants.{ADD_OPERATOR, ADD_POOL}}}
 use Rattle.std.proofs.Common.{◌≡◌, ℕ, List, [], ◌∷◌, filter, drop, slice_get, None, refl, sym, ap, ◌∙◌, codes}
 use Rattle.hall_types.specs.Rows.{texts}
 use Rattle.sql_schema.specs.ValueLaws as value
-use Rattle.sql_schema.specs.Asking.{Asks}
-use Rattle.sql_schema.specs.Writing.{Makes, Puts}
-use Rattle.sql_items.specs.Changes.{with_member, with_operator, with_receipt}
-use Rattle.sql_items.specs.declared.operators.TheConstants.{FIND_DIGEST, SET_OPERATOR}
-use Rattle.sql_items.specs.declared.pools.TheConstants.{ADD_MEMBER}
-use Rattle.sql_items.specs.declared.receipts.TheConstants.{ADD_RECEIPT}
-use Rattle.sql_schema.specs.declared.creating.TheConstants.{FIND_MEMBER, FIND_OPERATOR, FIND_POOL, FIND_RECEIPT}
-use Rattle.sql_schema.specs.declared.opening.TheConstants.{ADD_OPERATOR, ADD_POOL}
+use Rattle.sql_items.specs.{Changes.{with_member, with_operator, with_receipt}, declared.{operators.TheConstants.{FIND_DIGEST, SET_OPERATOR}, pools.TheConstants.ADD_MEMBER, receipts.TheConstants.ADD_RECEIPT}}
 
 -- ---- operators
 

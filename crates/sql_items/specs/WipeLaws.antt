@@ -1,7 +1,6 @@
 -- Laws of how the disks of machines are erased, for the proofs of callers: what a machine that is put or goes makes of them.
 use Rattle.sql_schema.specs.Words.{Keys, Rows, numbers, at, put, gone, same_key, same_rows, at-put, at-gone, Erase, Machine, Wipe, wipe_of}
-use Rattle.std.specs.Prelude.{option_and_then}
-use Rattle.std.proofs.Common.{refl, sym, ap, ◌∙◌, cond, ◌≡◌, ℕ, Option, Some, None, Bool, true, false, option_map}
+use Rattle.std.{specs.Prelude.option_and_then, proofs.Common.{refl, sym, ap, ◌∙◌, cond, ◌≡◌, ℕ, Option, Some, None, Bool, true, false, option_map}}
 use Rattle.sql_items.specs.Wipes.{wipe_set}
 
 -- a row that is put where one went is put

@@ -1,8 +1,6 @@
 //! The table of boots.
-ghost use Rattle.sql_schema.specs.Words.{state, HasCleanDisk, Survives, at, boot_values, same_purpose, same_stage, IsTableRead};
-ghost use Rattle.std.specs.Prelude.{◌≡◌};
-ghost use Rattle.std.proofs.Common.{rules};
-ghost use Rattle.sql_schema.specs.Steps.{IsWritten, always};
+ghost use Rattle.sql_schema.specs.{Words.{state, HasCleanDisk, Survives, at, boot_values, same_purpose, same_stage, IsTableRead}, Steps.{IsWritten, always}};
+ghost use Rattle.std.{specs.Prelude.◌≡◌, proofs.Common.rules};
 ghost use Rattle.sql_items.specs.Boots.{with_boot, without_boots};
 
 use hall_types::{Boot, Number};

@@ -1,8 +1,7 @@
 //! The table of counts: how many machines each pool has in each status, changed by one and listed.
-ghost use Rattle.sql_schema.specs.Words.{state, HasCleanDisk, Survives, Hall, status_number, number, IsTableRead, IsWithin, HallRows, in_rows};
+ghost use Rattle.sql_schema.specs.{Words.{state, HasCleanDisk, Survives, Hall, status_number, number, IsTableRead, IsWithin, HallRows, in_rows}, Steps.{IsStep, IsWritten, always}};
 ghost use Rattle.std.specs.Prelude.{◌≡◌, ◌<◌, ◌+◌, ◌-◌, ◌^◌, ℕ, IfOk, map, [], ◌∷◌};
 ghost use Rattle.hall_store.specs.Counts.{AreCounts};
-ghost use Rattle.sql_schema.specs.Steps.{IsStep, IsWritten, always};
 ghost use Rattle.sql_items.specs.Counts.{count_values, text_from, with_count};
 
 use hall_store::Count;

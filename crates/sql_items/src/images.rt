@@ -1,7 +1,6 @@
 //! The table of images.
-ghost use Rattle.sql_schema.specs.Words.{option_to_list, Text, state, column, HasCleanDisk, Survives, BootImage, arch_number, at, number, image_columns, words_in, HasWords, IsTableRead};
+ghost use Rattle.sql_schema.specs.{Words.{option_to_list, Text, state, column, HasCleanDisk, Survives, BootImage, arch_number, at, number, image_columns, words_in, HasWords, IsTableRead}, Steps.{IsWritten, always}};
 ghost use Rattle.std.specs.Prelude.{◌≡◌, IfOk, List, ℕ, map, Option, None, Some};
-ghost use Rattle.sql_schema.specs.Steps.{IsWritten, always};
 ghost use Rattle.sql_items.specs.Changes.{with_image, without_image};
 
 use crate::words::{joined_words, words_of};

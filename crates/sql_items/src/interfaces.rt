@@ -1,8 +1,6 @@
 //! The table of interfaces.
-ghost use Rattle.sql_schema.specs.Words.{state, HasCleanDisk, Survives, at, listed, interfaces_of, interface_columns, IsTableRead};
-ghost use Rattle.std.specs.Prelude.{◌≡◌, None};
-ghost use Rattle.std.proofs.Common.{rules};
-ghost use Rattle.sql_schema.specs.Steps.{IsWritten, always};
+ghost use Rattle.sql_schema.specs.{Words.{state, HasCleanDisk, Survives, at, listed, interfaces_of, interface_columns, IsTableRead}, Steps.{IsWritten, always}};
+ghost use Rattle.std.{specs.Prelude.{◌≡◌, None}, proofs.Common.rules};
 ghost use Rattle.sql_items.specs.Interfaces.{with_interface, without_interface, without_interfaces};
 
 use hall_types::{Interface, MacAddress, Number};

@@ -1,8 +1,7 @@
 //! All machines, each with the kind of erasing that has a table of its own.
 ghost use Rattle.sql_schema.specs.Words.{state, HasCleanDisk, listed, IsTableRead};
 ghost use Rattle.std.specs.Prelude.{◌≡◌, IfOk};
-ghost use Rattle.sql_items.specs.Joining.{joined, kind_at, past};
-ghost use Rattle.sql_items.specs.Wipes.{erasings};
+ghost use Rattle.sql_items.specs.{Joining.{joined, kind_at, past}, Wipes.erasings};
 
 use crate::rows::MachineRows;
 use crate::wipes::{Erasing, list_wipes};

@@ -1,8 +1,6 @@
 //! The table of live images.
-ghost use Rattle.sql_schema.specs.Words.{list_any, bytes_eq, state, HasCleanDisk, Survives, arch_number, at, listed, live_values, same_arch, IsTableRead};
-ghost use Rattle.std.specs.Prelude.{◌≡◌};
-ghost use Rattle.std.proofs.Common.{rules};
-ghost use Rattle.sql_schema.specs.Steps.{IsWritten, always};
+ghost use Rattle.sql_schema.specs.{Words.{list_any, bytes_eq, state, HasCleanDisk, Survives, arch_number, at, listed, live_values, same_arch, IsTableRead}, Steps.{IsWritten, always}};
+ghost use Rattle.std.{specs.Prelude.◌≡◌, proofs.Common.rules};
 ghost use Rattle.sql_items.specs.Changes.{with_live};
 
 use hall_types::{Live, Name, arch_number};

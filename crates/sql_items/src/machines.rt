@@ -1,7 +1,6 @@
 //! The table of machines: a new row, a row that changes while it still has its version, and a row that goes after its children.
-ghost use Rattle.sql_schema.specs.Words.{Blob, Text, state, HasCleanDisk, ExecutesInside, Survives, Shown, FailsToQuery, IsTooLate, bound, owned, Hall, at, status_number, machine_values, number, or_null, IsWithin, HallRows};
+ghost use Rattle.sql_schema.specs.{Words.{Blob, Text, state, HasCleanDisk, ExecutesInside, Survives, Shown, FailsToQuery, IsTooLate, bound, owned, Hall, at, status_number, machine_values, number, or_null, IsWithin, HallRows}, Steps.{IsStep, IsWritten}};
 ghost use Rattle.std.specs.Prelude.{◌≡◌, ◌⊎◌, ◌<◌, ◌≤◌, ◌^◌, length, take, IfOk, IfErr, IfSome, IsTrue, None};
-ghost use Rattle.sql_schema.specs.Steps.{IsStep, IsWritten};
 ghost use Rattle.sql_items.specs.Machines.{HasNoChild, HasVersion, checked_values, with_machine, without_row};
 
 use hall_types::{Machine, MachineUuid, Name, Number, Status, Version, arch_number};

@@ -1,8 +1,6 @@
 //! The table of operators.
-ghost use Rattle.sql_schema.specs.Words.{state, HasCleanDisk, Survives, operator_with_digest, at, operator_columns, same_role, same_truth, IsTableRead};
-ghost use Rattle.std.specs.Prelude.{◌≡◌};
-ghost use Rattle.std.proofs.Common.{rules};
-ghost use Rattle.sql_schema.specs.Steps.{IsWritten, always};
+ghost use Rattle.sql_schema.specs.{Words.{state, HasCleanDisk, Survives, operator_with_digest, at, operator_columns, same_role, same_truth, IsTableRead}, Steps.{IsWritten, always}};
+ghost use Rattle.std.{specs.Prelude.◌≡◌, proofs.Common.rules};
 ghost use Rattle.sql_items.specs.Changes.{with_operator};
 
 use hall_types::{Digest, Name, Operator};

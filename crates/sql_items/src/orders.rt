@@ -1,8 +1,6 @@
 //! The table of orders.
-ghost use Rattle.sql_schema.specs.Words.{state, HasCleanDisk, Survives, at, waiting, order_values, same_order_kind, same_order_stage, IsTableRead};
-ghost use Rattle.std.specs.Prelude.{◌≡◌};
-ghost use Rattle.std.proofs.Common.{rules};
-ghost use Rattle.sql_schema.specs.Steps.{IsWritten, always};
+ghost use Rattle.sql_schema.specs.{Words.{state, HasCleanDisk, Survives, at, waiting, order_values, same_order_kind, same_order_stage, IsTableRead}, Steps.{IsWritten, always}};
+ghost use Rattle.std.{specs.Prelude.◌≡◌, proofs.Common.rules};
 ghost use Rattle.sql_items.specs.Orders.{with_order, without_orders};
 
 use hall_types::{Number, Order};

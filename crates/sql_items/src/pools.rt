@@ -1,8 +1,6 @@
 //! The tables of pools and of their members.
-ghost use Rattle.sql_schema.specs.Words.{state, HasCleanDisk, Survives, at, put, pair, member_columns, pool_columns, IsTableRead};
-ghost use Rattle.std.specs.Prelude.{◌≡◌, None};
-ghost use Rattle.std.proofs.Common.{rules};
-ghost use Rattle.sql_schema.specs.Steps.{IsWritten};
+ghost use Rattle.sql_schema.specs.{Words.{state, HasCleanDisk, Survives, at, put, pair, member_columns, pool_columns, IsTableRead}, Steps.IsWritten};
+ghost use Rattle.std.{specs.Prelude.{◌≡◌, None}, proofs.Common.rules};
 ghost use Rattle.sql_items.specs.Changes.{with_member};
 
 use hall_types::{Member, Name, Pool};

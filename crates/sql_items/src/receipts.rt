@@ -1,8 +1,6 @@
 //! The table of receipts.
-ghost use Rattle.sql_schema.specs.Words.{state, column, HasCleanDisk, Survives, at, pair, number, receipt_columns, IsTableRead};
-ghost use Rattle.std.specs.Prelude.{◌≡◌, IfOk, None};
-ghost use Rattle.std.proofs.Common.{rules};
-ghost use Rattle.sql_schema.specs.Steps.{IsWritten};
+ghost use Rattle.sql_schema.specs.{Words.{state, column, HasCleanDisk, Survives, at, pair, number, receipt_columns, IsTableRead}, Steps.IsWritten};
+ghost use Rattle.std.{specs.Prelude.{◌≡◌, IfOk, None}, proofs.Common.rules};
 ghost use Rattle.sql_items.specs.Changes.{with_receipt};
 
 use hall_types::{Name, Receipt, RequestKey, Text};

@@ -1,7 +1,6 @@
 //! Rows of the table of machines.
 ghost use Rattle.std.specs.Prelude.{◌≡◌, IfOk};
-ghost use Rattle.sql_items.specs.MachineRows.{number_values, row_values};
-ghost use Rattle.sql_items.specs.MachineRowLaws.{same_number, same_row};
+ghost use Rattle.sql_items.specs.{MachineRows.{number_values, row_values}, MachineRowLaws.{same_number, same_row}};
 
 use crate::columns::{
     boots_in, deadline_in, optional_name_in, optional_number_in, optional_status_in,

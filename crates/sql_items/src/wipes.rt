@@ -1,8 +1,6 @@
 //! The table of kinds of erasing: how the disks of a machine are erased, while they are to be.
-ghost use Rattle.sql_schema.specs.Words.{state, HasCleanDisk, Survives, same_erase, IsTableRead};
-ghost use Rattle.std.specs.Prelude.{◌≡◌, option_map};
-ghost use Rattle.std.proofs.Common.{rules};
-ghost use Rattle.sql_schema.specs.Steps.{IsWritten, always};
+ghost use Rattle.sql_schema.specs.{Words.{state, HasCleanDisk, Survives, same_erase, IsTableRead}, Steps.{IsWritten, always}};
+ghost use Rattle.std.{specs.Prelude.{◌≡◌, option_map}, proofs.Common.rules};
 ghost use Rattle.sql_items.specs.Wipes.{erase_of, erasing_values, erasings, with_wipe};
 
 use hall_types::{Erase, Number};

@@ -1,7 +1,6 @@
 -- What a query that is known promises, once its rows are read as items.
-use Rattle.sql_schema.specs.Words.{Error, Row, State, HasCleanDisk, Survives, Shown, FailsToQuery, CommitsShowing, Hall, IsTableRead, asked, asked_then, asked_failed}
+use Rattle.sql_schema.specs.{Words.{Error, Row, State, HasCleanDisk, Survives, Shown, FailsToQuery, CommitsShowing, Hall, IsTableRead, asked, asked_then, asked_failed}, Asking.Asks}
 use Rattle.std.proofs.Common.{◌≡◌, ℕ, List, [], ◌∷◌, map, Ok, Err, Result, IfOk, refl, ap₂}
-use Rattle.sql_schema.specs.Asking.{Asks}
 
 -- rows are those of one list of items
 pub same_items : {X : Type 0} (values : X → Row) → ((a b : X) → values a ≡ values b → a ≡ b) → (xs ys : List X) → map values xs ≡ map values ys → xs ≡ ys

@@ -1,7 +1,6 @@
 -- Laws of reads between calls, for the proofs of callers.
-use Rattle.sql_schema.specs.Words.{option_to_list, Row, overlay, Query, IsAnswer, State, Trees, filter_all, all_of, Hall, IsHeld, IsTableRead, SpellHall, IsQueryText, hall_schema}
+use Rattle.sql_schema.specs.{Words.{option_to_list, Row, overlay, Query, IsAnswer, State, Trees, filter_all, all_of, Hall, IsHeld, IsTableRead, SpellHall, IsQueryText, hall_schema}, Asking.Asks}
 use Rattle.std.proofs.Common.{◌≡◌, ℕ, List, [], map, filter, true, Option, Some, None, Ok, Err, Result, refl, ap, ◌∙◌, slice_get}
-use Rattle.sql_schema.specs.Asking.{Asks}
 
 -- a text that is a query, which shows these items of a hall
 pub asks_by : {X : Type 0} {values : X → Row} {sql : List ℕ} {params : Row} {right : Hall → List X} {query : Query} → IsQueryText hall_schema sql query

@@ -1,16 +1,9 @@
 -- Laws of what a write sets off, for the proofs of callers: a write that meets no child is its one step.
-use Rattle.sql_schema.specs.Prelude.{list_any, AllByRecursion, filter_map, cons_option, Decides-eqb, Null, Int, Binary, Row, column, binary, is_true, Table, Schema, Trees, has_rowid, Edit, row_at, taken_by, Applies, Compare, Eq, plain, value_cmp-Int, agree, ParentKey, parent_key, Enforced, Reference, NoAction, Has, Work, works, work_for, work_by, deed_for, deed_of, loses, Leads, Writes, ActsOn, AreChildren, is_child_of, Deed, all_map, any_from_none, none_from_any, same_int}
+use Rattle.sql_schema.specs.{Prelude.{list_any, AllByRecursion, filter_map, cons_option, Decides-eqb, Null, Int, Binary, Row, column, binary, is_true, Table, Schema, Trees, has_rowid, Edit, row_at, taken_by, Applies, Compare, Eq, plain, value_cmp-Int, agree, ParentKey, parent_key, Enforced, Reference, NoAction, Has, Work, works, work_for, work_by, deed_for, deed_of, loses, Leads, Writes, ActsOn, AreChildren, is_child_of, Deed, all_map, any_from_none, none_from_any, same_int}, Cascades.{IsIdle, cascade, NeverFollows}, Rows.row_of, StatementLaws.same_value, ListLaws.{any_along, all_passed, has_map, has_none}, ValueLaws.{same_number, number_null}}
 use Rattle.std.proofs.Common.{◌≡◌, ◌⊎◌, ◌&&◌, ◌==◌, not, inl, inr, ℕ, zero, suc, ℤ, List, [], ◌∷◌, ◌++◌, length, map, filter, Bool, true, false, cond, Option, Some, None, IfSome, Ok, refl, sym, ap, subst, ◌∙◌, int_eq, is_eq, IsPermutation, true≢false, flat_map, arith}
-use Rattle.sqlite_value.specs.declared.keys.Order.{Order}
-use Rattle.sqlite_value.specs.Keys.{first_key}
+use Rattle.sqlite_value.specs.{declared.keys.Order.Order, Keys.first_key}
 use Rattle.sqlite_schema.specs.declared.schema.Keys.{Keys}
-use Rattle.sqlite_rules.specs.Action.{pairs}
-use Rattle.sqlite_rules.specs.declared.action.Deed.TheVariants.{Delete}
-use Rattle.sql_schema.specs.Cascades.{IsIdle, cascade, NeverFollows}
-use Rattle.sql_schema.specs.Rows.{row_of}
-use Rattle.sql_schema.specs.StatementLaws.{same_value}
-use Rattle.sql_schema.specs.ListLaws.{any_along, all_passed, has_map, has_none}
-use Rattle.sql_schema.specs.ValueLaws.{same_number, number_null}
+use Rattle.sqlite_rules.specs.{Action.pairs, declared.action.Deed.TheVariants.Delete}
 
 all_front : {X : Type 0} (P : X → Type 0) (xs : List X) (x : X) → AllByRecursion P (xs ++ x ∷ []) → AllByRecursion P xs × P x
 all_front P [] x h = (tt, h.0)

@@ -2,8 +2,7 @@
 use Rattle.sql_schema.specs.Prelude.{list_any, AllByRecursion, Row, Table, Schema, Trees, Reference, NoAction, Has, Work, is_child_of, max_depth}
 use Rattle.std.specs.Prelude.{◌≡◌, nat_lt, true, false, List, [], ℕ}
 use Rattle.sqlite_value.specs.declared.keys.Order.{Order}
-use Rattle.sqlite_rules.specs.Action.{pairs}
-use Rattle.sqlite_rules.specs.declared.action.Deed.TheVariants.{Delete}
+use Rattle.sqlite_rules.specs.{Action.pairs, declared.action.Deed.TheVariants.Delete}
 
 -- no row is a child of a row that goes
 pub record IsIdle (db : Trees) (w : Work) : Type 0 where

@@ -1,7 +1,6 @@
 -- Laws of what the tables store, for the proofs of callers: a value is stored by one kind only.
-use Rattle.sql_schema.specs.Prelude.{option_to_list, Row, Arch, arch_number, role_number, purpose_number, stage_number, order_kind_number, order_stage_number, erase_number, status_number, arch_by_number, role_by_number, purpose_by_number, stage_by_number, order_kind_by_number, order_stage_by_number, erase_by_number, status_by_number, Role, Purpose, Stage, OrderKind, OrderStage, Erase, Status}
+use Rattle.sql_schema.specs.{Prelude.{option_to_list, Row, Arch, arch_number, role_number, purpose_number, stage_number, order_kind_number, order_stage_number, erase_number, status_number, arch_by_number, role_by_number, purpose_by_number, stage_by_number, order_kind_by_number, order_stage_by_number, erase_by_number, status_by_number, Role, Purpose, Stage, OrderKind, OrderStage, Erase, Status}, Columns.truth_number}
 use Rattle.std.proofs.Common.{ℕ, ◌≡◌, Bool, true, false, List, map, slice_get, Option, Some, None, sym, ap, refl, ◌∙◌, ◌↔◌}
-use Rattle.sql_schema.specs.Columns.{truth_number}
 
 pub same_truth : (a b : Bool) → truth_number a ≡ truth_number b → a ≡ b
 same_truth true true e = refl

@@ -1,11 +1,6 @@
 -- The tables of a hall, each described once: the columns of its rows after the rowid, what its statements say, and its place among all. The column of an INTEGER PRIMARY KEY is stored as NULL.
-use Rattle.sql_schema.specs.Prelude.{option_to_list, Null, Text, Blob, Row, Trees, Rows, numbers, texts, pairs, at, pair, arch_number, role_number, purpose_number, stage_number, order_kind_number, order_stage_number, erase_number, status_number, BootImage, Operator, Pool, Member, Live, Machine, Interface, Boot, Order, Receipt, Numbers}
+use Rattle.sql_schema.specs.{Prelude.{option_to_list, Null, Text, Blob, Row, Trees, Rows, numbers, texts, pairs, at, pair, arch_number, role_number, purpose_number, stage_number, order_kind_number, order_stage_number, erase_number, status_number, BootImage, Operator, Pool, Member, Live, Machine, Interface, Boot, Order, Receipt, Numbers}, Columns.{number, truth_number, or_null, joined, HasWords}, HallRows.{Counts, HallRows, Wipe}, Rows.Entry, TableOf.{HallTable, IsNamed, TableOf, named, numbered, of_table, pair_values}, Tables.{hall_table, operators_table, pools_table, members_table, images_table, lives_table, machines_table, interfaces_table, boots_table, orders_table, receipts_table, counts_table, wipes_table}}
 use Rattle.std.specs.Prelude.{◌≡◌, ◌==◌, ℕ, zero, suc, List, [], ◌∷◌, map, drop, Some, cond}
-use Rattle.sql_schema.specs.Columns.{number, truth_number, or_null, joined, HasWords}
-use Rattle.sql_schema.specs.HallRows.{Counts, HallRows, Wipe}
-use Rattle.sql_schema.specs.Rows.{Entry}
-use Rattle.sql_schema.specs.TableOf.{HallTable, IsNamed, TableOf, named, numbered, of_table, pair_values}
-use Rattle.sql_schema.specs.Tables.{hall_table, operators_table, pools_table, members_table, images_table, lives_table, machines_table, interfaces_table, boots_table, orders_table, receipts_table, counts_table, wipes_table}
 
 -- ---- the last numbers
 

@@ -1,9 +1,6 @@
 -- Which hall a connection holds, between calls and inside a transaction, and what a call on it promises.
-use Rattle.sql_schema.specs.Prelude.{Trees, State, Has, Hall}
+use Rattle.sql_schema.specs.{Prelude.{Trees, State, Has, Hall}, Tables.hall_schema, HallRows.HallRows, Spelling.{Spells, SpellHall}}
 use Rattle.std.specs.Prelude.{◌≡◌, List, true, false, IsTrue, Result, IfOk, OnOk, OnErr}
-use Rattle.sql_schema.specs.Tables.{hall_schema}
-use Rattle.sql_schema.specs.HallRows.{HallRows}
-use Rattle.sql_schema.specs.Spelling.{Spells, SpellHall}
 
 -- between calls: the connection is open, its tables spell this hall, and all of it is committed
 pub record IsHeld (s : State) (h : Hall) : Type 0 where

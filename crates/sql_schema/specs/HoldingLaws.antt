@@ -1,14 +1,6 @@
 -- Laws of connections that hold a hall, for the proofs of callers: what goes through a call.
-use Rattle.sql_schema.specs.Prelude.{Error, Row, Query, IsAnswer, overlay, Database, State, HasCleanDisk, IsUnchanged, Survives, Shown, FailsToQuery, CommitsShowing, ExecutesInside, Hall, Command, Returning}
+use Rattle.sql_schema.specs.{Prelude.{Error, Row, Query, IsAnswer, overlay, Database, State, HasCleanDisk, IsUnchanged, Survives, Shown, FailsToQuery, CommitsShowing, ExecutesInside, Hall, Command, Returning}, Statements.{IsBack, IsQueryText, IsReturningText}, WriteLaws.shown_wrote, StatementLaws.{query_refused, shown_same, query_survives}, QueryLaws.shown_answer, Tables.hall_schema, HallRows.HallRows, Spelling.{Spells, SpellHall}, Holding.{Holds, Leaves, IsWithin, IsTableRead}}
 use Rattle.std.proofs.Common.{◌≡◌, ◌⊎◌, inl, inr, ℕ, nat_eq, MatchBool, List, [], ◌∷◌, Ok, Err, Result, IfOk, IfErr, sym, ap, subst, ◌∙◌}
-use Rattle.sql_schema.specs.Statements.{IsBack, IsQueryText, IsReturningText}
-use Rattle.sql_schema.specs.WriteLaws.{shown_wrote}
-use Rattle.sql_schema.specs.StatementLaws.{query_refused, shown_same, query_survives}
-use Rattle.sql_schema.specs.QueryLaws.{shown_answer}
-use Rattle.sql_schema.specs.Tables.{hall_schema}
-use Rattle.sql_schema.specs.HallRows.{HallRows}
-use Rattle.sql_schema.specs.Spelling.{Spells, SpellHall}
-use Rattle.sql_schema.specs.Holding.{Holds, Leaves, IsWithin, IsTableRead}
 
 pub same_held : (old new : State) (h : Hall) → IsUnchanged old new → Holds old h → Holds new h
 same_held old new h same held live =

@@ -1,15 +1,6 @@
 -- Laws of tables that keep rows under rowids, for the proofs of callers: reads by key and of all rows, and writes.
-use Rattle.sql_schema.specs.Prelude.{filter_none, all_of, list_all, AllByRecursion, option_to_list, length-map, length_permutation, IsPermutation-sym, IsPermutation-cons, IsPermutation-trans, Row, cast_row, Table, Schema, Term, col, holds, eval_all, Trees, IsAnswer, Output, Query, page, overlay, Values, Insert, Update, Delete, with_rowid, row_at, Chosen, value_rows, State, Executes, Shown, one_permutation, Key, works, Has, Enforced, insert_by, has_key, delete_where, update_where, map-map, filter-map, ascending-filter, ascending_weaker, IsPermutation-filter, along_permutation, IsKeyedBy-insert_by, IsKeyedBy-delete_where, IsKeyedBy-update_where, Keys, Rows, at, put, gone, rows_where, listed, same_key, key-same, StandUnder}
+use Rattle.sql_schema.specs.{Prelude.{filter_none, all_of, list_all, AllByRecursion, option_to_list, length-map, length_permutation, IsPermutation-sym, IsPermutation-cons, IsPermutation-trans, Row, cast_row, Table, Schema, Term, col, holds, eval_all, Trees, IsAnswer, Output, Query, page, overlay, Values, Insert, Update, Delete, with_rowid, row_at, Chosen, value_rows, State, Executes, Shown, one_permutation, Key, works, Has, Enforced, insert_by, has_key, delete_where, update_where, map-map, filter-map, ascending-filter, ascending_weaker, IsPermutation-filter, along_permutation, IsKeyedBy-insert_by, IsKeyedBy-delete_where, IsKeyedBy-update_where, Keys, Rows, at, put, gone, rows_where, listed, same_key, key-same, StandUnder}, Cascades.{IsIdle, NeverFollows}, ListLaws.{any_order, and_true, IsPermutation-map, insert_by-permutes, map_has}, Queries.{over_table, output_of, IsBefore, from_one}, QueryLaws.{items_by, items_in_order}, Rows.{row_of, uncounted}, Statements.{IsCommandText, IsReturningText, SetsRows, only}, TableLaws.{inserts, deletes_alone, changes, changes_showing}, ListedLaws.{AreRising-listed, listed_at, listed_with_key, listed-put-new, listed-put-there, listed-gone, listed-where, StandUnder-put, StandUnder-gone, StandUnder-where}, TableOf.IsKept}
 use Rattle.std.proofs.Common.{◌≡◌, ◌⊎◌, ◌&&◌, inl, inr, ◌≤◌, ◌/◌, not, ℕ, ℤ, List, [], ◌∷◌, map, filter, length, slice_get, Bool, true, false, cond, Option, Some, None, Ok, Less, true≢false, refl, sym, ap, subst, ◌∙◌, arith, IsPermutation}
-use Rattle.sql_schema.specs.Cascades.{IsIdle, NeverFollows}
-use Rattle.sql_schema.specs.ListLaws.{any_order, and_true, IsPermutation-map, insert_by-permutes, map_has}
-use Rattle.sql_schema.specs.Queries.{over_table, output_of, IsBefore, from_one}
-use Rattle.sql_schema.specs.QueryLaws.{items_by, items_in_order}
-use Rattle.sql_schema.specs.Rows.{row_of, uncounted}
-use Rattle.sql_schema.specs.Statements.{IsCommandText, IsReturningText, SetsRows, only}
-use Rattle.sql_schema.specs.TableLaws.{inserts, deletes_alone, changes, changes_showing}
-use Rattle.sql_schema.specs.ListedLaws.{AreRising-listed, listed_at, listed_with_key, listed-put-new, listed-put-there, listed-gone, listed-where, StandUnder-put, StandUnder-gone, StandUnder-where}
-use Rattle.sql_schema.specs.TableOf.{IsKept}
 
 -- ---- lists
 

@@ -1,7 +1,6 @@
 -- Laws of the list of all rows of a table, for the proofs of callers: what each change of rows makes of the list.
-use Rattle.sql_schema.specs.Prelude.{all_has, has_contained, has_filtered, has_kept, AllByRecursion, IsStrictlySortedBy, option_to_list, match_ordering, ordering_reverse, sorted_head, sorted_tail, IsPermutation-refl, IsPermutation-cons, IsPermutation-trans, IsPermutation-middle, IsAscending, Has, all_unmap, ascending-filter, ascending-map, ascending_weaker, Keys, Rows, at, put, gone, rows_where, listed, same_key, StandUnder, key-same, same-key, other-key, at-put-same, at-put-other, put_cases, gone_found, at-gone-other, where_found, where_kept, Contains-listed, AllByRecursion-listed, IsStrictlySortedBy-listed}
+use Rattle.sql_schema.specs.{Prelude.{all_has, has_contained, has_filtered, has_kept, AllByRecursion, IsStrictlySortedBy, option_to_list, match_ordering, ordering_reverse, sorted_head, sorted_tail, IsPermutation-refl, IsPermutation-cons, IsPermutation-trans, IsPermutation-middle, IsAscending, Has, all_unmap, ascending-filter, ascending-map, ascending_weaker, Keys, Rows, at, put, gone, rows_where, listed, same_key, StandUnder, key-same, same-key, other-key, at-put-same, at-put-other, put_cases, gone_found, at-gone-other, where_found, where_kept, Contains-listed, AllByRecursion-listed, IsStrictlySortedBy-listed}, ListLaws.{has_map, map_has}}
 use Rattle.std.proofs.Common.{◌≡◌, ◌≢◌, ◌⊎◌, not, inl, inr, List, [], ◌∷◌, map, filter, Bool, true, false, cond, Option, Some, None, Ordering, Less, Equal, Greater, refl, sym, ap, ap₂, subst, subst₂, ◌∙◌, true≢false, IsPermutation}
-use Rattle.sql_schema.specs.ListLaws.{has_map, map_has}
 
 -- ---- lists in the order of their keys
 

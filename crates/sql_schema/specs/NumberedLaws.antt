@@ -1,14 +1,8 @@
 -- Laws of tables with an INTEGER PRIMARY KEY, for the proofs of callers: the entries are the rows in the order of their numbers.
-use Rattle.sql_schema.specs.Prelude.{nat_cmp, MatchOrdering, ranked, int_cmp_is, ints, IsPermutation-sym, Binary, binary, is_true, Compare, Eq, value_cmp-Int, same_number, same-key, Row, has_key, map-id, ascending_weaker, any_is_found, Less-from_lt, Rows, at, listed, same_key}
+use Rattle.sql_schema.specs.{Prelude.{nat_cmp, MatchOrdering, ranked, int_cmp_is, ints, IsPermutation-sym, Binary, binary, is_true, Compare, Eq, value_cmp-Int, same_number, same-key, Row, has_key, map-id, ascending_weaker, any_is_found, Less-from_lt, Rows, at, listed, same_key}, Columns.number, TableOf.IsNumbered, Queries.{from_one, rising, IsBefore}, ListLaws.{and_true, has_none}, KeptLaws.has_along, ListedLaws.{AreRising-listed, at_listed, same_lists}}
 use Rattle.std.proofs.Common.{◌≡◌, ◌<◌, ◌<ℤ◌, ℕ, pos, List, Ordering, Less, Equal, Greater, int_cmp, IsPermutation, int_eq, is_eq, false, true, true≢false, Option, Some, None, refl, sym, ap, subst, ◌∙◌, arith, ◌&&◌, ◌==◌, [], ◌∷◌}
-use Rattle.sql_schema.specs.Columns.{number}
-use Rattle.sql_schema.specs.TableOf.{IsNumbered}
-use Rattle.sql_schema.specs.Queries.{from_one, rising, IsBefore}
 use Rattle.sql_schema.specs.ValueLaws as value
-use Rattle.sql_schema.specs.ListLaws.{and_true, has_none}
 use Rattle.hall_types.specs.Rows.{numbers}
-use Rattle.sql_schema.specs.KeptLaws.{has_along}
-use Rattle.sql_schema.specs.ListedLaws.{AreRising-listed, at_listed, same_lists}
 
 -- numbers are compared as integers are
 pub number_order : (a b : ℕ) → int_cmp (pos a) (pos b) ≡ numbers.cmp a b

@@ -1,13 +1,8 @@
 -- The statements that give a new hall its first rows, look at its numbers, and carry over a hall of the first schema: each text, and what it is over the tables of a hall.
-use Rattle.sql_schema.specs.Prelude.{Null, Int, lit, Query, Insert, Values}
-use Rattle.sql_schema.specs.Queries.{parameter, cell, rising, from_one}
-use Rattle.sql_schema.specs.Statements.{IsQueryText, IsCommandText}
+use Rattle.sql_schema.specs.{Prelude.{Null, Int, lit, Query, Insert, Values}, Queries.{parameter, cell, rising, from_one}, Statements.{IsQueryText, IsCommandText}, Tables.hall_schema, declared.{creating.TheConstants.FIND_NUMBERS, opening.TheConstants.{LIST_MACHINES, ADD_WIPE, FIRST_NUMBERS, ADD_OPERATOR, ADD_POOL}}}
 use Rattle.std.proofs.Common.{refl, pos, [], ◌∷◌}
 use Rattle.sqlite_tied.specs.Compute.{everything}
 use Rattle.sqlite.specs.Listing.{understood}
-use Rattle.sql_schema.specs.Tables.{hall_schema}
-use Rattle.sql_schema.specs.declared.creating.TheConstants.{FIND_NUMBERS}
-use Rattle.sql_schema.specs.declared.opening.TheConstants.{LIST_MACHINES, ADD_WIPE, FIRST_NUMBERS, ADD_OPERATOR, ADD_POOL}
 
 -- all machines
 pub list_machines_is : IsQueryText hall_schema LIST_MACHINES.now (from_one 11 [] (cell 0 ∷ cell 2 ∷ cell 3 ∷ cell 4 ∷ cell 5 ∷ cell 6 ∷ cell 7 ∷ cell 8 ∷ cell 9 ∷ cell 10 ∷ cell 11 ∷ cell 12 ∷ cell 13 ∷ cell 14 ∷ cell 15 ∷ []) (rising 0 ∷ []))

@@ -1,11 +1,8 @@
 -- Laws of keys of two parts, for the proofs of callers: which rows `WHERE` of such a key finds.
-use Rattle.sql_schema.specs.Prelude.{list_all, ordering_then, nat_cmp, slice_cmp, texts_ties, bytes_eq, Value, Null, Text, Binary, Row, is_true, holds, Compare, Eq, same_key, pair}
+use Rattle.sql_schema.specs.{Prelude.{list_all, ordering_then, nat_cmp, slice_cmp, texts_ties, bytes_eq, Value, Null, Text, Binary, Row, is_true, holds, Compare, Eq, same_key, pair}, TableOf.{equal_from, pair_values}, ListLaws.and_true, ValueLaws.same_text}
 use Rattle.std.proofs.Common.{◌≡◌, ◌&&◌, ◌++◌, ℕ, List, [], ◌∷◌, false, Ordering, Less, Equal, Greater, is_eq, refl, sym, ap₂, ◌∙◌}
 use Rattle.sqlite.specs.Ops.{binary}
 use Rattle.hall_types.specs.Rows.{pairs}
-use Rattle.sql_schema.specs.TableOf.{equal_from, pair_values}
-use Rattle.sql_schema.specs.ListLaws.{and_true}
-use Rattle.sql_schema.specs.ValueLaws.{same_text}
 
 both_tie : (one other : Ordering) → is_eq (ordering_then one (ordering_then other Equal)) ≡ (is_eq one && is_eq other)
 both_tie Less other = refl

@@ -1,16 +1,8 @@
 -- Laws of the schema of a hall, for the proofs of callers: each text makes its table or index, at its position, and all of them make the schema; what reads the tables is a statement over it; and what a write of a table sets off in the others.
 use Rattle.std.proofs.Common.{refl, ◌++◌, ℕ, List, map, drop, inl, inr, ◌≡◌, [], ◌∷◌, Some}
-use Rattle.sql_schema.specs.Prelude.{AllByRecursion, IsPlain, Table, Term, Key, Query, filter_map, Row, Trees, plain, parent_key, Enforced, works, work_for, all-flat_map}
+use Rattle.sql_schema.specs.{Prelude.{AllByRecursion, IsPlain, Table, Term, Key, Query, filter_map, Row, Trees, plain, parent_key, Enforced, works, work_for, all-flat_map}, Creating.{MakesAll, MakesIndex, MakesTable, Reads, ReadsEach, all_cells}, Described.{operators, pools, members, images, lives, machines, interfaces, boots, orders, receipts, wipes}, Queries.{cell, from_one, rising}, Statements.IsQueryText, Tables.{stage, no_schema, hall_schema, all_tables, hall_table, operators_table, pools_table, members_table, images_table, lives_table, machines_table, interfaces_table, boots_table, orders_table, receipts_table, counts_table, wipes_table, interfaces_index, boots_index, orders_index, belongs_to_machine}, declared.creating.TheConstants.{FIND_BOOT, FIND_IMAGE, FIND_INTERFACE, FIND_LIVE, FIND_MACHINE, FIND_MEMBER, FIND_OPERATOR, FIND_ORDER, FIND_POOL, FIND_RECEIPT, FIND_WIPE, LIST_COUNTS, CREATE_ALL, CREATE_BOOTS, CREATE_COUNTS, CREATE_HALL, CREATE_IMAGES, CREATE_INTERFACES, CREATE_LIVES, CREATE_MACHINES, CREATE_MEMBERS, CREATE_OPERATORS, CREATE_ORDERS, CREATE_POOLS, CREATE_RECEIPTS, CREATE_WIPES, INDEX_BOOTS, INDEX_INTERFACES, INDEX_ORDERS, READ_FIRST, READ_SECOND}, Cascades.{IsIdle, cascade, NeverFollows}, CascadeStepLaws.child_is_idle}
 use Rattle.sqlite_tied.specs.Compute.{everything}
 use Rattle.sqlite.specs.Listing.{understood}
-use Rattle.sql_schema.specs.Creating.{MakesAll, MakesIndex, MakesTable, Reads, ReadsEach, all_cells}
-use Rattle.sql_schema.specs.Described.{operators, pools, members, images, lives, machines, interfaces, boots, orders, receipts, wipes}
-use Rattle.sql_schema.specs.Queries.{cell, from_one, rising}
-use Rattle.sql_schema.specs.Statements.{IsQueryText}
-use Rattle.sql_schema.specs.Tables.{stage, no_schema, hall_schema, all_tables, hall_table, operators_table, pools_table, members_table, images_table, lives_table, machines_table, interfaces_table, boots_table, orders_table, receipts_table, counts_table, wipes_table, interfaces_index, boots_index, orders_index, belongs_to_machine}
-use Rattle.sql_schema.specs.declared.creating.TheConstants.{FIND_BOOT, FIND_IMAGE, FIND_INTERFACE, FIND_LIVE, FIND_MACHINE, FIND_MEMBER, FIND_OPERATOR, FIND_ORDER, FIND_POOL, FIND_RECEIPT, FIND_WIPE, LIST_COUNTS, CREATE_ALL, CREATE_BOOTS, CREATE_COUNTS, CREATE_HALL, CREATE_IMAGES, CREATE_INTERFACES, CREATE_LIVES, CREATE_MACHINES, CREATE_MEMBERS, CREATE_OPERATORS, CREATE_ORDERS, CREATE_POOLS, CREATE_RECEIPTS, CREATE_WIPES, INDEX_BOOTS, INDEX_INTERFACES, INDEX_ORDERS, READ_FIRST, READ_SECOND}
-use Rattle.sql_schema.specs.Cascades.{IsIdle, cascade, NeverFollows}
-use Rattle.sql_schema.specs.CascadeStepLaws.{child_is_idle}
 
 -- ---- the texts that make it
 

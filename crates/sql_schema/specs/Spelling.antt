@@ -1,9 +1,6 @@
 -- Which rows of the tables spell a hall.
-use Rattle.sql_schema.specs.Prelude.{Hall, second, at, how_many, bytes_eq, Trees, Database, IsSound, status_number, Machine}
+use Rattle.sql_schema.specs.{Prelude.{Hall, second, at, how_many, bytes_eq, Trees, Database, IsSound, status_number, Machine}, Described.{TableName, described}, HallRows.{HallRows, Wipe}, Tables.hall_schema}
 use Rattle.std.specs.Prelude.{◌≡◌, ◌==◌, ◌&&◌, ℕ, Bool, List, Option, option_map, option_and_then}
-use Rattle.sql_schema.specs.Described.{TableName, described}
-use Rattle.sql_schema.specs.HallRows.{HallRows, Wipe}
-use Rattle.sql_schema.specs.Tables.{hall_schema}
 
 -- the trees of the tables have these rows
 pub record AreTables (db : Trees) (c : HallRows) : Type 0 where

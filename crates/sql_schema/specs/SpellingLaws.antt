@@ -1,11 +1,6 @@
 -- Laws of the spelling of a hall, for the proofs of callers: one table that changes, while the others stay.
-use Rattle.sql_schema.specs.Prelude.{all-slice_get, AllByRecursion, nat_tests, Row, Database, Table}
+use Rattle.sql_schema.specs.{Prelude.{all-slice_get, AllByRecursion, nat_tests, Row, Database, Table}, Statements.SetsRows, Tables.hall_schema, Described.{TableName, of_last, described, each_stores, with_tree}, HallRows.HallRows, Spelling.Spells}
 use Rattle.std.proofs.Common.{◌≡◌, ◌≢◌, ◌==◌, Bool, true, false, cond, List, Some, slice_get, refl, sym, ap, subst, ◌∙◌, arith}
-use Rattle.sql_schema.specs.Statements.{SetsRows}
-use Rattle.sql_schema.specs.Tables.{hall_schema}
-use Rattle.sql_schema.specs.Described.{TableName, of_last, described, each_stores, with_tree}
-use Rattle.sql_schema.specs.HallRows.{HallRows}
-use Rattle.sql_schema.specs.Spelling.{Spells}
 
 -- each table is in its place of the schema
 there : (t : TableName) → slice_get hall_schema.tables (described t).place ≡ Some (described t).table

@@ -1,8 +1,7 @@
 -- Laws of statements, for the proofs of callers: what a refusal leaves, what a statement whose text is known does, and CREATE.
-use Rattle.sql_schema.specs.Prelude.{cases_Bool, Error, Mode, Row, understood, Table, Schema, Trees, Command, CreateTable, CreateIndex, Database, IsDatabase, Tally, Does, lacks_sequence, created, indexed, next_tree, KeepsRows, table_defined_by, index_defined_by, State, Executes, ExecutesInside, IsUnchanged, IsTooLate, KeepsCommit, shows_rows, FailsToShow, RunsCommand, Runs, Shows, CommitsShowing, Survives, ShowsRows, mode_of, survives_weaker, never_commits, IsPlain, statement_of, runs_as, IsSound, Compiled, Returning, Index}
+use Rattle.sql_schema.specs.{Prelude.{cases_Bool, Error, Mode, Row, understood, Table, Schema, Trees, Command, CreateTable, CreateIndex, Database, IsDatabase, Tally, Does, lacks_sequence, created, indexed, next_tree, KeepsRows, table_defined_by, index_defined_by, State, Executes, ExecutesInside, IsUnchanged, IsTooLate, KeepsCommit, shows_rows, FailsToShow, RunsCommand, Runs, Shows, CommitsShowing, Survives, ShowsRows, mode_of, survives_weaker, never_commits, IsPlain, statement_of, runs_as, IsSound, Compiled, Returning, Index}, Statements.{IsBack, IsCommandText, IsKeptText, MakesDatabase}}
 use Rattle.std.proofs.Common.{◌≡◌, ◌⊎◌, inl, inr, ℕ, List, [], slice_get, true, false, cond, Option, Some, None, Ok, Err, Result, IfOk, IfErr, OnOk, IsTrue, sym, ap, subst, ◌∙◌}
 use Rattle.sqlite.specs.State.{ExecutesIn, FailsToQuery, IsNotRun, Writes as Wrote, Shown}
-use Rattle.sql_schema.specs.Statements.{IsBack, IsCommandText, IsKeptText, MakesDatabase}
 
 -- ---- refusals
 

@@ -1,8 +1,6 @@
 -- Laws of steps inside a transaction, for the proofs of callers: what follows from a step, and one step after another.
-use Rattle.sql_schema.specs.Words.{Row, State, KeepsCommit, Hall, IsWithin, HallRows}
+use Rattle.sql_schema.specs.{Words.{Row, State, KeepsCommit, Hall, IsWithin, HallRows}, Steps.{IsStep, IsWritten, always}, Writing.Makes}
 use Rattle.std.proofs.Common.{◌≡◌, ℕ, List, true, Ok, Err, Result, IfOk, OnOk, IsTrue, refl, ◌∙◌}
-use Rattle.sql_schema.specs.Steps.{IsStep, IsWritten, always}
-use Rattle.sql_schema.specs.Writing.{Makes}
 
 -- of any answer there holds what holds if there is one
 pub of_any : {X E : Type 0} (A : Type 0) (r : Result X E) → OnOk r A → IfOk r (λ _. A)

@@ -1,10 +1,6 @@
 -- A table of a hall: what it stores, and what its statements say.
-use Rattle.sql_schema.specs.Prelude.{next_rowid, Value, Null, Text, Row, Table, Term, lit, Key, IsKeyedBy, Keys, Rows, numbers, listed, StandUnder}
+use Rattle.sql_schema.specs.{Prelude.{next_rowid, Value, Null, Text, Row, Table, Term, lit, Key, IsKeyedBy, Keys, Rows, numbers, listed, StandUnder}, Columns.number, HallRows.HallRows, Queries.{cell, parameter, equals, rising}, Rows.{Entry, row_of, rowid_of, item_of}}
 use Rattle.std.proofs.Common.{refl, ◌≡◌, ℕ, ℤ, zero, suc, pos, List, [], ◌∷◌, map, drop, IsPermutation}
-use Rattle.sql_schema.specs.Columns.{number}
-use Rattle.sql_schema.specs.HallRows.{HallRows}
-use Rattle.sql_schema.specs.Queries.{cell, parameter, equals, rising}
-use Rattle.sql_schema.specs.Rows.{Entry, row_of, rowid_of, item_of}
 
 -- ---- what a table stores
 

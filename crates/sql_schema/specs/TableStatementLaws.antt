@@ -1,10 +1,6 @@
 -- Laws of the statements on a table, for the proofs of callers: what they ask and write.
-use Rattle.sql_schema.specs.Words.{append-nil, list_all, option_to_list, Row, Term, holds, eval_all, Trees, IsAnswer, overlay, cast_row, Values, State, Shown, works, Enforced, Key, Keys, Rows, at, gone, rows_where, listed, same_key, Hall, never_follows, TableOf, kept_row, HallRows, IsWithin, within, shown_within, finds_kept, lists_kept, adds_kept, sets_kept_if, removes_kept, removes_kept_where, output_of, IsBefore, uncounted, AreTables, Spells, and_true, IsCommandText, IsQueryText, IsReturningText, hall_schema}
+use Rattle.sql_schema.specs.{Words.{append-nil, list_all, option_to_list, Row, Term, holds, eval_all, Trees, IsAnswer, overlay, cast_row, Values, State, Shown, works, Enforced, Key, Keys, Rows, at, gone, rows_where, listed, same_key, Hall, never_follows, TableOf, kept_row, HallRows, IsWithin, within, shown_within, finds_kept, lists_kept, adds_kept, sets_kept_if, removes_kept, removes_kept_where, output_of, IsBefore, uncounted, AreTables, Spells, and_true, IsCommandText, IsQueryText, IsReturningText, hall_schema}, Asking.Asks, AskingLaws.asks_by, TableStatements.{IsTable, shows_query, add_command, set_command, remove_command, with_item}, Writing.{Makes, Puts}}
 use Rattle.std.proofs.Common.{◌≡◌, ◌⊎◌, ◌/◌, inl, inr, not, ℕ, List, [], ◌∷◌, ◌++◌, map, filter, length, Bool, true, false, true≢false, ◌&&◌, Option, Some, None, Less, refl, sym, ap, subst, ◌∙◌}
-use Rattle.sql_schema.specs.Asking.{Asks}
-use Rattle.sql_schema.specs.AskingLaws.{asks_by}
-use Rattle.sql_schema.specs.TableStatements.{IsTable, shows_query, add_command, set_command, remove_command, with_item}
-use Rattle.sql_schema.specs.Writing.{Makes, Puts}
 
 module _ {K X E : Type 0} {keys : Keys K} (t : TableOf keys X E) (is : IsTable t) where
   -- a row passes `WHERE` of a key if its key is that one

@@ -1,11 +1,7 @@
 -- Laws of INSERT, UPDATE and DELETE, for the proofs of callers: the edit of a table that they make.
-use Rattle.sql_schema.specs.Prelude.{Null, Mode, Row, understood, Table, Schema, Term, Trees, Values, Command, Insert, Update, Delete, Edit, edit_of, Chosen, Given, ids_of, Program, Returning, Database, value_rows, Answers, Edited, Written, Task, shown, Tally, Does, State, ShowsRows, command_of, statement_of}
+use Rattle.sql_schema.specs.{Prelude.{Null, Mode, Row, understood, Table, Schema, Term, Trees, Values, Command, Insert, Update, Delete, Edit, edit_of, Chosen, Given, ids_of, Program, Returning, Database, value_rows, Answers, Edited, Written, Task, shown, Tally, Does, State, ShowsRows, command_of, statement_of}, Rows.uncounted, Statements.{IsReturningText, returning_of, formats_of}, StatementLaws.{went, same_value}}
 use Rattle.std.proofs.Common.{◌≡◌, ℕ, List, [], ◌∷◌, ◌++◌, ◌/◌, length, slice_get, Option, Some, None, Ok, sym, ap, subst, subst₂, ◌∙◌, append-nil, length-append, arith}
-use Rattle.sqlite.specs.Does.{Shows as ShowsEach}
-use Rattle.sqlite.specs.State.{Shown, Writes}
-use Rattle.sql_schema.specs.Rows.{uncounted}
-use Rattle.sql_schema.specs.Statements.{IsReturningText, returning_of, formats_of}
-use Rattle.sql_schema.specs.StatementLaws.{went, same_value}
+use Rattle.sqlite.specs.{Does.Shows as ShowsEach, State.{Shown, Writes}}
 
 -- ---- the three writes
 

@@ -1,7 +1,6 @@
 //! Kinds in columns, by their numbers.
-ghost use Rattle.sql_schema.specs.Prelude.{column};
+ghost use Rattle.sql_schema.specs.{Prelude.column, Columns.number};
 ghost use Rattle.std.specs.Prelude.{◌≡◌, IfOk};
-ghost use Rattle.sql_schema.specs.Columns.{number};
 
 use crate::values::small_in;
 use hall_types::Numbered;

@@ -18,6 +18,6 @@ pub use reading::{ask_all, ask_first, ask_one};
 pub use table::Table;
 pub use values::{
     digest_in, mac_in, name_in, name_value, number_in, number_value, octets_value, request_key_in,
-    small_in, small_value, stored_number, text_value, token_in, truth_in, truth_value, uuid_in,
+    small_in, small_value, text_value, token_in, truth_in, truth_value, uuid_in,
 };
 pub use writing::{put, write};

@@ -1,7 +1,6 @@
 //! Whether a connection still answers.
-ghost use Rattle.sql_schema.specs.Prelude.{state, HasCleanDisk, IsUnchanged, Survives};
+ghost use Rattle.sql_schema.specs.{Prelude.{state, HasCleanDisk, IsUnchanged, Survives}, Statements.IsBack};
 ghost use Rattle.std.specs.Prelude.{◌⊎◌, IsTrue};
-ghost use Rattle.sql_schema.specs.Statements.{IsBack};
 
 use sqlite::{Alter, Connection};
 

@@ -1,7 +1,6 @@
 //! Reads of rows between calls.
-ghost use Rattle.sql_schema.specs.Words.{option_to_list, state, bound, HasCleanDisk, Hall, IsTableRead};
+ghost use Rattle.sql_schema.specs.{Words.{option_to_list, state, bound, HasCleanDisk, Hall, IsTableRead}, Asking.Asks};
 ghost use Rattle.std.specs.Prelude.{◌≡◌, IfOk, List, Option, map, slice_get};
-ghost use Rattle.sql_schema.specs.Asking.{Asks};
 
 use crate::table::Table;
 use sqlite::types::ValueRef;

@@ -1,7 +1,6 @@
 //! Values of columns: what is outside a column's range is an error.
-ghost use Rattle.sql_schema.specs.Prelude.{Int, Text, Blob, column, owned};
+ghost use Rattle.sql_schema.specs.{Prelude.{Int, Text, Blob, column, owned}, Columns.{number, truth_number}};
 ghost use Rattle.std.specs.Prelude.{◌≡◌, ◌<◌, ◌^◌, pos, IfOk};
-ghost use Rattle.sql_schema.specs.Columns.{number, truth_number};
 
 use hall_types::{Digest, MacAddress, MachineUuid, Name, Number, RequestKey, Token};
 use sqlite::types::{Type, ValueRef};
@@ -101,14 +100,6 @@ pub fn request_key_in(row: &Row, at: usize) -> Result<RequestKey, Error>
 {
     let octets = octets_in(row, at)?;
     Ok(RequestKey::from(octets))
-}
-
-/// A number as a column has it.
-pub fn stored_number(number: u64) -> i64
-    requires { number < 2 ^ 63 }
-    ensures { result ≡ pos number }
-{
-    number as i64
 }
 
 /// A number as a parameter.

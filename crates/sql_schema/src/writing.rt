@@ -1,8 +1,6 @@
 //! Writes of rows inside a transaction.
-ghost use Rattle.sql_schema.specs.Words.{state, bound, HasCleanDisk, Survives, Hall, IsWithin, HallRows};
+ghost use Rattle.sql_schema.specs.{Words.{state, bound, HasCleanDisk, Survives, Hall, IsWithin, HallRows}, Steps.{IsStep, IsWritten, always}, Writing.{Makes, Puts}};
 ghost use Rattle.std.specs.Prelude.{◌≡◌, MatchBool, List, ℕ};
-ghost use Rattle.sql_schema.specs.Steps.{IsStep, IsWritten, always};
-ghost use Rattle.sql_schema.specs.Writing.{Makes, Puts};
 
 use sqlite::types::ValueRef;
 use sqlite::{Alter, Error, Transaction};

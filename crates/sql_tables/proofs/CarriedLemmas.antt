@@ -1,7 +1,6 @@
 -- The tables that were carried over spell the hall that the old one becomes.
 use Rattle.sql_schema.specs.Words.{ascending-map, filter-map, map-map, IsPermutation-map, has_map, map_has, of_machines, SpellHall, Spells, is_in, wipe_of, length-map, Row, Table, Trees, Database, Has, Hall, second, StandUnder, AllByRecursion, list_any, option_to_list, how_many-listed, Rows, at, how_many, listed, no_rows, numbers, put, same_key, at-no_rows, at-put-other, at-put-same, key-same, same-key, Full, Machine, Wipe, machine_columns, AreRising-listed, at_listed, listed_at, listed_with_key, same_lists, row_of, sets, SetsRows, hall_schema, IsNumbered}
-use Rattle.std.proofs.Common.{subst₂, IsPermutation, ◌≡◌, ◌≢◌, ℕ, List, [], ◌∷◌, length, map, filter, Bool, true, false, Option, Some, None, Less, true≢false, refl, sym, ap, subst, ◌∙◌, option_map, if◌then◌else◌, ◌&&◌, ◌||◌}
-use Rattle.std.specs.Prelude.{option_and_then}
+use Rattle.std.{proofs.Common.{subst₂, IsPermutation, ◌≡◌, ◌≢◌, ℕ, List, [], ◌∷◌, length, map, filter, Bool, true, false, Option, Some, None, Less, true≢false, refl, sym, ap, subst, ◌∙◌, option_map, if◌then◌else◌, ◌&&◌, ◌||◌}, specs.Prelude.option_and_then}
 use Rattle.sql_tables.specs.Migrating.{IsCarriedOver, carried_rows, is_erasing, kind_put, kinds_put, with_full}
 
 -- ---- the machines

@@ -1,15 +1,11 @@
 -- What each statement of the transaction makes of the tables that are carried over.
-use Rattle.sql_schema.specs.Words.{all-slice_get, machines, wipes, HallRows, lists_kept, adds_kept, rises, number_is_free, sets, TableName, described, of_last, of_machines, of_wipes, Spells, numbers, listed, put, Null, Int, Database, Row, column, lit, op2, Binary, State, Shown, Compare, Eq, filter_all, all_of, Hall, erase_number, Full, Machine, Numbers, Status, status_number, never_follows, same_status, Wipe, number, machine_columns, machine_values, wipe_columns, and_true, add_wipe_is, list_machines_is, cell, rising, shown_answer, makes_table, shown_same, IsCommandText, changes, hall_schema, hall_table, wipes_table, Table}
-use Rattle.sql_tables.specs.Migrating.{is_first, carried_rows, IsFirst, as_second, first_schema, is_erasing, set_schema_command, set_schema_text, with_kind_of, with_kinds_of}
-use Rattle.sql_tables.proofs.MakingLemmas.{rest_stays, kinds_stay, hall_named}
+use Rattle.sql_schema.specs.{Words.{all-slice_get, machines, wipes, HallRows, lists_kept, adds_kept, rises, number_is_free, sets, TableName, described, of_last, of_machines, of_wipes, Spells, numbers, listed, put, Null, Int, Database, Row, column, lit, op2, Binary, State, Shown, Compare, Eq, filter_all, all_of, Hall, erase_number, Full, Machine, Numbers, Status, status_number, never_follows, same_status, Wipe, number, machine_columns, machine_values, wipe_columns, and_true, add_wipe_is, list_machines_is, cell, rising, shown_answer, makes_table, shown_same, IsCommandText, changes, hall_schema, hall_table, wipes_table, Table}, declared.{creating.TheConstants.CREATE_WIPES, opening.TheConstants.{ADD_WIPE, LIST_MACHINES}}}
+use Rattle.sql_tables.{specs.{Migrating.{is_first, carried_rows, IsFirst, as_second, first_schema, is_erasing, set_schema_command, set_schema_text, with_kind_of, with_kinds_of}, Running.IsRun}, proofs.MakingLemmas.{rest_stays, kinds_stay, hall_named}}
 use Rattle.std.proofs.Common.{slice_get, ◌≡◌, ℕ, pos, List, [], ◌∷◌, map, Bool, true, refl, sym, ap, subst, ◌∙◌, arith, Some, if◌then◌else◌}
 use Rattle.sqlite.specs.Listing.{understood}
 use Rattle.sqlite_tied.specs.Compute.{everything}
 use Rattle.sql_schema.specs.SchemaLaws as law
 use Rattle.sql_schema.specs.ValueLaws as value
-use Rattle.sql_tables.specs.Running.{IsRun}
-use Rattle.sql_schema.specs.declared.creating.TheConstants.{CREATE_WIPES}
-use Rattle.sql_schema.specs.declared.opening.TheConstants.{ADD_WIPE, LIST_MACHINES}
 
 -- ---- the tables of the second schema
 

@@ -1,23 +1,11 @@
 -- Looks at the tables of a file, inside a transaction that is undone.
-use Rattle.sql_schema.specs.Words.{AllByRecursion, Null, Int, Error, SqlInputError, Row, Database, reads_listing, Schema, State, IsUnchanged, store_error, Outlines, IsPlain, Command, Compiled, CompileError, Returning, append-nil, cell, column, command_of, items_in_order}
+use Rattle.sql_schema.specs.{Words.{AllByRecursion, Null, Int, Error, SqlInputError, Row, Database, reads_listing, Schema, State, IsUnchanged, store_error, Outlines, IsPlain, Command, Compiled, CompileError, Returning, append-nil, cell, column, command_of, items_in_order}, Steps.IsStep, StepLaws.fails, declared.creating.TheConstants.FIND_NUMBERS}
 use Rattle.std.proofs.Common.{◌≡◌, ◌≢◌, inl, inr, ℕ, ℤ, pos, List, [], ◌∷◌, Ok, Err, Result, Option, None, Bool, true, false, true≢false, refl, sym, ap, subst, ◌∙◌, ◌↔◌, if◌then◌else◌}
-use Rattle.sqlite_resolve.specs.Compile.{compiled}
-use Rattle.sqlite_resolve.specs.Lowering.{Checked, and_then}
-use Rattle.sqlite_resolve.specs.declared.error.CompileError.TheVariants.{NoSuchTable}
+use Rattle.sqlite_resolve.specs.{Compile.compiled, Lowering.{Checked, and_then}, declared.error.CompileError.TheVariants.NoSuchTable}
 use Rattle.sqlite_tied.specs.Compute.{everything}
-use Rattle.sqlite.specs.Effect.{Reads}
-use Rattle.sqlite.specs.Listing.{IsSourceOf, if_select, listing_schema, misses_table, understood}
+use Rattle.sqlite.specs.{Effect.Reads, Listing.{IsSourceOf, if_select, listing_schema, misses_table, understood}, State.{FailsToQuery, IsNotRun, Shown}}
 use Rattle.sqlite_trees.specs.declared.error.StoreError.TheVariants as fault
-use Rattle.sqlite.specs.State.{FailsToQuery, IsNotRun, Shown}
-use Rattle.sql_schema.specs.Steps.{IsStep}
-use Rattle.sql_schema.specs.StepLaws.{fails}
-use Rattle.sql_tables.specs.declared.fault.OpenFault.{OpenFault}
-use Rattle.sql_tables.specs.declared.fault.OpenFault.TheVariants.{NotAHall, OtherVersion, Unavailable}
-use Rattle.sql_tables.specs.declared.looking.Wanted.{Wanted}
-use Rattle.sql_tables.specs.declared.looking.Wanted.TheVariants.{First, Second}
-use Rattle.sql_schema.specs.declared.creating.TheConstants.{FIND_NUMBERS}
-use Rattle.sql_tables.specs.Opening.{AreFound, AreUnderstood, HasTables, IsAnswerFor, IsAnswerOf, IsFoundBy, IsOneRow, IsSchemaRow, IsUnderstood, IsVersionOf, NamesSchema, SaysSchema, ShowsRows, first_rows, has_indexes, if_indexed, second_rows, wanted_number, wanted_rows}
-use Rattle.sql_tables.proofs.TransactionLemmas.{asked}
+use Rattle.sql_tables.{specs.{declared.{fault.OpenFault.{OpenFault, TheVariants.{NotAHall, OtherVersion, Unavailable}}, looking.Wanted.{Wanted, TheVariants.{First, Second}}}, Opening.{AreFound, AreUnderstood, HasTables, IsAnswerFor, IsAnswerOf, IsFoundBy, IsOneRow, IsSchemaRow, IsUnderstood, IsVersionOf, NamesSchema, SaysSchema, ShowsRows, first_rows, has_indexes, if_indexed, second_rows, wanted_number, wanted_rows}}, proofs.TransactionLemmas.asked}
 
 -- ---- whether texts are understood
 

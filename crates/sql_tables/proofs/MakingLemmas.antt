@@ -1,12 +1,8 @@
 -- What each statement of a new hall makes of the tables.
-use Rattle.sql_schema.specs.Words.{hall_schema, hall_table, operators_table, pools_table, AllByRecursion, IsPermutation-refl, Null, Int, Text, Row, KeepsRows, next_tree, Database, Schema, Table, lit, Trees, State, Keys, numbers, texts, at, put, no_rows, listed, pairs, at-no_rows, none_size, none_pass, length-listed, Hall, default_pool, new_hall, second, IsSound, Admin, Numbers, Operator, Pool, makes_table, makes_index, MakesOne, inserts, add_operator_is, add_pool_is, first_numbers_is, CountRow, operator_columns, pool_columns, numbers_row, number, IsKept, HallRows, pools, operators, adds_kept, sets, at_table, option_to_list, in_rows, Spells, SpellHall, is_in, wipe_of, TableName, described, count_key, of_last, of_operators, of_pools, of_images, of_counts, of_wipes}
-use Rattle.std.proofs.Common.{inl, inr, true, ◌≡◌, ◌≢◌, ◌++◌, ℕ, pos, List, [], ◌∷◌, length, map, None, Some, refl, sym, ap, subst, ◌∙◌, arith, IsPermutation, ℤ}
-use Rattle.std.specs.Prelude.{option_and_then}
+use Rattle.sql_schema.specs.{Words.{hall_schema, hall_table, operators_table, pools_table, AllByRecursion, IsPermutation-refl, Null, Int, Text, Row, KeepsRows, next_tree, Database, Schema, Table, lit, Trees, State, Keys, numbers, texts, at, put, no_rows, listed, pairs, at-no_rows, none_size, none_pass, length-listed, Hall, default_pool, new_hall, second, IsSound, Admin, Numbers, Operator, Pool, makes_table, makes_index, MakesOne, inserts, add_operator_is, add_pool_is, first_numbers_is, CountRow, operator_columns, pool_columns, numbers_row, number, IsKept, HallRows, pools, operators, adds_kept, sets, at_table, option_to_list, in_rows, Spells, SpellHall, is_in, wipe_of, TableName, described, count_key, of_last, of_operators, of_pools, of_images, of_counts, of_wipes}, declared.opening.TheConstants.{ADD_OPERATOR, ADD_POOL, FIRST_NUMBERS}}
+use Rattle.std.{proofs.Common.{inl, inr, true, ◌≡◌, ◌≢◌, ◌++◌, ℕ, pos, List, [], ◌∷◌, length, map, None, Some, refl, sym, ap, subst, ◌∙◌, arith, IsPermutation, ℤ}, specs.Prelude.option_and_then}
 use Rattle.sql_schema.specs.ValueLaws as value
-use Rattle.sql_tables.specs.Creating.{CanMake, HasNoRows, bare_hall, without_kinds}
-use Rattle.sql_tables.specs.Migrating.{AreFirstRows, as_second, is_first}
-use Rattle.sql_tables.specs.Running.{IsRun}
-use Rattle.sql_schema.specs.declared.opening.TheConstants.{ADD_OPERATOR, ADD_POOL, FIRST_NUMBERS}
+use Rattle.sql_tables.specs.{Creating.{CanMake, HasNoRows, bare_hall, without_kinds}, Migrating.{AreFirstRows, as_second, is_first}, Running.IsRun}
 
 -- ---- tables and indexes
 

@@ -1,19 +1,10 @@
 -- What is answered of tables that are to be carried over.
-use Rattle.sql_schema.specs.Words.{AllByRecursion, is_used, Database, State, HasCleanDisk, IsLive, Survives, IsPlain, IsSound, lists_once, Hall, IsHeld, find_numbers_query, SpellHall, IsQueryText}
+use Rattle.sql_schema.specs.{Words.{AllByRecursion, is_used, Database, State, HasCleanDisk, IsLive, Survives, IsPlain, IsSound, lists_once, Hall, IsHeld, find_numbers_query, SpellHall, IsQueryText}, declared.creating.TheConstants.FIND_NUMBERS}
 use Rattle.std.proofs.Common.{◌≡◌, ◌≢◌, inl, inr, pos, true, false, Ok, Err, Result, OnOk, IfErr, IsTrue, refl, sym, ap, subst, ◌∙◌, true≢false, codes}
 use Rattle.sqlite.specs.Listing.{understood}
 use Rattle.sqlite_schema.specs.Names.{same_name}
 use Rattle.sqlite_tied.specs.Compute.{everything}
-use Rattle.sql_tables.specs.Creating.{IsMade, MayLeaveBesides}
-use Rattle.sql_tables.specs.Migrating.{BecomeHall, IsCarriedOver, IsFirst, IsRightMigration, TellsMigrated, SpellFirst, first_schema}
-use Rattle.sql_tables.specs.Opening.{HasAll, IsAnswerFor, IsReady, IsRightAnswer, SaysSchema, first_rows, has_indexes}
-use Rattle.sql_tables.specs.declared.fault.OpenFault.{OpenFault}
-use Rattle.sql_tables.specs.declared.fault.OpenFault.TheVariants.{NotAHall, OtherVersion, Unavailable}
-use Rattle.sql_tables.specs.declared.looking.Wanted.TheVariants.{First}
-use Rattle.sql_tables.specs.declared.migrating.Migrated.{Migrated}
-use Rattle.sql_tables.proofs.LookLemmas.{all_compiled, one_schema}
-use Rattle.sql_tables.proofs.OpenLemmas.{has_second, says_second}
-use Rattle.sql_schema.specs.declared.creating.TheConstants.{FIND_NUMBERS}
+use Rattle.sql_tables.{specs.{Creating.{IsMade, MayLeaveBesides}, Migrating.{BecomeHall, IsCarriedOver, IsFirst, IsRightMigration, TellsMigrated, SpellFirst, first_schema}, Opening.{HasAll, IsAnswerFor, IsReady, IsRightAnswer, SaysSchema, first_rows, has_indexes}, declared.{fault.OpenFault.{OpenFault, TheVariants.{NotAHall, OtherVersion, Unavailable}}, looking.Wanted.TheVariants.First, migrating.Migrated.Migrated}}, proofs.{LookLemmas.{all_compiled, one_schema}, OpenLemmas.{has_second, says_second}}}
 
 -- ---- a hall of the first schema
 

@@ -1,15 +1,8 @@
 -- From what was looked for to the hall that is held.
-use Rattle.sql_schema.specs.Words.{of_last, SpellHall, Database, State, IsLive, IsSound, lists_once, IsQueryText, Hall, find_numbers_is, find_numbers_query, hall_schema, IsHeld}
-use Rattle.sql_schema.specs.SchemaLaws.{reads_plain}
+use Rattle.sql_schema.specs.{Words.{of_last, SpellHall, Database, State, IsLive, IsSound, lists_once, IsQueryText, Hall, find_numbers_is, find_numbers_query, hall_schema, IsHeld}, SchemaLaws.reads_plain, declared.creating.TheConstants.FIND_NUMBERS}
 use Rattle.sqlite_schema.specs.Names.{same_name}
 use Rattle.std.proofs.Common.{◌≡◌, pos, Ok, Err, Result, IfErr, OnOk, refl, sym, ap, subst, ◌∙◌}
-use Rattle.sql_tables.specs.declared.fault.OpenFault.{OpenFault}
-use Rattle.sql_tables.specs.declared.fault.OpenFault.TheVariants.{NotAHall, OtherVersion, Unavailable}
-use Rattle.sql_tables.specs.declared.looking.Wanted.{Wanted}
-use Rattle.sql_tables.specs.declared.looking.Wanted.TheVariants.{Second}
-use Rattle.sql_tables.specs.Opening.{HasAll, IfSaid, IsAnswerFor, IsReady, SaysSchema, wanted_number, wanted_rows}
-use Rattle.sql_tables.proofs.LookLemmas.{all_compiled, one_schema}
-use Rattle.sql_schema.specs.declared.creating.TheConstants.{FIND_NUMBERS}
+use Rattle.sql_tables.{specs.{declared.{fault.OpenFault.{OpenFault, TheVariants.{NotAHall, OtherVersion, Unavailable}}, looking.Wanted.{Wanted, TheVariants.Second}}, Opening.{HasAll, IfSaid, IsAnswerFor, IsReady, SaysSchema, wanted_number, wanted_rows}}, proofs.LookLemmas.{all_compiled, one_schema}}
 
 -- ---- a hall of the second schema
 

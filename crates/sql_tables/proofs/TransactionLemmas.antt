@@ -1,11 +1,8 @@
 -- Statements inside a transaction, and how the transaction ends.
-use Rattle.sql_schema.specs.Words.{cases_Bool, at_drop_more, drop_all, Error, Row, Database, State, FailsToQuery, HasCleanDisk, IsTooLate, IsRolledBack, Shown, Survives, Held, state, survives_then, Trees, Hall, SpellHall, hall_schema, IsHeld, Leaves, query_keeps, query_mode}
+use Rattle.sql_schema.specs.{Words.{cases_Bool, at_drop_more, drop_all, Error, Row, Database, State, FailsToQuery, HasCleanDisk, IsTooLate, IsRolledBack, Shown, Survives, Held, state, survives_then, Trees, Hall, SpellHall, hall_schema, IsHeld, Leaves, query_keeps, query_mode}, Steps.IsStep, StepLaws.next}
 use Rattle.std.proofs.Common.{◌≡◌, ◌<◌, ◌≤◌, ◌+◌, ◌⊎◌, inl, inr, ℕ, List, [], ◌∷◌, length, drop, get_or, true, false, Ok, Err, Result, IfOk, IfErr, OnOk, OnErr, IsTrue, refl, sym, ap, subst, ◌∙◌, arith}
 use Rattle.sqlite_trees.specs.declared.store.Store as store
-use Rattle.sql_schema.specs.Steps.{IsStep}
-use Rattle.sql_schema.specs.StepLaws.{next}
-use Rattle.sql_tables.specs.Creating.{IsFlat, IsMade, KeepsTables}
-use Rattle.sql_tables.specs.Running.{IsEnded}
+use Rattle.sql_tables.specs.{Creating.{IsFlat, IsMade, KeepsTables}, Running.IsEnded}
 
 -- a step further
 pub on_ok : {X E : Type 0} (P Q : Type 0) (r : Result X E) → OnOk r P → (P → Q) → OnOk r Q

@@ -3,4 +3,3 @@ pub mod Migrating
 pub mod Opening
 pub mod OpeningLaws
 pub mod Running
-pub mod Probe

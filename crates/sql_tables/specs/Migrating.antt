@@ -2,13 +2,7 @@
 -- table for it.
 use Rattle.sql_schema.specs.Words.{TableName, of_last, of_wipes, described, SpellHall, Null, Int, is_used, Binary, Command, Update, Database, Row, Schema, lit, op2, Trees, IsSound, Compare, Eq, Hall, first, second, Rows, numbers, at, put, listed, Full, Machine, Numbers, Status, DiskErasing, FailedDiskErasing, Wipe, number, cell, from_one, HallRows, only, stage}
 use Rattle.std.specs.Prelude.{Bool, true, false, ◌≡◌, ◌⊎◌, ℕ, pos, List, [], ◌∷◌, Some, None, option_map, ⊤, Result, Ok, Err, codes, if◌then◌else◌}
-use Rattle.sql_tables.specs.Creating.{without_kinds}
-use Rattle.sql_tables.specs.Opening.{IsAnswerFor}
-use Rattle.sql_tables.specs.declared.looking.Wanted.TheVariants.{First, Second}
-use Rattle.sql_tables.specs.declared.fault.OpenFault.{OpenFault}
-use Rattle.sql_tables.specs.declared.fault.OpenFault.TheVariants.{NotAHall, OtherVersion, Unavailable}
-use Rattle.sql_tables.specs.declared.migrating.Migrated.{Migrated}
-use Rattle.sql_tables.specs.declared.migrating.Migrated.TheVariants.{Already, Now}
+use Rattle.sql_tables.specs.{Creating.without_kinds, Opening.IsAnswerFor, declared.{looking.Wanted.TheVariants.{First, Second}, fault.OpenFault.{OpenFault, TheVariants.{NotAHall, OtherVersion, Unavailable}}, migrating.Migrated.{Migrated, TheVariants.{Already, Now}}}}
 
 -- ---- the first schema
 

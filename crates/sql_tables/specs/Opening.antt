@@ -1,14 +1,9 @@
 -- What is asked of a file before its hall is used, and what each refusal says.
-use Rattle.sql_schema.specs.Words.{AllByRecursion, Null, Int, Database, understood, Row, Schema, State, Compiled, Index, IsQueryText, column, find_numbers_query, list_all}
-use Rattle.sql_schema.specs.Tables.{boots_index, interfaces_index, orders_index}
+use Rattle.sql_schema.specs.{Words.{AllByRecursion, Null, Int, Database, understood, Row, Schema, State, Compiled, Index, IsQueryText, column, find_numbers_query, list_all}, Tables.{boots_index, interfaces_index, orders_index}, declared.creating.TheConstants.{FIND_NUMBERS, READ_FIRST, READ_SECOND}}
 use Rattle.sqlite_schema.specs.Names.{index_named}
 use Rattle.std.specs.Prelude.{◌≡◌, ◌≢◌, ℕ, ℤ, pos, Bool, true, false, if◌then◌else◌, List, [], ◌∷◌, ◌++◌, map, is_some, ⊤, Result, Ok, Err, IsTrue}
 use Rattle.sqlite.specs.Effect.{Reads}
-use Rattle.sql_tables.specs.declared.fault.OpenFault.{OpenFault}
-use Rattle.sql_tables.specs.declared.fault.OpenFault.TheVariants.{NotAHall, OtherVersion, Unavailable}
-use Rattle.sql_tables.specs.declared.looking.Wanted.{Wanted}
-use Rattle.sql_tables.specs.declared.looking.Wanted.TheVariants.{First, Second}
-use Rattle.sql_schema.specs.declared.creating.TheConstants.{FIND_NUMBERS, READ_FIRST, READ_SECOND}
+use Rattle.sql_tables.specs.declared.{fault.OpenFault.{OpenFault, TheVariants.{NotAHall, OtherVersion, Unavailable}}, looking.Wanted.{Wanted, TheVariants.{First, Second}}}
 
 -- ---- the tables of a schema
 

@@ -1,13 +1,7 @@
 -- A file whose table `hall` names no schema: it's answered that it is no hall's, or that it can't be said.
 use Rattle.sql_schema.specs.Words.{Database}
 use Rattle.std.proofs.Common.{◌≡◌, ◌⊎◌, inl, inr, pos, Ok, Err, Result, refl}
-use Rattle.sql_tables.specs.declared.fault.OpenFault.{OpenFault}
-use Rattle.sql_tables.specs.declared.fault.OpenFault.TheVariants.{NotAHall, OtherVersion, Unavailable}
-use Rattle.sql_tables.specs.declared.looking.Wanted.{Wanted}
-use Rattle.sql_tables.specs.declared.migrating.Migrated.{Migrated}
-use Rattle.sql_tables.specs.declared.migrating.Migrated.TheVariants.{Already, Now}
-use Rattle.sql_tables.specs.Migrating.{IsRightMigration, TellsMigrated}
-use Rattle.sql_tables.specs.Opening.{IsAnswerFor, NamesNoSchema, wanted_number}
+use Rattle.sql_tables.specs.{declared.{fault.OpenFault.{OpenFault, TheVariants.{NotAHall, OtherVersion, Unavailable}}, looking.Wanted.Wanted, migrating.Migrated.{Migrated, TheVariants.{Already, Now}}}, Migrating.{IsRightMigration, TellsMigrated}, Opening.{IsAnswerFor, NamesNoSchema, wanted_number}}
 
 pub no_hall : (wanted : Wanted) (db : Database) (r : Result (Unit {0}) OpenFault) → IsAnswerFor wanted db r → NamesNoSchema db → (r ≡ Err NotAHall) ⊎ (r ≡ Err Unavailable)
 no_hall wanted db (Ok done) answer none = absurd (none (wanted_number wanted) answer.told.0)

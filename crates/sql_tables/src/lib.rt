@@ -7,11 +7,9 @@ mod looking;
 mod making;
 mod migrating;
 mod opening;
-mod probe;
 mod running;
 
 pub use creating::create_tables;
 pub use fault::{CreateFault, OpenFault};
 pub use migrating::{Migrated, migrate_tables};
 pub use opening::look_at_tables;
-pub use probe::{migrate_like, open_like};

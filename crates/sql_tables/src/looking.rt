@@ -1,7 +1,6 @@
 //! What is asked of a file's tables, inside a transaction that writes nothing.
-ghost use Rattle.sql_schema.specs.Words.{state, HasCleanDisk, Survives};
+ghost use Rattle.sql_schema.specs.{Words.{state, HasCleanDisk, Survives}, Steps.IsStep};
 ghost use Rattle.std.specs.Prelude.{◌≡◌, ◌≢◌, ⊤, ℤ, Err, IfOk, IfErr, map};
-ghost use Rattle.sql_schema.specs.Steps.{IsStep};
 ghost use Rattle.sql_tables.specs.Opening.{AreFound, HasTables, IsAnswerOf, IsFoundBy, IsOneRow, IsSchemaRow, IsVersionOf, NamesSchema, SaysSchema, wanted_number, wanted_rows};
 
 use crate::fault::OpenFault;

@@ -1,7 +1,6 @@
 //! The statements that make a new hall, inside a transaction.
-ghost use Rattle.sql_schema.specs.Words.{state, Schema, HasCleanDisk, Survives, new_hall, second, hall_schema, no_schema, Spells};
+ghost use Rattle.sql_schema.specs.{Words.{state, Schema, HasCleanDisk, Survives, new_hall, second, hall_schema, no_schema, Spells}, Steps.IsStep};
 ghost use Rattle.std.specs.Prelude.{◌≡◌, map};
-ghost use Rattle.sql_schema.specs.Steps.{IsStep};
 ghost use Rattle.sql_tables.specs.Creating.{CanMake, HasNoRows, without_kinds};
 
 use crate::running::run;

@@ -1,10 +1,7 @@
 //! The tables of a hall of the first schema are carried over to the second, in one transaction.
-ghost use Rattle.sql_schema.specs.Words.{is_used, state, HasCleanDisk, IsLive, Survives, Hall, Machine, machine_values, IsHeld, Leaves, HallRows, Spells};
-ghost use Rattle.sql_tables.specs.Opening.{NamesNoSchema};
+ghost use Rattle.sql_schema.specs.{Words.{is_used, state, HasCleanDisk, IsLive, Survives, Hall, Machine, machine_values, IsHeld, Leaves, HallRows, Spells}, Steps.IsStep};
+ghost use Rattle.sql_tables.specs.{Opening.NamesNoSchema, Creating.{IsMade, KeepsTables, MayLeaveBesides}, Migrating.{BecomeHall, IsCarriedOver, IsFirst, IsRightMigration, carried_rows, is_erasing, with_kind_of, with_kinds_of}};
 ghost use Rattle.std.specs.Prelude.{◌≡◌, ◌≢◌, ◌⊎◌, Err, IfErr, IfOk, IsTrue, List, Ok, OnErr, OnOk, [], ◌∷◌, codes, false, map, true};
-ghost use Rattle.sql_schema.specs.Steps.{IsStep};
-ghost use Rattle.sql_tables.specs.Creating.{IsMade, KeepsTables, MayLeaveBesides};
-ghost use Rattle.sql_tables.specs.Migrating.{BecomeHall, IsCarriedOver, IsFirst, IsRightMigration, carried_rows, is_erasing, with_kind_of, with_kinds_of};
 
 use crate::creating::is_used;
 use crate::fault::OpenFault;

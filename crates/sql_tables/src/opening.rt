@@ -2,8 +2,7 @@
 ghost use Rattle.sql_schema.specs.Words.{state, HasCleanDisk, IsLive, Survives, Hall, IsHeld, Leaves, SpellHall, list_all};
 ghost use Rattle.sqlite_schema.specs.Names.{index_named};
 ghost use Rattle.std.specs.Prelude.{◌≡◌, ◌⊎◌, Err, IfErr, IsTrue, OnOk, false, is_some, [], ◌∷◌};
-ghost use Rattle.sql_tables.specs.Creating.{KeepsTables};
-ghost use Rattle.sql_tables.specs.Opening.{IfSaid, IsAnswerFor, IsReady, IsRightAnswer, NamesNoSchema, has_indexes, if_indexed};
+ghost use Rattle.sql_tables.specs.{Creating.KeepsTables, Opening.{IfSaid, IsAnswerFor, IsReady, IsRightAnswer, NamesNoSchema, has_indexes, if_indexed}};
 
 use crate::fault::OpenFault;
 use crate::looking::{Wanted, look};

@@ -1,7 +1,6 @@
 //! Statements inside a transaction, and how it ends.
-ghost use Rattle.sql_schema.specs.Words.{state, HasCleanDisk, Shown, Survives, bound};
+ghost use Rattle.sql_schema.specs.{Words.{state, HasCleanDisk, Shown, Survives, bound}, Steps.IsStep};
 ghost use Rattle.std.specs.Prelude.{◌≡◌, [], IfErr, Ok};
-ghost use Rattle.sql_schema.specs.Steps.{IsStep};
 ghost use Rattle.sql_tables.specs.Running.{IsEnded, IsRun};
 
 use sqlite::types::ValueRef;

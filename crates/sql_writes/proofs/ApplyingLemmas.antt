@@ -1,12 +1,9 @@
 -- A transaction that writes the rows of a change.
 use Rattle.sql_schema.specs.Words.{Error, Database, Held, state, FailsToCommit, State, HasCleanDisk, IsRolledBack, Survives, Shows, KeepsCommit, KeepsCounts, survives_then, survives_begin, Hall, applied, written, RowWrite, IsHeld, Holds, Leaves, leaves_on, leaves_more, SpellHall}
-use Rattle.std.specs.Prelude.{IsErr}
-use Rattle.std.proofs.Common.{◌≡◌, inl, inr, List, [], ◌∷◌, true, false, Ok, Err, Result, OnOk, IfErr, IsTrue, refl, sym, ap, subst, ◌∙◌, arith, true≢false}
+use Rattle.std.{specs.Prelude.IsErr, proofs.Common.{◌≡◌, inl, inr, List, [], ◌∷◌, true, false, Ok, Err, Result, OnOk, IfErr, IsTrue, refl, sym, ap, subst, ◌∙◌, arith, true≢false}}
 use Rattle.sqlite_trees.specs.declared.store.Store as trees
-use Rattle.hall_store.specs.Rules.{AllKeep}
-use Rattle.hall_store.specs.Versions.{HaveVersions}
-use Rattle.sql_writes.specs.Within.{IsWithinHall, IsRowWritten}
-use Rattle.sql_writes.specs.Applying.{IsTold}
+use Rattle.hall_store.specs.{Rules.AllKeep, Versions.HaveVersions}
+use Rattle.sql_writes.specs.{Within.{IsWithinHall, IsRowWritten}, Applying.IsTold}
 
 still : (s : State) → Survives s s (λ _. ⊥)
 still s = record { clean = omega arith; shield = λ h. h; counts = omega arith; limit = refl; closes = λ _ live. inl live; crash = λ _ db may. inl may }

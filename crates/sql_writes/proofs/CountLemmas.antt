@@ -1,10 +1,8 @@
 -- The counts of machines, after one is put or goes.
 use Rattle.sql_schema.specs.Words.{bytes_eq, Decides-and, Decides-eqb, Decides-like, same_from_decides, bytes_eq-Decides, Rows, numbers, at, put, gone, one_if, how_many, at-gone-same, how_many-put, how_many-gone, how_many-new, status_number, Machine, Counts, is_in}
 use Rattle.std.proofs.Common.{◌≡◌, ◌&&◌, ◌==◌, ◌+◌, ◌-◌, ℕ, Bool, true, false, if◌then◌else◌, List, Some, None, refl, sym, ap, ap₂, subst, ◌∙◌, arith, Decides}
-use Rattle.sql_items.specs.Counts.{counting}
-use Rattle.sql_items.specs.WipeLaws.{put-gone}
-use Rattle.sql_writes.specs.Machines.{group_of}
-use Rattle.sql_writes.specs.declared.groups.Group.{Group}
+use Rattle.sql_items.specs.{Counts.counting, WipeLaws.put-gone}
+use Rattle.sql_writes.specs.{Machines.group_of, declared.groups.Group.Group}
 
 -- the counts are those of these machines
 abbrev pub AreCounted : Counts → Rows numbers Machine → Type 0

@@ -1,16 +1,9 @@
 -- A machine's row, read and put.
-use Rattle.sql_schema.specs.Words.{equal_keys, finds_kept, machines, Counts, HallRows, numbers, at, put, of_machines, AreRowsOf, Spells, SpellHall, option_to_list, Database, Error, Text, Row, column, State, Shown, Hall, status_number, Machine, number, machine_columns, machine_values, same_status, IsWithin, equals, shown_answer, query_keeps, query_mode, shown_same, hall_schema, find_machine_is}
+use Rattle.sql_schema.specs.{Words.{equal_keys, finds_kept, machines, Counts, HallRows, numbers, at, put, of_machines, AreRowsOf, Spells, SpellHall, option_to_list, Database, Error, Text, Row, column, State, Shown, Hall, status_number, Machine, number, machine_columns, machine_values, same_status, IsWithin, equals, shown_answer, query_keeps, query_mode, shown_same, hall_schema, find_machine_is}, declared.creating.TheConstants.FIND_MACHINE, Steps.IsStep}
 use Rattle.std.proofs.Common.{◌≡◌, ℕ, List, [], ◌∷◌, Option, Some, None, Ok, option_map, map, refl, sym, ap, ap₂, subst, ◌∙◌}
 use Rattle.hall_store.specs.Versions.{version_of}
-use Rattle.sql_schema.specs.declared.creating.TheConstants.{FIND_MACHINE}
-use Rattle.sql_schema.specs.Steps.{IsStep}
-use Rattle.sql_items.specs.Machines.{HasVersion, with_machine}
-use Rattle.sql_items.specs.Wipes.{with_wipe}
-use Rattle.sql_items.specs.WipeLaws.{wipes_put}
-use Rattle.sql_writes.specs.Machines.{group_of, with_row}
-use Rattle.sql_writes.specs.Within.{IsWithinHall}
-use Rattle.sql_writes.specs.declared.groups.Group.{Group}
-use Rattle.sql_writes.proofs.CountLemmas.{AreCounted}
+use Rattle.sql_items.specs.{Machines.{HasVersion, with_machine}, Wipes.with_wipe, WipeLaws.wipes_put}
+use Rattle.sql_writes.{specs.{Machines.{group_of, with_row}, Within.IsWithinHall, declared.groups.Group.Group}, proofs.CountLemmas.AreCounted}
 
 -- a read of a machine's row
 pub finds_machine : (old new : State) (id : ℕ) (rows : List Row) → Shown FIND_MACHINE.now (number id ∷ []) old new rows

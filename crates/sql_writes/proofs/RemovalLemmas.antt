@@ -1,11 +1,8 @@
 -- The rows of a machine that goes.
 use Rattle.sql_schema.specs.Words.{of_boots, of_interfaces, of_orders, of_wipes, AreRowsOf, not-true, State, Keys, Rows, numbers, gone, rows_where, where_found, gone_found, other-key, same_number, StandUnder, Hall, without_machine, Boot, Interface, Order, Wipe, IsWithin, listed_at, Counts, HallRows}
 use Rattle.std.proofs.Common.{◌==◌, not, ℕ, sym, ap, ◌∙◌}
-use Rattle.sql_items.specs.Machines.{NonePointTo, HasNoChild}
-use Rattle.sql_items.specs.WipeLaws.{wipes_gone}
-use Rattle.sql_writes.specs.Machines.{childless, without_rows}
-use Rattle.sql_writes.specs.Within.{IsWithinHall}
-use Rattle.sql_writes.proofs.CountLemmas.{AreCounted}
+use Rattle.sql_items.specs.{Machines.{NonePointTo, HasNoChild}, WipeLaws.wipes_gone}
+use Rattle.sql_writes.{specs.{Machines.{childless, without_rows}, Within.IsWithinHall}, proofs.CountLemmas.AreCounted}
 
 -- none of the rows that are left points to the machine
 none_where : {K X : Type 0} {keys : Keys K} (key_of : X → K) (machine_of : X → ℕ) (rows : Rows keys X) (id : ℕ) → StandUnder key_of (rows_where (λ x. not (machine_of x == id)) rows)

@@ -1,11 +1,7 @@
 -- A row write that leaves the machines as they are.
-use Rattle.sql_schema.specs.Words.{State, HasCleanDisk, Rows, numbers, at, how_many, Hall, written, RowWrite, Machine, HallRows, is_in, wipe_of}
-use Rattle.std.proofs.Common.{◌≡◌, Result, sym, ap, subst, ◌∙◌}
-use Rattle.std.specs.Prelude.{option_and_then}
-use Rattle.hall_store.specs.Rules.{Keeps}
-use Rattle.hall_store.specs.Versions.{HasVersion}
-use Rattle.sql_schema.specs.Steps.{IsWritten}
-use Rattle.sql_schema.specs.StepLaws.{gives}
+use Rattle.sql_schema.specs.{Words.{State, HasCleanDisk, Rows, numbers, at, how_many, Hall, written, RowWrite, Machine, HallRows, is_in, wipe_of}, Steps.IsWritten, StepLaws.gives}
+use Rattle.std.{proofs.Common.{◌≡◌, Result, sym, ap, subst, ◌∙◌}, specs.Prelude.option_and_then}
+use Rattle.hall_store.specs.{Rules.Keeps, Versions.HasVersion}
 use Rattle.sql_writes.specs.Within.{IsRowWritten}
 
 -- a table's write is the write of a row: the rows are the hall with the row, its counts and its kinds of erasing stay

@@ -1,8 +1,7 @@
 -- What a write of all rows of a change promises.
 use Rattle.sql_schema.specs.Words.{State, Hall, applied, RowWrite, IsHeld, Holds, Leaves}
 use Rattle.std.specs.Prelude.{List, ◌∷◌, Result, OnOk, OnErr}
-use Rattle.hall_store.specs.Rules.{AllKeep}
-use Rattle.hall_store.specs.Versions.{HaveVersions}
+use Rattle.hall_store.specs.{Rules.AllKeep, Versions.HaveVersions}
 
 -- between calls: all rows are written over the versions that they expect and committed, or none is
 pub record IsTold (old new : State) {Y E : Type 0} (r : Result Y E) (rows : List RowWrite) : Type 0 where

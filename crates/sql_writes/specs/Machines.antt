@@ -1,12 +1,7 @@
 -- What the statements of one machine's write make of the rows.
 use Rattle.sql_schema.specs.Words.{Hall, put, status_number, Machine, HallRows}
 use Rattle.std.specs.Prelude.{◌+◌, ◌-◌, ℕ, None}
-use Rattle.sql_items.specs.Boots.{without_boots}
-use Rattle.sql_items.specs.Counts.{with_count}
-use Rattle.sql_items.specs.Interfaces.{without_interfaces}
-use Rattle.sql_items.specs.Machines.{without_row}
-use Rattle.sql_items.specs.Orders.{without_orders}
-use Rattle.sql_items.specs.Wipes.{with_wipe}
+use Rattle.sql_items.specs.{Boots.without_boots, Counts.with_count, Interfaces.without_interfaces, Machines.without_row, Orders.without_orders, Wipes.with_wipe}
 use Rattle.sql_writes.specs.declared.groups.Group.{Group}
 
 -- where a machine is counted

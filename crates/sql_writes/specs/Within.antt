@@ -1,9 +1,7 @@
 -- Which hall a transaction has, while its rows are written, and what the write of a row makes of it.
-use Rattle.sql_schema.specs.Words.{State, Hall, written, RowWrite, IsWithin, HallRows, AreRowsOf}
+use Rattle.sql_schema.specs.{Words.{State, Hall, written, RowWrite, IsWithin, HallRows, AreRowsOf}, Steps.IsStep}
 use Rattle.std.specs.Prelude.{Result}
-use Rattle.hall_store.specs.Rules.{Keeps}
-use Rattle.hall_store.specs.Versions.{HasVersion}
-use Rattle.sql_schema.specs.Steps.{IsStep}
+use Rattle.hall_store.specs.{Rules.Keeps, Versions.HasVersion}
 
 -- inside a transaction: the hall as the transaction sees it, with its counts and its kinds of erasing, over the hall that was there before it
 pub record IsWithinHall (s : State) (before h : Hall) : Type 0 where

@@ -1,9 +1,7 @@
 //! Where a machine is counted, and its count.
-ghost use Rattle.sql_schema.specs.Words.{option_to_list, state, HasCleanDisk, Survives, Hall, at, Machine, machine_values, IsWithin, HallRows};
+ghost use Rattle.sql_schema.specs.{Words.{option_to_list, state, HasCleanDisk, Survives, Hall, at, Machine, machine_values, IsWithin, HallRows}, Steps.IsStep};
 ghost use Rattle.std.specs.Prelude.{◌≡◌, ◌⊎◌, IfOk, map, option_map, Option};
-ghost use Rattle.sql_schema.specs.Steps.{IsStep};
-ghost use Rattle.sql_writes.specs.Machines.{counted_in, counted_out, group_of};
-ghost use Rattle.sql_writes.specs.Within.{IsWithinHall};
+ghost use Rattle.sql_writes.specs.{Machines.{counted_in, counted_out, group_of}, Within.IsWithinHall};
 
 use hall_types::{Machine, Name, Number, Status};
 use sql_items::{count_down, count_up};

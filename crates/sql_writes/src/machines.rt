@@ -1,10 +1,8 @@
 //! A machine's row, with its count and its kind of erasing: three tables, written in turn.
-ghost use Rattle.sql_schema.specs.Words.{state, HasCleanDisk, Survives, Hall, at};
+ghost use Rattle.sql_schema.specs.{Words.{state, HasCleanDisk, Survives, Hall, at}, Steps.IsStep};
 ghost use Rattle.std.specs.Prelude.{◌≡◌, ◌<◌, ◌^◌, IfSome, OnOk, None, Some};
 ghost use Rattle.hall_store.specs.Versions.{version_of};
-ghost use Rattle.sql_schema.specs.Steps.{IsStep};
-ghost use Rattle.sql_writes.specs.Machines.{with_row};
-ghost use Rattle.sql_writes.specs.Within.{IsWithinHall};
+ghost use Rattle.sql_writes.specs.{Machines.with_row, Within.IsWithinHall};
 
 use crate::groups::{find_group, move_count};
 use hall_types::{Machine, Version};

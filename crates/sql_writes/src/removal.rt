@@ -1,9 +1,7 @@
 //! A machine that goes: its interfaces, boots, orders and kind of erasing first, then its row and its count.
-ghost use Rattle.sql_schema.specs.Words.{state, HasCleanDisk, Survives, Hall, without_machine};
+ghost use Rattle.sql_schema.specs.{Words.{state, HasCleanDisk, Survives, Hall, without_machine}, Steps.{IsStep, IsWritten, always}};
 ghost use Rattle.std.specs.Prelude.{◌≡◌};
-ghost use Rattle.sql_schema.specs.Steps.{IsStep, IsWritten, always};
-ghost use Rattle.sql_writes.specs.Machines.{without_rows};
-ghost use Rattle.sql_writes.specs.Within.{IsWithinHall};
+ghost use Rattle.sql_writes.specs.{Machines.without_rows, Within.IsWithinHall};
 
 use crate::groups::find_group;
 use hall_types::Number;

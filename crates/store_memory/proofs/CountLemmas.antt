@@ -1,31 +1,8 @@
 -- Counts of machines, as they are kept and as they are listed.
-use Rattle.std.proofs.Common.{◌≡◌, ◌≤◌, ◌<◌, ◌+◌, ◌==◌, ◌&&◌, ◌^◌, ℕ, List, [], ◌∷◌, map, length, filter, Option, Some, Bool, true, false, not, cond, if◌then◌else◌, Ordering, Less, Equal, Greater, is_eq, All, refl, sym, ap, subst, arith, ◌∙◌}
-use Rattle.std.specs.BTreeMap.{BTreeMap, IsOrdered, Updates, btree_map_len, get, is_at, values}
-use Rattle.std.specs.Cmp.{eq_by_cmp_equiv, nat_cmp_total}
-use Rattle.std.specs.Cmp.Lexicographic.{nat_list_cmp_total, texts_ties}
-use Rattle.std.specs.List.{AllByRecursion}
-use Rattle.std.specs.List.Sorted.{IsStrictlySortedBy}
-use Rattle.std.specs.Map.{keys_of, lookup}
-use Rattle.std.specs.Ordering.{eq_by_cmp, nat_cmp, ordering_then}
-use Rattle.std.specs.Str.{bytes_eq}
-use Rattle.std.proofs.lemmas.Bool.{and_parts}
-use Rattle.std.proofs.lemmas.Bool.Decides.{nat_tests}
-use Rattle.std.proofs.lemmas.List.Elements.{recursion_from_All}
-use Rattle.std.proofs.lemmas.List.Filters.{length-filter_both}
-use Rattle.std.proofs.lemmas.Slice.Eq.{bytes_eq-Decides}
-use Rattle.hall_types.specs.Hall.{Hall}
-use Rattle.hall_types.specs.ListLaws.{how_many-listed}
-use Rattle.hall_types.specs.Rows.{listed, numbers}
-use Rattle.hall_types.specs.RowLaws.{same_number}
-use Rattle.hall_types.specs.Status.{status_number}
-use Rattle.hall_types.specs.declared.machine.Machine.{Machine}
-use Rattle.hall_types.specs.declared.status.Status.{Status}
-use Rattle.hall_store.specs.Counts.{AreCounts, count_cmp, counted, is_about, is_in}
-use Rattle.hall_store.specs.declared.count.Count.{Count}
-use Rattle.store_memory.specs.Counted.{AreEntries, CountsMore, counted_in, key_cmp, machines_in, many}
-use Rattle.store_memory.specs.Held.{text_cmp}
-use Rattle.store_memory.specs.Table.{rows_of}
-use Rattle.store_memory.proofs.HeldLemmas.{rows_few}
+use Rattle.std.{proofs.{Common.{◌≡◌, ◌≤◌, ◌<◌, ◌+◌, ◌==◌, ◌&&◌, ◌^◌, ℕ, List, [], ◌∷◌, map, length, filter, Option, Some, Bool, true, false, not, cond, if◌then◌else◌, Ordering, Less, Equal, Greater, is_eq, All, refl, sym, ap, subst, arith, ◌∙◌}, lemmas.{Bool.{and_parts, Decides.nat_tests}, List.{Elements.recursion_from_All, Filters.length-filter_both}, Slice.Eq.bytes_eq-Decides}}, specs.{BTreeMap.{BTreeMap, IsOrdered, Updates, btree_map_len, get, is_at, values}, Cmp.{eq_by_cmp_equiv, nat_cmp_total, Lexicographic.{nat_list_cmp_total, texts_ties}}, List.{AllByRecursion, Sorted.IsStrictlySortedBy}, Map.{keys_of, lookup}, Ordering.{eq_by_cmp, nat_cmp, ordering_then}, Str.bytes_eq}}
+use Rattle.hall_types.specs.{Hall.Hall, ListLaws.how_many-listed, Rows.{listed, numbers}, RowLaws.same_number, Status.status_number, declared.{machine.Machine.Machine, status.Status.Status}}
+use Rattle.hall_store.specs.{Counts.{AreCounts, count_cmp, counted, is_about, is_in}, declared.count.Count.Count}
+use Rattle.store_memory.{specs.{Counted.{AreEntries, CountsMore, counted_in, key_cmp, machines_in, many}, Held.text_cmp, Table.rows_of}, proofs.HeldLemmas.rows_few}
 
 both_tie : (a b : Ordering) → is_eq (ordering_then a b) ≡ (is_eq a && is_eq b)
 both_tie Less b = refl

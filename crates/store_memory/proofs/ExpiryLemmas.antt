@@ -1,19 +1,7 @@
 -- Which machine expires next, found among all of them.
-use Rattle.std.specs.Prelude.{◌≡◌, ◌≤◌, ◌<◌, ℕ, Bool, true, false, List, [], ◌∷◌, Option, Some, None, All, filter, unwrap_or, if◌then◌else◌}
-use Rattle.std.specs.List.{AllByRecursion}
-use Rattle.std.proofs.Common.{refl, arith, ◌∙◌, ap, sym, subst}
-use Rattle.std.proofs.lemmas.Bool.{both_ways}
-use Rattle.std.proofs.lemmas.Bool.Decides.{nat_tests}
-use Rattle.std.proofs.lemmas.List.Elements.{All-contains, All-from_recursion}
-use Rattle.hall_types.specs.Rows.{at, listed}
-use Rattle.hall_types.specs.Hall.{Hall}
-use Rattle.hall_types.specs.Keyed.{StandUnder}
-use Rattle.hall_types.specs.ListLaws.{AllByRecursion-listed, Contains-listed}
-use Rattle.hall_types.specs.Lookup.{has_come, is_before, is_due, next_expired, sooner, soonest, if_due}
-use Rattle.hall_types.specs.LookupLaws.{is_before-asym, is_before-trans, is_before-itself}
-use Rattle.hall_types.specs.declared.machine.Machine.{Machine}
-use Rattle.store_memory.specs.Expiry.{joined}
-use Rattle.store_memory.specs.Held.{IsEarliest}
+use Rattle.std.{specs.{Prelude.{◌≡◌, ◌≤◌, ◌<◌, ℕ, Bool, true, false, List, [], ◌∷◌, Option, Some, None, All, filter, unwrap_or, if◌then◌else◌}, List.AllByRecursion}, proofs.{Common.{refl, arith, ◌∙◌, ap, sym, subst}, lemmas.{Bool.{both_ways, Decides.nat_tests}, List.Elements.{All-contains, All-from_recursion}}}}
+use Rattle.hall_types.specs.{Rows.{at, listed}, Hall.Hall, Keyed.StandUnder, ListLaws.{AllByRecursion-listed, Contains-listed}, Lookup.{has_come, is_before, is_due, next_expired, sooner, soonest, if_due}, LookupLaws.{is_before-asym, is_before-trans, is_before-itself}, declared.machine.Machine.Machine}
+use Rattle.store_memory.specs.{Expiry.joined, Held.IsEarliest}
 
 -- if the second is before the first and the third before the second, the third is before the first
 before_before : (a b c : Option ℕ) → is_before b a ≡ true → is_before c b ≡ true → is_before c a ≡ true

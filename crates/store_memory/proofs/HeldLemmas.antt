@@ -1,36 +1,8 @@
 -- What a store has after one of its parts was changed.
-use Rattle.std.specs.Prelude.{◌≡◌, ◌≢◌, ◌<◌, ◌≤◌, ◌+◌, ◌-◌, ◌^◌, ◌==◌, ◌⊎◌, ℕ, List, [], ◌∷◌, length, map, filter_map, Option, Some, None, is_some}
-use Rattle.std.proofs.Common.{rules, sym, ap, ◌∙◌, inl, inr, arith}
-use Rattle.std.specs.List.{cons_option}
-use Rattle.std.specs.BTreeMap.{BTreeMap, IsOrdered, btree_map_len}
-use Rattle.std.specs.Ordering.{nat_cmp}
-use Rattle.std.specs.Str.{bytes_eq}
-use Rattle.hall_types.specs.Hall.{Hall, written}
-use Rattle.hall_types.specs.Image.{BootImage}
-use Rattle.hall_types.specs.Keyed.{IsKeyed}
-use Rattle.hall_types.specs.Kinds.{arch_number}
-use Rattle.hall_types.specs.ListLaws.{length-listed}
-use Rattle.hall_types.specs.Rows.{at, gone, one_if, put, size}
-use Rattle.hall_types.specs.RowLaws.{gone_found, put_cases, size-gone, size-put}
-use Rattle.hall_types.specs.declared.boot.Boot.{Boot}
-use Rattle.hall_types.specs.declared.change.RowWrite.{RowWrite}
-use Rattle.hall_types.specs.declared.change.RowWrite.TheVariants.{PutOperator, PutPool, PutMember, PutImage, ImageGone, PutLive, PutMachine, MachineGone, PutInterface, InterfaceGone, PutBoot, PutOrder, PutReceipt, PutNumbers}
-use Rattle.hall_types.specs.declared.image.Live.{Live}
-use Rattle.hall_types.specs.declared.machine.Interface.{Interface}
-use Rattle.hall_types.specs.declared.machine.Machine.{Machine}
-use Rattle.hall_types.specs.declared.number.Numbers.{Numbers}
-use Rattle.hall_types.specs.declared.operator.Member.{Member}
-use Rattle.hall_types.specs.declared.operator.Operator.{Operator}
-use Rattle.hall_types.specs.declared.operator.Pool.{Pool}
-use Rattle.hall_types.specs.declared.order.Order.{Order}
-use Rattle.hall_types.specs.declared.receipt.Receipt.{Receipt}
+use Rattle.std.{specs.{Prelude.{◌≡◌, ◌≢◌, ◌<◌, ◌≤◌, ◌+◌, ◌-◌, ◌^◌, ◌==◌, ◌⊎◌, ℕ, List, [], ◌∷◌, length, map, filter_map, Option, Some, None, is_some}, List.cons_option, BTreeMap.{BTreeMap, IsOrdered, btree_map_len}, Ordering.nat_cmp, Str.bytes_eq}, proofs.Common.{rules, sym, ap, ◌∙◌, inl, inr, arith}}
+use Rattle.hall_types.specs.{Hall.{Hall, written}, Image.BootImage, Keyed.IsKeyed, Kinds.arch_number, ListLaws.length-listed, Rows.{at, gone, one_if, put, size}, RowLaws.{gone_found, put_cases, size-gone, size-put}, declared.{boot.Boot.Boot, change.RowWrite.{RowWrite, TheVariants.{PutOperator, PutPool, PutMember, PutImage, ImageGone, PutLive, PutMachine, MachineGone, PutInterface, InterfaceGone, PutBoot, PutOrder, PutReceipt, PutNumbers}}, image.Live.Live, machine.{Interface.Interface, Machine.Machine}, number.Numbers.Numbers, operator.{Member.Member, Operator.Operator, Pool.Pool}, order.Order.Order, receipt.Receipt.Receipt}}
 use Rattle.hall_store.specs.Rules.{KeepsMachines}
-use Rattle.store_memory.specs.declared.memory.MemoryStore.{MemoryStore}
-use Rattle.store_memory.specs.Hashed.{ClearsEntries, Hashed, KeepsFound, SetsEntryAt}
-use Rattle.store_memory.specs.Held.{AreFound, IsEarliest, IsHeld, IsIndex, SetsEntry, pair_cmp, text_cmp, uuid_of}
-use Rattle.store_memory.specs.Table.{Clears, KeepsRows, Sets, rows_of}
-use Rattle.store_memory.proofs.IndexLemmas.{index_gone, index_put}
-use Rattle.store_memory.proofs.TableLemmas.{by_hash, by_number, by_pair, by_text, gone_row, numbers_listed, put_row, where_rows}
+use Rattle.store_memory.{specs.{declared.memory.MemoryStore.MemoryStore, Hashed.{ClearsEntries, Hashed, KeepsFound, SetsEntryAt}, Held.{AreFound, IsEarliest, IsHeld, IsIndex, SetsEntry, pair_cmp, text_cmp, uuid_of}, Table.{Clears, KeepsRows, Sets, rows_of}}, proofs.{IndexLemmas.{index_gone, index_put}, TableLemmas.{by_hash, by_number, by_pair, by_text, gone_row, numbers_listed, put_row, where_rows}}}
 
 pub rows_few : {K X : Type 0} (es : List (K × Option X)) → length (filter_map (λ (row : Option X). row) (map (λ (e : K × Option X). e.1) es)) ≤ length es
 rows_few [] = omega arith

@@ -1,18 +1,7 @@
 -- The index of machines by UUID.
-use Rattle.std.proofs.Common.{◌≡◌, ◌≢◌, ◌⊎◌, inl, inr, if◌then◌else◌, Bool, ℕ, List, Option, Some, None, true, false, refl, sym, ap, ◌∙◌}
-use Rattle.std.specs.Prelude.{option_map}
-use Rattle.std.specs.Str.{bytes_eq}
-use Rattle.std.proofs.lemmas.Bool.{both_ways}
-use Rattle.std.proofs.lemmas.Slice.Eq.{bytes_eq-Decides}
-use Rattle.hall_types.specs.Hall.{Hall}
-use Rattle.hall_types.specs.Keyed.{StandUnder}
-use Rattle.hall_types.specs.Lookup.{has_uuid, machine_with_uuid}
-use Rattle.hall_types.specs.LookupLaws.{found_listed, none_listed}
-use Rattle.hall_types.specs.Rows.{at, gone, put}
-use Rattle.hall_types.specs.RowLaws.{at-gone-other, at-put-other, at-put-same, gone_found, put_cases}
-use Rattle.hall_types.specs.declared.machine.Machine.{Machine}
-use Rattle.store_memory.specs.Hashed.{Hashed, entry_at}
-use Rattle.store_memory.specs.Held.{IsIndex, SetsEntry, uuid_of}
+use Rattle.std.{proofs.{Common.{◌≡◌, ◌≢◌, ◌⊎◌, inl, inr, if◌then◌else◌, Bool, ℕ, List, Option, Some, None, true, false, refl, sym, ap, ◌∙◌}, lemmas.{Bool.both_ways, Slice.Eq.bytes_eq-Decides}}, specs.{Prelude.option_map, Str.bytes_eq}}
+use Rattle.hall_types.specs.{Hall.Hall, Keyed.StandUnder, Lookup.{has_uuid, machine_with_uuid}, LookupLaws.{found_listed, none_listed}, Rows.{at, gone, put}, RowLaws.{at-gone-other, at-put-other, at-put-same, gone_found, put_cases}, declared.machine.Machine.Machine}
+use Rattle.store_memory.specs.{Hashed.{Hashed, entry_at}, Held.{IsIndex, SetsEntry, uuid_of}}
 
 -- a UUID that is found is recorded
 pub has_recorded : (its : Option (List ℕ)) (uuid : List ℕ) → has_uuid its uuid ≡ true → its ≡ Some uuid

@@ -1,18 +1,7 @@
 -- What a store has of no machines and no interfaces.
-use Rattle.std.proofs.Common.{◌≡◌, ℕ, List, Some, refl, sym, ap, ◌∙◌}
-use Rattle.std.specs.HashMap.{IsEmpty}
-use Rattle.std.specs.FinMap.{len-empty}
-use Rattle.std.specs.Map.{lookup}
-use Rattle.std.specs.Ordering.{nat_cmp}
-use Rattle.std.specs.Str.{bytes_eq}
-use Rattle.std.proofs.lemmas.Option.{none-some}
-use Rattle.hall_types.specs.Rows.{at, no_rows, numbers, size, texts}
-use Rattle.hall_types.specs.RowLaws.{at-no_rows}
-use Rattle.hall_types.specs.declared.machine.Interface.{Interface}
-use Rattle.hall_types.specs.declared.machine.Machine.{Machine}
-use Rattle.store_memory.specs.Hashed.{Hashed}
-use Rattle.store_memory.specs.Held.{AreFound, IsEarliest, IsIndex}
-use Rattle.store_memory.specs.Table.{row_in}
+use Rattle.std.{proofs.{Common.{◌≡◌, ℕ, List, Some, refl, sym, ap, ◌∙◌}, lemmas.Option.none-some}, specs.{HashMap.IsEmpty, FinMap.len-empty, Map.lookup, Ordering.nat_cmp, Str.bytes_eq}}
+use Rattle.hall_types.specs.{Rows.{at, no_rows, numbers, size, texts}, RowLaws.at-no_rows, declared.machine.{Interface.Interface, Machine.Machine}}
+use Rattle.store_memory.specs.{Hashed.Hashed, Held.{AreFound, IsEarliest, IsIndex}, Table.row_in}
 
 no_machine : (id : ℕ) (m : Machine) → at (no_rows {K = ℕ} {X = Machine} {keys = numbers}) id ≡ Some m → ⊥
 no_machine id m there = none-some m (sym (at-no_rows numbers id no_rows refl) ∙ there)

@@ -1,20 +1,7 @@
 -- The slots that a store keeps after one of its parts was changed.
-use Rattle.std.specs.Prelude.{ℕ, List, [], ◌∷◌, ◌++◌, Option}
-use Rattle.std.specs.BTreeMap.{BTreeMap}
-use Rattle.std.specs.Ordering.{nat_cmp}
-use Rattle.std.specs.Str.{bytes_eq}
-use Rattle.hall_types.specs.declared.boot.Boot.{Boot}
-use Rattle.hall_types.specs.declared.change.RowWrite.{RowWrite}
-use Rattle.hall_types.specs.declared.change.RowWrite.TheVariants.{PutMember, PutMachine, PutInterface, PutBoot, PutOrder, PutReceipt}
-use Rattle.hall_types.specs.declared.machine.Interface.{Interface}
-use Rattle.hall_types.specs.declared.machine.Machine.{Machine}
-use Rattle.hall_types.specs.declared.operator.Member.{Member}
-use Rattle.hall_types.specs.declared.order.Order.{Order}
-use Rattle.hall_types.specs.declared.receipt.Receipt.{Receipt}
-use Rattle.store_memory.specs.declared.memory.MemoryStore.{MemoryStore}
-use Rattle.store_memory.specs.Held.{HasSlots, HaveAllSlots, KeepsAllSlots, pair_cmp, text_cmp}
-use Rattle.store_memory.specs.Hashed.{Hashed, KeepsEntries}
-use Rattle.store_memory.specs.Table.{KeepsSlots}
+use Rattle.std.specs.{Prelude.{ℕ, List, [], ◌∷◌, ◌++◌, Option}, BTreeMap.BTreeMap, Ordering.nat_cmp, Str.bytes_eq}
+use Rattle.hall_types.specs.declared.{boot.Boot.Boot, change.RowWrite.{RowWrite, TheVariants.{PutMember, PutMachine, PutInterface, PutBoot, PutOrder, PutReceipt}}, machine.{Interface.Interface, Machine.Machine}, operator.Member.Member, order.Order.Order, receipt.Receipt.Receipt}
+use Rattle.store_memory.specs.{declared.memory.MemoryStore.MemoryStore, Held.{HasSlots, HaveAllSlots, KeepsAllSlots, pair_cmp, text_cmp}, Hashed.{Hashed, KeepsEntries}, Table.KeepsSlots}
 
 module _ (s : MemoryStore) where
   pub slots_members : (table : BTreeMap (List ℕ × List ℕ) (Option Member)) → KeepsSlots pair_cmp s.members table → KeepsAllSlots s (record s { members = table })

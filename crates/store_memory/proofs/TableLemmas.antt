@@ -1,23 +1,8 @@
 -- Tables and the rows of a hall: what is found in both after each change.
-use Rattle.std.proofs.Common.{◌≡◌, ◌&&◌, ℕ, List, [], ◌∷◌, map, Option, Some, None, Bool, true, false, not, refl, sym, ap, subst, ◌∙◌, Ordering, Less, Equal, Greater, is_eq, if◌then◌else◌, filter_map, IsSome, is_some, option_map}
-use Rattle.std.specs.BTreeMap.{BTreeMap, IsEmpty, IsOrdered}
-use Rattle.std.specs.Cmp.{IsTotalOrder, eq_by_cmp_equiv}
-use Rattle.std.specs.Cmp.Lexicographic.{nat_list_cmp_total, texts_ties}
-use Rattle.std.specs.Cmp.{nat_cmp_total}
+use Rattle.std.{proofs.{Common.{◌≡◌, ◌&&◌, ℕ, List, [], ◌∷◌, map, Option, Some, None, Bool, true, false, not, refl, sym, ap, subst, ◌∙◌, Ordering, Less, Equal, Greater, is_eq, if◌then◌else◌, filter_map, IsSome, is_some, option_map}, Math.Dec.T}, specs.{BTreeMap.{BTreeMap, IsEmpty, IsOrdered}, Cmp.{IsTotalOrder, eq_by_cmp_equiv, Lexicographic.{nat_list_cmp_total, texts_ties}, nat_cmp_total}, FinMap.{find, is_sorted, entries_sorted, get-entries, Entries.{same_entries, below_all}}, List.{AllByRecursion, cons_option, Sorted.IsStrictlySortedBy}, Map.{lookup, keys_of, Calls.RetainsPairs}, Ordering.{nat_cmp, eq_by_cmp, is_lt, ordering_reverse, ordering_then}, Str.bytes_eq}}
 use Rattle.std.specs.FinMap as map_of
-use Rattle.std.specs.FinMap.{find, is_sorted, entries_sorted, get-entries}
-use Rattle.std.specs.FinMap.Entries.{same_entries, below_all}
-use Rattle.std.specs.List.{AllByRecursion, cons_option}
-use Rattle.std.specs.List.Sorted.{IsStrictlySortedBy}
-use Rattle.std.specs.Map.{lookup, keys_of}
-use Rattle.std.specs.Map.Calls.{RetainsPairs}
-use Rattle.std.specs.Ordering.{nat_cmp, eq_by_cmp, is_lt, ordering_reverse, ordering_then}
-use Rattle.std.specs.Str.{bytes_eq}
-use Rattle.std.proofs.Math.Dec.{T}
-use Rattle.hall_types.specs.Rows.{Keys, Rows, no_rows, numbers, texts, pairs, at, put, gone, rows_where, listed, passes, same_key}
-use Rattle.hall_types.specs.RowLaws.{at-no_rows, at-put, at-gone, at-rows_where}
-use Rattle.store_memory.specs.Table.{IsTable, row_in, rows_of, unless_gone}
-use Rattle.store_memory.specs.Held.{as_pair, itself, pair_cmp, text_cmp}
+use Rattle.hall_types.specs.{Rows.{Keys, Rows, no_rows, numbers, texts, pairs, at, put, gone, rows_where, listed, passes, same_key}, RowLaws.{at-no_rows, at-put, at-gone, at-rows_where}}
+use Rattle.store_memory.specs.{Table.{IsTable, row_in, rows_of, unless_gone}, Held.{as_pair, itself, pair_cmp, text_cmp}}
 
 -- how keys of a table tie, and which keys of a hall's rows they are: they tie where those do
 pub record KeysOf (K : Type 0) {L : Type 0} (keys : Keys L) : Type 0 where

@@ -1,12 +1,6 @@
 -- The versions of machines after row writes.
-use Rattle.std.proofs.Common.{◌≡◌, ◌≢◌, ◌==◌, ◌<◌, ◌++◌, ◌+◌, ℕ, List, [], ◌∷◌, Option, Some, None, true, false, length, take, drop, get_or, option_map, refl, sym, ap, arith, ◌∙◌}
-use Rattle.std.proofs.lemmas.Bool.Decides.{nat_tests}
-use Rattle.std.proofs.lemmas.Grind.{common_steps}
-use Rattle.hall_types.specs.Hall.{Hall, applied, written}
-use Rattle.hall_types.specs.RowLaws.{at-put-same, at-put-other, at-gone-same, at-gone-other}
-use Rattle.hall_types.specs.declared.change.RowWrite.{RowWrite}
-use Rattle.hall_types.specs.declared.change.RowWrite.TheVariants.{PutMachine, MachineGone}
-use Rattle.hall_types.specs.declared.machine.Machine.{Machine}
+use Rattle.std.proofs.{Common.{◌≡◌, ◌≢◌, ◌==◌, ◌<◌, ◌++◌, ◌+◌, ℕ, List, [], ◌∷◌, Option, Some, None, true, false, length, take, drop, get_or, option_map, refl, sym, ap, arith, ◌∙◌}, lemmas.{Bool.Decides.nat_tests, Grind.common_steps}}
+use Rattle.hall_types.specs.{Hall.{Hall, applied, written}, RowLaws.{at-put-same, at-put-other, at-gone-same, at-gone-other}, declared.{change.RowWrite.{RowWrite, TheVariants.{PutMachine, MachineGone}}, machine.Machine.Machine}}
 use Rattle.hall_store.specs.Versions.{HasVersion, HaveVersions, version_of}
 
 equal : (a b : ℕ) → (a == b) ≡ true → a ≡ b

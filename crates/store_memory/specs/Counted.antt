@@ -1,13 +1,7 @@
 -- How many machines each pool has in each status, as they are counted.
-use Rattle.std.specs.Prelude.{◌≡◌, ◌≤◌, ◌+◌, ℕ, List, Option, Some, None, filter, length}
-use Rattle.std.specs.BTreeMap.{BTreeMap, get}
-use Rattle.std.specs.Ordering.{nat_cmp, ordering_then}
-use Rattle.std.specs.declared.cmp.Ordering.{Ordering}
-use Rattle.hall_types.specs.Status.{status_number}
-use Rattle.hall_types.specs.declared.machine.Machine.{Machine}
-use Rattle.hall_types.specs.declared.status.Status.{Status}
-use Rattle.hall_store.specs.Counts.{is_in}
-use Rattle.hall_store.specs.declared.count.Count.{Count}
+use Rattle.std.specs.{Prelude.{◌≡◌, ◌≤◌, ◌+◌, ℕ, List, Option, Some, None, filter, length}, BTreeMap.{BTreeMap, get}, Ordering.{nat_cmp, ordering_then}, declared.cmp.Ordering.Ordering}
+use Rattle.hall_types.specs.{Status.status_number, declared.{machine.Machine.Machine, status.Status.Status}}
+use Rattle.hall_store.specs.{Counts.is_in, declared.count.Count.Count}
 use Rattle.store_memory.specs.Held.{text_cmp}
 
 -- by the pool's octets, then by the status's number

@@ -1,7 +1,6 @@
 -- The first machine with the least deadline, found in one walk.
 use Rattle.std.specs.Prelude.{Option, Some, None}
-use Rattle.hall_types.specs.Lookup.{sooner}
-use Rattle.hall_types.specs.declared.machine.Machine.{Machine}
+use Rattle.hall_types.specs.{Lookup.sooner, declared.machine.Machine.Machine}
 
 -- the one of what was found so far and what comes after it
 abbrev pub joined : Option Machine → Option Machine → Option Machine

@@ -1,8 +1,5 @@
 -- Tables in memory that are found by a hash of their keys, which may have slots for rows to come.
-use Rattle.std.specs.Prelude.{◌≡◌, Bool, Option, IsSome, if◌then◌else◌}
-use Rattle.std.specs.HashMap.{HashMap, get}
-use Rattle.std.specs.declared.hash.BuildHasherDefault.{BuildHasherDefault}
-use Rattle.std.specs.declared.hash.FoldHasher.{FoldHasher}
+use Rattle.std.specs.{Prelude.{◌≡◌, Bool, Option, IsSome, if◌then◌else◌}, HashMap.{HashMap, get}, declared.hash.{BuildHasherDefault.BuildHasherDefault, FoldHasher.FoldHasher}}
 use Rattle.store_memory.specs.Table.{row_in, unless_gone}
 
 abbrev pub Hashed : Type 0 → Type 0 → Type 0

@@ -1,21 +1,7 @@
 -- Which hall a store in memory has.
-use Rattle.std.specs.Prelude.{◌≡◌, ℕ, ◌≤◌, ◌↔◌, ⊤, List, [], ◌∷◌, Option, Some, None, if◌then◌else◌}
-use Rattle.std.specs.Cmp.Lexicographic.{slice_cmp}
-use Rattle.std.specs.Ordering.{nat_cmp, ordering_then}
-use Rattle.std.specs.Str.{bytes_eq}
-use Rattle.std.specs.declared.cmp.Ordering.{Ordering}
-use Rattle.hall_types.specs.Hall.{Hall, pair, second}
-use Rattle.hall_types.specs.Kinds.{arch_number}
-use Rattle.hall_types.specs.Keyed.{IsKeyed}
-use Rattle.hall_types.specs.Lookup.{has_uuid}
-use Rattle.hall_types.specs.Rows.{Rows, numbers, texts, at, size}
-use Rattle.hall_types.specs.declared.change.RowWrite.{RowWrite}
-use Rattle.hall_types.specs.declared.change.RowWrite.TheVariants.{PutOperator, PutPool, PutMember, PutImage, ImageGone, PutLive, PutMachine, MachineGone, PutInterface, InterfaceGone, PutBoot, PutOrder, PutReceipt, PutNumbers}
-use Rattle.hall_types.specs.declared.machine.Interface.{Interface}
-use Rattle.hall_types.specs.declared.machine.Machine.{Machine}
-use Rattle.store_memory.specs.Hashed.{HasEntry, Hashed, entry_at}
-use Rattle.store_memory.specs.Table.{HasSlot, IsTable}
-use Rattle.store_memory.specs.declared.memory.MemoryStore.{MemoryStore}
+use Rattle.std.specs.{Prelude.{◌≡◌, ℕ, ◌≤◌, ◌↔◌, ⊤, List, [], ◌∷◌, Option, Some, None, if◌then◌else◌}, Cmp.Lexicographic.slice_cmp, Ordering.{nat_cmp, ordering_then}, Str.bytes_eq, declared.cmp.Ordering.Ordering}
+use Rattle.hall_types.specs.{Hall.{Hall, pair, second}, Kinds.arch_number, Keyed.IsKeyed, Lookup.has_uuid, Rows.{Rows, numbers, texts, at, size}, declared.{change.RowWrite.{RowWrite, TheVariants.{PutOperator, PutPool, PutMember, PutImage, ImageGone, PutLive, PutMachine, MachineGone, PutInterface, InterfaceGone, PutBoot, PutOrder, PutReceipt, PutNumbers}}, machine.{Interface.Interface, Machine.Machine}}}
+use Rattle.store_memory.specs.{Hashed.{HasEntry, Hashed, entry_at}, Table.{HasSlot, IsTable}, declared.memory.MemoryStore.MemoryStore}
 
 abbrev pub text_cmp : List ℕ → List ℕ → Ordering
 text_cmp = slice_cmp nat_cmp

@@ -1,8 +1,5 @@
 -- Tables in memory, which may have slots for rows to come.
-use Rattle.std.specs.Prelude.{◌≡◌, Bool, List, Option, Some, None, IsSome, filter_map, if◌then◌else◌}
-use Rattle.std.specs.BTreeMap.{BTreeMap, get, values}
-use Rattle.std.specs.Ordering.{eq_by_cmp}
-use Rattle.std.specs.declared.cmp.Ordering.{Ordering}
+use Rattle.std.specs.{Prelude.{◌≡◌, Bool, List, Option, Some, None, IsSome, filter_map, if◌then◌else◌}, BTreeMap.{BTreeMap, get, values}, Ordering.eq_by_cmp, declared.cmp.Ordering.Ordering}
 use Rattle.hall_types.specs.Rows.{Keys, Rows, at}
 
 -- the row in a slot, if there is a slot and a row in it

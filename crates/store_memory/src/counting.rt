@@ -1,14 +1,8 @@
 //! How many machines each pool has in each status.
-ghost use Rattle.std.specs.Prelude.{◌≡◌, ◌<◌, ◌^◌, [], ◌∷◌, All, Some, IfOk, OnOk, OnErr, List, ℕ};
-ghost use Rattle.std.specs.BTreeMap.{IsOrdered, IsUnchanged, Updates, get, values};
-ghost use Rattle.std.specs.Ordering.{nat_cmp};
-ghost use Rattle.hall_types.specs.Hall.{Hall};
-ghost use Rattle.hall_types.specs.Status.{status_number};
-ghost use Rattle.hall_types.specs.declared.status.Status.{Status};
+ghost use Rattle.std.specs.{Prelude.{◌≡◌, ◌<◌, ◌^◌, [], ◌∷◌, All, Some, IfOk, OnOk, OnErr, List, ℕ}, BTreeMap.{IsOrdered, IsUnchanged, Updates, get, values}, Ordering.nat_cmp};
+ghost use Rattle.hall_types.specs.{Hall.Hall, Status.status_number, declared.status.Status.Status};
 ghost use Rattle.hall_store.specs.Counts.{AreCounts};
-ghost use Rattle.store_memory.specs.Counted.{AreEntries, CountsMore, counted_in, key_cmp, machines_in, many};
-ghost use Rattle.store_memory.specs.Held.{IsHeld};
-ghost use Rattle.store_memory.specs.Table.{rows_of};
+ghost use Rattle.store_memory.specs.{Counted.{AreEntries, CountsMore, counted_in, key_cmp, machines_in, many}, Held.IsHeld, Table.rows_of};
 
 use crate::memory::MemoryStore;
 use hall_store::Count;

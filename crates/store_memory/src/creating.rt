@@ -1,9 +1,7 @@
 //! A new hall in memory.
-ghost use Rattle.std.specs.Prelude.{◌≡◌, Some, None, IfOk, if◌then◌else◌};
-ghost use Rattle.std.specs.Ordering.{eq_by_cmp};
+ghost use Rattle.std.specs.{Prelude.{◌≡◌, Some, None, IfOk, if◌then◌else◌}, Ordering.eq_by_cmp};
 ghost use Rattle.hall_types.specs.Hall.{default_pool, new_hall, second};
-ghost use Rattle.store_memory.specs.Held.{IsHeld};
-ghost use Rattle.store_memory.specs.Table.{HasSole};
+ghost use Rattle.store_memory.specs.{Held.IsHeld, Table.HasSole};
 
 use crate::memory::MemoryStore;
 use crate::table;

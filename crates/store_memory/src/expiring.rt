@@ -1,13 +1,7 @@
 //! Which machine of a store in memory expires next.
-ghost use Rattle.std.specs.Prelude.{◌≡◌, ℕ, Some};
-ghost use Rattle.std.specs.BTreeMap.{IsOrdered};
-ghost use Rattle.std.specs.Ordering.{nat_cmp};
-ghost use Rattle.hall_types.specs.Hall.{Hall};
-ghost use Rattle.hall_types.specs.declared.machine.Machine.{Machine};
-ghost use Rattle.hall_types.specs.Lookup.{is_before, is_due, next_expired, sooner, soonest};
-ghost use Rattle.store_memory.specs.Expiry.{joined};
-ghost use Rattle.store_memory.specs.Held.{IsHeld};
-ghost use Rattle.store_memory.specs.Table.{rows_of};
+ghost use Rattle.std.specs.{Prelude.{◌≡◌, ℕ, Some}, BTreeMap.IsOrdered, Ordering.nat_cmp};
+ghost use Rattle.hall_types.specs.{Hall.Hall, declared.machine.Machine.Machine, Lookup.{is_before, is_due, next_expired, sooner, soonest}};
+ghost use Rattle.store_memory.specs.{Expiry.joined, Held.IsHeld, Table.rows_of};
 
 use crate::memory::MemoryStore;
 use hall_types::{Machine, Moment};

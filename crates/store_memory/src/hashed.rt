@@ -1,8 +1,7 @@
 //! Tables in memory that are found by a hash of their keys. A slot without a row is taken for a row to come, as in
 //! the tables in order.
 ghost use Rattle.std.specs.Prelude.{◌≡◌, ◌==◌, true, OnOk};
-ghost use Rattle.store_memory.specs.Hashed.{ClearsEntries, HasEntry, KeepsEntries, KeepsFound, SetsEntryAt, entry_at};
-ghost use Rattle.store_memory.specs.Table.{unless_gone};
+ghost use Rattle.store_memory.specs.{Hashed.{ClearsEntries, HasEntry, KeepsEntries, KeepsFound, SetsEntryAt, entry_at}, Table.unless_gone};
 
 use crate::table::{OfMachine, clear_row};
 use hall_types::Number;

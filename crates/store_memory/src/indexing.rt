@@ -1,9 +1,7 @@
 //! What is kept beside the tables of a store in memory.
-ghost use Rattle.std.specs.Prelude.{◌≡◌, ◌<◌, ◌≤◌, ◌+◌, ◌-◌, ◌^◌, ℕ, List, Some, None, is_some};
+ghost use Rattle.std.specs.{Prelude.{◌≡◌, ◌<◌, ◌≤◌, ◌+◌, ◌-◌, ◌^◌, ℕ, List, Some, None, is_some}, Str.bytes_eq};
 ghost use Rattle.hall_types.specs.Rows.{one_if};
-ghost use Rattle.std.specs.Str.{bytes_eq};
-ghost use Rattle.store_memory.specs.Hashed.{HasEntry, KeepsEntries};
-ghost use Rattle.store_memory.specs.Held.{SetsEntry, uuid_of};
+ghost use Rattle.store_memory.specs.{Hashed.{HasEntry, KeepsEntries}, Held.{SetsEntry, uuid_of}};
 
 use crate::hashed;
 use hall_types::{Machine, MachineUuid, Number};

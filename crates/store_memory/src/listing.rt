@@ -1,14 +1,7 @@
 //! Lists of rows, and rows found by what is not their key.
-ghost use Rattle.std.specs.Prelude.{◌≡◌, ◌==◌, filter, find, IfOk};
-ghost use Rattle.std.specs.BTreeMap.{IsOrdered};
-ghost use Rattle.std.specs.Ordering.{nat_cmp};
-ghost use Rattle.std.specs.List.{list_any};
-ghost use Rattle.std.specs.Str.{bytes_eq};
-ghost use Rattle.hall_types.specs.Hall.{Hall};
-ghost use Rattle.hall_types.specs.Lookup.{interfaces_of, is_image_used, is_named, operator_with_digest, waiting, waits};
-ghost use Rattle.hall_types.specs.Rows.{listed};
-ghost use Rattle.store_memory.specs.Held.{IsHeld, text_cmp};
-ghost use Rattle.store_memory.specs.Table.{rows_of};
+ghost use Rattle.std.specs.{Prelude.{◌≡◌, ◌==◌, filter, find, IfOk}, BTreeMap.IsOrdered, Ordering.nat_cmp, List.list_any, Str.bytes_eq};
+ghost use Rattle.hall_types.specs.{Hall.Hall, Lookup.{interfaces_of, is_image_used, is_named, operator_with_digest, waiting, waits}, Rows.listed};
+ghost use Rattle.store_memory.specs.{Held.{IsHeld, text_cmp}, Table.rows_of};
 
 use crate::memory::MemoryStore;
 use crate::table;

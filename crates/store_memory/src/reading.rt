@@ -1,9 +1,6 @@
 //! What a store in memory answers.
 ghost use Rattle.std.specs.Prelude.{◌≡◌, filter, IfOk, option_map};
-ghost use Rattle.hall_types.specs.Hall.{Hall, pair};
-ghost use Rattle.hall_types.specs.Kinds.{arch_number};
-ghost use Rattle.hall_types.specs.Lookup.{interfaces_of, is_image_used, machine_with_uuid, operator_with_digest, waiting};
-ghost use Rattle.hall_types.specs.Rows.{at, listed};
+ghost use Rattle.hall_types.specs.{Hall.{Hall, pair}, Kinds.arch_number, Lookup.{interfaces_of, is_image_used, machine_with_uuid, operator_with_digest, waiting}, Rows.{at, listed}};
 ghost use Rattle.store_memory.specs.Held.{IsHeld};
 
 use crate::memory::MemoryStore;

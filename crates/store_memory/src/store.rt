@@ -1,7 +1,6 @@
 //! The store in memory meets the promise of a store.
-ghost use Rattle.std.specs.Prelude.{◌≡◌, IfOk};
+ghost use Rattle.std.specs.{Prelude.{◌≡◌, IfOk}, Result.result_ok};
 ghost use Rattle.hall_types.specs.Hall.{new_hall, second};
-ghost use Rattle.std.specs.Result.{result_ok};
 
 use crate::memory::MemoryStore;
 use hall_store::{Count, HallStore, Unavailable};
@@ -15,10 +14,7 @@ use std::alloc::{AllocError, Global};
 fn answer<Y>(read: Result<Y, AllocError>) -> Result<Y, Unavailable>
     ensures { result_ok result ≡ result_ok read }
 {
-    match read {
-        Ok(answer) => Ok(answer),
-        Err(AllocError) => Err(Unavailable),
-    }
+    Ok(read?)
 }
 
 impl MemoryStore {

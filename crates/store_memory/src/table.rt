@@ -1,7 +1,5 @@
 //! Tables in memory. A slot without a row is taken for a row to come, so that rows are written without memory.
-ghost use Rattle.std.specs.Prelude.{◌≡◌, ◌<◌, ◌^◌, ◌==◌, ℕ, true, OnOk, IfOk};
-ghost use Rattle.std.specs.BTreeMap.{IsOrdered, btree_map_len};
-ghost use Rattle.std.specs.Option.{option_copied};
+ghost use Rattle.std.specs.{Prelude.{◌≡◌, ◌<◌, ◌^◌, ◌==◌, ℕ, true, OnOk, IfOk}, BTreeMap.{IsOrdered, btree_map_len}, Option.option_copied};
 ghost use Rattle.store_memory.specs.Table.{Clears, HasSlot, KeepsSlots, KeepsRows, Sets, row_at, rows_of, unless_gone};
 
 use hall_types::{Boot, Interface, Number, Order};

@@ -1,8 +1,6 @@
 //! Rows written where slots for them are taken.
 ghost use Rattle.std.specs.Prelude.{◌≡◌, ℕ, List, Some, None, OnOk, OnErr};
-ghost use Rattle.hall_types.specs.Hall.{Hall, applied, written};
-ghost use Rattle.hall_types.specs.declared.change.RowWrite.{RowWrite};
-ghost use Rattle.hall_types.specs.declared.change.RowWrite.TheVariants.{InterfaceGone, MachineGone, PutInterface, PutMachine};
+ghost use Rattle.hall_types.specs.{Hall.{Hall, applied, written}, declared.change.RowWrite.{RowWrite, TheVariants.{InterfaceGone, MachineGone, PutInterface, PutMachine}}};
 ghost use Rattle.hall_store.specs.Rules.{AllKeep, Keeps, KeepsMachines};
 ghost use Rattle.store_memory.specs.Held.{HasSlots, HaveAllSlots, IsHeld, KeepsAllSlots};
 

@@ -1,9 +1,4 @@
-use Rattle.boot_desk.specs.Fetch.{fetched}
-use Rattle.boot_desk.specs.OrderAnswer.{answered}
-use Rattle.boot_desk.specs.Report.{reported}
-use Rattle.boot_desk.specs.Views.{order_view, report_view, view_of}
-use Rattle.boot_desk.proofs.DecisionLemmas.{answered_keeps, fetched_keeps, kept_sound, reported_keeps, swept_keeps}
-use Rattle.boot_desk.proofs.EnlistLemmas.{enlisted_sound}
+use Rattle.boot_desk.{specs.{Fetch.fetched, OrderAnswer.answered, Report.reported, Views.{order_view, report_view, view_of}}, proofs.{DecisionLemmas.{answered_keeps, fetched_keeps, kept_sound, reported_keeps, swept_keeps}, EnlistLemmas.enlisted_sound}}
 use Rattle.boot_desk.proofs.laws.decisions_keep_halls_sound.Goals as goal
 
 pub returns-clause-script : goal.returns-clause-script

@@ -1,10 +1,6 @@
-use Rattle.std.proofs.Common.{◌≡◌, List, Ok, sym, ap, ◌∙◌}
-use Rattle.std.specs.Prelude.{Result}
-use Rattle.ipxe_script.specs.Understood.{understood}
-use Rattle.ipxe_script.specs.declared.command.Command.{Command}
-use Rattle.ipxe_script.specs.declared.fault.ScriptFault.{ScriptFault}
-use Rattle.boot_desk.specs.Texts.{hold_script}
-use Rattle.boot_desk.specs.TextLaws.{held, hold_is_script}
+use Rattle.std.{proofs.Common.{◌≡◌, List, Ok, sym, ap, ◌∙◌}, specs.Prelude.Result}
+use Rattle.ipxe_script.specs.{Understood.understood, declared.{command.Command.Command, fault.ScriptFault.ScriptFault}}
+use Rattle.boot_desk.specs.{Texts.hold_script, TextLaws.{held, hold_is_script}}
 use Rattle.boot_desk.proofs.texts.hold_script.Goals as goal
 
 pub returns-in-Ok : goal.returns-in-Ok

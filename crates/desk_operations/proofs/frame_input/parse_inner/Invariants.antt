@@ -1,6 +1,5 @@
 use Rattle.std.proofs.Common.{◌≡◌, length}
-use Rattle.desk_operations.specs.FrameInput.{lines_of, understood_lines, understood}
-use Rattle.desk_operations.proofs.FrameInputLemmas.{with_addresses}
+use Rattle.desk_operations.{specs.FrameInput.{lines_of, understood_lines, understood}, proofs.FrameInputLemmas.with_addresses}
 use Rattle.desk_operations.proofs.frame_input.parse_inner.Given as goal
 
 -- the addresses so far, and then what is left, are the input

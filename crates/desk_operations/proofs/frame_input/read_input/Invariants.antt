@@ -1,6 +1,4 @@
-use Rattle.std.proofs.Common.{◌≤◌}
-use Rattle.std.specs.Prelude.{vec_len}
-use Rattle.std.specs.Io.KnownBytes.{Consumes}
+use Rattle.std.{proofs.Common.◌≤◌, specs.{Prelude.vec_len, Io.KnownBytes.Consumes}}
 use Rattle.desk_operations.proofs.frame_input.read_input.Given as goal
 
 -- the input so far is what was read

@@ -1,6 +1,5 @@
 use Rattle.std.proofs.Common.{ap, sym, ◌∙◌, inl, inr}
-use Rattle.desk_operations.specs.Frame.{is_answer}
-use Rattle.desk_operations.proofs.FrameLemmas.{is_short}
+use Rattle.desk_operations.{specs.Frame.is_answer, proofs.FrameLemmas.is_short}
 use Rattle.desk_operations.proofs.frames.is_served.Goals as goal
 
 pub returns-in-Loader-clause-short : goal.returns-in-Loader-clause-short

@@ -10,7 +10,7 @@ abbrev pub invariant-loop-place : goal.invariant-loop-place
 invariant-loop-place g l = record {
   clean : g.S.HallStore.is_clean (store_of l.desk) → g.S.HallStore.is_clean (store_of l.fn.desk);
   site : site_of l.desk ≡ site_of l.fn.desk;
-  history : g.S.HallStore.is_clean (store_of l.desk) → GoOn g.S.HallStore.holds (store_of l.fn.desk) (store_of l.desk) (site_of l.fn.desk) l.bearer l.moment;
+  history : g.S.HallStore.is_clean (store_of l.desk) → GoOn g.S.HallStore (store_of l.fn.desk) (store_of l.desk) (site_of l.fn.desk) l.bearer l.moment;
   imported : g.S.HallStore.is_clean (store_of l.desk) → (h : Hall) → g.S.HallStore.holds (store_of l.fn.desk) h → IsSound h
-      → IsImported g.S.HallStore.holds (store_of l.desk) (site_of l.fn.desk) l.bearer l.moment h (take l.place l.rows) l.end (g.W.Write.contents l.fn.writer) (g.W.Write.contents l.writer);
+      → IsImported g.S.HallStore (store_of l.desk) (site_of l.fn.desk) l.bearer l.moment h (take l.place l.rows) l.end (g.W.Write.contents l.fn.writer) (g.W.Write.contents l.writer);
 }

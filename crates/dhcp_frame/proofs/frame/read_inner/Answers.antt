@@ -1,6 +1,5 @@
 -- At each exit the steps so far decide what `understood` is.
-use Rattle.std.proofs.Common.{sym}
-use Rattle.std.proofs.lemmas.Result.{err_from_is_err_and}
+use Rattle.std.proofs.{Common.sym, lemmas.Result.err_from_is_err_and}
 use Rattle.dhcp_frame.proofs.FrameLemmas.{understood-header, understood-options, understood-overload, understood-file, understood-sname, understood-whole}
 use Rattle.dhcp_frame.proofs.frame.read_inner.Goals as goal
 

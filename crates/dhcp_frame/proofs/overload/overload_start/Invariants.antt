@@ -1,6 +1,5 @@
 use Rattle.std.proofs.Common.{◌≡◌}
-use Rattle.dhcp_frame.specs.Area.{value_of, entries_of}
-use Rattle.dhcp_frame.specs.Start.{start_of, start_with}
+use Rattle.dhcp_frame.specs.{Area.{value_of, entries_of}, Start.{start_of, start_with}}
 use Rattle.dhcp_frame.proofs.overload.overload_start.Given as goal
 
 -- the start so far, and then the values of the rest, give the whole start

@@ -1,5 +1,4 @@
-use Rattle.std.proofs.Common.{ℕ}
-use Rattle.std.proofs.lemmas.List.{take-replicate}
+use Rattle.std.proofs.{Common.ℕ, lemmas.List.take-replicate}
 use Rattle.dhcp_frame.proofs.ReplyLemmas.{appended-as}
 use Rattle.dhcp_frame.proofs.reply.push_zeros.Goals as goal
 

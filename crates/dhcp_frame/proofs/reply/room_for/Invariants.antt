@@ -1,5 +1,4 @@
-use Rattle.std.proofs.Common.{◌≡◌, ◌<◌, ◌+◌, ◌-◌, ◌^◌, length, map, take}
-use Rattle.std.specs.List.{flat_map}
+use Rattle.std.{proofs.Common.{◌≡◌, ◌<◌, ◌+◌, ◌-◌, ◌^◌, length, map, take}, specs.List.flat_map}
 use Rattle.dhcp_frame.specs.Reply.{option_octets, entry_of}
 use Rattle.dhcp_frame.proofs.reply.room_for.Given as goal
 

@@ -1,8 +1,5 @@
-use Rattle.std.proofs.Common.{arith, ◌≡◌, ◌≤◌, ℕ, List, length, drop, subst, sym, ap, ◌∙◌}
-use Rattle.std.proofs.lemmas.Grind.{common_steps}
-use Rattle.dhcp_frame.specs.Area.{Reads}
-use Rattle.dhcp_frame.specs.Reply.{reply_of, reply_octets, file_name}
-use Rattle.dhcp_frame.proofs.ReplyLemmas.{Reads-reply_octets, length-header_octets, file_name-reply_octets}
+use Rattle.std.proofs.{Common.{arith, ◌≡◌, ◌≤◌, ℕ, List, length, drop, subst, sym, ap, ◌∙◌}, lemmas.Grind.common_steps}
+use Rattle.dhcp_frame.{specs.{Area.Reads, Reply.{reply_of, reply_octets, file_name}}, proofs.ReplyLemmas.{Reads-reply_octets, length-header_octets, file_name-reply_octets}}
 use Rattle.dhcp_frame.proofs.reply.write_inner.Goals as goal
 
 pub returns-clause-options : goal.returns-clause-options

@@ -1,6 +1,5 @@
 use Rattle.std.proofs.Common.{◌≡◌, ◌==◌, List, IfOk, filter, map, subst, ap, ◌∙◌}
-use Rattle.hall_types.specs.Hall.{second}
-use Rattle.hall_types.specs.declared.machine.Interface.{Interface}
+use Rattle.hall_types.specs.{Hall.second, declared.machine.Interface.Interface}
 use Rattle.hall_events.specs.Reply.{listed, machine_list, reply_of}
 use Rattle.hall_desk.proofs.ListingLemmas.{listed_same}
 use Rattle.hall_desk.proofs.listing.machine_list_reply.Goals as goal

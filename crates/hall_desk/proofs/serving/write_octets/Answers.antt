@@ -1,5 +1,4 @@
-use Rattle.std.proofs.Common.{rules, arith}
-use Rattle.std.proofs.Math.Seq.{take-add}
+use Rattle.std.proofs.{Common.{rules, arith}, Math.Seq.take-add}
 use Rattle.hall_desk.proofs.ServedLemmas.{appends_then}
 use Rattle.hall_desk.proofs.serving.write_octets.Goals as goal
 

@@ -1,5 +1,4 @@
-use Rattle.std.proofs.Common.{◌≡◌, ◌-◌, ◌≤◌, length, take, false}
-use Rattle.std.specs.Io.KnownBytes.{Appends}
+use Rattle.std.{proofs.Common.{◌≡◌, ◌-◌, ◌≤◌, length, take, false}, specs.Io.KnownBytes.Appends}
 use Rattle.hall_http.specs.Noted.{failed_of, inner_of}
 use Rattle.hall_desk.proofs.serving.write_octets.Given as goal
 

@@ -1,7 +1,5 @@
 use Rattle.std.proofs.Common.{map, refl, ap, ◌∙◌}
-use Rattle.serde_json.specs.Data.{array, string}
-use Rattle.serde_json.specs.View.{view, items_of}
-use Rattle.serde_json.proofs.Views.{view-Array}
+use Rattle.serde_json.{specs.{Data.{array, string}, View.{view, items_of}}, proofs.Views.view-Array}
 use Rattle.hall_events.proofs.ItemLemmas.{next_item, item_made, all_made}
 use Rattle.hall_events.proofs.command_value.words_value.Goals as goal
 

@@ -1,6 +1,5 @@
 use Rattle.std.proofs.Common.{◌≡◌, ◌++◌, map, drop}
-use Rattle.serde_json.specs.Data.{string}
-use Rattle.serde_json.specs.View.{view}
+use Rattle.serde_json.specs.{Data.string, View.view}
 use Rattle.hall_events.proofs.command_value.words_value.Given as goal
 
 -- the values so far, with those of the words that are left, are the whole

@@ -1,6 +1,5 @@
 use Rattle.std.proofs.Common.{ap}
-use Rattle.hall_events.specs.Command.{command_text}
-use Rattle.hall_events.specs.CommandLaws.{one_command}
+use Rattle.hall_events.specs.{Command.command_text, CommandLaws.one_command}
 use Rattle.hall_events.proofs.laws.one_text.Goals as goal
 
 pub returns : goal.returns

@@ -1,12 +1,9 @@
-use Rattle.std.proofs.Common.{◌++◌, List, ℕ, ap, ◌∙◌}
-use Rattle.std.specs.Prelude.{false, codes, decimal, string_bytes}
+use Rattle.std.{proofs.Common.{◌++◌, List, ℕ, ap, ◌∙◌}, specs.Prelude.{false, codes, decimal, string_bytes}}
 use Rattle.json.specs.Print.{escape_byte, quoted}
 use Rattle.serde_json.specs.Data.{string}
 use Rattle.pxe_vendor.specs.Arch.{arch_text}
-use Rattle.hall_types.specs.Kinds.{erase_text}
-use Rattle.hall_types.specs.declared.machine.Machine.{Machine}
-use Rattle.hall_events.specs.Object.{count, or_null}
-use Rattle.hall_events.proofs.MachineLemmas.{five_pushed}
+use Rattle.hall_types.specs.{Kinds.erase_text, declared.machine.Machine.Machine}
+use Rattle.hall_events.{specs.Object.{count, or_null}, proofs.MachineLemmas.five_pushed}
 use Rattle.hall_events.proofs.machine_text.push_first.Goals as goal
 
 pub returns : goal.returns

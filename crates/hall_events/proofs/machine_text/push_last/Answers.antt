@@ -1,12 +1,8 @@
-use Rattle.std.proofs.Common.{◌++◌, List, ℕ, ap, ◌∙◌}
-use Rattle.std.specs.Prelude.{true, codes, decimal, string_bytes}
+use Rattle.std.{proofs.Common.{◌++◌, List, ℕ, ap, ◌∙◌}, specs.Prelude.{true, codes, decimal, string_bytes}}
 use Rattle.json.specs.Print.{escape_byte, quoted}
 use Rattle.serde_json.specs.Data.{string}
-use Rattle.hall_types.specs.Status.{status_text}
-use Rattle.hall_types.specs.declared.machine.Machine.{Machine}
-use Rattle.hall_events.specs.Command.{uuid_data}
-use Rattle.hall_events.specs.Object.{count, or_null}
-use Rattle.hall_events.proofs.MachineLemmas.{five_pushed}
+use Rattle.hall_types.specs.{Status.status_text, declared.machine.Machine.Machine}
+use Rattle.hall_events.{specs.{Command.uuid_data, Object.{count, or_null}}, proofs.MachineLemmas.five_pushed}
 use Rattle.hall_events.proofs.machine_text.push_last.Goals as goal
 
 pub returns : goal.returns

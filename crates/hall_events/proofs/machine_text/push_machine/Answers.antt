@@ -1,5 +1,4 @@
-use Rattle.hall_events.specs.Reply.{listed}
-use Rattle.hall_events.proofs.MachineLemmas.{machine_pushed}
+use Rattle.hall_events.{specs.Reply.listed, proofs.MachineLemmas.machine_pushed}
 use Rattle.hall_events.proofs.machine_text.push_machine.Goals as goal
 
 pub returns : goal.returns

@@ -1,8 +1,5 @@
-use Rattle.std.proofs.Common.{◌≡◌, ◌++◌, map, drop}
-use Rattle.std.specs.Prelude.{string_bytes}
-use Rattle.serde_json.specs.Data.{array}
-use Rattle.serde_json.specs.View.{items_of}
-use Rattle.serde_json.specs.Written.{compact_text, items_text}
+use Rattle.std.{proofs.Common.{◌≡◌, ◌++◌, map, drop}, specs.Prelude.string_bytes}
+use Rattle.serde_json.specs.{Data.array, View.items_of, Written.{compact_text, items_text}}
 use Rattle.hall_events.specs.Command.{mac_data}
 use Rattle.hall_events.proofs.machine_text.push_macs.Given as goal
 

@@ -1,11 +1,8 @@
 use Rattle.std.specs.Prelude.{true, codes, map, string_bytes}
 use Rattle.json.specs.Print.{escape_byte}
-use Rattle.serde_json.specs.Data.{string, boolean, array}
-use Rattle.serde_json.specs.View.{items_of}
+use Rattle.serde_json.specs.{Data.{string, boolean, array}, View.items_of}
 use Rattle.hall_types.specs.declared.machine.Machine.{Machine}
-use Rattle.hall_events.specs.Command.{mac_data}
-use Rattle.hall_events.specs.Object.{count, or_null}
-use Rattle.hall_events.proofs.MachineLemmas.{four_pushed}
+use Rattle.hall_events.{specs.{Command.mac_data, Object.{count, or_null}}, proofs.MachineLemmas.four_pushed}
 use Rattle.hall_events.proofs.machine_text.push_middle.Goals as goal
 
 pub returns : goal.returns

@@ -1,7 +1,5 @@
-use Rattle.std.proofs.Common.{◌≡◌, true}
-use Rattle.std.specs.List.{list_all}
-use Rattle.hall_events.specs.WrittenMachine.{is_plain}
-use Rattle.hall_events.proofs.PlainLemmas.{text_pushed}
+use Rattle.std.{proofs.Common.{◌≡◌, true}, specs.List.list_all}
+use Rattle.hall_events.{specs.WrittenMachine.is_plain, proofs.PlainLemmas.text_pushed}
 use Rattle.hall_events.proofs.plain_text.push_text.Goals as goal
 
 pub returns : goal.returns

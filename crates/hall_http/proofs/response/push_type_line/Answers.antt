@@ -1,6 +1,5 @@
 use Rattle.std.specs.Prelude.{codes}
-use Rattle.hall_http.specs.Response.{type_line}
-use Rattle.hall_http.proofs.ResponseLemmas.{in_three}
+use Rattle.hall_http.{specs.Response.type_line, proofs.ResponseLemmas.in_three}
 use Rattle.hall_http.proofs.response.push_type_line.Goals as goal
 
 pub returns : goal.returns

@@ -1,5 +1,4 @@
-use Rattle.std.proofs.Common.{◌≡◌, ◌++◌, string_bytes, take}
-use Rattle.std.specs.List.{flat_map}
+use Rattle.std.{proofs.Common.{◌≡◌, ◌++◌, string_bytes, take}, specs.List.flat_map}
 use Rattle.hall_report.specs.Lines.{count_line}
 use Rattle.hall_report.proofs.counts.push_all.Given as goal
 

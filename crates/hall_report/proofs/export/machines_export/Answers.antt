@@ -1,8 +1,6 @@
-use Rattle.std.proofs.Common.{◌≡◌, ◌==◌, ◌++◌, ◌∙◌, filter, ap, subst, IfOk, string_bytes, List}
-use Rattle.std.specs.List.{flat_map}
+use Rattle.std.{proofs.Common.{◌≡◌, ◌==◌, ◌++◌, ◌∙◌, filter, ap, subst, IfOk, string_bytes, List}, specs.List.flat_map}
 use Rattle.hall_types.specs.declared.machine.Interface.{Interface}
-use Rattle.hall_report.specs.Export.{header, machine_fields, record_text}
-use Rattle.hall_report.proofs.ExportLemmas.{machines_same}
+use Rattle.hall_report.{specs.Export.{header, machine_fields, record_text}, proofs.ExportLemmas.machines_same}
 use Rattle.hall_report.proofs.export.machines_export.Goals as goal
 
 pub returns : goal.returns

@@ -1,5 +1,4 @@
-use Rattle.std.proofs.Common.{◌==◌, ◌++◌, filter, take}
-use Rattle.std.specs.List.{flat_map}
+use Rattle.std.{proofs.Common.{◌==◌, ◌++◌, filter, take}, specs.List.flat_map}
 use Rattle.hall_report.specs.Export.{HasWritten, header, machine_fields, record_text}
 use Rattle.hall_report.proofs.export.sorted_export.Given as goal
 

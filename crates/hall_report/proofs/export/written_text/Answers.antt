@@ -1,6 +1,4 @@
-use Rattle.std.proofs.Common.{◌≡◌, ◌∙◌, Some, ap, subst, sym}
-use Rattle.std.proofs.lemmas.Bool.{false≢true}
-use Rattle.std.specs.Prelude.{IsUtf8}
+use Rattle.std.{proofs.{Common.{◌≡◌, ◌∙◌, Some, ap, subst, sym}, lemmas.Bool.false≢true}, specs.Prelude.IsUtf8}
 use Rattle.hall_report.proofs.export.written_text.Goals as goal
 
 pub unreachable-requires : goal.unreachable-requires

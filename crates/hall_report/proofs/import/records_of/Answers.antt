@@ -1,10 +1,6 @@
-use Rattle.std.proofs.Common.{Bor, List, ℕ, ◌≡◌, ◌∙◌, sym, refl, rules, inl, inr, true, map, Some, ◌∷◌, []}
-use Rattle.std.specs.Result.{is_ok}
-use Rattle.std.proofs.lemmas.List.{map-append}
-use Rattle.csv.specs.Reading.{Reached, default_config, strip_bom}
-use Rattle.csv.specs.Records.{fields_of}
+use Rattle.std.{proofs.{Common.{Bor, List, ℕ, ◌≡◌, ◌∙◌, sym, refl, rules, inl, inr, true, map, Some, ◌∷◌, []}, lemmas.List.map-append}, specs.Result.is_ok}
+use Rattle.csv.{specs.{Reading.{Reached, default_config, strip_bom}, Records.fields_of}, proofs.ReadFacts.{rows-end, rows-more}}
 use Rattle.csv.specs.declared.parser.State.TheVariants as st
-use Rattle.csv.proofs.ReadFacts.{rows-end, rows-more}
 use Rattle.hall_report.proofs.RecordLemmas.{all_records}
 use Rattle.hall_report.proofs.import.records_of.Goals as goal
 

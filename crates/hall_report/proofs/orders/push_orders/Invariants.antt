@@ -1,5 +1,4 @@
-use Rattle.std.proofs.Common.{◌≡◌, ◌++◌, string_bytes, take}
-use Rattle.std.specs.List.{flat_map}
+use Rattle.std.{proofs.Common.{◌≡◌, ◌++◌, string_bytes, take}, specs.List.flat_map}
 use Rattle.hall_report.specs.Lines.{order_line}
 use Rattle.hall_report.proofs.orders.push_orders.Given as goal
 

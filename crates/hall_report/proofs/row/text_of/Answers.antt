@@ -1,6 +1,4 @@
-use Rattle.std.proofs.Common.{◌≡◌, true, false, Some, None, if◌then◌else◌, refl, sym, ◌∙◌, ap, List, ℕ}
-use Rattle.std.proofs.lemmas.Str.{IsUtf8-from_is_utf8, is_utf8-from_IsUtf8}
-use Rattle.std.specs.Str.{is_utf8, IsUtf8}
+use Rattle.std.{proofs.{Common.{◌≡◌, true, false, Some, None, if◌then◌else◌, refl, sym, ◌∙◌, ap, List, ℕ}, lemmas.Str.{IsUtf8-from_is_utf8, is_utf8-from_IsUtf8}}, specs.Str.{is_utf8, IsUtf8}}
 use Rattle.hall_report.specs.Import.{text_of}
 use Rattle.hall_report.proofs.row.text_of.Goals as goal
 

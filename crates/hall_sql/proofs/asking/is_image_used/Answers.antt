@@ -1,6 +1,5 @@
-use Rattle.sql_schema.specs.Words.{list_any, is_named, listed, asked_failed, asked_then}
+use Rattle.sql_schema.specs.{Words.{list_any, is_named, listed, asked_failed, asked_then}, AskingLaws.{reads, both}}
 use Rattle.std.proofs.Common.{true, Ok, ap, sym, ◌||◌, ◌∙◌}
-use Rattle.sql_schema.specs.AskingLaws.{reads, both}
 use Rattle.hall_sql.proofs.asking.is_image_used.Goals as goal
 
 pub returns-in-Ok-true-clause-asked : goal.returns-in-Ok-true-clause-asked

@@ -1,7 +1,6 @@
 use Rattle.sql_schema.specs.Words.{AllByRecursion, next_item, no_item}
 use Rattle.std.proofs.Common.{subst, sym, arith}
-use Rattle.hall_sql.specs.Expiring.{PutsNoEarlier}
-use Rattle.hall_sql.proofs.ExpiryLemmas.{lower_puts}
+use Rattle.hall_sql.{specs.Expiring.PutsNoEarlier, proofs.ExpiryLemmas.lower_puts}
 use Rattle.hall_sql.proofs.expiring.earliest_after.Goals as goal
 
 pub writes-preserved : goal.writes-preserved

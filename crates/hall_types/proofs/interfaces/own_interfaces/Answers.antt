@@ -1,9 +1,5 @@
-use Rattle.std.proofs.Common.{rules, ◌≡◌, List, sym, subst}
-use Rattle.std.specs.Prelude.{drop, leb, ltb}
-use Rattle.std.specs.List.Sorted.{IsNonDecreasingBy}
-use Rattle.std.proofs.lemmas.List.Sorted.{IsNonDecreasingBy-drop, IsPartitionPoint-from_clause, IsPartitionedBy-leb, IsPartitionedBy-ltb}
-use Rattle.hall_types.specs.declared.machine.Interface.{Interface}
-use Rattle.hall_types.proofs.InterfaceLemmas.{own_part}
+use Rattle.std.{proofs.{Common.{rules, ◌≡◌, List, sym, subst}, lemmas.List.Sorted.{IsNonDecreasingBy-drop, IsPartitionPoint-from_clause, IsPartitionedBy-leb, IsPartitionedBy-ltb}}, specs.{Prelude.{drop, leb, ltb}, List.Sorted.IsNonDecreasingBy}}
+use Rattle.hall_types.{specs.declared.machine.Interface.Interface, proofs.InterfaceLemmas.own_part}
 use Rattle.hall_types.proofs.interfaces.own_interfaces.Goals as goal
 
 pub returns : goal.returns

@@ -1,8 +1,5 @@
-use Rattle.std.proofs.Common.{rules, ◌≡◌, []}
-use Rattle.std.proofs.lemmas.Fn.{always_returns_same}
-use Rattle.std.proofs.lemmas.List.Sorted.{IsNonDecreasingBy-from_sort_by_key}
-use Rattle.hall_types.specs.declared.machine.Interface.{Interface}
-use Rattle.hall_types.proofs.InterfaceLemmas.{on_ok, same_of}
+use Rattle.std.proofs.{Common.{rules, ◌≡◌, []}, lemmas.{Fn.always_returns_same, List.Sorted.IsNonDecreasingBy-from_sort_by_key}}
+use Rattle.hall_types.{specs.declared.machine.Interface.Interface, proofs.InterfaceLemmas.{on_ok, same_of}}
 use Rattle.hall_types.proofs.interfaces.sort_by_machine.Goals as goal
 
 pub returns-clause-sorted : goal.returns-clause-sorted

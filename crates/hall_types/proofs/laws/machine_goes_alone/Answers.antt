@@ -1,5 +1,4 @@
-use Rattle.hall_types.proofs.HallLemmas.{others}
-use Rattle.hall_types.proofs.WriteLemmas.{is_gone}
+use Rattle.hall_types.proofs.{HallLemmas.others, WriteLemmas.is_gone}
 use Rattle.hall_types.proofs.laws.machine_goes_alone.Goals as goal
 
 pub returns-clause-machine : goal.returns-clause-machine

@@ -1,7 +1,5 @@
 use Rattle.std.proofs.Common.{true}
-use Rattle.hall_types.specs.Hall.{default_pool}
-use Rattle.hall_types.specs.declared.kinds.Role.TheVariants.{Admin}
-use Rattle.hall_types.proofs.WriteLemmas.{is_sole}
+use Rattle.hall_types.{specs.{Hall.default_pool, declared.kinds.Role.TheVariants.Admin}, proofs.WriteLemmas.is_sole}
 use Rattle.hall_types.proofs.laws.new_hall_is_bare.Goals as goal
 
 pub returns-clause-admin : goal.returns-clause-admin

@@ -1,6 +1,4 @@
-use Rattle.hall_types.specs.Hall.{pair}
-use Rattle.hall_types.specs.Kinds.{arch_number}
-use Rattle.hall_types.proofs.WriteLemmas.{is_gone, is_put}
+use Rattle.hall_types.{specs.{Hall.pair, Kinds.arch_number}, proofs.WriteLemmas.{is_gone, is_put}}
 use Rattle.hall_types.proofs.laws.writes_leave_other_rows.Goals as goal
 
 pub returns-clause-operators : goal.returns-clause-operators

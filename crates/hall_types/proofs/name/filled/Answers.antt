@@ -1,6 +1,4 @@
-use Rattle.std.proofs.Common.{ℕ, refl}
-use Rattle.std.proofs.lemmas.List.{drop-replicate}
-use Rattle.std.specs.Prelude.{length}
+use Rattle.std.{proofs.{Common.{ℕ, refl}, lemmas.List.drop-replicate}, specs.Prelude.length}
 use Rattle.hall_types.proofs.name.filled.Goals as goal
 
 pub returns : goal.returns

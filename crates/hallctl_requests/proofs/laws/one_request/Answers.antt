@@ -1,6 +1,5 @@
 use Rattle.std.proofs.Common.{ap}
-use Rattle.hallctl_requests.specs.Request.{Question, request_of}
-use Rattle.hallctl_requests.specs.RequestLaws.{request_is_read, one_question}
+use Rattle.hallctl_requests.specs.{Request.{Question, request_of}, RequestLaws.{request_is_read, one_question}}
 use Rattle.hallctl_requests.proofs.laws.one_request.Goals as goal
 
 pub returns-clause-read : goal.returns-clause-read

@@ -1,6 +1,5 @@
 use Rattle.std.specs.Prelude.{codes, decimal, length}
-use Rattle.hallctl_requests.specs.Request.{field_line}
-use Rattle.hallctl_requests.proofs.PushLemmas.{in_four}
+use Rattle.hallctl_requests.{specs.Request.field_line, proofs.PushLemmas.in_four}
 use Rattle.hallctl_requests.proofs.requests.push_body.Goals as goal
 
 pub returns : goal.returns

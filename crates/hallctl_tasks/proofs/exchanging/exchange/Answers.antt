@@ -1,7 +1,5 @@
 use Rattle.std.proofs.Common.{rules, List, Option, subst, sym}
-use Rattle.hallctl_tasks.specs.Exchange.{AreInVain, AreUnsent, none, says, unsent_none}
-use Rattle.hallctl_tasks.specs.Try.{Try}
-use Rattle.hallctl_tasks.proofs.ExchangeLemmas.{one_more_in_vain, one_more_unsent}
+use Rattle.hallctl_tasks.{specs.{Exchange.{AreInVain, AreUnsent, none, says, unsent_none}, Try.Try}, proofs.ExchangeLemmas.{one_more_in_vain, one_more_unsent}}
 use Rattle.hallctl_tasks.proofs.exchanging.exchange.Goals as goal
 
 pub tries-init : goal.tries-init

@@ -1,10 +1,6 @@
-use Rattle.std.proofs.Common.{◌≡◌, ◌++◌, ◌∷◌, [], ◌∙◌, IfOk, Result, ap, subst, sym}
-use Rattle.std.specs.declared.alloc.AllocError.{AllocError}
+use Rattle.std.{proofs.Common.{◌≡◌, ◌++◌, ◌∷◌, [], ◌∙◌, IfOk, Result, ap, subst, sym}, specs.declared.alloc.AllocError.AllocError}
 use Rattle.hall_types.specs.Hall.{second}
-use Rattle.hall_events.specs.Listing.{Listing}
-use Rattle.hall_events.specs.Reply.{machine_list, reply_of, with_machine}
-use Rattle.hall_events.specs.ReplyLaws.{listing-push}
-use Rattle.hall_events.specs.declared.reply.Reply.{Reply}
+use Rattle.hall_events.specs.{Listing.Listing, Reply.{machine_list, reply_of, with_machine}, ReplyLaws.listing-push, declared.reply.Reply.Reply}
 use Rattle.hallctl_texts.proofs.listed_replies.machines_reply.Goals as goal
 
 pub loop-object-init : goal.loop-object-init

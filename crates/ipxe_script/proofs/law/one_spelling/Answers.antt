@@ -1,5 +1,4 @@
-use Rattle.ipxe_script.proofs.SpellingLemmas.{understood-spelling}
-use Rattle.ipxe_script.proofs.UnderstoodLemmas.{spelling-understood, one_script}
+use Rattle.ipxe_script.proofs.{SpellingLemmas.understood-spelling, UnderstoodLemmas.{spelling-understood, one_script}}
 use Rattle.ipxe_script.proofs.law.one_spelling.Goals as goal
 
 pub returns : goal.returns

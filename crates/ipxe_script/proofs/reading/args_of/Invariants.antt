@@ -1,5 +1,4 @@
-use Rattle.std.proofs.Common.{◌≡◌, map, take, drop}
-use Rattle.std.specs.List.{list_all}
+use Rattle.std.{proofs.Common.{◌≡◌, map, take, drop}, specs.List.list_all}
 use Rattle.ipxe_script.specs.Word.{is_word}
 use Rattle.ipxe_script.proofs.reading.args_of.Given as goal
 

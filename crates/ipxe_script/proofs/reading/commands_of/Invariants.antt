@@ -1,6 +1,5 @@
 use Rattle.std.proofs.Common.{◌≡◌, map, drop}
-use Rattle.ipxe_script.specs.Understood.{commands_of}
-use Rattle.ipxe_script.proofs.ReadingLemmas.{with_front}
+use Rattle.ipxe_script.{specs.Understood.commands_of, proofs.ReadingLemmas.with_front}
 use Rattle.ipxe_script.proofs.reading.commands_of.Given as goal
 
 -- the commands so far, with those of the lines that are left, are those of all lines

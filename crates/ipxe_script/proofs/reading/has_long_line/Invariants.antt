@@ -1,5 +1,4 @@
-use Rattle.std.proofs.Common.{◌≡◌, map, drop}
-use Rattle.std.specs.List.{list_any}
+use Rattle.std.{proofs.Common.{◌≡◌, map, drop}, specs.List.list_any}
 use Rattle.ipxe_script.specs.Understood.{is_long_line}
 use Rattle.ipxe_script.proofs.reading.has_long_line.Given as goal
 

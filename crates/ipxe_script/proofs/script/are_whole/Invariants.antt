@@ -1,6 +1,5 @@
 use Rattle.std.proofs.Common.{ℕ, ◌<◌, get_or}
-use Rattle.ipxe_script.specs.Script.{IsWhole}
-use Rattle.ipxe_script.specs.declared.command.Command.{Command}
+use Rattle.ipxe_script.specs.{Script.IsWhole, declared.command.Command.Command}
 use Rattle.ipxe_script.proofs.script.are_whole.Given as goal
 
 -- each so far is whole

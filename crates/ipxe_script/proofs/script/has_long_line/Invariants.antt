@@ -1,7 +1,5 @@
 use Rattle.std.proofs.Common.{ℕ, ◌<◌, ◌≤◌, length, get_or}
-use Rattle.ipxe_script.specs.Script.{words_of}
-use Rattle.ipxe_script.specs.declared.command.TheConstants.{MAX_WORDS}
-use Rattle.ipxe_script.specs.declared.command.Command.{Command}
+use Rattle.ipxe_script.specs.{Script.words_of, declared.command.{TheConstants.MAX_WORDS, Command.Command}}
 use Rattle.ipxe_script.proofs.script.has_long_line.Given as goal
 
 -- none so far is long

@@ -1,14 +1,11 @@
 use Rattle.sqlite.specs.Held.{state}
-use Rattle.sqlite.specs.State.{HasCleanDisk}
-use Rattle.laws_migration.specs.Origin.{carried_over}
-use Rattle.hall_sql.specs.Store.{HasHall, StopLeaves, connection}
+use Rattle.hall_laws.specs.Origin.{carried_over}
 use Rattle.laws_stores.proofs.MigratingLemmas.{become, begun, goes_on, left}
 use Rattle.laws_stores.proofs.migrating.migrated_goes_on.Goals as goal
 
 pub returns-clause-goes_on : goal.returns-clause-goes_on
 returns-clause-goes_on g c =
-    goes_on (λ store. HasCleanDisk (state g.S.Store (connection store))) (HasHall g.S.Store) (StopLeaves g.S.Store) (state g.S.Store c.args.conn).now.trees
-    c.migrate.result c.histories_keep_the_laws.ensures c.migrate.ensures.held c.migrate.ensures.settled
+    goes_on _ (state g.S.Store c.args.conn).now.trees c.migrate.result c.histories_keep_the_laws.ensures c.migrate.ensures.held c.migrate.ensures.settled
 
 pub returns-clause-stop : goal.returns-clause-stop
 returns-clause-stop g c = λ clean admin digest steps h next run spelt over db may.

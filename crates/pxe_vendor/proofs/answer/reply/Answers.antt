@@ -1,12 +1,7 @@
-use Rattle.std.proofs.Common.{◌≡◌, ◌∷◌, [], ap, subst, sym, ◌∙◌, List, arith, length}
-use Rattle.std.specs.Prelude.{drop, IfOk, unwrap_or}
-use Rattle.std.proofs.lemmas.List.{length-take}
-use Rattle.dhcp_frame.specs.Area.{Entry, Reads}
-use Rattle.dhcp_frame.specs.Reply.{Reply, reply_octets}
-use Rattle.pxe_vendor.specs.Answer.{answer_to}
-use Rattle.pxe_vendor.proofs.AnswerLemmas.{reply_of-same, AreAnswers, AreShort, any_long, none_long, all_short, all_short-without, options-with_identifier, options-without_identifier}
+use Rattle.std.{proofs.{Common.{◌≡◌, ◌∷◌, [], ap, subst, sym, ◌∙◌, List, arith, length}, lemmas.List.length-take}, specs.Prelude.{drop, IfOk, unwrap_or}}
+use Rattle.dhcp_frame.specs.{Area.{Entry, Reads}, Reply.{Reply, reply_octets}}
+use Rattle.pxe_vendor.{specs.Answer.answer_to, proofs.{AnswerLemmas.{reply_of-same, AreAnswers, AreShort, any_long, none_long, all_short, all_short-without, options-with_identifier, options-without_identifier}, answer.reply.Goals.After-dhcp_option-vendor}}
 use Rattle.pxe_vendor.proofs.answer.reply.Goals as goal
-use Rattle.pxe_vendor.proofs.answer.reply.Goals.{After-dhcp_option-vendor}
 
 -- the options that are made in each case, and their values
 are_answers : (c : After-dhcp_option-vendor) → AreAnswers c.args.client.now c.args.place.now c.dhcp_option-kind.result c.dhcp_option-server.result c.dhcp_option-class.result c.dhcp_option-vendor.result

@@ -1,5 +1,4 @@
-use Rattle.std.proofs.Common.{◌≡◌}
-use Rattle.std.specs.Slice.Iter.{chunks_exact_rest, chunks_exact_size}
+use Rattle.std.{proofs.Common.◌≡◌, specs.Slice.Iter.{chunks_exact_rest, chunks_exact_size}}
 use Rattle.pxe_vendor.specs.Arch.{numbers_of, first_known}
 use Rattle.pxe_vendor.proofs.arch.in_list.Given as goal
 

@@ -1,5 +1,4 @@
-use Rattle.std.proofs.Common.{◌≤◌, ◌^◌, arith, lit<}
-use Rattle.std.proofs.Math.Nat.{pow-le-pow_right}
+use Rattle.std.proofs.{Common.{◌≤◌, ◌^◌, arith, lit<}, Math.Nat.pow-le-pow_right}
 use Rattle.pxe_vendor.proofs.digits.decimal.Goals as goal
 
 pub overflow_mul-n : goal.overflow_mul-n

@@ -1,5 +1,4 @@
-use Rattle.std.proofs.Common.{◌≤◌, ℕ, List, length, sym, subst, ◌∙◌}
-use Rattle.std.proofs.lemmas.Result.{IfOk-weaker}
+use Rattle.std.proofs.{Common.{◌≤◌, ℕ, List, length, sym, subst, ◌∙◌}, lemmas.Result.IfOk-weaker}
 use Rattle.pxe_vendor.proofs.FileLemmas.{IsNamed, IsNamed-loader_file, length-loader_file}
 use Rattle.pxe_vendor.proofs.file.boot_file.Goals as goal
 

@@ -1,7 +1,6 @@
 use Rattle.std.proofs.Common.{arith}
-use Rattle.serve_sockets.proofs.ListsLemmas.{first_to, lowest_wants}
+use Rattle.serve_sockets.proofs.{ListsLemmas.{first_to, lowest_wants}, lists.first_from.Goals.{then-is_earlier, else-is_earlier}}
 use Rattle.serve_sockets.proofs.lists.first_from.Goals as goal
-use Rattle.serve_sockets.proofs.lists.first_from.Goals.{then-is_earlier, else-is_earlier}
 
 pub loop-slot-init : goal.loop-slot-init
 loop-slot-init g c =

@@ -1,6 +1,5 @@
 use Rattle.std.proofs.Common.{◌≡◌, ◌<◌, ◌≤◌, ℕ, length, true}
-use Rattle.serve_sockets.specs.Lists.{wants_at}
-use Rattle.serve_sockets.specs.Table.{number_at}
+use Rattle.serve_sockets.specs.{Lists.wants_at, Table.number_at}
 use Rattle.serve_sockets.proofs.lists.first_from.Given as goal
 
 -- of the slots that were passed, none that is wanted was accepted before the one that was found, which is

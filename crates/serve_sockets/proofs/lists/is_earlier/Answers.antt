@@ -1,5 +1,4 @@
-use Rattle.std.proofs.Common.{◌∙◌, sym}
-use Rattle.std.proofs.lemmas.Bool.{false≢true}
+use Rattle.std.proofs.{Common.{◌∙◌, sym}, lemmas.Bool.false≢true}
 use Rattle.serve_sockets.proofs.ListsLemmas.{older_by, younger_by}
 use Rattle.serve_sockets.proofs.lists.is_earlier.Goals as goal
 

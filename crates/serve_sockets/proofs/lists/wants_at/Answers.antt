@@ -1,6 +1,5 @@
 use Rattle.std.proofs.Common.{◌∙◌, ap, sym}
-use Rattle.serve_sockets.specs.Lists.{wants_held}
-use Rattle.serve_sockets.proofs.TableLemmas.{slot_held, slot_past}
+use Rattle.serve_sockets.{specs.Lists.wants_held, proofs.TableLemmas.{slot_held, slot_past}}
 use Rattle.serve_sockets.proofs.lists.wants_at.Goals as goal
 
 pub returns-in-Some : goal.returns-in-Some

@@ -1,16 +1,20 @@
-use Rattle.std.proofs.Common.{◌∙◌}
-use Rattle.serve_sockets.proofs.ServingLemmas.{waiting_after}
+use Rattle.serve_sockets.proofs.{ServingLemmas.waiting_after, TurnLemmas.keeps_then}
 use Rattle.serve_sockets.proofs.serving.decide.Goals as goal
 
-pub returns-clause-clean : goal.returns-clause-clean
-returns-clause-clean g c = λ clean. (c.may_wait.ensures.read (c.hand_request.ensures.clean clean)).0
+pub returns-then-may_wait : goal.returns-then-may_wait
+returns-then-may_wait g c = record {
+  kept = c.may_wait.ensures.kept;
+  request = λ clean. tt;
+  same = λ moved. absurd moved;
+  read = λ clean off. c.may_wait.ensures.read clean;
+}
 
-pub returns-clause-site : goal.returns-clause-site
-returns-clause-site g c = c.hand_request.ensures.site ∙ c.may_wait.ensures.site
-
-pub returns-clause-enlists : goal.returns-clause-enlists
-returns-clause-enlists g c = c.hand_request.ensures.enlists ∙ c.may_wait.ensures.enlists
-
-pub returns-clause-waits : goal.returns-clause-waits
-returns-clause-waits g c = λ clean.
-    waiting_after g.S.HallStore.holds g.S.HallStore.leaves _ _ _ _ _ _ _ _ _ _ c.may_wait.ensures.site (c.may_wait.ensures.read (c.hand_request.ensures.clean clean)).1 (c.hand_request.ensures.waits clean)
+pub returns : goal.returns
+returns g c = record {
+  kept = keeps_then g.S.HallStore _ _ _ c.may_wait.ensures.kept c.hand_request.ensures.kept;
+  request = λ clean.
+      waiting_after g.S.HallStore _ _ _ _ _ _ _ _ _ _ c.may_wait.ensures.kept.site (c.may_wait.ensures.read (c.hand_request.ensures.kept.clean clean))
+      (c.hand_request.ensures.waits clean);
+  same = λ moved. absurd moved;
+  read = λ clean off. absurd off;
+}

@@ -1,10 +1,29 @@
-use Rattle.serve_sockets.proofs.ServingLemmas.{refused_request, whole_step}
+use Rattle.serve_sockets.{specs.declared.serving.Step.Step, proofs.{ServingLemmas.{refused_request, whole_step}, TurnLemmas.{keeps_same, only_moved}}}
 use Rattle.serve_sockets.proofs.serving.take.Goals as goal
 
-pub returns-in-Whole-clause-request : goal.returns-in-Whole-clause-request
-returns-in-Whole-clause-request g c = λ clean.
-    whole_step _ _ _ _ _ _ _ c.decide.result _ _ _ _ _ c.in-Whole.ensures.taken.0 c.in-Whole.ensures.taken.1 (c.decide.ensures.waits clean)
+pub returns-in-Waits : goal.returns-in-Waits
+returns-in-Waits g c = only_moved g.S.HallStore _ _ Step.Waits tt
 
-pub returns-in-NoMemory-clause-request : goal.returns-in-NoMemory-clause-request
-returns-in-NoMemory-clause-request g c = λ clean.
-    refused_request _ _ g.S.HallStore.wider _ _ _ _ _ _ _ _ _ c.refuse.ensures.tells c.refuse.ensures.waits
+pub returns-in-More : goal.returns-in-More
+returns-in-More g c = only_moved g.S.HallStore _ _ Step.Moved tt
+
+pub returns-in-Whole : goal.returns-in-Whole
+returns-in-Whole g c =
+    let it = c.decide.ensures in
+    record {
+      kept = it.kept;
+      request = λ clean. whole_step _ _ _ _ _ _ c.decide.result _ _ _ _ _ c.in-Whole.ensures.taken.0 c.in-Whole.ensures.taken.1 (it.request clean);
+      same = it.same;
+      read = it.read;
+    }
+
+pub returns-in-NoMemory : goal.returns-in-NoMemory
+returns-in-NoMemory g c = record {
+  kept = keeps_same g.S.HallStore _;
+  request = λ clean. refused_request _ g.S.HallStore.wider _ _ _ _ _ _ _ _ _ c.refuse.ensures.tells c.refuse.ensures.waits;
+  same = λ moved. absurd moved;
+  read = λ clean off. absurd off;
+}
+
+pub returns-in-Failed : goal.returns-in-Failed
+returns-in-Failed g c = only_moved g.S.HallStore _ _ Step.Failed tt

@@ -1,7 +1,5 @@
 use Rattle.std.proofs.Common.{◌∙◌, ap, rules, sym}
-use Rattle.serve_sockets.specs.Yielding.{crowd_by, crowd_in}
-use Rattle.serve_sockets.proofs.TableLemmas.{slot_held, slot_past}
-use Rattle.serve_sockets.proofs.YieldingLemmas.{crowd_found}
+use Rattle.serve_sockets.{specs.Yielding.{crowd_by, crowd_in}, proofs.{TableLemmas.{slot_held, slot_past}, YieldingLemmas.crowd_found}}
 use Rattle.serve_sockets.proofs.yielding.crowd_at.Goals as goal
 
 pub returns-in-Some : goal.returns-in-Some

@@ -1,5 +1,4 @@
-use Rattle.std.proofs.Common.{sym}
-use Rattle.std.proofs.lemmas.Bool.{ltb-true, ltb-false}
+use Rattle.std.proofs.{Common.sym, lemmas.Bool.{ltb-true, ltb-false}}
 use Rattle.serve_sockets.proofs.YieldingLemmas.{ahead_by, ahead_larger, ahead_not, less_than}
 use Rattle.serve_sockets.proofs.yielding.is_ahead.Goals as goal
 

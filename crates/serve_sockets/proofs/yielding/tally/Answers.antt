@@ -1,8 +1,6 @@
-use Rattle.std.proofs.Common.{rules, arith, ◌∙◌, sym, length-set}
-use Rattle.std.proofs.lemmas.List.{get_or-replicate}
-use Rattle.serve_sockets.proofs.YieldingLemmas.{crowd_fits, tally_more, tally_same, tally_whole}
+use Rattle.std.proofs.{Common.{rules, arith, ◌∙◌, sym, length-set}, lemmas.List.get_or-replicate}
+use Rattle.serve_sockets.proofs.{YieldingLemmas.{crowd_fits, tally_more, tally_same, tally_whole}, yielding.tally.Goals.{in-Some, in_default}}
 use Rattle.serve_sockets.proofs.yielding.tally.Goals as goal
-use Rattle.serve_sockets.proofs.yielding.tally.Goals.{in-Some, in_default}
 
 pub loop-slot-init : goal.loop-slot-init
 loop-slot-init g c = record {

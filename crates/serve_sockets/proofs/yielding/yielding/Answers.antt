@@ -1,7 +1,6 @@
 use Rattle.std.proofs.Common.{◌≡◌, arith}
-use Rattle.serve_sockets.proofs.YieldingLemmas.{ahead_self, ahead_to}
+use Rattle.serve_sockets.proofs.{YieldingLemmas.{ahead_self, ahead_to}, yielding.yielding.Goals.{then-is_ahead, else-is_ahead}}
 use Rattle.serve_sockets.proofs.yielding.yielding.Goals as goal
-use Rattle.serve_sockets.proofs.yielding.yielding.Goals.{then-is_ahead, else-is_ahead}
 
 pub loop-slot-init : goal.loop-slot-init
 loop-slot-init g c = record {

@@ -1,6 +1,5 @@
 use Rattle.sql_schema.specs.Words.{state}
-use Rattle.sql_items.specs.Boots.{with_boot}
-use Rattle.sql_items.specs.ChildLaws.{puts_boot}
+use Rattle.sql_items.specs.{Boots.with_boot, ChildLaws.puts_boot}
 use Rattle.sql_items.proofs.boots.put_boot.Goals as goal
 
 pub returns-clause-written : goal.returns-clause-written

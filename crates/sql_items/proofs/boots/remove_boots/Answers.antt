@@ -1,11 +1,7 @@
-use Rattle.sql_schema.specs.Words.{state, number}
+use Rattle.sql_schema.specs.{Words.{state, number}, StepLaws.writes, Steps.always}
 use Rattle.std.proofs.Common.{[], ◌∷◌}
-use Rattle.sql_schema.specs.StepLaws.{writes}
-use Rattle.sql_schema.specs.Steps.{always}
-use Rattle.sql_items.specs.Boots.{without_boots}
-use Rattle.sql_items.specs.ChildLaws.{removes_boots}
+use Rattle.sql_items.specs.{Boots.without_boots, ChildLaws.removes_boots, declared.boots.TheConstants.REMOVE_BOOTS}
 use Rattle.sql_items.proofs.boots.remove_boots.Goals as goal
-use Rattle.sql_items.specs.declared.boots.TheConstants.{REMOVE_BOOTS}
 
 pub returns-clause-written : goal.returns-clause-written
 returns-clause-written g c clean =

@@ -1,7 +1,5 @@
-use Rattle.sql_schema.specs.Words.{state, status_number, if_ok}
-use Rattle.sql_schema.specs.StepLaws.{reads_on}
-use Rattle.sql_items.proofs.CountLemmas.{finds_count}
-use Rattle.sql_items.proofs.StepLemmas.{shows, refuses}
+use Rattle.sql_schema.specs.{Words.{state, status_number, if_ok}, StepLaws.reads_on}
+use Rattle.sql_items.proofs.{CountLemmas.finds_count, StepLemmas.{shows, refuses}}
 use Rattle.sql_items.proofs.counts.count_of.Goals as goal
 
 pub returns-in-Ok-clause-counted : goal.returns-in-Ok-clause-counted

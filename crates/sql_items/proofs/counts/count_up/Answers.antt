@@ -1,6 +1,5 @@
-use Rattle.sql_schema.specs.Words.{state, HasCleanDisk, status_number, IsWithin}
+use Rattle.sql_schema.specs.{Words.{state, HasCleanDisk, status_number, IsWithin}, StepLaws.next}
 use Rattle.std.proofs.Common.{◌+◌, subst, arith}
-use Rattle.sql_schema.specs.StepLaws.{next}
 use Rattle.sql_items.specs.Counts.{with_count}
 use Rattle.sql_items.proofs.counts.count_up.Goals as goal
 

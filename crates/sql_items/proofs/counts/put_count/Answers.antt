@@ -1,6 +1,5 @@
-use Rattle.sql_schema.specs.Words.{state, status_number}
+use Rattle.sql_schema.specs.{Words.{state, status_number}, StepLaws.writes}
 use Rattle.std.proofs.Common.{arith}
-use Rattle.sql_schema.specs.StepLaws.{writes}
 use Rattle.sql_items.proofs.CountLemmas.{puts_count, removes_count}
 use Rattle.sql_items.proofs.counts.put_count.Goals as goal
 

@@ -1,8 +1,6 @@
-use Rattle.sql_schema.specs.Words.{asked_failed}
+use Rattle.sql_schema.specs.{Words.asked_failed, AskingLaws.{reads, both}}
 use Rattle.std.proofs.Common.{ap, ◌∙◌}
-use Rattle.sql_schema.specs.AskingLaws.{reads, both}
-use Rattle.sql_items.specs.MachineRows.{found_whole}
-use Rattle.sql_items.specs.MachineRowLaws.{whole_again}
+use Rattle.sql_items.specs.{MachineRows.found_whole, MachineRowLaws.whole_again}
 use Rattle.sql_items.proofs.finding.ask_machine.Goals as goal
 
 pub returns-in-Ok-clause-asked : goal.returns-in-Ok-clause-asked

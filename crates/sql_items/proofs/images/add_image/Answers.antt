@@ -1,10 +1,7 @@
-use Rattle.sql_schema.specs.Words.{recursion_from_All, state, at}
+use Rattle.sql_schema.specs.{Words.{recursion_from_All, state, at}, StepLaws.{stays, writes}}
 use Rattle.std.proofs.Common.{◌≡◌, None}
 use Rattle.ipxe_script.specs.Word.{IsWord}
-use Rattle.sql_schema.specs.StepLaws.{stays, writes}
-use Rattle.sql_items.specs.Changes.{with_image}
-use Rattle.sql_items.proofs.ImageLemmas.{adds_image}
-use Rattle.sql_items.proofs.WordLemmas.{gives_back}
+use Rattle.sql_items.{specs.Changes.with_image, proofs.{ImageLemmas.adds_image, WordLemmas.gives_back}}
 use Rattle.sql_items.proofs.images.add_image.Goals as goal
 
 pub returns-in-Ok-clause-written : goal.returns-in-Ok-clause-written

@@ -1,8 +1,5 @@
-use Rattle.sql_schema.specs.Words.{state}
-use Rattle.sql_schema.specs.StepLaws.{writes}
-use Rattle.sql_schema.specs.Steps.{always}
-use Rattle.sql_items.specs.Changes.{without_image}
-use Rattle.sql_items.proofs.ImageLemmas.{removes_image}
+use Rattle.sql_schema.specs.{Words.state, StepLaws.writes, Steps.always}
+use Rattle.sql_items.{specs.Changes.without_image, proofs.ImageLemmas.removes_image}
 use Rattle.sql_items.proofs.images.remove_image.Goals as goal
 
 pub returns-clause-written : goal.returns-clause-written

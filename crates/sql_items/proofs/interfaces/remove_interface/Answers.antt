@@ -1,5 +1,4 @@
-use Rattle.sql_schema.specs.Words.{state}
-use Rattle.sql_schema.specs.StepLaws.{writes}
+use Rattle.sql_schema.specs.{Words.state, StepLaws.writes}
 use Rattle.sql_items.specs.ChildLaws.{removes_interface}
 use Rattle.sql_items.proofs.interfaces.remove_interface.Goals as goal
 

@@ -1,5 +1,4 @@
-use Rattle.sql_schema.specs.Words.{state}
-use Rattle.sql_schema.specs.StepLaws.{writes}
+use Rattle.sql_schema.specs.{Words.state, StepLaws.writes}
 use Rattle.sql_items.specs.ChildLaws.{removes_interfaces}
 use Rattle.sql_items.proofs.interfaces.remove_interfaces.Goals as goal
 

@@ -1,10 +1,6 @@
-use Rattle.sql_schema.specs.Words.{listed, asked_failed}
+use Rattle.sql_schema.specs.{Words.{listed, asked_failed}, AskingLaws.{reads, both}}
 use Rattle.std.proofs.Common.{refl, ap, ◌∙◌}
-use Rattle.sql_schema.specs.AskingLaws.{reads, both}
-use Rattle.sql_items.specs.Joining.{joined}
-use Rattle.sql_items.specs.Wipes.{erasings}
-use Rattle.sql_items.proofs.JoinLemmas.{joins_all}
-use Rattle.sql_items.proofs.FindingLemmas.{in_number_order, lists_rows, machines_stand}
+use Rattle.sql_items.{specs.{Joining.joined, Wipes.erasings}, proofs.{JoinLemmas.joins_all, FindingLemmas.{in_number_order, lists_rows, machines_stand}}}
 use Rattle.sql_items.proofs.listing.list_machines.Goals as goal
 
 pub returns-in-Ok-clause-asked : goal.returns-in-Ok-clause-asked

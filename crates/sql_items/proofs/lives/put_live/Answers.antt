@@ -1,6 +1,5 @@
 use Rattle.sql_schema.specs.Words.{state}
-use Rattle.sql_items.specs.Changes.{with_live}
-use Rattle.sql_items.specs.LiveLaws.{puts_live}
+use Rattle.sql_items.specs.{Changes.with_live, LiveLaws.puts_live}
 use Rattle.sql_items.proofs.lives.put_live.Goals as goal
 
 pub returns-clause-written : goal.returns-clause-written

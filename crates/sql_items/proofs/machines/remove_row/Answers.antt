@@ -1,10 +1,7 @@
-use Rattle.sql_schema.specs.Words.{state, number}
+use Rattle.sql_schema.specs.{Words.{state, number}, StepLaws.writes}
 use Rattle.std.proofs.Common.{[], ◌∷◌}
-use Rattle.sql_schema.specs.StepLaws.{writes}
-use Rattle.sql_items.specs.Machines.{HasNoChild, without_row}
-use Rattle.sql_items.proofs.MachineLemmas.{removes_machine}
+use Rattle.sql_items.{specs.{Machines.{HasNoChild, without_row}, declared.machines.TheConstants.REMOVE_MACHINE}, proofs.MachineLemmas.removes_machine}
 use Rattle.sql_items.proofs.machines.remove_row.Goals as goal
-use Rattle.sql_items.specs.declared.machines.TheConstants.{REMOVE_MACHINE}
 
 pub returns-clause-written : goal.returns-clause-written
 returns-clause-written g c clean =

@@ -1,8 +1,6 @@
-use Rattle.sql_schema.specs.Words.{state}
+use Rattle.sql_schema.specs.{Words.state, StepLaws.reads_on}
 use Rattle.std.proofs.Common.{◌≡◌, length, Ok, Err, arith}
-use Rattle.sql_schema.specs.StepLaws.{reads_on}
-use Rattle.sql_items.proofs.MachineLemmas.{sets_machine}
-use Rattle.sql_items.proofs.StepLemmas.{shows, refuses}
+use Rattle.sql_items.proofs.{MachineLemmas.sets_machine, StepLemmas.{shows, refuses}}
 use Rattle.sql_items.proofs.machines.set_machine.Goals as goal
 
 pub returns-then-len-eq1-clause-written : goal.returns-then-len-eq1-clause-written

@@ -1,6 +1,5 @@
 use Rattle.sql_schema.specs.Words.{state}
-use Rattle.sql_items.specs.Orders.{with_order}
-use Rattle.sql_items.specs.ChildLaws.{puts_order}
+use Rattle.sql_items.specs.{Orders.with_order, ChildLaws.puts_order}
 use Rattle.sql_items.proofs.orders.put_order.Goals as goal
 
 pub returns-clause-written : goal.returns-clause-written

@@ -1,11 +1,7 @@
-use Rattle.sql_schema.specs.Words.{state, number}
+use Rattle.sql_schema.specs.{Words.{state, number}, StepLaws.writes, Steps.always}
 use Rattle.std.proofs.Common.{[], ◌∷◌}
-use Rattle.sql_schema.specs.StepLaws.{writes}
-use Rattle.sql_schema.specs.Steps.{always}
-use Rattle.sql_items.specs.Orders.{without_orders}
-use Rattle.sql_items.specs.ChildLaws.{removes_orders}
+use Rattle.sql_items.specs.{Orders.without_orders, ChildLaws.removes_orders, declared.orders.TheConstants.REMOVE_ORDERS}
 use Rattle.sql_items.proofs.orders.remove_orders.Goals as goal
-use Rattle.sql_items.specs.declared.orders.TheConstants.{REMOVE_ORDERS}
 
 pub returns-clause-written : goal.returns-clause-written
 returns-clause-written g c clean =

@@ -1,7 +1,6 @@
 use Rattle.sql_schema.specs.Words.{at, asked_then, asked_failed}
 use Rattle.std.proofs.Common.{Ok, option_map, ap, ◌∙◌}
-use Rattle.sql_items.specs.declared.wipes.Erasing.{Erasing}
-use Rattle.sql_items.proofs.WipeLemmas.{finds_wipe, found_erase}
+use Rattle.sql_items.{specs.declared.wipes.Erasing.Erasing, proofs.WipeLemmas.{finds_wipe, found_erase}}
 use Rattle.sql_items.proofs.wipes.find_wipe.Goals as goal
 
 pub returns-in-Ok-clause-asked : goal.returns-in-Ok-clause-asked

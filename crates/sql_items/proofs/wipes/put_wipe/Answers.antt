@@ -1,9 +1,6 @@
-use Rattle.sql_schema.specs.Words.{state, HasCleanDisk, IsWithin}
+use Rattle.sql_schema.specs.{Words.{state, HasCleanDisk, IsWithin}, StepLaws.{next, writes}}
 use Rattle.std.proofs.Common.{Some, None, subst, arith}
-use Rattle.sql_schema.specs.StepLaws.{next, writes}
-use Rattle.sql_items.specs.Wipes.{with_wipe}
-use Rattle.sql_items.specs.WipeLaws.{put-gone}
-use Rattle.sql_items.proofs.WipeLemmas.{adds_wipe, removes_wipe}
+use Rattle.sql_items.{specs.{Wipes.with_wipe, WipeLaws.put-gone}, proofs.WipeLemmas.{adds_wipe, removes_wipe}}
 use Rattle.sql_items.proofs.wipes.put_wipe.Goals as goal
 
 pub returns-in-None-clause-written : goal.returns-in-None-clause-written

@@ -1,8 +1,6 @@
-use Rattle.sql_schema.specs.Prelude.{state}
+use Rattle.sql_schema.{specs.{Prelude.state, StatementLaws.not_run_back}, proofs.probe.is_running.Goals.{in-Ok, in-Err}}
 use Rattle.std.proofs.Common.{inl, codes}
-use Rattle.sql_schema.specs.StatementLaws.{not_run_back}
 use Rattle.sql_schema.proofs.probe.is_running.Goals as goal
-use Rattle.sql_schema.proofs.probe.is_running.Goals.{in-Ok, in-Err}
 
 pub returns-clause-back : goal.returns-clause-back
 returns-clause-back g c clean = elim c.match-prepare.branch [

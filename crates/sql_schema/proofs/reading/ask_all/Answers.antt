@@ -1,6 +1,5 @@
-use Rattle.sql_schema.specs.Words.{state, bound, if_ok}
+use Rattle.sql_schema.{specs.Words.{state, bound, if_ok}, proofs.ReadingLemmas.{same_items, items_read, items_refused}}
 use Rattle.std.proofs.Common.{sym, ◌∙◌}
-use Rattle.sql_schema.proofs.ReadingLemmas.{same_items, items_read, items_refused}
 use Rattle.sql_schema.proofs.reading.ask_all.Goals as goal
 
 pub returns-in-Ok-clause-asked : goal.returns-in-Ok-clause-asked

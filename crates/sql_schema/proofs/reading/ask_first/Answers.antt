@@ -1,5 +1,4 @@
-use Rattle.sql_schema.specs.Words.{state, bound, if_ok}
-use Rattle.sql_schema.proofs.ReadingLemmas.{items_read, items_refused}
+use Rattle.sql_schema.{specs.Words.{state, bound, if_ok}, proofs.ReadingLemmas.{items_read, items_refused}}
 use Rattle.sql_schema.proofs.reading.ask_first.Goals as goal
 
 pub returns-in-Ok-clause-asked : goal.returns-in-Ok-clause-asked

@@ -1,6 +1,5 @@
-use Rattle.sql_schema.specs.Words.{option_to_list}
+use Rattle.sql_schema.specs.{Words.option_to_list, AskingLaws.{reads, only_item}}
 use Rattle.std.proofs.Common.{◌∙◌}
-use Rattle.sql_schema.specs.AskingLaws.{reads, only_item}
 use Rattle.sql_schema.proofs.reading.ask_one.Goals as goal
 
 pub returns-clause-asked : goal.returns-clause-asked

@@ -1,6 +1,5 @@
-use Rattle.sql_schema.specs.Words.{state, HasCleanDisk}
+use Rattle.sql_schema.specs.{Words.{state, HasCleanDisk}, StepLaws.{next, fails}}
 use Rattle.std.proofs.Common.{arith}
-use Rattle.sql_schema.specs.StepLaws.{next, fails}
 use Rattle.sql_schema.proofs.writing.put.Goals as goal
 
 pub returns-in-Ok-true-clause-written : goal.returns-in-Ok-true-clause-written

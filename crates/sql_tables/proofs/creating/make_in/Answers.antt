@@ -1,7 +1,6 @@
 use Rattle.sql_schema.specs.Words.{Held, state, new_hall, second, no_schema}
 use Rattle.std.proofs.Common.{◌≡◌, refl, rules, subst, sym}
-use Rattle.sql_tables.proofs.MakingLemmas.{spells_new}
-use Rattle.sql_tables.proofs.TransactionLemmas.{made, refused}
+use Rattle.sql_tables.proofs.{MakingLemmas.spells_new, TransactionLemmas.{made, refused}}
 use Rattle.sql_tables.proofs.creating.make_in.Goals as goal
 
 pub returns-clause-made : goal.returns-clause-made

@@ -1,10 +1,6 @@
-use Rattle.sql_schema.specs.Words.{Database, state}
+use Rattle.sql_schema.specs.{Words.{Database, state}, StepLaws.{next, reads_on}, declared.creating.TheConstants.FIND_NUMBERS}
 use Rattle.std.proofs.Common.{◌≡◌, Ok, subst, ◌∙◌}
-use Rattle.sql_schema.specs.StepLaws.{next, reads_on}
-use Rattle.sql_schema.specs.declared.creating.TheConstants.{FIND_NUMBERS}
-use Rattle.sql_tables.specs.Opening.{NamesSchema, ShowsRows}
-use Rattle.sql_tables.proofs.LookLemmas.{found_in, not_found, schema_row, shown_rows}
-use Rattle.sql_tables.proofs.TransactionLemmas.{earlier, whatever}
+use Rattle.sql_tables.{specs.Opening.{NamesSchema, ShowsRows}, proofs.{LookLemmas.{found_in, not_found, schema_row, shown_rows}, TransactionLemmas.{earlier, whatever}}}
 use Rattle.sql_tables.proofs.looking.has_version.Goals as goal
 
 pub returns-in-Err-clause-found : goal.returns-in-Err-clause-found

@@ -1,8 +1,6 @@
-use Rattle.sql_schema.specs.Words.{state, HasCleanDisk, Survives}
+use Rattle.sql_schema.specs.{Words.{state, HasCleanDisk, Survives}, Steps.IsStep}
 use Rattle.std.proofs.Common.{◌≡◌, drop, map, Ok, ◌↔◌}
-use Rattle.sql_schema.specs.Steps.{IsStep}
-use Rattle.sql_tables.specs.declared.fault.OpenFault.{OpenFault}
-use Rattle.sql_tables.specs.Opening.{AreUnderstood}
+use Rattle.sql_tables.specs.{declared.fault.OpenFault.OpenFault, Opening.AreUnderstood}
 use Rattle.sql_tables.proofs.looking.understands.Given as goal
 
 -- all texts are understood if those that are left are

@@ -1,7 +1,6 @@
 use Rattle.sql_schema.specs.Words.{ints}
 use Rattle.std.proofs.Common.{◌≡◌, Err, ap, arith, refl, sym, subst, ◌∙◌}
-use Rattle.sql_tables.specs.Opening.{IsOneRow, IsVersionOf}
-use Rattle.sql_tables.proofs.LookLemmas.{none_found}
+use Rattle.sql_tables.{specs.Opening.{IsOneRow, IsVersionOf}, proofs.LookLemmas.none_found}
 use Rattle.sql_tables.proofs.looking.version_in.Goals as goal
 
 pub returns-in-Err-clause-told : goal.returns-in-Err-clause-told

@@ -1,6 +1,5 @@
-use Rattle.sql_schema.specs.Words.{Error, state, Schema, HasCleanDisk, Survives}
+use Rattle.sql_schema.specs.{Words.{Error, state, Schema, HasCleanDisk, Survives}, Steps.IsStep}
 use Rattle.std.proofs.Common.{◌≡◌, drop, map, Ok}
-use Rattle.sql_schema.specs.Steps.{IsStep}
 use Rattle.sql_tables.specs.Creating.{CanMake}
 use Rattle.sql_tables.proofs.making.make_all.Given as goal
 

@@ -1,6 +1,4 @@
-use Rattle.sql_schema.specs.Words.{hall_schema, no_schema}
-use Rattle.sql_schema.specs.SchemaLaws.{makes_second}
-use Rattle.sql_schema.specs.StepLaws.{next}
+use Rattle.sql_schema.specs.{Words.{hall_schema, no_schema}, SchemaLaws.makes_second, StepLaws.next}
 use Rattle.sql_tables.proofs.TransactionLemmas.{earlier}
 use Rattle.sql_tables.proofs.making.make_hall.Goals as goal
 

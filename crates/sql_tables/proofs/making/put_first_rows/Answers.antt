@@ -1,7 +1,6 @@
 use Rattle.std.proofs.Common.{Ok}
 use Rattle.sql_schema.specs.StepLaws.{gives}
-use Rattle.sql_tables.proofs.MakingLemmas.{rows_put}
-use Rattle.sql_tables.proofs.TransactionLemmas.{earlier, pair}
+use Rattle.sql_tables.proofs.{MakingLemmas.rows_put, TransactionLemmas.{earlier, pair}}
 use Rattle.sql_tables.proofs.making.put_first_rows.Goals as goal
 
 pub returns-clause-made : goal.returns-clause-made

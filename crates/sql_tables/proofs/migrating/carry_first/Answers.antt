@@ -1,8 +1,6 @@
 use Rattle.sql_schema.specs.Words.{Held, is_used, state}
 use Rattle.std.proofs.Common.{◌≡◌, IsTrue, codes, false, rules, subst, sym}
-use Rattle.sql_tables.specs.Migrating.{IsFirst}
-use Rattle.sql_tables.proofs.CarriedLemmas.{spells_carried}
-use Rattle.sql_tables.proofs.TransactionLemmas.{made, refused, whatever}
+use Rattle.sql_tables.{specs.Migrating.IsFirst, proofs.{CarriedLemmas.spells_carried, TransactionLemmas.{made, refused, whatever}}}
 use Rattle.sql_tables.proofs.migrating.carry_first.Goals as goal
 
 pub returns-clause-made : goal.returns-clause-made

@@ -1,8 +1,6 @@
-use Rattle.sql_schema.specs.Words.{state}
+use Rattle.sql_schema.specs.{Words.state, StepLaws.gives}
 use Rattle.std.proofs.Common.{Ok}
-use Rattle.sql_schema.specs.StepLaws.{gives}
-use Rattle.sql_tables.proofs.CarryingLemmas.{carried}
-use Rattle.sql_tables.proofs.TransactionLemmas.{earlier, pair}
+use Rattle.sql_tables.proofs.{CarryingLemmas.carried, TransactionLemmas.{earlier, pair}}
 use Rattle.sql_tables.proofs.migrating.carry_over.Goals as goal
 
 pub returns-clause-made : goal.returns-clause-made

@@ -1,10 +1,6 @@
 use Rattle.sql_schema.specs.Words.{Database, is_used, state}
 use Rattle.std.proofs.Common.{◌≡◌, ◌≢◌, Err, Ok, ap, codes, false, rules, subst}
-use Rattle.sql_tables.specs.Opening.{IsRightAnswer}
-use Rattle.sql_tables.specs.declared.fault.OpenFault.{OpenFault}
-use Rattle.sql_tables.specs.declared.fault.OpenFault.TheVariants.{OtherVersion}
-use Rattle.sql_tables.specs.declared.migrating.Migrated.TheVariants.{Already, Now}
-use Rattle.sql_tables.proofs.MigratingLemmas.{first_of, first_right, left_same, made_after, second_of, second_right, used_right}
+use Rattle.sql_tables.{specs.{Opening.IsRightAnswer, declared.{fault.OpenFault.{OpenFault, TheVariants.OtherVersion}, migrating.Migrated.TheVariants.{Already, Now}}}, proofs.MigratingLemmas.{first_of, first_right, left_same, made_after, second_of, second_right, used_right}}
 use Rattle.sql_tables.proofs.migrating.migrate.Goals as goal
 
 -- ---- the tables of the first schema were there

@@ -1,9 +1,6 @@
 use Rattle.sql_schema.specs.Words.{state, IsHeld, Leaves}
 use Rattle.std.proofs.Common.{[], ◌∷◌}
-use Rattle.sql_tables.specs.Migrating.{BecomeHall}
-use Rattle.sql_tables.specs.OpeningLaws.{no_hall_to_migrate}
-use Rattle.sql_tables.proofs.MigratingLemmas.{on_each, refused_alone}
-use Rattle.sql_tables.proofs.TransactionLemmas.{on_ok, settles}
+use Rattle.sql_tables.{specs.{Migrating.BecomeHall, OpeningLaws.no_hall_to_migrate}, proofs.{MigratingLemmas.{on_each, refused_alone}, TransactionLemmas.{on_ok, settles}}}
 use Rattle.sql_tables.proofs.migrating.migrate_tables.Goals as goal
 
 pub returns-clause-held : goal.returns-clause-held

@@ -1,6 +1,5 @@
-use Rattle.sql_schema.specs.Words.{state}
+use Rattle.sql_schema.specs.{Words.state, StepLaws.{gives, stays}}
 use Rattle.std.proofs.Common.{Ok, false, sym, true, ◌∙◌}
-use Rattle.sql_schema.specs.StepLaws.{gives, stays}
 use Rattle.sql_tables.proofs.CarryingLemmas.{full_put, kind_made}
 use Rattle.sql_tables.proofs.migrating.put_kind.Goals as goal
 

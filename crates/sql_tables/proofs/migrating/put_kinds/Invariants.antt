@@ -1,8 +1,6 @@
-use Rattle.sql_schema.specs.Words.{Error, state, HasCleanDisk, Survives, Machine, machine_values, HallRows, Spells}
+use Rattle.sql_schema.specs.{Words.{Error, state, HasCleanDisk, Survives, Machine, machine_values, HallRows, Spells}, Steps.IsStep}
 use Rattle.std.proofs.Common.{◌≡◌, List, drop, map, Ok}
-use Rattle.sql_schema.specs.Steps.{IsStep}
-use Rattle.sql_tables.specs.Migrating.{with_kinds_of}
-use Rattle.sql_tables.proofs.CarryingLemmas.{AreLeft}
+use Rattle.sql_tables.{specs.Migrating.with_kinds_of, proofs.CarryingLemmas.AreLeft}
 use Rattle.sql_tables.proofs.migrating.put_kinds.Given as goal
 
 -- the machines so far have their rows

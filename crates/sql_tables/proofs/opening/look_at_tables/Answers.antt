@@ -1,8 +1,5 @@
 use Rattle.sql_schema.specs.Words.{state}
-use Rattle.sql_tables.specs.declared.looking.Wanted.TheVariants.{Second}
-use Rattle.sql_tables.specs.OpeningLaws.{no_hall}
-use Rattle.sql_tables.proofs.OpenLemmas.{has_second, held_ready, on_said, refused_as, says_second}
-use Rattle.sql_tables.proofs.TransactionLemmas.{settles}
+use Rattle.sql_tables.{specs.{declared.looking.Wanted.TheVariants.Second, OpeningLaws.no_hall}, proofs.{OpenLemmas.{has_second, held_ready, on_said, refused_as, says_second}, TransactionLemmas.settles}}
 use Rattle.sql_tables.proofs.opening.look_at_tables.Goals as goal
 
 pub returns-clause-held : goal.returns-clause-held

@@ -1,8 +1,6 @@
 use Rattle.sql_schema.specs.Words.{state, HasCleanDisk, next_item, no_item}
-use Rattle.std.specs.Prelude.{IsErr}
-use Rattle.std.proofs.Common.{◌≡◌, refl, ◌∙◌, rules, arith, subst}
-use Rattle.sql_writes.specs.Applying.{IsTold}
-use Rattle.sql_writes.proofs.ApplyingLemmas.{begins, steps, refused, commits}
+use Rattle.std.{specs.Prelude.IsErr, proofs.Common.{◌≡◌, refl, ◌∙◌, rules, arith, subst}}
+use Rattle.sql_writes.{specs.Applying.IsTold, proofs.ApplyingLemmas.{begins, steps, refused, commits}}
 use Rattle.sql_writes.proofs.applying.write_rows.Goals as goal
 
 pub writes-init : goal.writes-init

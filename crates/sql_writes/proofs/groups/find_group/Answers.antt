@@ -1,6 +1,5 @@
-use Rattle.sql_schema.specs.Words.{Row, at, if_ok, query_keeps}
+use Rattle.sql_schema.specs.{Words.{Row, at, if_ok, query_keeps}, StepLaws.reads_on}
 use Rattle.std.proofs.Common.{Err, List}
-use Rattle.sql_schema.specs.StepLaws.{reads_on}
 use Rattle.sql_writes.proofs.MachineLemmas.{finds_machine}
 use Rattle.sql_writes.proofs.groups.find_group.Goals as goal
 

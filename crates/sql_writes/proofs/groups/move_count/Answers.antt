@@ -1,6 +1,5 @@
-use Rattle.sql_schema.specs.Words.{bytes_eq-Decides, status_number, same_status}
+use Rattle.sql_schema.specs.{Words.{bytes_eq-Decides, status_number, same_status}, StepLaws.{gives, stays}}
 use Rattle.std.proofs.Common.{◌≡◌, Ok, inl, inr, arith, sym, ap₂, ◌∙◌}
-use Rattle.sql_schema.specs.StepLaws.{gives, stays}
 use Rattle.sql_writes.proofs.StepLemmas.{then}
 use Rattle.sql_writes.proofs.groups.move_count.Goals as goal
 

@@ -1,9 +1,6 @@
-use Rattle.sql_schema.specs.Words.{at}
+use Rattle.sql_schema.specs.{Words.at, StepLaws.gives}
 use Rattle.std.proofs.Common.{inl, inr, refl, sym, ◌∙◌}
-use Rattle.sql_schema.specs.StepLaws.{gives}
-use Rattle.sql_writes.proofs.CountLemmas.{counted_moved, counted_same}
-use Rattle.sql_writes.proofs.MachineLemmas.{puts_whole, there_is, version_is}
-use Rattle.sql_writes.proofs.StepLemmas.{then}
+use Rattle.sql_writes.proofs.{CountLemmas.{counted_moved, counted_same}, MachineLemmas.{puts_whole, there_is, version_is}, StepLemmas.then}
 use Rattle.sql_writes.proofs.machines.set_whole.Goals as goal
 
 pub returns-in_ok-move_count-in-Some-clause-written : goal.returns-in_ok-move_count-in-Some-clause-written

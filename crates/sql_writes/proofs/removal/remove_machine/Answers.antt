@@ -1,10 +1,6 @@
-use Rattle.sql_schema.specs.Words.{at}
+use Rattle.sql_schema.specs.{Words.at, StepLaws.gives}
 use Rattle.std.proofs.Common.{Ok, sym, ◌∙◌}
-use Rattle.sql_schema.specs.StepLaws.{gives}
-use Rattle.sql_writes.proofs.CountLemmas.{counted_gone, counted_none}
-use Rattle.sql_writes.proofs.MachineLemmas.{none_there, there_is}
-use Rattle.sql_writes.proofs.RemovalLemmas.{removes_whole}
-use Rattle.sql_writes.proofs.StepLemmas.{then}
+use Rattle.sql_writes.proofs.{CountLemmas.{counted_gone, counted_none}, MachineLemmas.{none_there, there_is}, RemovalLemmas.removes_whole, StepLemmas.then}
 use Rattle.sql_writes.proofs.removal.remove_machine.Goals as goal
 
 pub returns-in-Some-clause-written : goal.returns-in-Some-clause-written

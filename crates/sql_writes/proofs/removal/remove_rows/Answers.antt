@@ -1,6 +1,5 @@
 use Rattle.sql_schema.specs.StepLaws.{gives}
-use Rattle.sql_writes.proofs.RemovalLemmas.{has_no_child}
-use Rattle.sql_writes.proofs.StepLemmas.{then}
+use Rattle.sql_writes.proofs.{RemovalLemmas.has_no_child, StepLemmas.then}
 use Rattle.sql_writes.proofs.removal.remove_rows.Goals as goal
 
 pub returns-clause-written : goal.returns-clause-written

@@ -1,6 +1,5 @@
-use Rattle.sql_schema.specs.Words.{PutOperator, PutPool, PutMember, PutImage, ImageGone, PutLive, PutInterface, InterfaceGone, PutBoot, PutOrder, PutReceipt, PutNumbers, Machine}
+use Rattle.sql_schema.specs.{Words.{PutOperator, PutPool, PutMember, PutImage, ImageGone, PutLive, PutInterface, InterfaceGone, PutBoot, PutOrder, PutReceipt, PutNumbers, Machine}, StepLaws.gives}
 use Rattle.std.proofs.Common.{ap, refl, sym, ◌∙◌, option_map}
-use Rattle.sql_schema.specs.StepLaws.{gives}
 use Rattle.sql_writes.proofs.WriteLemmas.{writes_row}
 use Rattle.sql_writes.proofs.writes.write_row.Goals as goal
 

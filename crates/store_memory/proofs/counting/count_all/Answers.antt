@@ -1,6 +1,5 @@
 use Rattle.std.proofs.Common.{filter_map}
-use Rattle.store_memory.specs.Counted.{counted_in}
-use Rattle.store_memory.proofs.CountLemmas.{counted_few}
+use Rattle.store_memory.{specs.Counted.counted_in, proofs.CountLemmas.counted_few}
 use Rattle.store_memory.proofs.counting.count_all.Goals as goal
 
 pub count_one-requires-clause-few : goal.count_one-requires-clause-few

@@ -1,8 +1,5 @@
-use Rattle.std.proofs.Common.{◌≡◌, ◌+◌, arith, ap, ◌∙◌}
-use Rattle.std.specs.BTreeMap.{get}
-use Rattle.std.proofs.lemmas.Result.{on_ok_weaker}
-use Rattle.store_memory.specs.Counted.{counted_in, key_cmp, machines_in}
-use Rattle.store_memory.proofs.CountLemmas.{entries_after, more_after}
+use Rattle.std.{proofs.{Common.{◌≡◌, ◌+◌, arith, ap, ◌∙◌}, lemmas.Result.on_ok_weaker}, specs.BTreeMap.get}
+use Rattle.store_memory.{specs.Counted.{counted_in, key_cmp, machines_in}, proofs.CountLemmas.{entries_after, more_after}}
 use Rattle.store_memory.proofs.counting.count_one.Goals as goal
 
 one_more : (c : goal.After-put_count) → c.saturating_add-machines.result ≡ counted_in c.args.counts.now c.args.machine.now.pool c.args.machine.now.status + 1

@@ -1,6 +1,5 @@
 use Rattle.std.proofs.Common.{◌≡◌, ◌==◌, map, is_eq, refl, ap, sym, ◌∙◌}
-use Rattle.store_memory.specs.Table.{unless_gone}
-use Rattle.store_memory.proofs.TableLemmas.{mapped_from_retain_pairs, row_cleared, slot_kept}
+use Rattle.store_memory.{specs.Table.unless_gone, proofs.TableLemmas.{mapped_from_retain_pairs, row_cleared, slot_kept}}
 use Rattle.store_memory.proofs.table.clear_machine.Given as given
 use Rattle.store_memory.proofs.table.clear_machine.Goals as goal
 

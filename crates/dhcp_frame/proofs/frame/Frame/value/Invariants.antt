@@ -1,6 +1,5 @@
 use Rattle.std.proofs.Common.{◌≡◌}
-use Rattle.dhcp_frame.specs.Area.{value_of}
-use Rattle.dhcp_frame.specs.ValueLaws.{joined_then}
+use Rattle.dhcp_frame.specs.{Area.value_of, ValueLaws.joined_then}
 use Rattle.dhcp_frame.proofs.frame.Frame.value.Given as goal
 
 -- the values joined so far, and then those of the rest, are all of them

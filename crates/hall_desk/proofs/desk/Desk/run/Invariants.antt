@@ -1,10 +1,7 @@
-use Rattle.std.proofs.Common.{◌≡◌, ◌≤◌, drop, take, length, vec_len}
-use Rattle.std.specs.Prelude.{vec_capacity}
+use Rattle.std.{proofs.Common.{◌≡◌, ◌≤◌, drop, take, length, vec_len}, specs.Prelude.vec_capacity}
 use Rattle.hall_types.specs.Hall.{Hall}
 use Rattle.boot_desk.specs.Sound.{IsSound}
-use Rattle.hall_desk.specs.Attempt.{ChangeNothing}
-use Rattle.hall_desk.specs.Desk.{enlists_of, site_of, store_of}
-use Rattle.hall_desk.specs.Stops.{HasRun}
+use Rattle.hall_desk.specs.{Attempt.ChangeNothing, Desk.{enlists_of, site_of, store_of}, Stops.HasRun}
 use Rattle.hall_desk.proofs.desk.Desk.run.Given as goal
 
 -- what was answered so far is a run, and there is room for the rest
@@ -14,7 +11,7 @@ invariant-loop-arrival g l = record {
   site : site_of l.self ≡ site_of l.fn.self;
   enlists : enlists_of l.self ≡ enlists_of l.fn.self;
   ran : g.S.HallStore.is_clean (store_of l.self) → (h : Hall) → g.S.HallStore.holds (store_of l.fn.self) h → IsSound h
-      → HasRun g.S.HallStore.holds g.S.HallStore.leaves (store_of l.fn.self) (store_of l.self) (site_of l.fn.self) h (take l.arrival-index l.arrivals) l.answers.items;
+      → HasRun g.S.HallStore (store_of l.fn.self) (store_of l.self) (site_of l.fn.self) h (take l.arrival-index l.arrivals) l.answers.items;
   idle : g.S.HallStore.is_clean (store_of l.self) → (h : Hall) → g.S.HallStore.holds (store_of l.fn.self) h → ChangeNothing (site_of l.fn.self) h l.arrivals
       → g.S.HallStore.holds (store_of l.self) h × ChangeNothing (site_of l.fn.self) h (drop l.arrival-index l.arrivals);
   count : vec_len l.answers ≡ l.arrival-index;

@@ -1,8 +1,5 @@
-use Rattle.std.proofs.Common.{ap, ◌∙◌}
-use Rattle.std.specs.Prelude.{string_bytes}
-use Rattle.hall_events.specs.declared.reply.Reply.TheVariants.{Http}
-use Rattle.hall_events.specs.declared.reply.BodyKind.TheVariants.{Json}
-use Rattle.hall_events.proofs.ReplyLemmas.{listing_ends}
+use Rattle.std.{proofs.Common.{ap, ◌∙◌}, specs.Prelude.string_bytes}
+use Rattle.hall_events.{specs.declared.reply.{Reply.TheVariants.Http, BodyKind.TheVariants.Json}, proofs.ReplyLemmas.listing_ends}
 use Rattle.hall_events.proofs.machine_list.MachineList.finish.Goals as goal
 
 pub returns : goal.returns

@@ -1,7 +1,5 @@
-use Rattle.std.proofs.Common.{refl}
-use Rattle.std.specs.Prelude.{string_bytes}
-use Rattle.hall_events.specs.Reply.{order_data}
-use Rattle.hall_events.proofs.ReplyLemmas.{order_written}
+use Rattle.std.{proofs.Common.refl, specs.Prelude.string_bytes}
+use Rattle.hall_events.{specs.Reply.order_data, proofs.ReplyLemmas.order_written}
 use Rattle.hall_events.proofs.reply.Reply.orders.Goals as goal
 
 pub loop-order-preserved : goal.loop-order-preserved

@@ -1,9 +1,6 @@
-use Rattle.std.proofs.Common.{◌≡◌, ◌++◌, map, drop}
-use Rattle.std.specs.Prelude.{codes, string_bytes}
-use Rattle.serde_json.specs.View.{items_of}
-use Rattle.serde_json.specs.Written.{compact_text, items_text}
-use Rattle.hall_events.specs.Object.{list_object}
-use Rattle.hall_events.specs.Reply.{order_data}
+use Rattle.std.{proofs.Common.{◌≡◌, ◌++◌, map, drop}, specs.Prelude.{codes, string_bytes}}
+use Rattle.serde_json.specs.{View.items_of, Written.{compact_text, items_text}}
+use Rattle.hall_events.specs.{Object.list_object, Reply.order_data}
 use Rattle.hall_events.proofs.reply.Reply.orders.Given as goal
 
 -- the text so far, with those of the orders that are left, is the whole

@@ -1,7 +1,6 @@
 use Rattle.sql_schema.specs.Words.{if_due}
 use Rattle.std.proofs.Common.{◌≡◌, rules}
-use Rattle.hall_sql.specs.Expiring.{earliest_of}
-use Rattle.hall_sql.proofs.StoreLemmas.{asks, first_known, none_found, none_known}
+use Rattle.hall_sql.{specs.Expiring.earliest_of, proofs.StoreLemmas.{asks, first_known, none_found, none_known}}
 use Rattle.hall_sql.proofs.store.SqlStore.next_due.Goals as goal
 
 pub returns-then-get-self : goal.returns-then-get-self

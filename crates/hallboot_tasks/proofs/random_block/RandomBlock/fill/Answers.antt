@@ -1,5 +1,4 @@
-use Rattle.std.proofs.Common.{rules, ◌≤◌, length, Result, Ok, Err, OnErr}
-use Rattle.std.proofs.lemmas.List.{drop_all}
+use Rattle.std.proofs.{Common.{rules, ◌≤◌, length, Result, Ok, Err, OnErr}, lemmas.List.drop_all}
 use Rattle.hallboot_tasks.proofs.random_block.RandomBlock.fill.Goals as goal
 
 on_err : {T E : Type 0} (r : Result T E) (P : Type 0) → P → OnErr r P

@@ -1,5 +1,4 @@
-use Rattle.std.proofs.Common.{◌≡◌, ◌++◌, string_bytes, drop}
-use Rattle.std.specs.List.{flat_map}
+use Rattle.std.{proofs.Common.{◌≡◌, ◌++◌, string_bytes, drop}, specs.List.flat_map}
 use Rattle.ipxe_script.specs.Script.{line_of, spelling}
 use Rattle.ipxe_script.proofs.script.Script.print.Given as goal
 

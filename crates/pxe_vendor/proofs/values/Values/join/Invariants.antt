@@ -1,6 +1,5 @@
 use Rattle.std.proofs.Common.{◌≡◌}
-use Rattle.pxe_vendor.specs.Values.{values_of}
-use Rattle.pxe_vendor.proofs.ValuesLemmas.{values_then}
+use Rattle.pxe_vendor.{specs.Values.values_of, proofs.ValuesLemmas.values_then}
 use Rattle.pxe_vendor.proofs.values.Values.join.Given as goal
 
 -- the values so far, and then those of the rest, are all of them

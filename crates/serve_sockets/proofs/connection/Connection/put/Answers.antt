@@ -1,24 +1,10 @@
-use Rattle.std.proofs.Common.{◌∙◌, ap, arith, refl, sym}
-use Rattle.std.proofs.KnownBytes.{Keeps-refl}
+use Rattle.std.proofs.{Common.{◌∙◌, ap, arith, refl, sym}, KnownBytes.Keeps-refl}
 use Rattle.hall_desk.specs.Octets.{octets_of}
-use Rattle.serve_sockets.proofs.ConnectionLemmas.{put_differs, written_all, written_fits, written_more, written_none, written_same, written_within}
-use Rattle.serve_sockets.specs.Connection.{rest_of}
-use Rattle.serve_sockets.specs.declared.connection.Sending.{Sending}
-use Rattle.serve_sockets.specs.declared.connection.Put.TheVariants as put
+use Rattle.serve_sockets.{proofs.{ConnectionLemmas.{written_all, written_fits, written_more, written_none, written_same, written_within}, connection.Connection.put.Goals.{then-sending-len+in-Ok, else-sending-len}}, specs.{Connection.rest_of, declared.connection.Sending.Sending}}
 use Rattle.serve_sockets.proofs.connection.Connection.put.Goals as goal
-use Rattle.serve_sockets.proofs.connection.Connection.put.Goals.{then-sending-len+in-Ok, else-sending-len}
 
 pub invariant_of-self : goal.invariant_of-self
 invariant_of-self g c = record { bounded = c.args.self.now.bounded }
-
-pub returns-in_default-clause-done : goal.returns-in_default-clause-done
-returns-in_default-clause-done g c = put_differs _ put.Waits put.Done refl
-
-pub returns-in_default-clause-more : goal.returns-in_default-clause-more
-returns-in_default-clause-more g c = put_differs _ put.Waits put.More refl
-
-pub returns-in_default-clause-waits : goal.returns-in_default-clause-waits
-returns-in_default-clause-waits g c = λ same. refl
 
 pub returns-in_default-clause-number : goal.returns-in_default-clause-number
 returns-in_default-clause-number g c = refl
@@ -26,41 +12,14 @@ returns-in_default-clause-number g c = refl
 pub invariant_of-self-in-Ok-eq0 : goal.invariant_of-self-in-Ok-eq0
 invariant_of-self-in-Ok-eq0 g c = record { bounded = c.args.self.now.bounded }
 
-pub returns-in-Ok-eq0-clause-done : goal.returns-in-Ok-eq0-clause-done
-returns-in-Ok-eq0-clause-done g c = put_differs _ put.Failed put.Done refl
-
-pub returns-in-Ok-eq0-clause-more : goal.returns-in-Ok-eq0-clause-more
-returns-in-Ok-eq0-clause-more g c = put_differs _ put.Failed put.More refl
-
-pub returns-in-Ok-eq0-clause-waits : goal.returns-in-Ok-eq0-clause-waits
-returns-in-Ok-eq0-clause-waits g c = put_differs _ put.Failed put.Waits refl
-
 pub returns-in-Ok-eq0-clause-number : goal.returns-in-Ok-eq0-clause-number
 returns-in-Ok-eq0-clause-number g c = refl
 
 pub invariant_of-self-in-Err-1 : goal.invariant_of-self-in-Err-1
 invariant_of-self-in-Err-1 g c = record { bounded = c.args.self.now.bounded }
 
-pub returns-in-Err-clause-done : goal.returns-in-Err-clause-done
-returns-in-Err-clause-done g c = put_differs _ put.Waits put.Done refl
-
-pub returns-in-Err-clause-more : goal.returns-in-Err-clause-more
-returns-in-Err-clause-more g c = put_differs _ put.Waits put.More refl
-
-pub returns-in-Err-clause-waits : goal.returns-in-Err-clause-waits
-returns-in-Err-clause-waits g c = λ same. refl
-
 pub returns-in-Err-clause-number : goal.returns-in-Err-clause-number
 returns-in-Err-clause-number g c = refl
-
-pub returns-in-Err-2-clause-done : goal.returns-in-Err-2-clause-done
-returns-in-Err-2-clause-done g c = put_differs _ put.Failed put.Done refl
-
-pub returns-in-Err-2-clause-more : goal.returns-in-Err-2-clause-more
-returns-in-Err-2-clause-more g c = put_differs _ put.Failed put.More refl
-
-pub returns-in-Err-2-clause-waits : goal.returns-in-Err-2-clause-waits
-returns-in-Err-2-clause-waits g c = put_differs _ put.Failed put.Waits refl
 
 pub returns-in-Err-2-clause-number : goal.returns-in-Err-2-clause-number
 returns-in-Err-2-clause-number g c = refl
@@ -68,20 +27,8 @@ returns-in-Err-2-clause-number g c = refl
 pub invariant_of-self-2 : goal.invariant_of-self-2
 invariant_of-self-2 g c = record { bounded = c.args.self.now.bounded }
 
-pub returns-then-sending-len-2-clause-done : goal.returns-then-sending-len-2-clause-done
-returns-then-sending-len-2-clause-done g c = put_differs _ put.More put.Done refl
-
-pub returns-then-sending-len-2-clause-waits : goal.returns-then-sending-len-2-clause-waits
-returns-then-sending-len-2-clause-waits g c = put_differs _ put.More put.Waits refl
-
 pub returns-then-sending-len-2-clause-number : goal.returns-then-sending-len-2-clause-number
 returns-then-sending-len-2-clause-number g c = refl
-
-pub returns-else-sending-len-2-clause-more : goal.returns-else-sending-len-2-clause-more
-returns-else-sending-len-2-clause-more g c = put_differs _ put.Done put.More refl
-
-pub returns-else-sending-len-2-clause-waits : goal.returns-else-sending-len-2-clause-waits
-returns-else-sending-len-2-clause-waits g c = put_differs _ put.Done put.Waits refl
 
 pub returns-else-sending-len-2-clause-number : goal.returns-else-sending-len-2-clause-number
 returns-else-sending-len-2-clause-number g c = refl
@@ -112,14 +59,14 @@ returns-else-sending-len-2-clause-octets g c = elim c.if-sending-len.branch [
   | else-sending-len w ↦ rw (w.self-is, w.sending-is) (written_same _ _ _ _ (Keeps-refl _) (ap rest_of c.in-Some.is))
 ]
 
-pub returns-then-sending-len-2-clause-more : goal.returns-then-sending-len-2-clause-more
-returns-then-sending-len-2-clause-more g c = λ same. elim c.if-sending-len.branch [
+pub returns-then-sending-len-2-clause-put : goal.returns-then-sending-len-2-clause-put
+returns-then-sending-len-2-clause-put g c = elim c.if-sending-len.branch [
   | then-sending-len+in-Ok w ↦ rw w.self-is refl
   | else-sending-len w ↦ absurd (omega (arith, ap (λ (s : Sending). s.written) w.sending-is, w.if-sending-len.false, c.if-sending-len-2.true))
 ]
 
-pub returns-else-sending-len-2-clause-done : goal.returns-else-sending-len-2-clause-done
-returns-else-sending-len-2-clause-done g c = λ same. elim c.if-sending-len.branch [
+pub returns-else-sending-len-2-clause-put : goal.returns-else-sending-len-2-clause-put
+returns-else-sending-len-2-clause-put g c = elim c.if-sending-len.branch [
   | then-sending-len+in-Ok w ↦ written_all _ c.octets-octets.result.now (octets_of c.if-sending-len.sending.answer) (c.octets-octets.ensures ∙ sym (ap (λ (s : Sending). octets_of s.answer) w.sending-is)) c.if-sending-len-2.false
   | else-sending-len w ↦ written_all _ c.octets-octets.result.now (octets_of c.if-sending-len.sending.answer) (c.octets-octets.ensures ∙ sym (ap (λ (s : Sending). octets_of s.answer) w.sending-is)) c.if-sending-len-2.false
 ]

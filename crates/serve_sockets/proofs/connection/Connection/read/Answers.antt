@@ -1,8 +1,6 @@
-use Rattle.std.proofs.Common.{inl, inr, refl, sym, subst}
-use Rattle.std.proofs.lemmas.List.{length-take-le}
-use Rattle.http_requests.specs.Decided.{IsDecided}
-use Rattle.serve_sockets.proofs.ConnectionLemmas.{has_room, input_within, moved, moved_none, smaller_within, within_more}
-use Rattle.serve_sockets.specs.Connection.{input_of}
+use Rattle.std.proofs.{Common.{inl, inr, refl, sym, subst}, lemmas.List.length-take-le}
+use Rattle.hall_http.specs.Decided.{IsDecided}
+use Rattle.serve_sockets.{proofs.ConnectionLemmas.{has_room, input_within, moved, moved_none, smaller_within, within_more}, specs.Connection.input_of}
 use Rattle.serve_sockets.proofs.connection.Connection.read.Goals as goal
 
 pub overflow_sub-len : goal.overflow_sub-len

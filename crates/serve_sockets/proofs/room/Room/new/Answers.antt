@@ -1,5 +1,4 @@
-use Rattle.std.proofs.Common.{◌+◌, ◌∙◌, ℕ, ap, length, sym}
-use Rattle.std.proofs.lemmas.List.{length-replicate}
+use Rattle.std.proofs.{Common.{◌+◌, ◌∙◌, ℕ, ap, length, sym}, lemmas.List.length-replicate}
 use Rattle.serve_sockets.proofs.room.Room.new.Goals as goal
 
 pub new-requires-clause-some : goal.new-requires-clause-some

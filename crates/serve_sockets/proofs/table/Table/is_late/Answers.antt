@@ -1,7 +1,5 @@
-use Rattle.std.proofs.Common.{◌≡◌, ◌∙◌, Some, None, ap, refl, rules}
-use Rattle.std.specs.Option.{option_copied}
-use Rattle.serve_sockets.specs.Table.{slots_of}
-use Rattle.serve_sockets.proofs.TableLemmas.{late_held, late_marked, late_not, marked_at, slot_found}
+use Rattle.std.{proofs.Common.{◌≡◌, ◌∙◌, Some, None, ap, refl, rules}, specs.Option.option_copied}
+use Rattle.serve_sockets.{specs.Table.slots_of, proofs.TableLemmas.{late_held, late_marked, late_not, marked_at, slot_found}}
 use Rattle.serve_sockets.proofs.table.Table.is_late.Goals as goal
 
 pub returns-then-not-is_marked : goal.returns-then-not-is_marked

@@ -1,8 +1,5 @@
-use Rattle.std.proofs.Common.{◌≡◌, ◌++◌, ◌∷◌, ◌∙◌, [], List, None, Option, ap, arith, count_by, is_some, refl, sym}
-use Rattle.std.proofs.lemmas.List.{replicate_more}
-use Rattle.std.proofs.lemmas.Result.{IfOk-from_err}
-use Rattle.serve_sockets.specs.declared.connection.Connection.{Connection}
-use Rattle.serve_sockets.proofs.TableLemmas.{none_open}
+use Rattle.std.proofs.{Common.{◌≡◌, ◌++◌, ◌∷◌, ◌∙◌, [], List, None, Option, ap, arith, count_by, is_some, refl, sym}, lemmas.{List.replicate_more, Result.IfOk-from_err}}
+use Rattle.serve_sockets.{specs.declared.connection.Connection.Connection, proofs.TableLemmas.none_open}
 use Rattle.serve_sockets.proofs.table.Table.new.Goals as goal
 
 pub returns : goal.returns

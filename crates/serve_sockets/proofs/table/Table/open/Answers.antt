@@ -1,8 +1,6 @@
 use Rattle.std.proofs.Common.{◌≡◌, ◌∙◌, ap, arith, is_some, not, slice_set, true, false, sym}
-use Rattle.serve_sockets.specs.Table.{slots_of}
-use Rattle.serve_sockets.proofs.TableLemmas.{count_fits, count_more, count_same}
+use Rattle.serve_sockets.{specs.Table.slots_of, proofs.{TableLemmas.{count_fits, count_more, count_same}, table.Table.open.Goals.{then-is_none, else-is_none}}}
 use Rattle.serve_sockets.proofs.table.Table.open.Goals as goal
-use Rattle.serve_sockets.proofs.table.Table.open.Goals.{then-is_none, else-is_none}
 
 pub overflow_add-self : goal.overflow_add-self
 overflow_add-self g c = count_fits (slots_of c.args.self.now) c.args.self.now.taken c.args.self.now.counted (omega (arith, c.args.self.now.few))

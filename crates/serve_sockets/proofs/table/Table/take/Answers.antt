@@ -1,7 +1,5 @@
-use Rattle.std.proofs.Common.{◌≡◌, ◌∙◌, Some, None, ap, is_some, slice_set, true, false, refl, sym}
-use Rattle.std.proofs.lemmas.Option.{slice_get_read}
-use Rattle.serve_sockets.specs.Table.{slots_of}
-use Rattle.serve_sockets.proofs.TableLemmas.{count_less, count_same}
+use Rattle.std.proofs.{Common.{◌≡◌, ◌∙◌, Some, None, ap, is_some, slice_set, true, false, refl, sym}, lemmas.Option.slice_get_read}
+use Rattle.serve_sockets.{specs.Table.slots_of, proofs.TableLemmas.{count_less, count_same}}
 use Rattle.serve_sockets.proofs.table.Table.take.Goals as goal
 
 pub overflow_sub-self : goal.overflow_sub-self

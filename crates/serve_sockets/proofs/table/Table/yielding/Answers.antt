@@ -1,6 +1,5 @@
 use Rattle.std.proofs.Common.{◌<◌, List, Option, length, subst}
-use Rattle.serve_sockets.specs.Yielding.{Goes}
-use Rattle.serve_sockets.specs.declared.connection.Connection.{Connection}
+use Rattle.serve_sockets.specs.{Yielding.Goes, declared.connection.Connection.Connection}
 use Rattle.serve_sockets.proofs.table.Table.yielding.Goals as goal
 
 pub yielding-requires-clause-some : goal.yielding-requires-clause-some

@@ -1,5 +1,4 @@
-use Rattle.std.proofs.Common.{◌∙◌}
-use Rattle.std.proofs.lemmas.Result.{IfOk-weaker}
+use Rattle.std.proofs.{Common.◌∙◌, lemmas.Result.IfOk-weaker}
 use Rattle.store_memory.proofs.TableLemmas.{numbers_listed}
 use Rattle.store_memory.proofs.memory.MemoryStore.all_machines.Goals as goal
 

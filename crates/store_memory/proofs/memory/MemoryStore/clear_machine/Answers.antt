@@ -1,5 +1,4 @@
-use Rattle.store_memory.proofs.HeldLemmas.{gone_machines}
-use Rattle.store_memory.proofs.SlotLemmas.{slots_boots, slots_interfaces, slots_machines, slots_orders}
+use Rattle.store_memory.proofs.{HeldLemmas.gone_machines, SlotLemmas.{slots_boots, slots_interfaces, slots_machines, slots_orders}}
 use Rattle.store_memory.proofs.memory.MemoryStore.clear_machine.Goals as goal
 
 pub returns-clause-held : goal.returns-clause-held

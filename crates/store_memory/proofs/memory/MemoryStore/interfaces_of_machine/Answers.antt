@@ -1,5 +1,4 @@
-use Rattle.std.proofs.Common.{◌==◌, filter, ap, ◌∙◌}
-use Rattle.std.proofs.lemmas.Result.{IfOk-weaker}
+use Rattle.std.proofs.{Common.{◌==◌, filter, ap, ◌∙◌}, lemmas.Result.IfOk-weaker}
 use Rattle.store_memory.proofs.TableLemmas.{texts_listed}
 use Rattle.store_memory.proofs.memory.MemoryStore.interfaces_of_machine.Goals as goal
 

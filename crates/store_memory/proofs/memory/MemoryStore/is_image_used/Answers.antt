@@ -1,8 +1,5 @@
-use Rattle.std.proofs.Common.{◌≡◌, true, false, sym, ◌∙◌}
-use Rattle.std.specs.List.{list_any}
-use Rattle.std.specs.Str.{bytes_eq}
-use Rattle.hall_types.specs.Rows.{listed}
-use Rattle.hall_types.specs.declared.image.Live.{Live}
+use Rattle.std.{proofs.Common.{◌≡◌, true, false, sym, ◌∙◌}, specs.{List.list_any, Str.bytes_eq}}
+use Rattle.hall_types.specs.{Rows.listed, declared.image.Live.Live}
 use Rattle.store_memory.proofs.TableLemmas.{numbers_listed}
 use Rattle.store_memory.proofs.memory.MemoryStore.is_image_used.Goals as goal
 

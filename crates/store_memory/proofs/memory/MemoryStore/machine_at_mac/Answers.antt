@@ -1,6 +1,4 @@
-use Rattle.std.proofs.Common.{ap, sym, ◌∙◌}
-use Rattle.std.specs.Prelude.{option_map}
-use Rattle.std.specs.Str.{bytes_eq}
+use Rattle.std.{proofs.Common.{ap, sym, ◌∙◌}, specs.{Prelude.option_map, Str.bytes_eq}}
 use Rattle.store_memory.specs.Hashed.{entry_at}
 use Rattle.store_memory.proofs.memory.MemoryStore.machine_at_mac.Goals as goal
 

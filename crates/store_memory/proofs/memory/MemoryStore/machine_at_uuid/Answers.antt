@@ -1,7 +1,5 @@
-use Rattle.std.proofs.Common.{ap, ◌∙◌}
-use Rattle.std.specs.Str.{bytes_eq}
-use Rattle.store_memory.specs.Hashed.{entry_at}
-use Rattle.store_memory.proofs.IndexLemmas.{index_is}
+use Rattle.std.{proofs.Common.{ap, ◌∙◌}, specs.Str.bytes_eq}
+use Rattle.store_memory.{specs.Hashed.entry_at, proofs.IndexLemmas.index_is}
 use Rattle.store_memory.proofs.memory.MemoryStore.machine_at_uuid.Goals as goal
 
 pub returns : goal.returns

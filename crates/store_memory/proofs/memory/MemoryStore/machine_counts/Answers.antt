@@ -1,8 +1,5 @@
-use Rattle.std.proofs.Common.{ap, ◌∙◌}
-use Rattle.std.proofs.lemmas.Result.{IfOk-weaker}
-use Rattle.store_memory.specs.Counted.{many}
-use Rattle.store_memory.proofs.CountLemmas.{are_counts}
-use Rattle.store_memory.proofs.TableLemmas.{numbers_listed}
+use Rattle.std.proofs.{Common.{ap, ◌∙◌}, lemmas.Result.IfOk-weaker}
+use Rattle.store_memory.{specs.Counted.many, proofs.{CountLemmas.are_counts, TableLemmas.numbers_listed}}
 use Rattle.store_memory.proofs.memory.MemoryStore.machine_counts.Goals as goal
 
 pub returns : goal.returns

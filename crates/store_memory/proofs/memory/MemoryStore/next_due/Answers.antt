@@ -1,10 +1,6 @@
 use Rattle.std.proofs.Common.{◌<◌, ap, sym, subst, ◌∙◌}
-use Rattle.hall_types.specs.Lookup.{soonest, if_due}
-use Rattle.hall_types.specs.Rows.{listed}
-use Rattle.store_memory.specs.Held.{IsEarliest}
-use Rattle.store_memory.proofs.ExpiryLemmas.{earliest_empty, earliest_of, none_due, soonest_due}
-use Rattle.store_memory.proofs.HeldLemmas.{held_earliest}
-use Rattle.store_memory.proofs.TableLemmas.{numbers_listed}
+use Rattle.hall_types.specs.{Lookup.{soonest, if_due}, Rows.listed}
+use Rattle.store_memory.{specs.Held.IsEarliest, proofs.{ExpiryLemmas.{earliest_empty, earliest_of, none_due, soonest_due}, HeldLemmas.held_earliest, TableLemmas.numbers_listed}}
 use Rattle.store_memory.proofs.memory.MemoryStore.next_due.Goals as goal
 
 pub returns-then-get-self-clause-answer : goal.returns-then-get-self-clause-answer

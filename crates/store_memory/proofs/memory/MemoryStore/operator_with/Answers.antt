@@ -1,5 +1,4 @@
-use Rattle.std.proofs.Common.{find, ap, ◌∙◌}
-use Rattle.std.specs.Str.{bytes_eq}
+use Rattle.std.{proofs.Common.{find, ap, ◌∙◌}, specs.Str.bytes_eq}
 use Rattle.store_memory.proofs.TableLemmas.{texts_listed}
 use Rattle.store_memory.proofs.memory.MemoryStore.operator_with.Goals as goal
 

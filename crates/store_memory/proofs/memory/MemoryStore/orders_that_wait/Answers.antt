@@ -1,5 +1,4 @@
-use Rattle.std.proofs.Common.{filter, ap, ◌∙◌}
-use Rattle.std.proofs.lemmas.Result.{IfOk-weaker}
+use Rattle.std.proofs.{Common.{filter, ap, ◌∙◌}, lemmas.Result.IfOk-weaker}
 use Rattle.store_memory.proofs.TableLemmas.{numbers_listed}
 use Rattle.hall_types.specs.Lookup.{waits}
 use Rattle.store_memory.proofs.memory.MemoryStore.orders_that_wait.Goals as goal

@@ -1,5 +1,4 @@
-use Rattle.store_memory.proofs.HeldLemmas.{put_interfaces}
-use Rattle.store_memory.proofs.SlotLemmas.{slots_interfaces}
+use Rattle.store_memory.proofs.{HeldLemmas.put_interfaces, SlotLemmas.slots_interfaces}
 use Rattle.store_memory.proofs.memory.MemoryStore.put_interface.Goals as goal
 
 pub returns-clause-held : goal.returns-clause-held

@@ -1,5 +1,4 @@
-use Rattle.store_memory.proofs.HeldLemmas.{put_machines}
-use Rattle.store_memory.proofs.SlotLemmas.{slots_machines}
+use Rattle.store_memory.proofs.{HeldLemmas.put_machines, SlotLemmas.slots_machines}
 use Rattle.store_memory.proofs.memory.MemoryStore.put_machine.Goals as goal
 
 pub returns-clause-held : goal.returns-clause-held

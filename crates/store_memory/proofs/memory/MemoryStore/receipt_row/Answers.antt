@@ -1,6 +1,5 @@
 use Rattle.std.proofs.Common.{Some, ap, ◌∙◌}
-use Rattle.store_memory.specs.Held.{pair_cmp}
-use Rattle.store_memory.specs.Table.{row_at}
+use Rattle.store_memory.specs.{Held.pair_cmp, Table.row_at}
 use Rattle.store_memory.proofs.memory.MemoryStore.receipt_row.Goals as goal
 
 pub returns-in_ok-copy-in-Some : goal.returns-in_ok-copy-in-Some

@@ -1,8 +1,5 @@
 use Rattle.std.proofs.Common.{OnOk, sym, subst}
-use Rattle.store_memory.specs.Held.{HasSlots, pair_cmp}
-use Rattle.store_memory.specs.Table.{HasSlot}
-use Rattle.store_memory.proofs.HeldLemmas.{same_operators, same_pools, same_members, same_images, same_receipts}
-use Rattle.store_memory.proofs.SlotLemmas.{slots_members, slots_receipts}
+use Rattle.store_memory.{specs.{Held.{HasSlots, pair_cmp}, Table.HasSlot}, proofs.{HeldLemmas.{same_operators, same_pools, same_members, same_images, same_receipts}, SlotLemmas.{slots_members, slots_receipts}}}
 use Rattle.store_memory.proofs.memory.MemoryStore.reserve.Goals as goal
 
 pub returns-in-PutOperator-clause-same : goal.returns-in-PutOperator-clause-same

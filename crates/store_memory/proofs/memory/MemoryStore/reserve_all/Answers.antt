@@ -1,7 +1,5 @@
 use Rattle.std.proofs.Common.{take, sym, subst}
-use Rattle.store_memory.specs.Held.{HaveAllSlots}
-use Rattle.store_memory.proofs.SlotLemmas.{slots_kept, slots_last}
-use Rattle.store_memory.proofs.VersionLemmas.{take_next}
+use Rattle.store_memory.{specs.Held.HaveAllSlots, proofs.{SlotLemmas.{slots_kept, slots_last}, VersionLemmas.take_next}}
 use Rattle.store_memory.proofs.memory.MemoryStore.reserve_all.Goals as goal
 
 pub writes-preserved : goal.writes-preserved

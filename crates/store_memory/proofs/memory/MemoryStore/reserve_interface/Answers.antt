@@ -1,5 +1,4 @@
-use Rattle.store_memory.proofs.HeldLemmas.{same_addresses, same_interfaces}
-use Rattle.store_memory.proofs.SlotLemmas.{slots_interfaces}
+use Rattle.store_memory.proofs.{HeldLemmas.{same_addresses, same_interfaces}, SlotLemmas.slots_interfaces}
 use Rattle.store_memory.proofs.memory.MemoryStore.reserve_interface.Goals as goal
 
 pub returns-in_err-reserve-clause-others : goal.returns-in_err-reserve-clause-others

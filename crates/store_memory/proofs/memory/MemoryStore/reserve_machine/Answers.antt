@@ -1,5 +1,4 @@
-use Rattle.store_memory.proofs.HeldLemmas.{same_machines, same_uuids}
-use Rattle.store_memory.proofs.SlotLemmas.{slots_machines}
+use Rattle.store_memory.proofs.{HeldLemmas.{same_machines, same_uuids}, SlotLemmas.slots_machines}
 use Rattle.store_memory.proofs.memory.MemoryStore.reserve_machine.Goals as goal
 
 pub returns-in-Some-clause-others : goal.returns-in-Some-clause-others

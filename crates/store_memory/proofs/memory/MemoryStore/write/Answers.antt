@@ -1,5 +1,4 @@
-use Rattle.store_memory.proofs.HeldLemmas.{put_operators, put_pools, put_members, put_images, gone_images, put_lives, put_boots, put_orders, put_receipts, put_numbers}
-use Rattle.store_memory.proofs.SlotLemmas.{slots_members, slots_receipts}
+use Rattle.store_memory.proofs.{HeldLemmas.{put_operators, put_pools, put_members, put_images, gone_images, put_lives, put_boots, put_orders, put_receipts, put_numbers}, SlotLemmas.{slots_members, slots_receipts}}
 use Rattle.store_memory.proofs.memory.MemoryStore.write.Goals as goal
 
 pub returns-in-PutOperator-clause-held : goal.returns-in-PutOperator-clause-held

@@ -1,9 +1,7 @@
-use Rattle.std.proofs.Common.{◌≡◌, rules, ap, sym, subst, ◌∙◌}
-use Rattle.std.specs.Vec.Iter.{into_iter_items}
+use Rattle.std.{proofs.Common.{◌≡◌, rules, ap, sym, subst, ◌∙◌}, specs.Vec.Iter.into_iter_items}
 use Rattle.hall_types.specs.Hall.{applied, written}
 use Rattle.hall_store.specs.Rules.{AllKeep}
-use Rattle.store_memory.specs.Held.{HaveAllSlots}
-use Rattle.store_memory.proofs.SlotLemmas.{slots_kept}
+use Rattle.store_memory.{specs.Held.HaveAllSlots, proofs.SlotLemmas.slots_kept}
 use Rattle.store_memory.proofs.memory.MemoryStore.write_all.Goals as goal
 
 pub writes-init : goal.writes-init

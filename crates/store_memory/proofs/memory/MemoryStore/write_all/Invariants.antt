@@ -1,5 +1,4 @@
-use Rattle.std.proofs.Common.{◌≡◌}
-use Rattle.std.specs.Vec.Iter.{into_iter_items}
+use Rattle.std.{proofs.Common.◌≡◌, specs.Vec.Iter.into_iter_items}
 use Rattle.hall_types.specs.Hall.{Hall, applied}
 use Rattle.hall_store.specs.Rules.{AllKeep}
 use Rattle.store_memory.specs.Held.{HaveAllSlots, IsHeld}

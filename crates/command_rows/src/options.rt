@@ -1,0 +1,211 @@
+//! What the words of a command line say.
+use crate::parser::parser;
+use crate::rows::{Front, OptionRow, Shape};
+use crate::usage::Usage;
+use crate::wrong::Wrong;
+use clap::{ArgMatches, Error};
+use std::alloc::{AllocError, Global};
+use std::str::FromStr;
+
+// A text of an option that was given, none of a flag.
+#[derive(Clone, Copy)]
+struct Given<'a> {
+    name: &'static str,
+    text: Option<&'a str>,
+}
+
+/// The command of a command line, and the texts of its options, given or by default. An option that stands before the command counts as the
+/// command's, after those that stand behind it.
+#[derive(Drop)]
+pub struct Options<'a> {
+    alloc: Global,
+    command: Option<&'a str>,
+    given: Vec<Given<'a>>,
+}
+
+// Adds the texts of an option.
+fn push_option<'a>(
+    given: &mut Vec<Given<'a>>,
+    matches: &ArgMatches<'a>,
+    row: &OptionRow,
+) -> Result<(), AllocError> {
+    let name = row.name;
+    if row.shape == Shape::Flag {
+        if matches.get_flag(name) {
+            given.push(Given { name, text: None })?;
+        }
+        return Ok(());
+    }
+    for text in matches.get_strs(name).unwrap_or(&[]) {
+        given.push(Given {
+            name,
+            text: Some(*text),
+        })?;
+    }
+    Ok(())
+}
+
+fn push_options<'a>(
+    given: &mut Vec<Given<'a>>,
+    matches: &ArgMatches<'a>,
+    rows: &[OptionRow],
+) -> Result<(), AllocError> {
+    for row in rows {
+        push_option(given, matches, row)?;
+    }
+    Ok(())
+}
+
+// Adds the options of the command with this name.
+fn push_command<'a>(
+    given: &mut Vec<Given<'a>>,
+    matches: &ArgMatches<'a>,
+    front: &Front<'_>,
+    name: &str,
+) -> Result<(), AllocError> {
+    if let Some(row) = front.commands.iter().find(|row| row.name == name) {
+        push_options(given, matches, row.options)?;
+        push_options(given, matches, row.common)?;
+    }
+    Ok(())
+}
+
+fn options_of<'a>(
+    alloc: Global,
+    front: &Front<'_>,
+    matches: &ArgMatches<'a>,
+) -> Result<Options<'a>, AllocError> {
+    let mut given = Vec::new(alloc);
+    let mut command = None;
+    if let Some((name, after)) = matches.subcommand() {
+        command = Some(name);
+        push_command(&mut given, after, front, name)?;
+    }
+    push_options(&mut given, matches, front.options)?;
+    Ok(Options {
+        alloc,
+        command,
+        given,
+    })
+}
+
+fn matched<'a>(
+    alloc: Global,
+    front: &Front<'_>,
+    words: &'a [String],
+) -> Result<Options<'a>, Error> {
+    let matches = parser(alloc, front)?.try_get_matches_from(words)?;
+    Ok(options_of(alloc, front, &matches)?)
+}
+
+impl<'a> Options<'a> {
+    /// What the words of a command line say, of which the first is the program's name.
+    ///
+    /// # Errors
+    ///
+    /// The words are none of the program's, or ask for help, or there is no memory.
+    pub fn read(
+        alloc: Global,
+        front: &Front<'_>,
+        words: &'a [String],
+    ) -> Result<Options<'a>, Usage> {
+        matched(alloc, front, words).map_err(Usage::of)
+    }
+
+    /// The allocator that the texts of faults are made by.
+    pub fn alloc(&self) -> Global {
+        self.alloc
+    }
+
+    /// The command's name, if there is one.
+    pub fn command(&self) -> Option<&'a str> {
+        self.command
+    }
+
+    /// Whether an option was given, or has a default.
+    pub fn is_given(&self, row: &OptionRow) -> bool {
+        self.given.iter().any(|given| given.name == row.name)
+    }
+
+    /// The first text of an option, as given or by default.
+    pub fn text(&self, row: &OptionRow) -> Option<&'a str> {
+        match self.given.iter().find(|given| given.name == row.name) {
+            Some(given) => given.text,
+            None => row.default(),
+        }
+    }
+
+    /// All texts of an option, those that stand behind the command first.
+    pub fn texts(&self, row: &OptionRow) -> Result<Vec<&'a str>, AllocError> {
+        let mut texts = Vec::new(self.alloc);
+        for given in self.given.iter().filter(|given| given.name == row.name) {
+            if let Some(text) = given.text {
+                texts.push(text)?;
+            }
+        }
+        Ok(texts)
+    }
+
+    /// That an option isn't what its row says.
+    pub fn wrong(&self, row: &OptionRow) -> Wrong {
+        self.wrong_because(row, row.must)
+    }
+
+    /// That an option isn't what this text says.
+    pub fn wrong_because(&self, row: &OptionRow, must: &str) -> Wrong {
+        Wrong::because(self.alloc, row, self.text(row), must)
+    }
+
+    /// The text of an option that has to be given.
+    pub fn required(&self, row: &OptionRow) -> Result<&'a str, Wrong> {
+        match self.text(row) {
+            Some(text) => Ok(text),
+            None => Err(self.wrong(row)),
+        }
+    }
+
+    /// The value that a reader finds in the text of an option that has to be given.
+    pub fn value<T: Drop, F: FnOnce(&str) -> Option<T>>(
+        &self,
+        row: &OptionRow,
+        reader: F,
+    ) -> Result<T, Wrong>
+        requires { F.IsAlwaysCallable reader }
+    {
+        match reader(self.required(row)?) {
+            Some(value) => Ok(value),
+            None => Err(self.wrong(row)),
+        }
+    }
+
+    /// The value that a reader finds in the text of an option, if it was given.
+    pub fn value_if<T: Drop, F: FnOnce(&str) -> Option<T>>(
+        &self,
+        row: &OptionRow,
+        reader: F,
+    ) -> Result<Option<T>, Wrong>
+        requires { F.IsAlwaysCallable reader }
+    {
+        match self.text(row) {
+            Some(_) => Ok(Some(self.value(row, reader)?)),
+            None => Ok(None),
+        }
+    }
+
+    /// The value that the text of an option that has to be given is parsed as.
+    pub fn parse<T: FromStr + Drop>(&self, row: &OptionRow) -> Result<T, Wrong>
+    where
+        T::Err: Drop,
+    {
+        self.value(row, |text| text.parse::<T>().ok())
+    }
+
+    /// What a table has beside the text of an option that has to be given.
+    pub fn choice<T: Copy>(&self, row: &OptionRow, choices: &[(&str, T)]) -> Result<T, Wrong> {
+        let text = self.required(row)?;
+        match choices.iter().find(|choice| choice.0 == text) {
+            Some(choice) => Ok(choice.1),
+            None => Err(self.wrong(row)),
+        }
+    }
+}

@@ -1,2 +1,0 @@
-pub mod Client
-pub mod Look

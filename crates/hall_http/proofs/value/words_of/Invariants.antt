@@ -1,0 +1,8 @@
+use Rattle.std.{proofs.Common.{◌≡◌, ◌++◌, drop}, specs.Prelude.option_map}
+use Rattle.serde_json.specs.View.{items_view}
+use Rattle.hall_http.specs.Value.{words_of}
+use Rattle.hall_http.proofs.value.words_of.Given as goal
+
+abbrev pub invariant-loop-value : goal.invariant-loop-value
+invariant-loop-value l =
+    option_map (λ more. l.words.items ++ more) (words_of (items_view (drop l.value-index l.values))) ≡ words_of (items_view l.values)

@@ -1,0 +1,73 @@
+-- An entry that a command made: the command was accepted, and its operator was who may.
+use Rattle.std.{proofs.{Common.{◌≡◌, ℕ, List, refl, sym, ap, ◌∙◌, inl, inr}, lemmas.Slice.Eq.bytes_eq-Decides}, specs.Prelude.{Option, Some, None, true}}
+use Rattle.hall_types.specs.{Rows.at, declared.{change.RowWrite.RowWrite, kinds.Erase.Erase, machine.Machine.Machine, operator.Operator.Operator}}
+use Rattle.hall_events.specs.{Reply.Content, declared.{command.{HallCommand.TheVariants.OnMachine, MachineCommand.MachineCommand}, event.Event.Event}}
+use Rattle.hall_events.specs.declared.command.MachineCommand.TheVariants as on
+use Rattle.hall_events.specs.declared.event.Event.TheVariants as event
+use Rattle.life_cycle.specs.{Permission.{is_owner, is_owner_in}, declared.{action.Action.Action, signal.Signal.TheVariants.By}}
+use Rattle.life_cycle.specs.declared.action.Action.TheVariants as act
+use Rattle.boot_desk.specs.Sound.{IsSound}
+use Rattle.desk_command.specs.Causes.{action_of}
+use Rattle.hall_laws.{specs.{Refusing.IsRefusal, Step.{IsStep, Step}, Writes.{CauseOf, First, IsCommanded, IsEntering, boot_first, nothing_first, order_first}, Past.IsAccepted}, proofs.MachineRows.is_changed}
+
+-- a refusal leaves the hall as it was
+abbrev pub RefusalsStay : Type 0
+RefusalsStay = (s : Step) (content : Content) → IsStep s → s.answer ≡ Some content → IsRefusal content → s.after ≡ s.before
+
+same_action : (a b : Action) → By a ≡ By b → a ≡ b
+same_action a b e = cc
+
+-- an entry by an operator's action was commanded
+pub by_command : (s : Step) (e : Event) (moment : ℕ) (rows : List RowWrite) (content : Content) (x : IsEntering s.before e moment rows content) (action : Action) → x.signal ≡ By action
+    → (c : IsCommanded s.before e x.machine x.entering x.signal) × (c.action ≡ action)
+by_command s e moment rows content x action signal = by x.first x.cause
+  where
+    by : (first : First) → CauseOf s.before e moment content x.machine x.entering x.signal first → (c : IsCommanded s.before e x.machine x.entering x.signal) × (c.action ≡ action)
+    by nothing_first (inl c) = (c, same_action c.action action (sym c.signal_is ∙ signal))
+    by nothing_first (inr (same, inl expired)) = let e = sym expired.signal_is ∙ signal in cc
+    by nothing_first (inr (same, inr fourth)) = let e = sym fourth.signal_is ∙ signal in cc
+    by (boot_first b progress) cause = let e = sym cause.1 ∙ signal in cc
+    by (order_first o outcome) cause = let e = sym cause.1 ∙ signal in cc
+
+-- the command was accepted
+pub accepts : RefusalsStay → (s : Step) → IsStep s → IsSound s.before → (moment : ℕ) (rows : List RowWrite) (content : Content) (x : IsEntering s.before s.arrival.event moment rows content) (id : ℕ) (m : Machine)
+    → id ≡ x.machine.id → m ≡ x.new.machine → at s.after.machines id ≡ Some m → s.answer ≡ Some content
+    → (c : IsCommanded s.before s.arrival.event x.machine x.entering x.signal) → IsAccepted c.operator.name c.key (OnMachine id c.version c.command) content s
+accepts stay s step sound moment rows content x id m same its is answer c = record {
+  bearer = c.bearer;
+  by = c.operator;
+  known = c.sender_is;
+  named = refl;
+  answered = record { event = c.event_is ∙ ap (λ n. event.Command c.bearer c.key (OnMachine n c.version c.command)) (sym same); answer = answer };
+  accepted = λ refusal. is_changed s sound s.arrival.event moment rows content x id m same its is (stay s content step answer refusal);
+  changes = is_changed s sound s.arrival.event moment rows content x id m same its is;
+}
+
+pub owner_named : (o : Operator) (m : Machine) → is_owner o m ≡ true → m.owner ≡ Some o.name
+owner_named o m = by m.owner
+  where
+    by : (owner : Option (List ℕ)) → is_owner_in owner o.name ≡ true → owner ≡ Some o.name
+    by None is = cc
+    by (Some its) is = ap (λ (x : List ℕ). Some x) ((bytes_eq-Decides its o.name).0 is)
+
+-- ---- which command an action is
+
+pub release_erasing : (command : MachineCommand) → action_of command ≡ Some act.ReleaseErasing → (kind : Erase) × (command ≡ on.Release (Some kind))
+release_erasing (on.Release None) is = cc
+release_erasing (on.Release (Some kind)) is = (kind, refl)
+release_erasing (on.AddInterface mac) is = cc
+release_erasing (on.RemoveInterface mac) is = cc
+release_erasing (on.SetPool pool) is = cc
+release_erasing (on.Commission tests) is = cc
+release_erasing (on.Deploy image) is = cc
+release_erasing other is = cc
+
+pub deploy : (command : MachineCommand) → action_of command ≡ Some act.Deploy → (image : List ℕ) × (command ≡ on.Deploy image)
+deploy (on.Deploy image) is = (image, refl)
+deploy (on.Release None) is = cc
+deploy (on.Release (Some kind)) is = cc
+deploy (on.AddInterface mac) is = cc
+deploy (on.RemoveInterface mac) is = cc
+deploy (on.SetPool pool) is = cc
+deploy (on.Commission tests) is = cc
+deploy other is = cc

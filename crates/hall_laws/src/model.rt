@@ -1,0 +1,17 @@
+//! Laws of the model.
+ghost use Rattle.std.specs.Prelude.{◌≡◌, ℕ, List, [], Some};
+ghost use Rattle.pxe_vendor.specs.{Place.Site, declared.clients.Client.Client};
+ghost use Rattle.hall_types.specs.{Hall.Hall, declared.port.Port.Port};
+ghost use Rattle.hall_events.specs.{Reply.{Content, nothing}, declared.event.Event.{Event, TheVariants.Frame}};
+ghost use Rattle.hall_laws.specs.{Decision.decision_of, Refusing.IsRefusal, Step.{IsStep, Step}};
+
+/// Every refusal of a request, and every silence to a frame, writes no row, and the step of a refusal leaves the hall as
+/// it was.
+pub fn refusals_change_nothing()
+    ensures rows { (site : Site) (h : Hall) (event : Event) (moment : ℕ) (fresh : List ℕ)
+        → IsRefusal (decision_of site h event moment fresh).content → (decision_of site h event moment fresh).rows ≡ [] }
+    ensures silences { (site : Site) (h : Hall) (port : Port) (client : Client) (moment : ℕ) (fresh : List ℕ)
+        → (decision_of site h (Frame port client) moment fresh).content ≡ nothing → (decision_of site h (Frame port client) moment fresh).rows ≡ [] }
+    ensures hall { (s : Step) (content : Content)
+        → IsStep s → s.answer ≡ Some content → IsRefusal content → s.after ≡ s.before }
+{}

@@ -1,0 +1,98 @@
+//! What a command line asks for.
+use crate::backup::{Backup, Restore};
+use crate::common::{DB, owned};
+use crate::failure::Failure;
+use crate::frame::Frame;
+use crate::import::Import;
+use crate::init::Init;
+use crate::named_files::check_files;
+use crate::report::what;
+use crate::request::Request;
+use crate::serve::Serving;
+use command_rows::{Options, Wrong};
+use hall_report::What;
+use hall_types::{Digest, Moment};
+use pxe_vendor::Place;
+
+/// What a command line asks for. Each text is a path.
+#[derive(Drop)]
+pub enum Job {
+    /// The frame on standard input is answered.
+    Frame(Frame),
+    /// The file of a new hall is made.
+    Init(Init),
+    /// The file of a hall is carried over from the first schema to the second.
+    Migrate(String),
+    /// The hall in a file is copied to another file.
+    Backup(Backup),
+    /// The hall in a file is replaced by a copy.
+    Restore(Restore),
+    /// The hall in a file is served.
+    Serve(Serving),
+    /// The machines of a file are imported into the hall in another one.
+    Import(String, Import),
+    /// A task over the hall in a file.
+    Over(String, Task),
+}
+
+/// What is done once over an open store, with what it needs besides.
+#[derive(Drop)]
+pub enum Task {
+    /// The request on standard input is answered.
+    Request(Request),
+    /// A report is printed.
+    Report(What),
+    /// The export is printed.
+    Export,
+    /// The machines of a file's octets are imported.
+    Import {
+        place: Place,
+        octets: Vec<u8>,
+        bearer: Digest,
+        moment: Moment,
+    },
+}
+
+fn request(options: &Options<'_>) -> Result<Job, Wrong> {
+    let request = Request::read(options)?;
+    Ok(Job::Over(owned(options, &DB)?, Task::Request(request)))
+}
+
+fn import(options: &Options<'_>) -> Result<Job, Wrong> {
+    let import = Import::read(options)?;
+    Ok(Job::Import(owned(options, &DB)?, import))
+}
+
+fn report(options: &Options<'_>) -> Result<Job, Wrong> {
+    let what = what(options)?;
+    Ok(Job::Over(owned(options, &DB)?, Task::Report(what)))
+}
+
+fn job_of(options: &Options<'_>) -> Result<Job, Wrong> {
+    Ok(match options.command() {
+        Some("init") => Job::Init(Init::read(options)?),
+        Some("migrate") => Job::Migrate(owned(options, &DB)?),
+        Some("request") => request(options)?,
+        Some("serve") => Job::Serve(Serving::read(options)?),
+        Some("report") => report(options)?,
+        Some("import") => import(options)?,
+        Some("export") => Job::Over(owned(options, &DB)?, Task::Export),
+        Some("backup") => Job::Backup(Backup::read(options)?),
+        Some("restore") => Job::Restore(Restore::read(options)?),
+        _ => Job::Frame(Frame::read(options)?),
+    })
+}
+
+impl Job {
+    /// What the options of a command line ask for; `frame` with its defaults where there is no command. No file is read.
+    ///
+    /// # Errors
+    ///
+    /// `BadInput` where an option isn't of its form, or two options name one file, or one that comes to stand beside another one's; and
+    /// `Memory`.
+    pub fn read(rt: &HostRuntime, options: &Options<'_>) -> Result<Job, Failure> {
+        let job = job_of(options)?;
+        check_files(rt, options)?;
+        Ok(job)
+    }
+}

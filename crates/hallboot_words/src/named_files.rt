@@ -1,0 +1,137 @@
+//! The files that a command line names, and those that come to stand beside them: each is another one.
+use crate::backup::{FROM, TO};
+use crate::common::DB;
+use crate::failure::{Failure, because};
+use crate::import::{FILE, TOKEN_FILE};
+use crate::reading::fault_of;
+use crate::serve::{BACKUP, LOG};
+use command_rows::{OptionRow, Options};
+use hall_report::Fault;
+use hallboot_files::{FileIdentity, with_end};
+use std::alloc::{AllocError, Global};
+use std::io;
+
+// A file alone.
+const ALONE: &[&str] = &[""];
+
+// A hall's file, and what may stand beside it.
+const HALL: &[&str] = &["", "-wal", "-journal", "-shm"];
+
+// A copy, the one that is being made, and what is removed beside both.
+const COPY: &[&str] = &[
+    "",
+    "-wal",
+    "-journal",
+    "-shm",
+    ".new",
+    ".new-wal",
+    ".new-journal",
+    ".new-shm",
+];
+
+// A path of an option, and the ends of all files of its own.
+#[derive(Clone, Copy)]
+struct NamedFile<'a> {
+    row: OptionRow,
+    path: &'a str,
+    ends: &'static [&'static str],
+}
+
+fn push<'a>(
+    files: &mut Vec<NamedFile<'a>>,
+    options: &Options<'a>,
+    row: OptionRow,
+    ends: &'static [&'static str],
+) -> Result<(), AllocError> {
+    if let Some(path) = options.text(&row) {
+        files.push(NamedFile { row, path, ends })?;
+    }
+    Ok(())
+}
+
+// All files of a command line, that of the hall first. A log at standard error is none.
+fn named_files<'a>(options: &Options<'a>) -> Result<Vec<NamedFile<'a>>, AllocError> {
+    let mut files = Vec::new(options.alloc());
+    push(&mut files, options, DB, HALL)?;
+    if options.text(&LOG) != Some("-") {
+        push(&mut files, options, LOG, ALONE)?;
+    }
+    push(&mut files, options, BACKUP, COPY)?;
+    push(&mut files, options, TO, COPY)?;
+    push(&mut files, options, FROM, HALL)?;
+    push(&mut files, options, FILE, ALONE)?;
+    push(&mut files, options, TOKEN_FILE, ALONE)?;
+    Ok(files)
+}
+
+// The identity of each file of an option.
+fn identities(rt: &HostRuntime, file: &NamedFile<'_>) -> io::Result<Vec<FileIdentity>> {
+    let mut found = Vec::with_capacity(rt.alloc(), file.ends.len())?;
+    for end in file.ends {
+        let path = with_end(rt.alloc(), file.path, end)?;
+        found.push(FileIdentity::at(rt, path.as_str())?)?;
+    }
+    Ok(found)
+}
+
+// The places of the first two that are one file.
+fn shared(ones: &[FileIdentity], others: &[FileIdentity]) -> Option<(usize, usize)> {
+    for (at, one) in ones.iter().enumerate() {
+        if let Some(other) = others.iter().position(|other| one.is_same(other)) {
+            return Some((at, other));
+        }
+    }
+    None
+}
+
+// Which file of an option is one of another option's.
+fn clash_of(
+    rt: &HostRuntime,
+    one: &NamedFile<'_>,
+    other: &NamedFile<'_>,
+) -> io::Result<Option<(&'static str, &'static str)>> {
+    let ones = identities(rt, one)?;
+    let others = identities(rt, other)?;
+    let Some((at, other_at)) = shared(&ones, &others) else {
+        return Ok(None);
+    };
+    let end = one.ends.get(at).copied().unwrap_or("");
+    let other_end = other.ends.get(other_at).copied().unwrap_or("");
+    Ok(Some((end, other_end)))
+}
+
+fn clash_text(
+    alloc: Global,
+    one: &NamedFile<'_>,
+    end: &str,
+    other: &NamedFile<'_>,
+    other_end: &str,
+) -> Result<String, AllocError> {
+    let (option, other_option) = (one.row.written(alloc)?, other.row.written(alloc)?);
+    let (path, other_path) = (one.path, other.path);
+    format!(in alloc;
+        "{option}: {path}{end} is {other_path}{other_end} of {other_option}, and must be another file"
+    )
+}
+
+fn check(rt: &HostRuntime, one: &NamedFile<'_>, other: &NamedFile<'_>) -> Result<(), Failure> {
+    match clash_of(rt, one, other) {
+        Ok(None) => Ok(()),
+        Ok(Some((end, other_end))) => {
+            let reason = clash_text(rt.alloc(), one, end, other, other_end);
+            Err(because(Fault::BadInput, reason))
+        }
+        Err(error) => Err(Failure::from(fault_of(&error))),
+    }
+}
+
+/// Each file that a command line names is another one. Links are followed, and names of one file are one.
+pub(crate) fn check_files(rt: &HostRuntime, options: &Options<'_>) -> Result<(), Failure> {
+    let files = named_files(options)?;
+    for (at, one) in files.iter().enumerate() {
+        for other in files.iter().take(at) {
+            check(rt, one, other)?;
+        }
+    }
+    Ok(())
+}

@@ -1,0 +1,236 @@
+//! `serve`: the hall in a file is served.
+use crate::common::{DB, PATH, WITH_PLACE, owned, path, place};
+use command_rows::{CommandRow, OptionRow, Options, Shape, Wrong};
+use hall_report::{LogFormat, count_of};
+use pxe_vendor::Place;
+use std::fmt;
+use std::net::{Ipv4Addr, SocketAddr};
+
+pub(crate) const DISCOVER: OptionRow = OptionRow {
+    name: "discover",
+    value: "ADDR",
+    help: "The socket for DHCP, port 67",
+    must: SOCKET,
+    ..OptionRow::ALWAYS
+};
+
+pub(crate) const BOOT: OptionRow = OptionRow {
+    name: "boot",
+    value: "ADDR",
+    help: "The socket of the boot server, port 4011",
+    must: SOCKET,
+    ..OptionRow::ALWAYS
+};
+
+pub(crate) const HTTP: OptionRow = OptionRow {
+    name: "http",
+    value: "ADDR",
+    help: "The socket for HTTP",
+    must: SOCKET,
+    ..OptionRow::ALWAYS
+};
+
+const SOCKET: &str = "an address and a port are as in 10.0.0.5:67";
+
+const TURNS: OptionRow = OptionRow {
+    name: "turns",
+    value: "N",
+    help: "After how many turns it ends",
+    must: "it is a number without a leading zero, at most 10^15",
+    ..OptionRow::ALWAYS
+};
+
+const ENLIST: OptionRow = OptionRow {
+    name: "enlist",
+    value: "ENLIST",
+    help: "yes; or no: unknown clients get silence, and machines are added by hand",
+    must: "yes or no",
+    shape: Shape::OrElse("yes"),
+    ..OptionRow::MAYBE
+};
+
+pub(crate) const LOG: OptionRow = OptionRow {
+    name: "log",
+    value: "FILE",
+    help: "Where a line for each arrival is added; - is standard error",
+    ..OptionRow::MAYBE
+};
+
+const LOG_TIME: OptionRow = OptionRow {
+    name: "log-time",
+    value: "FORMAT",
+    help: "How the log writes moments: seconds since 1970, or utc",
+    must: "seconds or utc",
+    shape: Shape::OrElse("seconds"),
+    ..OptionRow::MAYBE
+};
+
+const LOG_FORMAT: OptionRow = OptionRow {
+    name: "log-format",
+    value: "FORMAT",
+    help: "text, or json: an object a line, with the time in UTC",
+    must: "text or json",
+    shape: Shape::OrElse("text"),
+    ..OptionRow::MAYBE
+};
+
+pub(crate) const BACKUP: OptionRow = OptionRow {
+    name: "backup",
+    value: "FILE",
+    help: "Where a copy of the hall's file is put while it is served",
+    must: PATH,
+    ..OptionRow::MAYBE
+};
+
+const BACKUP_EVERY: OptionRow = OptionRow {
+    name: "backup-every",
+    value: "SECONDS",
+    help: "How long it is from one copy to the next, 3600 without it",
+    must: "it is a number of seconds without a leading zero, at least 1",
+    ..OptionRow::MAYBE
+};
+
+pub(crate) const SERVE_ROW: CommandRow = CommandRow {
+    name: "serve",
+    about: "Serves the hall to its machines and operators",
+    example: "Example: hallboot serve --db hall.db --discover 10.0.0.5:67 --boot 10.0.0.5:4011 --http 10.0.0.5:80 --turns 1000000000000 --server 10.0.0.5 --next 10.0.0.6 --host desk.hall.example --log -",
+    options: &[
+        DB,
+        DISCOVER,
+        BOOT,
+        HTTP,
+        TURNS,
+        ENLIST,
+        LOG,
+        LOG_TIME,
+        LOG_FORMAT,
+        BACKUP,
+        BACKUP_EVERY,
+    ],
+    common: &WITH_PLACE,
+};
+
+/// A service of so many turns at the addresses, over the hall in a file, with a log at a path, or at standard error where it is `-`.
+#[derive(Drop)]
+pub struct Serving {
+    pub path: String,
+    pub place: Place,
+    /// For datagrams to the DHCP server.
+    pub discover: SocketAddr,
+    /// For datagrams to the boot server.
+    pub boot: SocketAddr,
+    pub http: SocketAddr,
+    pub log: Option<String>,
+    pub format: LogFormat,
+    pub enlists: bool,
+    pub turns: u64,
+    pub backup: Option<BackupPlan>,
+}
+
+/// Where a copy of the hall's file is put, and how many seconds it is from one copy to the next.
+#[derive(Drop)]
+pub struct BackupPlan {
+    pub path: String,
+    pub seconds: u64,
+}
+
+// How many seconds it is from one copy to the next where nothing else is said.
+const HOUR: u64 = 3_600;
+
+impl BackupPlan {
+    fn read(options: &Options<'_>) -> Result<Option<BackupPlan>, Wrong> {
+        let seconds = options.value_if(&BACKUP_EVERY, |text| count_of(text).filter(|n| *n > 0))?;
+        if options.is_given(&BACKUP) {
+            return Ok(Some(BackupPlan {
+                path: path(options, &BACKUP)?,
+                seconds: seconds.unwrap_or(HOUR),
+            }));
+        }
+        match seconds {
+            Some(_) => Err(options.wrong_because(&BACKUP_EVERY, "it is given beside --backup")),
+            None => Ok(None),
+        }
+    }
+}
+
+fn socket(options: &Options<'_>, row: &OptionRow) -> Result<SocketAddr, Wrong> {
+    options.parse(row)
+}
+
+fn log_format(options: &Options<'_>) -> Result<LogFormat, Wrong> {
+    let times = [("seconds", LogFormat::Seconds), ("utc", LogFormat::Utc)];
+    let time = options.choice(&LOG_TIME, &times)?;
+    options.choice(&LOG_FORMAT, &[("text", time), ("json", LogFormat::Json)])
+}
+
+fn log(options: &Options<'_>) -> Result<Option<String>, Wrong> {
+    if options.is_given(&LOG) {
+        Ok(Some(owned(options, &LOG)?))
+    } else {
+        Ok(None)
+    }
+}
+
+impl Serving {
+    pub(crate) fn read(options: &Options<'_>) -> Result<Serving, Wrong> {
+        let format = log_format(options)?;
+        let enlists = options.choice(&ENLIST, &[("yes", true), ("no", false)])?;
+        let turns = options.value(&TURNS, |text| count_of(text))?;
+        let discover = socket(options, &DISCOVER)?;
+        let boot = socket(options, &BOOT)?;
+        let http = socket(options, &HTTP)?;
+        let place = place(options)?;
+        let backup = BackupPlan::read(options)?;
+        let log = log(options)?;
+        let path = owned(options, &DB)?;
+        Ok(Serving {
+            path,
+            place,
+            discover,
+            boot,
+            http,
+            log,
+            format,
+            enlists,
+            turns,
+            backup,
+        })
+    }
+
+    /// Whether the log stands at standard error in JSON, so that each line there has to be an object.
+    pub fn has_json_errors(&self) -> bool {
+        self.format == LogFormat::Json && self.log.as_ref().is_some_and(|log| log.as_str() == "-")
+    }
+}
+
+/// All of it in words, as stored runs compare it.
+impl fmt::Display for Serving {
+    fn fmt<W: fmt::Write>(&self, f: &mut fmt::Formatter<W>) -> fmt::Result {
+        let (path, place, turns) = (self.path.as_str(), &self.place, self.turns);
+        let (discover, boot, http) = (self.discover, self.boot, self.http);
+        write!(
+            f,
+            "serve {path}, discover {discover}, boot {boot}, http {http}"
+        )?;
+        let not = if self.enlists { "" } else { "not " };
+        write!(f, ", turns {turns}, {not}enlisting")?;
+        let (server, next) = (Ipv4Addr::from(place.server()), Ipv4Addr::from(place.next()));
+        write!(f, ", server {server}, next {next}, host {}", place.host())?;
+        let log = self.log.as_ref().map_or("none", |log| log.as_str());
+        let format = match self.format {
+            LogFormat::Seconds => "seconds",
+            LogFormat::Utc => "utc",
+            LogFormat::Json => "json",
+        };
+        write!(f, ", log {log} in {format}")?;
+        match &self.backup {
+            Some(backup) => write!(f, ", backup {} every {}", backup.path, backup.seconds),
+            None => Ok(()),
+        }
+    }
+}
+
+/// Whether a command line has its log at standard error in JSON.
+pub fn has_json_errors(options: &Options<'_>) -> bool {
+    options.text(&LOG) == Some("-") && options.text(&LOG_FORMAT) == Some("json")
+}

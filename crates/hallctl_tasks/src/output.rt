@@ -1,0 +1,106 @@
+//! What is written to the operator.
+use crate::answer::Strange;
+use crate::dial::Why;
+use crate::end::{EarlyEnd, TaskEnd, TaskFault};
+use crate::session::Session;
+use crate::surroundings::Surroundings;
+use hall_types::Refusal;
+use hallctl_requests::Ask;
+use hallctl_texts::refusal_line;
+use std::alloc::{AllocError, Global};
+
+// The milliseconds of a second.
+const SECOND: u64 = 1_000;
+
+/// The line on a first try in vain, after which there are more for so many milliseconds.
+pub fn goes_on_text(
+    alloc: Global,
+    authority: &str,
+    why: Why,
+    milliseconds: u64,
+) -> Result<String, AllocError> {
+    let (why, seconds) = (why.words(), milliseconds.div_ceil(SECOND));
+    format!(in alloc;
+        "hallctl: no answer from http://{authority} ({why}), trying for {seconds} s\n"
+    )
+}
+
+impl<S: Surroundings> Session<'_, S> {
+    /// Writes a text to standard output.
+    pub(crate) fn print(&mut self, text: &str) -> Result<(), EarlyEnd> {
+        if self.surroundings.print(text) {
+            Ok(())
+        } else {
+            Err(EarlyEnd::Fault(TaskFault::Output))
+        }
+    }
+
+    /// Writes a line to standard output.
+    pub(crate) fn print_line(&mut self, line: &str) -> Result<(), EarlyEnd> {
+        let text = format!(in self.alloc; "{line}\n")?;
+        self.print(text.as_str())
+    }
+
+    /// Writes a line to standard error, after the program's name.
+    pub(crate) fn report(&mut self, line: &str) -> Result<(), AllocError> {
+        let text = format!(in self.alloc; "hallctl: {line}\n")?;
+        self.surroundings.eprint(text.as_str());
+        Ok(())
+    }
+
+    /// Reports how many of several things are done, where somebody watches. What is printed next is written over it.
+    pub(crate) fn report_progress(&mut self, done: usize, all: usize) -> Result<(), AllocError> {
+        if self.surroundings.is_watched() {
+            let end = if done == all { "\n" } else { "\r" };
+            let text = format!(in self.alloc; "{done} of {all}{end}")?;
+            self.surroundings.eprint(text.as_str());
+        }
+        Ok(())
+    }
+
+    /// Reports a line, and ends the task so.
+    pub(crate) fn end<T>(&mut self, end: TaskEnd, line: &str) -> Result<T, EarlyEnd> {
+        self.report(line)?;
+        Err(EarlyEnd::Reported(end))
+    }
+
+    /// A file can't be read or made, or isn't what it must be, for this reason.
+    pub(crate) fn end_by_file<T>(&mut self, path: &str, words: &str) -> Result<T, EarlyEnd> {
+        let line = format!(in self.alloc; "{path}: {words}")?;
+        self.end(TaskEnd::Misused, line.as_str())
+    }
+
+    /// There was no answer to what was only to be read.
+    pub(crate) fn end_unanswered<T>(&mut self, why: Why) -> Result<T, EarlyEnd> {
+        let why = why.words();
+        let line = format!(in self.alloc; "no answer ({why})")?;
+        self.end(TaskEnd::NoAnswer, line.as_str())
+    }
+
+    /// The desk doesn't give what was only to be read, for this cause.
+    pub(crate) fn end_refused<T>(&mut self, refusal: Refusal) -> Result<T, EarlyEnd> {
+        let line = refusal_line(self.alloc, None, refusal)?;
+        self.end(TaskEnd::Refused, line.as_str())
+    }
+
+    /// What is known of a desk that isn't one, with the URL that was asked.
+    pub(crate) fn strange_text(
+        &self,
+        ask: &Ask<'_>,
+        strange: Strange,
+    ) -> Result<String, AllocError> {
+        let url = self.desk.url(self.alloc, ask)?;
+        let text = strange.text(self.alloc)?;
+        format!(in self.alloc; "this isn't the desk: {url} {text}")
+    }
+
+    /// What answers isn't the desk.
+    pub(crate) fn end_by_stranger<T>(
+        &mut self,
+        ask: &Ask<'_>,
+        strange: Strange,
+    ) -> Result<T, EarlyEnd> {
+        let line = self.strange_text(ask, strange)?;
+        self.end(TaskEnd::NoAnswer, line.as_str())
+    }
+}

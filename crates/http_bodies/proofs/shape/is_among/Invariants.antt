@@ -1,6 +1,0 @@
-use Rattle.std.proofs.Common.{◌≡◌, drop}
-use Rattle.http_bodies.specs.Body.{texts, is_among}
-use Rattle.http_bodies.proofs.shape.is_among.Given as goal
-
-abbrev pub invariant-loop-one : goal.invariant-loop-one
-invariant-loop-one l = is_among (texts (drop l.one-index l.names)) l.name ≡ is_among (texts l.names) l.name

@@ -1,9 +1,0 @@
-use Rattle.std.proofs.Common.{◌≡◌, ◌++◌, drop}
-use Rattle.std.specs.Prelude.{option_map}
-use Rattle.serde_json.specs.View.{items_view}
-use Rattle.http_bodies.specs.Value.{words_of}
-use Rattle.http_bodies.proofs.value.words_of.Given as goal
-
-abbrev pub invariant-loop-value : goal.invariant-loop-value
-invariant-loop-value l =
-    option_map (λ more. l.words.items ++ more) (words_of (items_view (drop l.value-index l.values))) ≡ words_of (items_view l.values)

@@ -1,9 +1,0 @@
-pub mod Body
-pub mod BodyLaws
-pub mod Command
-pub mod Member
-pub mod Members
-pub mod Sendable
-pub mod SizeLaws
-pub mod Steps
-pub mod Value

@@ -1,4 +1,0 @@
-pub mod DecidedLemmas
-pub mod RouteLemmas
-mod RouteRows
-pub mod TargetLemmas

@@ -1,5 +1,0 @@
-use Rattle.http_requests.proofs.RouteLemmas.{route_inserted}
-use Rattle.http_requests.proofs.resource.add_route.Goals as goal
-
-pub returns : goal.returns
-returns c = route_inserted _ _ _ _ _ c.insert.ensures

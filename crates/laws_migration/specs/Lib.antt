@@ -1,4 +1,0 @@
-pub mod FirstErasing
-pub mod FirstSchema
-pub mod Later
-pub mod Origin

@@ -1,5 +1,0 @@
-pub mod Decision
-pub mod EffectLaws
-pub mod Migration
-pub mod Refusing
-pub mod Step

@@ -1,4 +1,0 @@
-pub mod Laws
-pub mod Past
-pub mod Worked
-pub mod WorkedLaws

@@ -1,2 +1,0 @@
-pub mod KeepLemmas
-pub mod SoundLemmas

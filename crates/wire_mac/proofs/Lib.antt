@@ -1,2 +1,0 @@
-pub mod DigitLemmas
-pub mod MacLemmas

@@ -1,3 +1,0 @@
-pub mod MacText
-pub mod DigitLaws
-pub mod MacLaws
