@@ -8,21 +8,14 @@ use life_cycle::Signal::{self, *};
 use life_cycle::{Action, Entered, Step, enter, may, next};
 use play_log::{halves, moment, name, number, status};
 
-const SIGNALS: [(&str, Signal); 21] = [
+const ACTIONS: [(&str, Signal); 4] = [
     ("commission", By(Action::Commission)),
-    ("test", By(Action::Act(Act::Test))),
-    ("override", By(Action::Act(Act::Override))),
-    ("allocate", By(Action::Act(Act::Allocate))),
     ("deploy", By(Action::Deploy)),
     ("release", By(Action::Release)),
     ("release erasing", By(Action::ReleaseErasing)),
-    ("abort", By(Action::Act(Act::Abort))),
-    ("rescue", By(Action::Act(Act::Rescue))),
-    ("exit rescue", By(Action::Act(Act::ExitRescue))),
-    ("break", By(Action::Act(Act::Break))),
-    ("fix", By(Action::Act(Act::Fix))),
-    ("lock", By(Action::Act(Act::Lock))),
-    ("unlock", By(Action::Act(Act::Unlock))),
+];
+
+const OTHERS: [(&str, Signal); 7] = [
     ("report started", Report(Progress::Started)),
     ("report done", Report(Progress::Done)),
     ("report failed", Report(Progress::Failed)),
@@ -33,7 +26,11 @@ const SIGNALS: [(&str, Signal); 21] = [
 ];
 
 fn signal(text: &str) -> Result<Signal, CaseFault> {
-    let known = SIGNALS.iter().find(|known| known.0 == text);
+    if let Ok(act) = text.parse::<Act>() {
+        return Ok(By(Action::Act(act)));
+    }
+    let mut known = ACTIONS.iter().chain(OTHERS.iter());
+    let known = known.find(|known| known.0 == text);
     known.map(|known| known.1).ok_or(CaseFault::Form)
 }
 
@@ -57,15 +54,26 @@ fn beginning(pool: Name, status: Status, order: LastIssued) -> Entered {
     }
 }
 
+fn print_step(machine: &Machine, name: &str, signal: Signal, out: &mut Out) {
+    let Some(step) = next(machine, signal) else {
+        return;
+    };
+    out.show(format_args!("{name}: {}", step.status.text()));
+    if let Some(order) = step.order {
+        out.show(format_args!(" with {}", order.text()));
+    }
+    out.push("\n");
+}
+
 fn print_steps(machine: &Machine, out: &mut Out) {
-    for (name, signal) in &SIGNALS {
-        if let Some(step) = next(machine, *signal) {
-            out.show(format_args!("{name}: {}", step.status.text()));
-            if let Some(order) = step.order {
-                out.show(format_args!(" with {}", order.text()));
-            }
-            out.push("\n");
-        }
+    for (name, signal) in &ACTIONS {
+        print_step(machine, name, *signal, out);
+    }
+    for act in &Act::ALL {
+        print_step(machine, act.text(), By(Action::Act(*act)), out);
+    }
+    for (name, signal) in &OTHERS {
+        print_step(machine, name, *signal, out);
     }
 }
 
