@@ -12,6 +12,7 @@ for name in hallboot hallctl play_desk play_cases play_requests; do
 done
 tools=(
     case_words.sh
+    'price_of_change.py --check'
     program_rows.sh
     hallctl_peer.sh
     token_trial.sh

@@ -15,14 +15,14 @@ fn answered<S: HallStore>(
     desk: &mut Desk<S>,
     arrival: &Arrival,
 ) -> Result<u64, Fault> {
-    let Answer::Octets(octets) = desk.answer(alloc, arrival) else {
-        return Err(Fault::Refused);
-    };
-    let octets = octets.as_slice();
-    if octets.starts_with(b"HTTP/1.1 ") && !octets.starts_with(b"HTTP/1.1 200") {
-        return Err(Fault::Refused);
+    match desk.answer(alloc, arrival) {
+        Answer::Frame(octets)
+        | Answer::Response {
+            status: 200,
+            octets,
+        } => Ok(octets.as_slice().len() as u64),
+        _ => Err(Fault::Refused),
     }
-    Ok(octets.len() as u64)
 }
 
 fn answer_all<S: HallStore>(

@@ -1,5 +1,4 @@
 pub mod DecisionLemmas
-pub mod EnlistLemmas
 pub mod MoveLemmas
 pub mod NewHallLemmas
 pub mod PromiseLemmas

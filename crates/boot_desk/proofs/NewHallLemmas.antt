@@ -1,6 +1,6 @@
 -- A new hall is sound.
 use Rattle.std.{specs.Prelude.{◌≡◌, ℕ, List, Some, true, is_some}, proofs.{Common.{refl, sym, ap, inl, inr, arith, ◌∙◌}, lemmas.{Bool.both_ways, Option.none-some}}}
-use Rattle.hall_types.specs.{Rows.{Keys, numbers, pairs, texts, at, put, no_rows}, RowLaws.{at-no_rows, at-put-same, put_cases}, Hall.{Schema, default_pool, new_hall}, Keyed.StandUnder, declared.{boot.Boot.Boot, kinds.Role.TheVariants.Admin, machine.Machine.Machine, operator.{Operator.Operator, Pool.Pool}, order.Order.Order}, Lookup.HasRow, CountLaws.none_size}
+use Rattle.hall_types.specs.{Rows.{Keys, numbers, pairs, texts, at, put, no_rows}, RowLaws.{at-no_rows, at-put-same, put_cases}, Hall.{Schema, default_pool, new_hall}, KeyedLaws.keyed-new_hall, declared.{boot.Boot.Boot, kinds.Role.TheVariants.Admin, machine.Machine.Machine, operator.Operator.Operator, order.Order.Order}, Lookup.HasRow, CountLaws.none_size}
 use Rattle.boot_desk.specs.Sound.{IsSound}
 
 -- no number has a row
@@ -11,27 +11,13 @@ module _ {K X : Type 0} (keys : Keys K) where
   nothing : (key : K) (row : X) → at (no_rows {keys = keys}) key ≡ Some row → ⊥
   nothing key row is = none-some row (sym (at-no_rows keys key no_rows refl) ∙ is)
 
-  -- the only row stands under its key
-  sole : (key_of : X → K) (row : X) → StandUnder key_of (put {keys = keys} (key_of row) row no_rows)
-  sole key_of row key x is = elim (put_cases no_rows (key_of row) row key x is) [ inl w ↦ ap key_of w.1 ∙ sym w.0 | inr w ↦ absurd (nothing key x w.1) ]
-
+  -- the only row has its key
   sole_key : (key : K) (row : X) (other : K) (x : X) → at (put {keys = keys} key row no_rows) other ≡ Some x → other ≡ key
   sole_key key row other x is = elim (put_cases no_rows key row other x is) [ inl w ↦ w.0 | inr w ↦ absurd (nothing other x w.1) ]
 
 pub new_hall_sound : (schema : Schema) (admin digest : List ℕ) → IsSound (new_hall schema admin digest)
 new_hall_sound schema admin digest = record {
-  keyed = record {
-    operators = sole texts (λ (o : Operator). o.name) first;
-    pools = sole texts (λ (p : Pool). p.name) (record { name = default_pool });
-    members = λ key x is. absurd (nothing pairs key x is);
-    images = λ key x is. absurd (nothing texts key x is);
-    lives = λ key x is. absurd (nothing numbers key x is);
-    machines = λ key x is. absurd (nothing numbers key x is);
-    interfaces = λ key x is. absurd (nothing texts key x is);
-    boots = λ key x is. absurd (nothing numbers key x is);
-    orders = λ key x is. absurd (nothing numbers key x is);
-    receipts = λ key x is. absurd (nothing pairs key x is);
-  };
+  keyed = keyed-new_hall schema admin digest;
   member_pools = λ key x is. absurd (nothing pairs key x is);
   member_operators = λ key x is. absurd (nothing pairs key x is);
   live_images = λ key x is. absurd (nothing numbers key x is);

@@ -1,6 +1,7 @@
 pub mod Class
 pub mod ClassLaws
 pub mod Decided
+pub mod DecisionLaws
 pub mod EntryLaws
 pub mod Expiry
 pub mod Fetch

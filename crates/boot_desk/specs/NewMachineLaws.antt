@@ -1,9 +1,9 @@
--- A sound hall stays sound with a new machine and its interface.
-use Rattle.std.{specs.Prelude.{◌≡◌, ◌≢◌, ◌<◌, ◌≤◌, ◌⊎◌, ◌==◌, ℕ, ◌+◌, List, Option, Some, None, is_some}, proofs.{Common.{refl, sym, ap, inl, inr, arith, ◌∙◌}, lemmas.{Bool.{both_ways, eq-eqb, ne_eqb}, Option.none-some, Slice.Eq.bytes_eq-Decides}}}
-use Rattle.pxe_vendor.specs.declared.arch.Arch.{Arch}
-use Rattle.hall_types.specs.{Number.next_number, Rows.{at, put, one_if, size, how_many}, RowLaws.{at-put-same, at-put-other, put_cases, size-put}, CountLaws.{how_many-new, none_pass}, Hall.{Schema, first, second, Hall}, Lookup.{HasRow, HasRowIf, has_uuid}, LookupLaws.none_listed, declared.machine.{Interface.Interface, Machine.Machine, TheConstants.{MAX_MACHINES, MAX_INTERFACES}}, Machine.blank_machine}
+-- A sound hall stays sound with a new machine and its interface, as one that a frame enlists.
+use Rattle.std.{specs.Prelude.{◌≡◌, ◌≢◌, ◌<◌, ◌≤◌, ◌⊎◌, ◌==◌, ℕ, ◌+◌, nat_le, not, Bool, true, false, List, [], ◌∷◌, Option, Some, None, is_some, option_map, if◌then◌else◌}, proofs.{Common.{refl, sym, ap, subst, inl, inr, arith, ◌∙◌}, lemmas.{Bool.{both_ways, eq-eqb, leb-false, ne_eqb}, Option.none-some, Slice.Eq.bytes_eq-Decides}}}
+use Rattle.pxe_vendor.specs.declared.{arch.Arch.Arch, clients.Client.Client}
+use Rattle.hall_types.specs.{Number.next_number, Rows.{at, put, one_if, size, how_many}, RowLaws.{at-put-same, at-put-other, put_cases, size-put}, KeyedLaws.keyed-applied, CountLaws.{how_many-new, none_pass}, Hall.{Schema, applied, default_pool, first, second, Hall}, Lookup.{HasRow, HasRowIf, has_uuid}, LookupLaws.none_listed, declared.{change.RowWrite.TheVariants.{PutInterface, PutMachine, PutNumbers}, machine.{Interface.Interface, Machine.Machine, TheConstants.{MAX_MACHINES, MAX_INTERFACES}}, port.Port.Port}, Machine.blank_machine}
 use Rattle.life_cycle.specs.Entering.{limit_of, is_rescue, keeps_erase}
-use Rattle.boot_desk.specs.{Class.class_in, FrameEvent.machine_with, Views.view_of, Sound.{KeepsErase, IsSoundMachine, IsSound}, SoundLaws.{some_of, has-put, stand_put, each_put, sound_among}, EntryLaws.next_is}
+use Rattle.boot_desk.specs.{declared.frames.{Decision.{Decision, TheVariants.{Loader, ScriptUrl, Enlist, Silent}}, FrameView.FrameView, Silence.TheVariants.{WrongPort, EchoTooLong, KnownUuid, Full}}, Class.class_in, FrameEvent.{enlisted, enlisted_as, for_address, for_unknown, frame_decision, frame_view, if_number, is_echo_long, is_port_of, is_uuid_of_other, machine_with, new_machine}, Views.view_of, Sound.{KeepsErase, IsSoundMachine, IsSound}, SoundLaws.{some_of, has-put, each_put, sound_among}, EntryLaws.next_is}
 
 -- a machine that is new to a hall, and the address of its interface
 pub record IsNew (h : Hall) (mac : List ℕ) (new : Machine) : Type 0 where
@@ -74,18 +74,7 @@ module _ (h : Hall) (mac : List ℕ) (new : Machine) (s : IsSound h) (n : IsNew 
   -- the hall with both is sound
   pub new_machine_sound : IsSound after
   new_machine_sound = record {
-    keyed = record {
-      operators = s.keyed.operators;
-      pools = s.keyed.pools;
-      members = s.keyed.members;
-      images = s.keyed.images;
-      lives = s.keyed.lives;
-      machines = stand_put (λ (m : Machine). m.id) h.machines new s.keyed.machines;
-      interfaces = stand_put (λ (i : Interface). i.mac) h.interfaces its s.keyed.interfaces;
-      boots = s.keyed.boots;
-      orders = s.keyed.orders;
-      receipts = s.keyed.receipts;
-    };
+    keyed = keyed-applied (PutMachine new None ∷ PutInterface its ∷ PutNumbers (record h.last { machine = new.id }) ∷ []) h s.keyed;
     member_pools = s.member_pools;
     member_operators = s.member_operators;
     live_images = s.live_images;
@@ -153,3 +142,55 @@ module _ (h : Hall) (id : ℕ) (arch : Arch) (pool : List ℕ) (uuid : Option (L
     machine = blank_sound;
     erase = blank_erase h.schema;
   }
+
+-- ---- a machine that a frame enlists
+
+none_mapped : {X Y : Type 0} (f : X → Y) (o : Option X) → option_map f o ≡ None → o ≡ None
+none_mapped f None is = refl
+none_mapped f (Some x) is = cc
+
+-- where the outcome isn't the first choice's, the test fails and it is the other's
+otherwise : (b : Bool) (x y z : Decision) → (x ≡ z → ⊥) → (if b then x else y) ≡ z → (b ≡ false) × (y ≡ z)
+otherwise true x y z apart is = absurd (apart is)
+otherwise false x y z apart is = (refl, is)
+
+-- a machine that is enlisted is new to the hall
+pub enlists : (h : Hall) (client : Client) (port : Port) → IsSound h → frame_decision (frame_view h client) port client ≡ Enlist → (id : ℕ) × IsNew h client.mac (new_machine id client)
+unfolding frame_decision
+enlists h client port s is =
+    let port_fits = otherwise (not (is_port_of client.kind port)) (Silent WrongPort) _ Enlist (λ e. cc) is in
+    let short_echo = otherwise (is_echo_long client.echo97) (Silent EchoTooLong) _ Enlist (λ e. cc) port_fits.1 in
+    let own_uuid = otherwise (is_uuid_of_other u.by_uuid u.by_mac) (Silent KnownUuid) _ Enlist (λ e. cc) short_echo.1 in
+    by_mac u.by_mac refl own_uuid
+  where
+    u : FrameView
+    u = frame_view h client
+
+    by_number : u.by_mac ≡ None → u.by_uuid ≡ None → size h.machines < MAX_MACHINES → (n : Option ℕ) → next_number h.last.machine ≡ n → if_number n ≡ Enlist → (id : ℕ) × IsNew h client.mac (new_machine id client)
+    by_number mac uuid room None next is = cc
+    by_number mac uuid room (Some id) next is =
+        let free = none_mapped (λ i. i.machine) (at h.interfaces client.mac) mac in
+        let apart = none_mapped (λ m. m.id) (machine_with h client.uuid) uuid in
+        (id, blank_is_new h id client.arch default_pool client.uuid client.mac next room free apart s.default)
+
+    by_uuid : (o : Option ℕ) → u.by_uuid ≡ o → u.by_mac ≡ None → is_uuid_of_other o None ≡ false → for_unknown u ≡ Enlist → (id : ℕ) × IsNew h client.mac (new_machine id client)
+    by_uuid (Some id) uuid mac other is = cc
+    by_uuid None uuid mac other is =
+        let room = otherwise (nat_le MAX_MACHINES (size h.machines)) (Silent Full) _ Enlist (λ e. cc) is in
+        by_number mac uuid (leb-false MAX_MACHINES (size h.machines) room.0) (next_number h.last.machine) refl room.1
+
+    no_file : (ipxe : Bool) → (if ipxe then ScriptUrl else Loader) ≡ Enlist → ⊥
+    no_file true is = cc
+    no_file false is = cc
+
+    by_mac : (o : Option ℕ) → u.by_mac ≡ o → (is_uuid_of_other u.by_uuid o ≡ false) × (for_address o u client ≡ Enlist) → (id : ℕ) × IsNew h client.mac (new_machine id client)
+    by_mac None mac other = by_uuid u.by_uuid refl mac other.0 other.1
+    by_mac (Some id) mac other = absurd (no_file client.ipxe other.1)
+
+-- an unknown client's machine leaves the hall sound
+pub enlisted_sound : (h : Hall) (client : Client) (port : Port) → IsSound h → frame_decision (frame_view h client) port client ≡ Enlist → IsSound (applied (enlisted client h.last) h)
+enlisted_sound h client port s is = by (enlists h client port s is)
+  where
+    by : (id : ℕ) × IsNew h client.mac (new_machine id client) → IsSound (applied (enlisted client h.last) h)
+    by found =
+        subst (λ n. IsSound (applied (enlisted_as n client h.last) h)) (sym found.1.next) (new_machine_sound h client.mac (new_machine found.0 client) s found.1)

@@ -1,82 +1,40 @@
 -- Laws of what kernels are told to do, for the proofs of callers.
-use Rattle.std.{proofs.{Common.{◌≡◌, ℕ, zero, suc, ◌⊎◌, Bool, true, false, List, [], ◌∷◌, ◌++◌, refl, sym, ap, subst, ◌∙◌, inl, inr, arith}, lemmas.{Bool.{or_parts, both_ways}, List.Elements.{Contains-append_cases, Contains-append_left, Contains-append_right}}}, specs.{Prelude.{Option, Some, None, Result, Ok, Err, Contains, bytes_eq, codes, if◌then◌else◌}, List.list_any, Fmt.decimal}}
+use Rattle.std.{proofs.{Common.{◌≡◌, ℕ, zero, suc, ◌⊎◌, true, false, List, [], ◌∷◌, ◌++◌, refl, sym, ap, subst, ◌∙◌, inl, inr, arith}, lemmas.{Bool.{or_parts, both_ways}, List.Elements.{Contains-append_cases, Contains-append_left, Contains-append_right}, Slice.Eq.bytes_eq-Decides}}, specs.{Prelude.{Option, Some, Ok, Contains, bytes_eq, codes}, List.list_any, Fmt.decimal}}
 use Rattle.hex.specs.Hex.{encode_lower}
 use Rattle.pxe_vendor.specs.declared.arch.Arch.{Arch}
 use Rattle.pxe_vendor.specs.declared.arch.Arch.TheVariants as arch
 use Rattle.ipxe_script.specs.{Purpose.{HasKernelWord, is_kernel}, PurposeLaws.{HasKernelWord-boot, HasKernelWord-no_kernel, IsArgument-hall}, Script.{spelling, IsScript}, Word.is_hall_word, declared.command.Command.Command}
-use Rattle.hall_types.specs.{Image.{BootImage, has_hall_word}, Kinds.{erase_text, purpose_text}, Number.next_number, declared.{boot.Boot.Boot, change.RowWrite.RowWrite, kinds.{Erase.Erase, Purpose.Purpose}, refusal.Refusal.Refusal, status.Status.{Status, TheVariants.{Deploying, DiskErasing, ExitingRescue}}}}
+use Rattle.hall_types.specs.{Image.{BootImage, has_hall_word}, Kinds.{erase_text, purpose_text}, declared.{boot.Boot.Boot, change.RowWrite.RowWrite, kinds.{Erase.Erase, Purpose.Purpose}, status.Status.{Status, TheVariants.{Deploying, DiskErasing, ExitingRescue}}}}
 use Rattle.hall_types.specs.declared.kinds.Erase.TheVariants as erase
 use Rattle.hall_types.specs.declared.kinds.Purpose.TheVariants as purpose
 use Rattle.life_cycle.specs.{Table.step_of, declared.signal.Signal.TheVariants.FourthBoot}
-use Rattle.boot_desk.specs.{declared.{class.ScriptClass.{ScriptClass, TheVariants.{Local, Work, Hold}}, views.BootView.BootView}, ClassLaws.{is_work, works_after_rescue}, Class.{class_in, class_of, class_after_rescue}, Fetch.{Fetched, fetched, fetched_by, image_for, is_fourth, issued, new_boot, offered_boot, worked, worked_if}, Following.{answering, followed}, Purposes.{IsWork, HasNoHallWords, ErasesBy}, Texts.{desk_arguments, erase_argument, hold_script, local_script, work_script}}
+use Rattle.boot_desk.specs.{declared.{class.ScriptClass.TheVariants.Work, views.BootView.BootView}, ClassLaws.{is_work, works_after_rescue}, Class.{class_in, class_after_rescue}, DecisionLaws.{IfOk, answering_gives, fetched_cases, if_ok}, Fetch.{fetched, image_for, new_boot}, Following.followed, Purposes.{IsWork, HasNoHallWords, ErasesBy}, Texts.{desk_arguments, erase_argument, hold_script, local_script, work_script}}
 
 -- ---- a script of a script request starts no kernel, or it is that of the machine's work
-
-abbrev script_in : Fetched → List Command
-script_in (Ok answer) = answer.1
-script_in (Err refusal) = []
 
 abbrev Given : List ℕ → BootView → List Command → Type 0
 Given host v script = (list_any is_kernel script ≡ false) ⊎ ((purpose : Purpose) × IsWork host v purpose script)
 
+abbrev Gives : List ℕ → BootView → List RowWrite × List Command → Type 0
+Gives host v d = Given host v d.1
+
 local_has_no_kernel : (a : Arch) → list_any is_kernel (local_script a) ≡ false
 unfolding local_script
 local_has_no_kernel arch.Bios = refl
-local_has_no_kernel arch.Uefi32 = refl
-local_has_no_kernel arch.Uefi64 = refl
-local_has_no_kernel arch.Arm64 = refl
+local_has_no_kernel other = refl
 
 hold_has_no_kernel : list_any is_kernel hold_script ≡ false
 unfolding hold_script
 hold_has_no_kernel = refl
 
-held : (host : List ℕ) (v : BootView) (script : List Command) → hold_script ≡ script → Given host v script
-held host v script is = inl (subst (λ (x : List Command). list_any is_kernel x ≡ false) is hold_has_no_kernel)
-
-held_after : (host : List ℕ) (v : BootView) (rows : List RowWrite) (script : List Command) (after : Result (List RowWrite) Refusal)
-    → answering hold_script after ≡ Ok (rows, script) → Given host v script
-held_after host v rows script (Ok its) is = held host v script (ap script_in is)
-held_after host v rows script (Err refusal) is = cc
-
-issued_work : (host : List ℕ) (v : BootView) (p : Purpose) (image : BootImage) (fresh : List ℕ) (number : Option ℕ) (rows : List RowWrite) (script : List Command)
-    → class_of v.machine ≡ Work p → image_for p v ≡ Some image
-    → issued host v p image fresh number ≡ Ok (rows, script) → Given host v script
-issued_work host v p image fresh None rows script class image_is is = cc
-issued_work host v p image fresh (Some number) rows script class image_is is =
-    inr (p, record { boot = new_boot number v.machine p fresh; image = image; class = class; image_is = image_is; is = sym (ap script_in is) })
-
-by_offered : (host : List ℕ) (v : BootView) (moment : ℕ) (fresh : List ℕ) (p : Purpose) (image : BootImage) (offered : Option Boot) (rows : List RowWrite) (script : List Command)
-    → class_of v.machine ≡ Work p → image_for p v ≡ Some image
-    → worked host v moment fresh p image offered ≡ Ok (rows, script) → Given host v script
-by_offered host v moment fresh p image (Some b) rows script class image_is is =
-    inr (p, record { boot = b; image = image; class = class; image_is = image_is; is = sym (ap script_in is) })
-by_offered host v moment fresh p image None rows script class image_is is = by (is_fourth v.machine) is
-  where
-    by : (fourth : Bool)
-        → ◌≡◌ {A = Fetched} (if fourth then answering hold_script (followed [] v moment (step_of v.machine FourthBoot)) else issued host v p image fresh (next_number v.numbers.boot)) (Ok (rows, script))
-        → Given host v script
-    by true e = held_after host v rows script (followed [] v moment (step_of v.machine FourthBoot)) e
-    by false e = issued_work host v p image fresh (next_number v.numbers.boot) rows script class image_is e
-
-by_image : (host : List ℕ) (v : BootView) (moment : ℕ) (fresh : List ℕ) (p : Purpose) (image : Option BootImage) (rows : List RowWrite) (script : List Command)
-    → class_of v.machine ≡ Work p → image_for p v ≡ image
-    → worked_if host v moment fresh p image ≡ Ok (rows, script) → Given host v script
-by_image host v moment fresh p None rows script class image_is is = held host v script (ap script_in is)
-by_image host v moment fresh p (Some image) rows script class image_is is =
-    by_offered host v moment fresh p image (offered_boot v.boot) rows script class image_is is
-
-by_class : (host : List ℕ) (v : BootView) (moment : ℕ) (fresh : List ℕ) (class : ScriptClass) (rows : List RowWrite) (script : List Command)
-    → class_of v.machine ≡ class → fetched_by class host v moment fresh ≡ Ok (rows, script) → Given host v script
-by_class host v moment fresh Local rows script class is =
-    inl (subst (λ (x : List Command). list_any is_kernel x ≡ false) (ap script_in is) (local_has_no_kernel v.machine.arch))
-by_class host v moment fresh Hold rows script class is = held host v script (ap script_in is)
-by_class host v moment fresh (Work p) rows script class is =
-    by_image host v moment fresh p (image_for p v) rows script class refl is
-
 pub given : (host : List ℕ) (v : BootView) (moment : ℕ) (fresh : List ℕ) (rows : List RowWrite) (script : List Command)
     → fetched host v moment fresh ≡ Ok (rows, script) → Given host v script
-unfolding fetched
-given host v moment fresh rows script is = by_class host v moment fresh (class_of v.machine) rows script refl is
+given host v moment fresh rows script =
+    if_ok (Gives host v) (fetched host v moment fresh) (rows, script)
+    (fetched_cases host v moment fresh (IfOk (Gives host v)) (inl (local_has_no_kernel v.machine.arch)) (inl hold_has_no_kernel) tt
+    (λ p image b works its offered. inr (p, record { boot = b; image = image; class = works; image_is = its; is = refl }))
+    (λ offered few. answering_gives hold_script (followed [] v moment (step_of v.machine FourthBoot)) (Given host v) (inl hold_has_no_kernel))
+    (λ p image number works its few next. inr (p, record { boot = new_boot number v.machine p fresh; image = image; class = works; image_is = its; is = refl })))
 
 -- ---- the words of its kernel's line
 
@@ -138,8 +96,8 @@ desk_word host p e b word h =
     ]
 
 -- two words are not the same where a test of them fails
-differ : (one other : List ℕ) → bytes_eq one other ≡ false → bytes_eq other other ≡ true → one ≡ other → ⊥
-differ one other apart same is = both_ways (bytes_eq one other) apart (ap (λ (x : List ℕ). bytes_eq x other) is ∙ same)
+differ : (one other : List ℕ) → bytes_eq one other ≡ false → one ≡ other → ⊥
+differ one other apart is = both_ways (bytes_eq one other) apart ((bytes_eq-Decides one other).1 is)
 
 -- a word about erasing is there only in an erasing script, and names the kind
 record IsEraseWord (p : Purpose) (e : Option Erase) (word : List ℕ) : Type 0 where
@@ -154,66 +112,41 @@ erase_word purpose.Erase (Some kind) word h =
       | inl is ↦ record { kind = kind; erases = refl; kept = refl; is = is }
       | inr h ↦ absurd (Contains-none word h)
     ]
-erase_word purpose.Erase None word h = absurd (Contains-none word h)
-erase_word purpose.Commission e word h = absurd (Contains-none word h)
-erase_word purpose.Test e word h = absurd (Contains-none word h)
-erase_word purpose.Deploy e word h = absurd (Contains-none word h)
-erase_word purpose.Rescue e word h = absurd (Contains-none word h)
+erase_word p e word h = absurd (Contains-none word h)
 
--- a word `hall.purpose=`
+-- a word `hall.purpose=` names the purpose
 to_erase : (p : Purpose) → codes "hall.purpose=" ++ purpose_text p ≡ codes "hall.purpose=erase" → p ≡ purpose.Erase
 unfolding purpose_text
 to_erase purpose.Erase is = refl
-to_erase purpose.Commission is = absurd (differ _ _ refl refl is)
-to_erase purpose.Test is = absurd (differ _ _ refl refl is)
-to_erase purpose.Deploy is = absurd (differ _ _ refl refl is)
-to_erase purpose.Rescue is = absurd (differ _ _ refl refl is)
+to_erase other is = absurd (differ _ _ refl is)
 
 to_deploy : (p : Purpose) → codes "hall.purpose=" ++ purpose_text p ≡ codes "hall.purpose=deploy" → p ≡ purpose.Deploy
 unfolding purpose_text
 to_deploy purpose.Deploy is = refl
-to_deploy purpose.Commission is = absurd (differ _ _ refl refl is)
-to_deploy purpose.Test is = absurd (differ _ _ refl refl is)
-to_deploy purpose.Erase is = absurd (differ _ _ refl refl is)
-to_deploy purpose.Rescue is = absurd (differ _ _ refl refl is)
+to_deploy other is = absurd (differ _ _ refl is)
 
-purpose_erase : (host : List ℕ) (p : Purpose) (e : Option Erase) (b : Boot) → IsDeskWord host p e b (codes "hall.purpose=erase") → p ≡ purpose.Erase
-purpose_erase host p e b (is_purpose is) = to_erase p is
-purpose_erase host p e b (is_erase h) = (erase_word p e (codes "hall.purpose=erase") h).erases
-purpose_erase host p e b (is_boot is) = absurd (differ (codes "hall.boot=" ++ decimal b.number) (codes "hall.purpose=erase") refl refl is)
-purpose_erase host p e b (is_token is) = absurd (differ (codes "hall.token=" ++ encode_lower b.token) (codes "hall.purpose=erase") refl refl is)
-purpose_erase host p e b (is_desk is) = absurd (differ (codes "hall.desk=http://" ++ host) (codes "hall.purpose=erase") refl refl is)
-
-purpose_deploy : (host : List ℕ) (p : Purpose) (e : Option Erase) (b : Boot) → IsDeskWord host p e b (codes "hall.purpose=deploy") → p ≡ purpose.Deploy
-purpose_deploy host p e b (is_purpose is) = to_deploy p is
-purpose_deploy host p e b (is_erase h) =
-    let w = erase_word p e (codes "hall.purpose=deploy") h in
-    absurd (differ (codes "hall.erase=" ++ erase_text w.kind) (codes "hall.purpose=deploy") refl refl w.is)
-purpose_deploy host p e b (is_boot is) = absurd (differ (codes "hall.boot=" ++ decimal b.number) (codes "hall.purpose=deploy") refl refl is)
-purpose_deploy host p e b (is_token is) = absurd (differ (codes "hall.token=" ++ encode_lower b.token) (codes "hall.purpose=deploy") refl refl is)
-purpose_deploy host p e b (is_desk is) = absurd (differ (codes "hall.desk=http://" ++ host) (codes "hall.purpose=deploy") refl refl is)
+purpose_named : (host : List ℕ) (p : Purpose) (e : Option Erase) (b : Boot) (rest : List ℕ) → IsDeskWord host p e b (codes "hall.purpose=" ++ rest)
+    → codes "hall.purpose=" ++ purpose_text p ≡ codes "hall.purpose=" ++ rest
+purpose_named host p e b rest (is_purpose is) = is
+purpose_named host p e b rest (is_erase h) =
+    let w = erase_word p e (codes "hall.purpose=" ++ rest) h in absurd (differ (codes "hall.erase=" ++ erase_text w.kind) (codes "hall.purpose=" ++ rest) refl w.is)
+purpose_named host p e b rest (is_boot is) = absurd (differ (codes "hall.boot=" ++ decimal b.number) (codes "hall.purpose=" ++ rest) refl is)
+purpose_named host p e b rest (is_token is) = absurd (differ (codes "hall.token=" ++ encode_lower b.token) (codes "hall.purpose=" ++ rest) refl is)
+purpose_named host p e b rest (is_desk is) = absurd (differ (codes "hall.desk=http://" ++ host) (codes "hall.purpose=" ++ rest) refl is)
 
 -- a word `hall.erase=` names the kind that the machine keeps
 to_kind : (kept kind : Erase) → codes "hall.erase=" ++ erase_text kept ≡ codes "hall.erase=" ++ erase_text kind → kept ≡ kind
 unfolding erase_text
 to_kind erase.Quick erase.Quick is = refl
-to_kind erase.Quick erase.Full is = absurd (differ _ _ refl refl is)
-to_kind erase.Full erase.Quick is = absurd (differ _ _ refl refl is)
 to_kind erase.Full erase.Full is = refl
-
-differ_erase : (one : List ℕ) (kind : Erase) → ((rest : List ℕ) → bytes_eq one (codes "hall.erase=" ++ rest) ≡ false) → one ≡ codes "hall.erase=" ++ erase_text kind → ⊥
-unfolding erase_text
-differ_erase one erase.Quick apart is = differ one (codes "hall.erase=quick") (apart (codes "quick")) refl is
-differ_erase one erase.Full apart is = differ one (codes "hall.erase=full") (apart (codes "full")) refl is
+to_kind kept kind is = absurd (differ _ _ refl is)
 
 kind_word : (host : List ℕ) (p : Purpose) (e : Option Erase) (b : Boot) (kind : Erase) → IsDeskWord host p e b (codes "hall.erase=" ++ erase_text kind) → e ≡ Some kind
-kind_word host p e b kind (is_purpose is) = absurd (differ_erase (codes "hall.purpose=" ++ purpose_text p) kind (λ rest. refl) is)
-kind_word host p e b kind (is_erase h) =
-    let w = erase_word p e (codes "hall.erase=" ++ erase_text kind) h in
-    w.kept ∙ ap Some (to_kind w.kind kind w.is)
-kind_word host p e b kind (is_boot is) = absurd (differ_erase (codes "hall.boot=" ++ decimal b.number) kind (λ rest. refl) is)
-kind_word host p e b kind (is_token is) = absurd (differ_erase (codes "hall.token=" ++ encode_lower b.token) kind (λ rest. refl) is)
-kind_word host p e b kind (is_desk is) = absurd (differ_erase (codes "hall.desk=http://" ++ host) kind (λ rest. refl) is)
+kind_word host p e b kind (is_purpose is) = absurd (differ (codes "hall.purpose=" ++ purpose_text p) (codes "hall.erase=" ++ erase_text kind) refl is)
+kind_word host p e b kind (is_erase h) = let w = erase_word p e (codes "hall.erase=" ++ erase_text kind) h in w.kept ∙ ap Some (to_kind w.kind kind w.is)
+kind_word host p e b kind (is_boot is) = absurd (differ (codes "hall.boot=" ++ decimal b.number) (codes "hall.erase=" ++ erase_text kind) refl is)
+kind_word host p e b kind (is_token is) = absurd (differ (codes "hall.token=" ++ encode_lower b.token) (codes "hall.erase=" ++ erase_text kind) refl is)
+kind_word host p e b kind (is_desk is) = absurd (differ (codes "hall.desk=http://" ++ host) (codes "hall.erase=" ++ erase_text kind) refl is)
 
 -- ---- which status has which purpose
 
@@ -267,7 +200,7 @@ pub erasing : (host : List ℕ) (v : BootView) (moment : ℕ) (fresh : List ℕ)
     → v.machine.status ≡ DiskErasing
 erasing host v moment fresh rows script none good is h =
     let work = working host v moment fresh rows script (codes "purpose=erase") none good is h in
-    let p_is = purpose_erase host work.0 v.machine.erase work.1.boot work.2 in
+    let p_is = to_erase work.0 (purpose_named host work.0 v.machine.erase work.1.boot (codes "erase") work.2) in
     erasing_status v.machine.status v.machine.back (work.1.class ∙ ap Work p_is)
 
 pub kind_kept : (host : List ℕ) (v : BootView) (moment : ℕ) (fresh : List ℕ) (rows : List RowWrite) (script : List Command) (kind : Erase)
@@ -282,7 +215,7 @@ pub deploying : (host : List ℕ) (v : BootView) (moment : ℕ) (fresh : List �
     → (v.machine.status ≡ Deploying) × IsWork host v purpose.Deploy script
 deploying host v moment fresh rows script none good is h =
     let work = working host v moment fresh rows script (codes "purpose=deploy") none good is h in
-    let p_is = purpose_deploy host work.0 v.machine.erase work.1.boot work.2 in (
+    let p_is = to_deploy work.0 (purpose_named host work.0 v.machine.erase work.1.boot (codes "deploy") work.2) in (
       deploying_status v.machine.status v.machine.back (work.1.class ∙ ap Work p_is),
       subst (λ (p : Purpose). IsWork host v p script) p_is work.1,
     )
@@ -307,5 +240,5 @@ pub erasing_names : (host : List ℕ) (v : BootView) (moment : ℕ) (fresh : Lis
     → v.machine.erase ≡ Some kind → ErasesBy kind script
 erasing_names host v moment fresh rows script kind none good is h kept =
     let work = working host v moment fresh rows script (codes "purpose=erase") none good is h in
-    let p_is = purpose_erase host work.0 v.machine.erase work.1.boot work.2 in
+    let p_is = to_erase work.0 (purpose_named host work.0 v.machine.erase work.1.boot (codes "erase") work.2) in
     names_kind host v script kind good (subst (λ (p : Purpose). IsWork host v p script) p_is work.1) kept

@@ -1,6 +1,7 @@
 -- A hall stays sound if the rows of only one machine change, and are as they have to be afterwards.
-use Rattle.std.{specs.Prelude.{◌≡◌, ◌≢◌, ◌≤◌, ◌⊎◌, ◌==◌, ℕ, Bool, true, false, Option, Some, None, is_some, IsSome, IsTrue, if◌then◌else◌}, proofs.{Common.{refl, sym, ap, subst, inl, inr, arith, ◌∙◌}, lemmas.Bool.{eqb-true, eqb-false}}}
-use Rattle.hall_types.specs.{Rows.{Keys, numbers, Rows, at, put, size, one_if, same_key}, RowLaws.{at-put, at-put-same, at-put-other, put_cases, size-put}, Hall.{Schema, first, second, Hall}, Keyed.{StandUnder, IsKeyed}, declared.{boot.{Boot.Boot, TheConstants.MAX_BOOTS}, kinds.{OrderStage.TheVariants.Waiting, Purpose.Purpose, Stage.TheVariants.{Offered, Started}}, machine.Machine.Machine, number.Numbers.Numbers, order.Order.Order, status.Status.TheVariants.{Deployed, Rescue}}, Lookup.{HasRow, HasRowIf}}
+use Rattle.std.{specs.Prelude.{◌≡◌, ◌≢◌, ◌≤◌, ◌⊎◌, ◌==◌, ℕ, Bool, true, false, List, [], ◌∷◌, Option, Some, None, is_some, IsSome, IsTrue, if◌then◌else◌}, proofs.{Common.{refl, sym, ap, subst, inl, inr, arith, ◌∙◌}, lemmas.Bool.{eqb-true, eqb-false}}}
+use Rattle.hall_types.specs.{Rows.{Keys, numbers, Rows, at, put, size, one_if, same_key}, RowLaws.{at-put, at-put-same, at-put-other, put_cases, size-put}, Hall.{Schema, first, second, Hall, applied, written}, Keyed.{StandUnder, IsKeyed}, KeyedLaws.under-put, declared.{boot.{Boot.Boot, TheConstants.MAX_BOOTS}, change.RowWrite.RowWrite, kinds.{OrderStage.TheVariants.Waiting, Purpose.Purpose, Stage.TheVariants.{Offered, Started}}, machine.Machine.Machine, number.Numbers.Numbers, order.Order.Order, status.Status.TheVariants.{Deployed, Rescue}}, Lookup.{HasRow, HasRowIf}}
+use Rattle.hall_types.specs.declared.change.RowWrite.TheVariants as write
 use Rattle.hall_types.specs.declared.kinds.Purpose.TheVariants as purpose
 use Rattle.boot_desk.specs.{declared.{class.ScriptClass.TheVariants.Work, views.BootView.BootView}, Class.class_of, Fetch.image_for, Views.{row_at, view_of}, Sound.{KeepsErase, IsSoundMachine, IsSound}}
 
@@ -97,11 +98,16 @@ has-put {keys = keys} rows key row other has = ap (λ o. is_some o) (at-put rows
     by true = refl
     by false = has
 
-module _ {K X : Type 0} {keys : Keys K} where
-  -- a row that is put under its own key leaves each row under its own
-  pub stand_put : (key_of : X → K) (rows : Rows keys X) (row : X) → StandUnder key_of rows → StandUnder key_of (put (key_of row) row rows)
-  stand_put key_of rows row under key x is = elim (put_cases rows (key_of row) row key x is) [ inl w ↦ ap key_of w.1 ∙ sym w.0 | inr w ↦ under key x w.1 ]
+-- no row takes an operator away
+operators_written : (w : RowWrite) (h : Hall) (name : List ℕ) → HasRow h.operators name → HasRow (written w h).operators name
+operators_written (write.PutOperator o) h name has = has-put h.operators o.name o name has
+operators_written other h name has = has
 
+pub operators_stay : (rows : List RowWrite) (h : Hall) (name : List ℕ) → HasRow h.operators name → HasRow (applied rows h).operators name
+operators_stay [] h name has = has
+operators_stay (w ∷ ws) h name has = operators_stay ws (written w h) name (operators_written w h name has)
+
+module _ {K X : Type 0} {keys : Keys K} where
   -- what holds of the row that is put, and of each row before, holds of each row
   pub each_put : (P : X → Type 0) (rows : Rows keys X) (key : K) (row : X) → P row → ((other : K) (x : X) → at rows other ≡ Some x → P x)
       → (other : K) (x : X) → at (put key row rows) other ≡ Some x → P x
@@ -184,7 +190,7 @@ module _ (h : Hall) (m m' : Machine) (boots : Rows numbers Boot) (orders : Rows 
     members = s.keyed.members;
     images = s.keyed.images;
     lives = s.keyed.lives;
-    machines = stand_put (λ (x : Machine). x.id) h.machines m' s.keyed.machines;
+    machines = under-put (λ (x : Machine). x.id) h.machines m' s.keyed.machines;
     interfaces = s.keyed.interfaces;
     boots = λ n b is. elim (moved.own_boots.back n b is) [ inl w ↦ s.keyed.boots n b w.1 | inr w ↦ w.0 ];
     orders = λ n o is. elim (moved.own_orders.back n o is) [ inl w ↦ s.keyed.orders n o w.1 | inr w ↦ w.0 ];

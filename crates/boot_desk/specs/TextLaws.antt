@@ -1,5 +1,5 @@
 -- The desk's words are words of a script.
-use Rattle.std.{proofs.{Common.{◌≡◌, ◌≤◌, ◌/◌, ◌%◌, ◌++◌, ◌^◌, ◌<◌, ℕ, suc, Bool, true, List, [], ◌∷◌, length, slice_index, refl, ap, false, arith, append_assoc}, lemmas.{Bool.{agree_below_at, leb-true}, List.Elements.All-from_recursion}}, specs.{Prelude.{All, Option, Some, None, codes, ◌&&◌, ◌||◌, ◌==◌, nat_le, IsTrue}, Char.is_ascii_alphanumeric, List.list_all, Fmt.decimal}}
+use Rattle.std.{proofs.{Common.{◌≡◌, ◌≤◌, ◌/◌, ◌%◌, ◌++◌, ◌^◌, ◌<◌, ℕ, suc, Bool, true, List, [], ◌∷◌, length, slice_index, refl, ap, false, arith, append_assoc}, lemmas.{Bool.{agree_below_at, leb-true}, List.Elements.All-from_recursion}}, specs.{Prelude.{All, Option, Some, codes, ◌&&◌, ◌||◌, ◌==◌, nat_le, IsTrue}, Char.is_ascii_alphanumeric, List.list_all, Fmt.decimal}}
 use Rattle.hex.{specs.Hex.{encode_lower, encode_with, lower_digits}, proofs.HexLemmas.length-encode_with}
 use Rattle.pxe_vendor.specs.{Place.{is_host, is_host_octet}, declared.arch.Arch.Arch}
 use Rattle.pxe_vendor.specs.declared.arch.Arch.TheVariants as arch
@@ -12,10 +12,7 @@ use Rattle.hall_types.specs.declared.kinds.Erase.TheVariants as erase
 pub purpose_word : (p : Purpose) → IsWord (codes "hall.purpose=" ++ purpose_text p)
 unfolding is_word is_first_octet is_word_octet purpose_text
 purpose_word purpose.Commission = refl
-purpose_word purpose.Test = refl
-purpose_word purpose.Deploy = refl
-purpose_word purpose.Erase = refl
-purpose_word purpose.Rescue = refl
+purpose_word other = refl
 
 pub erase_word : (e : Erase) → IsWord (codes "hall.erase=" ++ erase_text e)
 unfolding is_word is_first_octet is_word_octet erase_text
@@ -90,9 +87,7 @@ desk_word host is =
 pub local_is_script : (a : Arch) → IsScript (local_script a)
 unfolding local_script
 local_is_script arch.Bios = record { few = omega arith; lines = All-from_recursion IsLine (Sanboot ∷ []) (record { whole = tt; few = omega arith }, tt) }
-local_is_script arch.Uefi32 = record { few = omega arith; lines = All-from_recursion IsLine (Exit ∷ []) (record { whole = tt; few = omega arith }, tt) }
-local_is_script arch.Uefi64 = record { few = omega arith; lines = All-from_recursion IsLine (Exit ∷ []) (record { whole = tt; few = omega arith }, tt) }
-local_is_script arch.Arm64 = record { few = omega arith; lines = All-from_recursion IsLine (Exit ∷ []) (record { whole = tt; few = omega arith }, tt) }
+local_is_script other = record { few = omega arith; lines = All-from_recursion IsLine (Exit ∷ []) (record { whole = tt; few = omega arith }, tt) }
 
 pub hold_is_script : IsScript hold_script
 unfolding hold_script is_word is_first_octet is_word_octet
@@ -120,12 +115,8 @@ unfolding is_name
 default_is_name = refl
 
 pub few_erase_arguments : (p : Purpose) (e : Option Erase) → length (erase_argument p e) ≤ 1
-few_erase_arguments purpose.Commission e = omega arith
-few_erase_arguments purpose.Test e = omega arith
-few_erase_arguments purpose.Deploy e = omega arith
-few_erase_arguments purpose.Erase None = omega arith
 few_erase_arguments purpose.Erase (Some e) = omega arith
-few_erase_arguments purpose.Rescue e = omega arith
+few_erase_arguments other e = omega arith
 
 pub joined_arguments : {A : Type 0} (image erase : List A) (purpose boot token desk : A)
     → ((((image ++ purpose ∷ []) ++ erase) ++ boot ∷ []) ++ token ∷ []) ++ desk ∷ [] ≡ image ++ (purpose ∷ (erase ++ (boot ∷ token ∷ desk ∷ [])))

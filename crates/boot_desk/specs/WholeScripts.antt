@@ -1,12 +1,12 @@
 -- Each script that a machine is given is one within the limits, where it is made of what its types allow.
-use Rattle.std.{specs.{Prelude.{◌≡◌, ◌≤◌, ◌+◌, ◌++◌, ◌==◌, ℕ, Bool, true, false, List, [], ◌∷◌, Option, Some, None, Result, Ok, Err, All, IsTrue, codes, if◌then◌else◌}, Fmt.decimal}, proofs.{Common.{refl, ap, subst, arith}, lemmas.{Bool.Decides.nat_tests, List.{length-append, Elements.{All-append, All-from_recursion, All-nil}}}}}
+use Rattle.std.{specs.{Prelude.{◌≡◌, ◌≤◌, ◌+◌, ◌++◌, ◌==◌, ℕ, Bool, true, false, List, [], ◌∷◌, Option, Some, None, Ok, All, IsTrue, codes, if◌then◌else◌}, Fmt.decimal}, proofs.{Common.{refl, arith}, lemmas.{Bool.Decides.nat_tests, List.{length-append, Elements.{All-append, All-from_recursion, All-nil}}}}}
 use Rattle.hex.specs.Hex.{encode_lower}
 use Rattle.pxe_vendor.specs.Place.{is_host}
 use Rattle.ipxe_script.specs.{Script.IsScript, Word.IsWord, declared.command.Command.Command}
-use Rattle.hall_types.specs.{Image.{BootImage, IsImage}, Kinds.{erase_text, purpose_text}, Number.{max_number, next_number}, Octets.AreOctets, declared.{boot.Boot.Boot, change.RowWrite.RowWrite, kinds.{Erase.Erase, Purpose.Purpose}, refusal.Refusal.Refusal}}
+use Rattle.hall_types.specs.{Image.{BootImage, IsImage}, Kinds.{erase_text, purpose_text}, Number.{max_number, next_number}, Octets.AreOctets, declared.{boot.Boot.Boot, change.RowWrite.RowWrite, kinds.{Erase.Erase, Purpose.Purpose}}}
 use Rattle.hall_types.specs.declared.kinds.Purpose.TheVariants as purpose
 use Rattle.life_cycle.specs.{Table.step_of, declared.signal.Signal.TheVariants.FourthBoot}
-use Rattle.boot_desk.specs.{Class.class_of, declared.{class.ScriptClass.{ScriptClass, TheVariants.{Local, Hold, Work}}, views.BootView.BootView}, Fetch.{Fetched, fetched, fetched_by, image_for, is_fourth, is_offered, issued, new_boot, offered_boot, worked, worked_if}, Following.{answering, followed}, TextLaws.{boot_is_script, boot_word, desk_word, erase_word, few_erase_arguments, hold_is_script, local_is_script, purpose_word, token_word}, Texts.{desk_arguments, erase_argument, hold_script, local_script, work_script}}
+use Rattle.boot_desk.specs.{DecisionLaws.{IfOk, answering_gives, fetched_cases, if_ok}, declared.views.BootView.BootView, Fetch.{fetched, image_for, is_offered, new_boot, offered_boot}, Following.followed, TextLaws.{boot_is_script, boot_word, desk_word, erase_word, few_erase_arguments, hold_is_script, local_is_script, purpose_word, token_word}, Texts.{desk_arguments, erase_argument, hold_script, work_script}}
 
 -- a boot: a number, and a token of 16 octets
 pub record IsBoot (b : Boot) : Type 0 where
@@ -21,12 +21,8 @@ pub record IsWholeView (v : BootView) : Type 0 where
   pub last : v.numbers.boot ≤ max_number
 
 erase_words : (p : Purpose) (e : Option Erase) → All IsWord (erase_argument p e)
-erase_words purpose.Commission e = All-nil IsWord
-erase_words purpose.Test e = All-nil IsWord
-erase_words purpose.Deploy e = All-nil IsWord
-erase_words purpose.Erase None = All-nil IsWord
 erase_words purpose.Erase (Some e) = All-from_recursion IsWord ((codes "hall.erase=" ++ erase_text e) ∷ []) (erase_word e, tt)
-erase_words purpose.Rescue e = All-nil IsWord
+erase_words other e = All-nil IsWord
 
 module _ (host : List ℕ) (is : IsTrue (is_host host)) where
   pub work_is_script : (p : Purpose) (e : Option Erase) (b : Boot) (i : BootImage) → IsBoot b → IsImage i → IsScript (work_script host p e b i)
@@ -40,10 +36,6 @@ module _ (host : List ℕ) (is : IsTrue (is_host host)) where
       (All-append IsWord (erase_argument p e) last (erase_words p e) last_words) in
       boot_is_script i.kernel (i.args ++ own) i.initrd image.kernel (All-append IsWord i.args own image.words words) image.initrd
       (omega (arith, length-append i.args own, length-append (erase_argument p e) last, few_erase_arguments p e, image.few))
-
-abbrev script_in : Fetched → List Command
-script_in (Ok answer) = answer.1
-script_in (Err refusal) = []
 
 some_number : (a b : ℕ) → Some a ≡ Some b → a ≡ b
 some_number a b e = cc
@@ -60,20 +52,6 @@ number_in_range last number low next = by (last == max_number) refl next
     by false at is = in_range last number at low (some_number (last + 1) number is)
 
 module _ (host : List ℕ) (host_is : IsTrue (is_host host)) (v : BootView) (moment : ℕ) (fresh : List ℕ) (fresh_are : AreOctets 16 fresh) (whole : IsWholeView v) where
-  as_script : (one other : List Command) → IsScript one → one ≡ other → IsScript other
-  as_script one other its same = subst IsScript same its
-
-  by_held : (rows : List RowWrite) (script : List Command) (after : Result (List RowWrite) Refusal) → answering hold_script after ≡ Ok (rows, script) → IsScript script
-  by_held rows script (Ok its) is = as_script hold_script script hold_is_script (ap script_in is)
-  by_held rows script (Err refusal) is = cc
-
-  by_number : (p : Purpose) (i : BootImage) → IsImage i → (number : Option ℕ) → next_number v.numbers.boot ≡ number → (rows : List RowWrite) (script : List Command) → issued host v p i fresh number ≡ Ok (rows, script) → IsScript script
-  by_number p i image None next rows script is = cc
-  by_number p i image (Some number) next rows script is =
-      as_script (work_script host p v.machine.erase (new_boot number v.machine p fresh) i) script
-      (work_is_script host host_is p v.machine.erase (new_boot number v.machine p fresh) i (record { number = number_in_range v.numbers.boot number whole.last next; token = fresh_are }) image)
-      (ap script_in is)
-
   offered_is : (b : Option Boot) (o : Boot) → offered_boot b ≡ Some o → ((x : Boot) → b ≡ Some x → IsBoot x) → IsBoot o
   offered_is None o is all = cc
   offered_is (Some b) o is all = by (is_offered b.stage) is
@@ -82,34 +60,17 @@ module _ (host : List ℕ) (host_is : IsTrue (is_host host)) (v : BootView) (mom
       by true e = all o e
       by false e = cc
 
-  by_offered : (p : Purpose) (i : BootImage) → IsImage i → (offered : Option Boot) → offered_boot v.boot ≡ offered → (rows : List RowWrite) (script : List Command) → worked host v moment fresh p i offered ≡ Ok (rows, script) → IsScript script
-  by_offered p i image (Some b) at rows script is =
-      as_script (work_script host p v.machine.erase b i) script (work_is_script host host_is p v.machine.erase b i (offered_is v.boot b at whole.boot) image) (ap script_in is)
-  by_offered p i image None at rows script is = by (is_fourth v.machine) is
-    where
-      by : (fourth : Bool)
-          → ◌≡◌ {A = Fetched} (if fourth then answering hold_script (followed [] v moment (step_of v.machine FourthBoot)) else issued host v p i fresh (next_number v.numbers.boot)) (Ok (rows, script))
-          → IsScript script
-      by true e = by_held rows script (followed [] v moment (step_of v.machine FourthBoot)) e
-      by false e = by_number p i image (next_number v.numbers.boot) refl rows script e
-
   image_is : (p : Purpose) (i : BootImage) → image_for p v ≡ Some i → IsImage i
-  image_is purpose.Commission i is = whole.live i is
-  image_is purpose.Test i is = whole.live i is
   image_is purpose.Deploy i is = whole.image i is
-  image_is purpose.Erase i is = whole.live i is
-  image_is purpose.Rescue i is = whole.live i is
-
-  by_image : (p : Purpose) (i : Option BootImage) → image_for p v ≡ i → (rows : List RowWrite) (script : List Command) → worked_if host v moment fresh p i ≡ Ok (rows, script) → IsScript script
-  by_image p None at rows script is = as_script hold_script script hold_is_script (ap script_in is)
-  by_image p (Some i) at rows script is = by_offered p i (image_is p i at) (offered_boot v.boot) refl rows script is
-
-  by_class : (class : ScriptClass) (rows : List RowWrite) (script : List Command) → fetched_by class host v moment fresh ≡ Ok (rows, script) → IsScript script
-  by_class Local rows script is = as_script (local_script v.machine.arch) script (local_is_script v.machine.arch) (ap script_in is)
-  by_class Hold rows script is = as_script hold_script script hold_is_script (ap script_in is)
-  by_class (Work p) rows script is = by_image p (image_for p v) refl rows script is
+  image_is other i is = whole.live i is
 
   -- what a machine is given is a script
   pub fetched_is_script : (rows : List RowWrite) (script : List Command) → fetched host v moment fresh ≡ Ok (rows, script) → IsScript script
-  unfolding fetched
-  fetched_is_script rows script is = by_class (class_of v.machine) rows script is
+  fetched_is_script rows script =
+      if_ok (λ (d : List RowWrite × List Command). IsScript d.1) (fetched host v moment fresh) (rows, script)
+      (fetched_cases host v moment fresh (IfOk (λ (d : List RowWrite × List Command). IsScript d.1)) (local_is_script v.machine.arch) hold_is_script tt
+      (λ p image b works its offered. work_is_script host host_is p v.machine.erase b image (offered_is v.boot b offered whole.boot) (image_is p image its))
+      (λ offered few. answering_gives hold_script (followed [] v moment (step_of v.machine FourthBoot)) IsScript hold_is_script)
+      (λ p image number works its few next.
+      work_is_script host host_is p v.machine.erase (new_boot number v.machine p fresh) image
+      (record { number = number_in_range v.numbers.boot number whole.last next; token = fresh_are }) (image_is p image its)))

@@ -7,7 +7,7 @@ use crate::following::{first_row, machine_row, with_entry, with_row};
 use crate::views::{BootView, OrderView};
 use hall_types::{Change, Machine, Moment, Order, OrderStage, Outcome, Refusal, RowWrite};
 use life_cycle::{Signal, Step, next};
-use std::alloc::{AllocError, Global};
+use std::alloc::Global;
 
 fn stage_for(outcome: Outcome) -> OrderStage
     ensures { result ≡ stage_for outcome }
@@ -38,17 +38,13 @@ fn answered_with(
 ) -> Result<(Change, Verdict), DeskFault>
     ensures { Decides result (answered_with write view.now moment step) }
 {
-    let Ok(rows) = first_row(alloc, write) else {
-        return Err(DeskFault::Memory);
-    };
+    let rows = first_row(alloc, write)?;
     if let Some(step) = step {
         let change = with_entry(rows, &view.machine, None, step, moment, view.numbers)?;
         return Ok((change, Verdict::Counted));
     }
-    match with_row(rows, machine_row(&view.machine, idle(&view.machine))) {
-        Ok(change) => Ok((change, Verdict::Counted)),
-        Err(AllocError) => Err(DeskFault::Memory),
-    }
+    let change = with_row(rows, machine_row(&view.machine, idle(&view.machine)))?;
+    Ok((change, Verdict::Counted))
 }
 
 fn repeat(alloc: Global) -> (Change, Verdict)

@@ -1,5 +1,8 @@
 //! How decisions end.
+ghost use Rattle.std.specs.Prelude.{◌≡◌};
+
 use hall_types::Refusal;
+use std::alloc::AllocError;
 use thiserror::Error;
 
 /// Why there is no decision.
@@ -9,6 +12,16 @@ pub enum DeskFault {
     Refused(Refusal),
     #[error("out of memory")]
     Memory,
+}
+
+impl From<AllocError> for DeskFault {
+    ghost use Rattle.boot_desk.specs.declared.fault.DeskFault.TheVariants.{Memory};
+
+    ghost from_gives = { λ _ fault. fault ≡ Memory };
+
+    fn from(_: AllocError) -> DeskFault {
+        DeskFault::Memory
+    }
 }
 
 /// What a report or the answer to an order was.

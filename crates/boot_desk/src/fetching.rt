@@ -122,13 +122,9 @@ fn issue(
         return Err(DeskFault::Refused(Refusal::Exhausted));
     };
     let boot = new_boot(number, &view.machine, purpose, fresh);
-    let Ok(script) = work_script(alloc, place, purpose, view.machine.erase, &boot, image) else {
-        return Err(DeskFault::Memory);
-    };
-    match boot_rows(alloc, view, boot) {
-        Ok(rows) => Ok((rows, script)),
-        Err(AllocError) => Err(DeskFault::Memory),
-    }
+    let script = work_script(alloc, place, purpose, view.machine.erase, &boot, image)?;
+    let rows = boot_rows(alloc, view, boot)?;
+    Ok((rows, script))
 }
 
 // The machine fails its status for a fourth boot, and is held.
@@ -137,19 +133,15 @@ fn fail(alloc: Global, view: &BootView, moment: Moment) -> Result<(Change, Scrip
 {
     let step = next(&view.machine, Signal::FourthBoot);
     let rows = follow(Vec::new(alloc), view, moment, step)?;
-    match hold_script(alloc) {
-        Ok(script) => Ok((rows, script)),
-        Err(AllocError) => Err(DeskFault::Memory),
-    }
+    let script = hold_script(alloc)?;
+    Ok((rows, script))
 }
 
 fn hold(alloc: Global) -> Result<(Change, Script), DeskFault>
     ensures { Decides result (Ok ([], hold_commands)) }
 {
-    match hold_script(alloc) {
-        Ok(script) => Ok((no_rows(alloc), script)),
-        Err(AllocError) => Err(DeskFault::Memory),
-    }
+    let script = hold_script(alloc)?;
+    Ok((no_rows(alloc), script))
 }
 
 fn give_again(
@@ -162,10 +154,8 @@ fn give_again(
 ) -> Result<(Change, Script), DeskFault>
     ensures { Decides result (Ok ([], work_commands place.now.host purpose view.now.machine.erase boot.now image.now)) }
 {
-    match work_script(alloc, place, purpose, view.machine.erase, boot, image) {
-        Ok(script) => Ok((no_rows(alloc), script)),
-        Err(AllocError) => Err(DeskFault::Memory),
-    }
+    let script = work_script(alloc, place, purpose, view.machine.erase, boot, image)?;
+    Ok((no_rows(alloc), script))
 }
 
 fn work(
@@ -207,10 +197,10 @@ pub fn fetch(
     ensures { Decides result (fetched place.now.host view.now moment fresh) }
 {
     match script_for(&view.machine) {
-        ScriptClass::Local => match local_script(alloc, view.machine.arch) {
-            Ok(script) => Ok((no_rows(alloc), script)),
-            Err(AllocError) => Err(DeskFault::Memory),
-        },
+        ScriptClass::Local => {
+            let script = local_script(alloc, view.machine.arch)?;
+            Ok((no_rows(alloc), script))
+        }
         ScriptClass::Hold => hold(alloc),
         ScriptClass::Work(purpose) => work(alloc, view, place, moment, fresh, purpose),
     }

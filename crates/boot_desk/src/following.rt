@@ -89,10 +89,8 @@ pub(crate) fn with_entry(
     let Ok(entered) = enter(machine, step, moment, numbers) else {
         return Err(DeskFault::Refused(Refusal::Exhausted));
     };
-    match push_entry(&mut rows, machine, waiting, &entered) {
-        Ok(()) => Ok(Change::from(rows)),
-        Err(AllocError) => Err(DeskFault::Memory),
-    }
+    push_entry(&mut rows, machine, waiting, &entered)?;
+    Ok(Change::from(rows))
 }
 
 /// Some rows, and then those of the step that a machine takes, if it takes one.

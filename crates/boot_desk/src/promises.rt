@@ -39,12 +39,14 @@ pub fn deploying_texts()
 
 /// A report that counts brings the boot's token, is of its machine's current boot, and moves the boot's stage on: from
 /// offered or started, and to a stage that it hasn't had.
+#[tactic(auto, using(crate::proofs::PromiseLemmas::counted_report))]
 pub fn reports_count_once()
     ensures { (r : ReportView) (token : List ℕ) (progress : Progress) (moment : ℕ) (rows : List RowWrite)
         → reported (Some r) token progress moment ≡ Ok (rows, Counted) → CountsFor r token progress }
 {}
 
 /// An answer to an order that counts is to an order that waits.
+#[tactic(auto, using(crate::proofs::PromiseLemmas::counted_answer))]
 pub fn answers_count_once()
     ensures { (r : OrderView) (outcome : Outcome) (moment : ℕ) (rows : List RowWrite)
         → answered (Some r) outcome moment ≡ Ok (rows, Counted) → r.asked.stage ≡ order.Waiting }

@@ -9,7 +9,7 @@ use hall_types::{
     Boot, Change, Moment, Number, Progress, Purpose, Refusal, RowWrite, Stage, Status, Token,
 };
 use life_cycle::{Signal, next};
-use std::alloc::{AllocError, Global};
+use std::alloc::Global;
 
 // What a report is to a boot of a stage.
 #[derive(Clone, Copy)]
@@ -65,9 +65,7 @@ fn counted(
         stage: progress.stage(),
         ..view.asked
     };
-    let Ok(rows) = first_row(alloc, RowWrite::PutBoot(boot)) else {
-        return Err(DeskFault::Memory);
-    };
+    let rows = first_row(alloc, RowWrite::PutBoot(boot))?;
     let step = next(&view.at.machine, Signal::Report(progress));
     let change = follow(rows, &view.at, moment, step)?;
     Ok((change, Verdict::Counted))

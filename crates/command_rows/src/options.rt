@@ -158,10 +158,7 @@ impl<'a> Options<'a> {
 
     /// The text of an option that has to be given.
     pub fn required(&self, row: &OptionRow) -> Result<&'a str, Wrong> {
-        match self.text(row) {
-            Some(text) => Ok(text),
-            None => Err(self.wrong(row)),
-        }
+        self.text(row).ok_or_else(|| self.wrong(row))
     }
 
     /// The value that a reader finds in the text of an option that has to be given.
@@ -203,9 +200,7 @@ impl<'a> Options<'a> {
     /// What a table has beside the text of an option that has to be given.
     pub fn choice<T: Copy>(&self, row: &OptionRow, choices: &[(&str, T)]) -> Result<T, Wrong> {
         let text = self.required(row)?;
-        match choices.iter().find(|choice| choice.0 == text) {
-            Some(choice) => Ok(choice.1),
-            None => Err(self.wrong(row)),
-        }
+        let choice = choices.iter().find(|choice| choice.0 == text);
+        choice.map(|choice| choice.1).ok_or_else(|| self.wrong(row))
     }
 }

@@ -1,12 +1,12 @@
 -- A hall stays sound if a machine enters the status that an operator's action leads to.
-use Rattle.std.{specs.{Prelude.{◌≡◌, ◌&&◌, ◌||◌, ℕ, Bool, true, false, List, Option, Some, None, Ok, Err, is_some, IsSome, option_map}, List.list_all}, proofs.{Common.{refl, sym, ap, subst, ◌∙◌}, lemmas.{Bool.and_parts, Option.none-some}}}
-use Rattle.hall_types.specs.{Hall.{Schema, second, Hall, applied}, Number.next_number, Rows.at, Status.status_number, declared.{change.RowWrite.RowWrite, kinds.{Erase.Erase, OrderKind.OrderKind, Purpose.Purpose}, machine.Machine.Machine, number.Numbers.Numbers, operator.Operator.Operator, refusal.Refusal.Refusal, status.Status.{Status, TheVariants.{Commissioning, Testing, Deploying, DiskErasing, EnteringRescue}}}, Lookup.HasRowIf}
-use Rattle.hall_events.specs.{Reply.Content, declared.command.MachineCommand.MachineCommand}
+use Rattle.std.{specs.{Prelude.{◌≡◌, ◌&&◌, ◌||◌, ℕ, Bool, true, false, List, Option, Some, None, is_some, IsSome, option_map}, List.list_all}, proofs.{Common.{refl, sym, ap, subst, ◌∙◌}, lemmas.{Bool.and_parts, Option.none-some}}}
+use Rattle.hall_types.specs.{Hall.{Schema, second, Hall, applied}, Number.next_number, Rows.at, Status.status_number, declared.{change.RowWrite.RowWrite, kinds.{Erase.Erase, OrderKind.OrderKind, Purpose.Purpose}, machine.Machine.Machine, number.Numbers.Numbers, status.Status.{Status, TheVariants.{Commissioning, Testing, Deploying, DiskErasing, EnteringRescue}}}, Lookup.HasRowIf}
+use Rattle.hall_events.specs.Reply.{Content}
 use Rattle.life_cycle.specs.{Entering.{back_after, entered, entered_by, entered_plain, entered_queued, keeps_erase, kept, machine_in}, Table.{step_of, transitions}, TableLaws.{StepTest, each_step, is_signal, is_status, only_if, only_if_true, passes}, declared.{action.Action.Action, entering.Entered.Entered, signal.Signal.{Signal, TheVariants.By}, step.Step.Step}}
 use Rattle.hall_types.specs.declared.act.Act.TheVariants as does
 use Rattle.life_cycle.specs.declared.action.Action.TheVariants as act
-use Rattle.boot_desk.specs.{Class.class_in, EntryLaws.{back-remembered, command-boot, deployed-order, entry_from_sound, is_by, is_some-back}, Fetch.image_for, Following.entry_rows, Sound.{IsSound, IsSoundMachine, KeepsErase}, SoundLaws.some_of, Views.{image_named, live_image, row_at, view_of}, declared.class.ScriptClass.TheVariants.Work, ClassLaws.{works-status, works_at}}
-use Rattle.desk_command.specs.{Effect.{Effect, about, acted, entry_effect, prepared, step_effect}, declared.view.CommandView.CommandView}
+use Rattle.boot_desk.specs.{Class.class_in, DecisionLaws.IfOk, EntryLaws.{back-remembered, command-boot, deployed-order, entry_from_sound, is_by, is_some-back}, Fetch.image_for, Following.entry_rows, Sound.{IsSound, IsSoundMachine, KeepsErase}, SoundLaws.some_of, Views.{image_named, live_image, row_at, view_of}, declared.class.ScriptClass.TheVariants.Work, ClassLaws.{works-status, works_at}}
+use Rattle.desk_command.specs.Effect.{Effect}
 
 -- ---- what the table says of the actions
 
@@ -63,6 +63,10 @@ pub live_found : (h : Hall) → IsSound h → (arch : ℕ) → is_some (at h.liv
 live_found h s arch is =
     let l = some_of (at h.lives arch) is in ap (λ o. is_some (image_named h o)) l.1 ∙ s.live_images arch l.0 l.1
 
+-- the rows of an effect leave the hall sound
+abbrev pub Keeps : Hall → Effect → Type 0
+Keeps h = IfOk (λ (d : List RowWrite × Content). IsSound (applied d.0 h))
+
 -- the image that a machine works with in the status that it enters is recorded
 abbrev pub WorksIn : Hall → Machine → Step → ℕ → Type 0
 WorksIn h m step moment =
@@ -113,26 +117,3 @@ module _ (h : Hall) (s : IsSound h) (in_second : h.schema ≡ second) (m : Machi
           works = works;
         })
         m e is
-
--- a refusal has no rows
-pub refused_never : {P : Type 0} (cause : Refusal) (d : List RowWrite × Content) → ◌≡◌ {A = Effect} (Err cause) (Ok d) → P
-refused_never cause d is = cc
-
--- the rows of an effect
-pub same_rows_of : (x y : List RowWrite × Content) → ◌≡◌ {A = Effect} (Ok x) (Ok y) → x.0 ≡ y.0
-same_rows_of x y is = let same : x ≡ y = cc in ap (λ d. d.0) same
-
--- what holds of the rows of each step holds of the rows of an action
-pub acted_rows : (P : List RowWrite → Type 0) (view : CommandView) (o : Operator) (m : Machine) (command : MachineCommand) (moment : ℕ) (action : Action) (rows : List RowWrite) (content : Content)
-    → ((step : Step) (e : Entered) → step_of m (By action) ≡ Some step → entered (prepared command o m) step moment view.numbers ≡ Some e → P (entry_rows m view.order e))
-    → acted view o m command moment action ≡ Ok (rows, content) → P rows
-acted_rows P view o m command moment action rows content each is = by_step (step_of m (By action)) refl is
-  where
-    by_entry : (step : Step) → step_of m (By action) ≡ Some step → (e : Option Entered) → entered (prepared command o m) step moment view.numbers ≡ e → entry_effect view m e ≡ Ok (rows, content) → P rows
-    by_entry step leads None enters is = cc
-    by_entry step leads (Some e) enters is =
-        subst P (same_rows_of (entry_rows m view.order e, about e.machine) (rows, content) is) (each step e leads enters)
-
-    by_step : (step : Option Step) → step_of m (By action) ≡ step → step_effect view o m command moment step ≡ Ok (rows, content) → P rows
-    by_step None leads is = cc
-    by_step (Some step) leads is = by_entry step leads (entered (prepared command o m) step moment view.numbers) refl is

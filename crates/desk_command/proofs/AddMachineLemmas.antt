@@ -1,11 +1,10 @@
 -- A sound hall stays sound with a machine that an operator adds.
-use Rattle.std.{specs.Prelude.{◌≡◌, ◌||◌, ℕ, not, nat_le, List, [], ◌∷◌, Option, Some, None, Ok, is_some, option_map, false}, proofs.{Common.{refl, sym, subst}, lemmas.Bool.leb-false}}
+use Rattle.std.{specs.Prelude.{◌≡◌, ◌||◌, ℕ, not, nat_le, List, [], ◌∷◌, Option, Some, None, is_some, option_map, false}, proofs.{Common.{refl, sym, subst}, lemmas.Bool.{leb-false, or_parts}}}
 use Rattle.pxe_vendor.specs.declared.arch.Arch.{Arch}
-use Rattle.hall_types.specs.{Number.next_number, Rows.{at, size}, Hall.{second, Hall, applied}, Lookup.machine_with_uuid, declared.{change.RowWrite.{RowWrite, TheVariants.{PutInterface, PutMachine, PutNumbers}}, machine.TheConstants.MAX_MACHINES, number.Numbers.Numbers}, Machine.blank_machine}
+use Rattle.hall_types.specs.{Number.next_number, Rows.{at, size}, Hall.{Hall, applied}, Lookup.machine_with_uuid, declared.{change.RowWrite.TheVariants.{PutInterface, PutMachine, PutNumbers}, machine.TheConstants.MAX_MACHINES}, Machine.blank_machine}
 use Rattle.hall_types.specs.declared.refusal.Refusal.TheVariants as cause
-use Rattle.hall_events.specs.Reply.{Content}
 use Rattle.boot_desk.specs.{FrameEvent.machine_with, NewMachineLaws.{blank_is_new, new_machine_sound}, Sound.IsSound}
-use Rattle.desk_command.{specs.{Causes.{first_of, when}, Effect.{about, added}, View.{by_mac, by_uuid, has_pool}, declared.view.CommandView.CommandView, AllowedLaws.{first_none, unless_none, when_none}}, proofs.{ActionLemmas.same_rows_of, PlainLemmas.or_false}}
+use Rattle.desk_command.{specs.{Causes.{first_of, when}, Effect.added, View.{by_mac, by_uuid, has_pool}, declared.view.CommandView.CommandView, AllowedLaws.{first_none, unless_none, when_none}}, proofs.ActionLemmas.Keeps}
 
 no_row : {X : Type 0} (f : X → ℕ) (o : Option X) → is_some (option_map f o) ≡ false → o ≡ None
 no_row f None is = refl
@@ -15,30 +14,25 @@ no_machine : (h : Hall) (uuid : Option (List ℕ)) → is_some (by_uuid h uuid) 
 no_machine h None free = refl
 no_machine h (Some uuid) free = no_row (λ m. m.id) (machine_with_uuid h uuid) free
 
--- what is written, with these last numbers before
-abbrev rows_of : ℕ → List ℕ → Arch → List ℕ → Option (List ℕ) → Numbers → List RowWrite
-rows_of id mac arch pool uuid last = PutMachine (blank_machine id arch pool uuid) None ∷ PutInterface (record { mac = mac; machine = id }) ∷ PutNumbers (record last { machine = id }) ∷ []
-
 -- a machine that an operator adds leaves the hall sound
-pub add_machine_sound : (h : Hall) (mac : List ℕ) (arch : Arch) (pool : List ℕ) (uuid : Option (List ℕ)) (v : CommandView) (rows : List RowWrite) (content : Content) → IsSound h → h.schema ≡ second → v.numbers ≡ h.last
+pub add_machine_sound : (h : Hall) (mac : List ℕ) (arch : Arch) (pool : List ℕ) (uuid : Option (List ℕ)) (v : CommandView) → IsSound h → v.numbers ≡ h.last
     → first_of (
     when (not (has_pool h pool)) cause.NoPool
     ∷ when (is_some (by_mac h mac) || is_some (by_uuid h uuid)) cause.Taken
     ∷ when (nat_le MAX_MACHINES (size h.machines)) cause.Full
     ∷ when (not (is_some (next_number h.last.machine))) cause.Exhausted
     ∷ []) ≡ None
-    → added v mac arch pool uuid (next_number h.last.machine) ≡ Ok (rows, content) → IsSound (applied rows h)
-add_machine_sound h mac arch pool uuid v rows content s in_second numbers none is = by (next_number h.last.machine) refl is
+    → Keeps h (added v mac arch pool uuid (next_number h.last.machine))
+add_machine_sound h mac arch pool uuid v s numbers none = by (next_number h.last.machine) refl
   where
-    by : (n : Option ℕ) → next_number h.last.machine ≡ n → added v mac arch pool uuid n ≡ Ok (rows, content) → IsSound (applied rows h)
-    by None next e = cc
-    by (Some id) next e =
+    by : (n : Option ℕ) → next_number h.last.machine ≡ n → Keeps h (added v mac arch pool uuid n)
+    by None next = tt
+    by (Some id) next =
         let pools = first_none (when (not (has_pool h pool)) cause.NoPool) _ none in
         let taken = first_none (when (is_some (by_mac h mac) || is_some (by_uuid h uuid)) cause.Taken) _ pools.1 in
         let full = first_none (when (nat_le MAX_MACHINES (size h.machines)) cause.Full) _ taken.1 in
-        let free = or_false (is_some (by_mac h mac)) (is_some (by_uuid h uuid)) (when_none (is_some (by_mac h mac) || is_some (by_uuid h uuid)) cause.Taken taken.0) in
+        let free = or_parts (is_some (by_mac h mac)) (is_some (by_uuid h uuid)) (when_none (is_some (by_mac h mac) || is_some (by_uuid h uuid)) cause.Taken taken.0) in
         let room = leb-false MAX_MACHINES (size h.machines) (when_none (nat_le MAX_MACHINES (size h.machines)) cause.Full full.0) in
-        subst (λ r. IsSound (applied r h)) (same_rows_of (rows_of id mac arch pool uuid v.numbers, about (blank_machine id arch pool uuid)) (rows, content) e)
-        (subst (λ last. IsSound (applied (rows_of id mac arch pool uuid last) h)) (sym numbers)
+        subst (λ last. IsSound (applied (PutMachine (blank_machine id arch pool uuid) None ∷ PutInterface (record { mac = mac; machine = id }) ∷ PutNumbers (record last { machine = id }) ∷ []) h)) (sym numbers)
         (new_machine_sound h mac (blank_machine id arch pool uuid) s
-        (blank_is_new h id arch pool uuid mac next room (no_row (λ i. i.machine) (at h.interfaces mac) free.0) (no_machine h uuid free.1) (unless_none (has_pool h pool) cause.NoPool pools.0))))
+        (blank_is_new h id arch pool uuid mac next room (no_row (λ i. i.machine) (at h.interfaces mac) free.0) (no_machine h uuid free.1) (unless_none (has_pool h pool) cause.NoPool pools.0)))

@@ -1,6 +1,6 @@
 -- A hall stays sound without a machine: its interfaces, boots and orders go with it.
 use Rattle.std.{specs.Prelude.{◌≡◌, ◌≢◌, ◌≤◌, ◌==◌, not, ℕ, true, List, Some, is_some}, proofs.{Common.{sym, ap, arith, ◌∙◌}, lemmas.Bool.{both_ways, eqb-true, eq-eqb, ne_eqb}}}
-use Rattle.hall_types.specs.{CountLaws.{how_many-split, none_pass}, Hall.{Hall, without_machine}, Rows.{Keys, Rows, at, how_many, rows_where, size}, RowLaws.{at-gone-other, gone_found, size-gone, where_found, where_kept}, declared.{boot.Boot.Boot, kinds.OrderStage.TheVariants.Waiting, machine.{Interface.Interface, Machine.Machine}, order.Order.Order}, Lookup.HasRow}
+use Rattle.hall_types.specs.{CountLaws.{how_many-split, none_pass}, Hall.{Hall, without_machine}, KeyedLaws.keyed-written, Rows.{Keys, Rows, at, how_many, rows_where, size}, RowLaws.{at-gone-other, gone_found, size-gone, where_found, where_kept}, declared.{boot.Boot.Boot, change.RowWrite.TheVariants.MachineGone, kinds.OrderStage.TheVariants.Waiting, machine.{Interface.Interface, Machine.Machine}, order.Order.Order}, Lookup.HasRow}
 use Rattle.boot_desk.specs.{Sound.{IsSoundMachine, IsSound}, SoundLaws.{some_of, sound_among}, Views.view_of}
 
 not_eq : (a b : ℕ) → not (a == b) ≡ true → a ≢ b
@@ -73,18 +73,7 @@ module _ (h : Hall) (s : IsSound h) (id : ℕ) where
 
   pub without_machine_sound : IsSound after
   without_machine_sound = record {
-    keyed = record {
-      operators = s.keyed.operators;
-      pools = s.keyed.pools;
-      members = s.keyed.members;
-      images = s.keyed.images;
-      lives = s.keyed.lives;
-      machines = λ q m is. s.keyed.machines q m (gone_found h.machines id q m is).1;
-      interfaces = λ mac i is. s.keyed.interfaces mac i (interface_left mac i is).0;
-      boots = λ n b is. s.keyed.boots n b (boot_left n b is).0;
-      orders = λ n o is. s.keyed.orders n o (order_left n o is).0;
-      receipts = s.keyed.receipts;
-    };
+    keyed = keyed-written (MachineGone id) h s.keyed;
     member_pools = s.member_pools;
     member_operators = s.member_operators;
     live_images = s.live_images;

@@ -1,12 +1,11 @@
 -- A hall stays sound with each command that leaves a machine in its status: its lock, its pool, its interfaces.
-use Rattle.std.{specs.Prelude.{◌≡◌, ◌<◌, ◌≤◌, ◌+◌, ◌==◌, nat_le, ℕ, Bool, true, false, List, [], ◌∷◌, Option, Some, None, Ok, is_some, length, option_map, if◌then◌else◌, bytes_eq}, proofs.{Common.{refl, sym, ap, subst, arith, ◌∙◌}, lemmas.Bool.{eqb-true, leb-false}}}
-use Rattle.hall_types.specs.{CountLaws.how_many-new, Hall.{second, Hall, applied, written}, ListLaws.how_many-listed, Lookup.{interfaces_of, HasRow}, Number.next_version, Rows.{Rows, at, gone, how_many, one_if, passes, put, texts}, RowLaws.{at-put-same, gone_found, how_many-gone}, Keyed.StandUnder, declared.{change.RowWrite.RowWrite, machine.{Interface.Interface, Machine.Machine, TheConstants.MAX_INTERFACES}, status.Status.{Status, TheVariants.Deployed}}}
+use Rattle.std.{specs.Prelude.{◌≡◌, ◌<◌, ◌≤◌, ◌+◌, ◌==◌, nat_le, ℕ, Bool, true, false, List, [], Option, Some, None, Ok, is_some, length, option_map, if◌then◌else◌, bytes_eq}, proofs.{Common.{refl, sym, ap, subst, arith, ◌∙◌}, lemmas.Bool.{eqb-true, leb-false}}}
+use Rattle.hall_types.specs.{CountLaws.how_many-new, Hall.{second, Hall, written}, ListLaws.how_many-listed, Lookup.{interfaces_of, HasRow}, Number.next_version, Rows.{Rows, at, gone, how_many, one_if, passes, put, texts}, RowLaws.{at-put-same, gone_found, how_many-gone}, Keyed.IsKeyed, KeyedLaws.keyed-written, declared.{machine.{Interface.Interface, Machine.Machine, TheConstants.MAX_INTERFACES}, status.Status.{Status, TheVariants.Deployed}}}
 use Rattle.hall_types.specs.declared.change.RowWrite.TheVariants as write
 use Rattle.hall_types.specs.declared.refusal.Refusal.TheVariants as cause
-use Rattle.hall_events.specs.Reply.{Content}
 use Rattle.hall_events.specs.declared.command.MachineCommand.TheVariants as on
-use Rattle.boot_desk.specs.{Following.machine_row, Sound.{IsSoundMachine, IsSound}, SoundLaws.{boots_same, each_put, orders_same, stand_put, stayed_sound, waits_same}, Views.view_of}
-use Rattle.desk_command.{specs.{Causes.{is_deployed, is_number, when}, Effect.{Effect, about, edited, moved_to_pool, raised}, View.{by_mac, with_interfaces}, AllowedLaws.{IsAllowed, first_none, unless_none, when_none}}, proofs.{ActionLemmas.same_rows_of, OtherRowLemmas.stand_gone}}
+use Rattle.boot_desk.specs.{Following.machine_row, Sound.{IsSoundMachine, IsSound}, SoundLaws.{boots_same, each_put, orders_same, stayed_sound, waits_same}, Views.view_of}
+use Rattle.desk_command.{specs.{Causes.{is_deployed, is_number, when}, Effect.{about, edited, moved_to_pool, raised}, View.{by_mac, with_interfaces}, AllowedLaws.{IsAllowed, first_none, unless_none, when_none}}, proofs.ActionLemmas.Keeps}
 
 -- ---- a machine's lock and pool
 
@@ -40,37 +39,24 @@ module _ (h : Hall) (s : IsSound h) (in_second : h.schema ≡ second) (m : Machi
   pub unlock_sound : IsSound (written (machine_row m (record (raised m) { locked = false })) h)
   unlock_sound = edit_sound m.pool false own_pool (λ t. cc)
 
-  pub pool_set_sound : (pool : List ℕ) → HasRow h.pools pool → (rows : List RowWrite) (content : Content) → moved_to_pool m pool ≡ Ok (rows, content) → IsSound (applied rows h)
-  pool_set_sound pool has rows content is = by (bytes_eq m.pool pool) is
+  pub pool_set_sound : (pool : List ℕ) → HasRow h.pools pool → Keeps h (moved_to_pool m pool)
+  pool_set_sound pool has = by (bytes_eq m.pool pool)
     where
-      by : (b : Bool) → ◌≡◌ {A = Effect} (if b then Ok ([], about m) else edited m (record (raised m) { pool = pool }) []) (Ok (rows, content)) → IsSound (applied rows h)
-      by true e = subst (λ r. IsSound (applied r h)) (same_rows_of ([], about m) (rows, content) e) s
-      by false e =
-          subst (λ r. IsSound (applied r h)) (same_rows_of (machine_row m (record (raised m) { pool = pool }) ∷ [], about (record (raised m) { pool = pool })) (rows, content) e)
-          (edit_sound pool m.locked has v.locked)
+      by : (b : Bool) → Keeps h (if b then Ok ([], about m) else edited m (record (raised m) { pool = pool }) [])
+      by true = s
+      by false = edit_sound pool m.locked has v.locked
 
 -- ---- interfaces
 
 -- the hall with other interfaces of the same machines
 module _ (h : Hall) (s : IsSound h) where
-  interfaces_sound : (interfaces : Rows texts Interface) → StandUnder (λ (i : Interface). i.mac) interfaces
+  interfaces_sound : (interfaces : Rows texts Interface) → IsKeyed (record h { interfaces = interfaces })
       → ((mac : List ℕ) (i : Interface) → at interfaces mac ≡ Some i → HasRow h.machines i.machine)
       → ((id : ℕ) → HasRow h.machines id → 1 ≤ how_many (λ (i : Interface). i.machine == id) interfaces)
       → ((id : ℕ) → HasRow h.machines id → how_many (λ (i : Interface). i.machine == id) interfaces ≤ MAX_INTERFACES)
       → IsSound (record h { interfaces = interfaces })
-  interfaces_sound interfaces under have some few = record {
-    keyed = record {
-      operators = s.keyed.operators;
-      pools = s.keyed.pools;
-      members = s.keyed.members;
-      images = s.keyed.images;
-      lives = s.keyed.lives;
-      machines = s.keyed.machines;
-      interfaces = under;
-      boots = s.keyed.boots;
-      orders = s.keyed.orders;
-      receipts = s.keyed.receipts;
-    };
+  interfaces_sound interfaces keyed have some few = record {
+    keyed = keyed;
     member_pools = s.member_pools;
     member_operators = s.member_operators;
     live_images = s.live_images;
@@ -98,7 +84,7 @@ module _ (h : Hall) (s : IsSound h) where
   -- an interface more of a machine that has fewer than the most
   pub interface_put_sound : (i : Interface) → at h.interfaces i.mac ≡ None → HasRow h.machines i.machine → how_many (λ (x : Interface). x.machine == i.machine) h.interfaces < MAX_INTERFACES → IsSound (written (write.PutInterface i) h)
   interface_put_sound i free has room =
-      interfaces_sound (put i.mac i h.interfaces) (stand_put (λ (x : Interface). x.mac) h.interfaces i s.keyed.interfaces)
+      interfaces_sound (put i.mac i h.interfaces) (keyed-written (write.PutInterface i) h s.keyed)
       (each_put (λ x. HasRow h.machines x.machine) h.interfaces i.mac i has s.interface_machines) some few
     where
       counted : (id : ℕ) → how_many (λ (x : Interface). x.machine == id) (put i.mac i h.interfaces) ≡ how_many (λ (x : Interface). x.machine == id) h.interfaces + one_if (i.machine == id)
@@ -120,7 +106,7 @@ module _ (h : Hall) (s : IsSound h) where
   -- an interface fewer of a machine that has another
   pub interface_gone_sound : (mac : List ℕ) (i : Interface) → at h.interfaces mac ≡ Some i → 1 < how_many (λ (x : Interface). x.machine == i.machine) h.interfaces → IsSound (written (write.InterfaceGone mac) h)
   interface_gone_sound mac i there more =
-      interfaces_sound (gone mac h.interfaces) (stand_gone (λ (x : Interface). x.mac) h.interfaces mac s.keyed.interfaces)
+      interfaces_sound (gone mac h.interfaces) (keyed-written (write.InterfaceGone mac) h s.keyed)
       (λ other x is. s.interface_machines other x (gone_found h.interfaces mac other x is).1) some few
     where
       counted : (id : ℕ) → how_many (λ (x : Interface). x.machine == id) (gone mac h.interfaces) + one_if (i.machine == id) ≡ how_many (λ (x : Interface). x.machine == id) h.interfaces

@@ -1,39 +1,31 @@
 -- A hall stays sound if only its operators, pools, members, images, live images and receipts change, and still have
 -- what its machines refer to.
 use Rattle.std.{specs.Prelude.{◌≡◌, ◌≢◌, ◌⊎◌, ⊤, ℕ, List, Option, Some, None, is_some, IsSome}, proofs.Common.{refl, sym, ap, subst, inl, inr, ◌∙◌}}
-use Rattle.hall_types.specs.{Hall.{Hall, default_pool, pair, written}, Image.BootImage, Keyed.StandUnder, Kinds.arch_number, Rows.{Keys, numbers, pairs, texts, Rows, at, put, gone}, RowLaws.{at-gone-other, gone_found, put_cases}, declared.{image.Live.Live, kinds.Purpose.Purpose, machine.Machine.Machine, operator.{Member.Member, Operator.Operator, Pool.Pool}, receipt.Receipt.Receipt}, Lookup.{HasRow, HasRowIf}}
+use Rattle.hall_types.specs.{Hall.{Hall, default_pool, pair, written}, Image.BootImage, Keyed.IsKeyed, KeyedLaws.keyed-written, Kinds.arch_number, Rows.{Keys, numbers, pairs, texts, Rows, at, put, gone}, RowLaws.{at-gone-other, put_cases}, declared.{image.Live.Live, kinds.Purpose.Purpose, machine.Machine.Machine, operator.{Member.Member, Operator.Operator, Pool.Pool}, receipt.Receipt.Receipt}, Lookup.{HasRow, HasRowIf}}
 use Rattle.hall_types.specs.declared.change.RowWrite.TheVariants as write
 use Rattle.hall_types.specs.declared.kinds.Purpose.TheVariants as purpose
-use Rattle.boot_desk.specs.{Fetch.image_for, Sound.{IsSoundMachine, IsSound}, SoundLaws.{has-put, some_of, stand_put}, Views.{image_named, live_image, row_at, view_of}}
+use Rattle.boot_desk.specs.{Fetch.image_for, Sound.{IsSoundMachine, IsSound}, SoundLaws.{has-put, some_of}, Views.{image_named, live_image, row_at, view_of}}
 
 -- ---- rows that stay or grow
 
--- a row that goes leaves each other one under its own key
-pub stand_gone : {K X : Type 0} {keys : Keys K} (key_of : X → K) (rows : Rows keys X) (key : K) → StandUnder key_of rows → StandUnder key_of (gone key rows)
-stand_gone key_of rows key under other x is = under other x (gone_found rows key other x is).1
-
--- each key still has a row, and each row was there before, or stands under its own key and this holds of it
-record Grown {K X : Type 0} {keys : Keys K} (key_of : X → K) (P : X → Type 0) (before after : Rows keys X) : Type 0 where
+-- each key still has a row, and each row was there before, or this holds of it
+record Grown {K X : Type 0} {keys : Keys K} (P : X → Type 0) (before after : Rows keys X) : Type 0 where
   stay : (key : K) → HasRow before key → HasRow after key
-  rows : (key : K) (x : X) → at after key ≡ Some x → (at before key ≡ Some x) ⊎ ((key_of x ≡ key) × P x)
+  rows : (key : K) (x : X) → at after key ≡ Some x → (at before key ≡ Some x) ⊎ P x
 
-module _ {K X : Type 0} {keys : Keys K} {key_of : X → K} {P : X → Type 0} where
-  same : {rows : Rows keys X} → Grown key_of P rows rows
+module _ {K X : Type 0} {keys : Keys K} {P : X → Type 0} where
+  same : {rows : Rows keys X} → Grown P rows rows
   same = record { stay = λ key has. has; rows = λ key x is. inl is }
 
-  one_more : {rows : Rows keys X} (row : X) → P row → Grown key_of P rows (put (key_of row) row rows)
-  one_more {rows = rows} row holds = record {
-    stay = has-put rows (key_of row) row;
-    rows = λ key x is. elim (put_cases rows (key_of row) row key x is) [ inl w ↦ inr (ap key_of w.1 ∙ sym w.0, subst P (sym w.1) holds) | inr w ↦ inl w.1 ];
+  one_more : {rows : Rows keys X} (key : K) (row : X) → P row → Grown P rows (put key row rows)
+  one_more {rows = rows} key row holds = record {
+    stay = has-put rows key row;
+    rows = λ other x is. elim (put_cases rows key row other x is) [ inl w ↦ inr (subst P (sym w.1) holds) | inr w ↦ inl w.1 ];
   }
 
-  module _ {before after : Rows keys X} (grown : Grown key_of P before after) where
-    stand_grown : StandUnder key_of before → StandUnder key_of after
-    stand_grown under key x is = elim (grown.rows key x is) [ inl old ↦ under key x old | inr new ↦ new.0 ]
-
-    -- what holds of each row before, and of each new one, holds of each row
-    each_grown : (Q : X → Type 0) → ((key : K) (x : X) → at before key ≡ Some x → Q x) → ((x : X) → P x → Q x) → (key : K) (x : X) → at after key ≡ Some x → Q x
-    each_grown Q old new key x is = elim (grown.rows key x is) [ inl w ↦ old key x w | inr w ↦ new x w.1 ]
+  -- what holds of each row before, and of each new one, holds of each row
+  each_grown : {before after : Rows keys X} → Grown P before after → (Q : X → Type 0) → ((key : K) (x : X) → at before key ≡ Some x → Q x) → ((x : X) → P x → Q x) → (key : K) (x : X) → at after key ≡ Some x → Q x
+  each_grown grown Q old new key x is = elim (grown.rows key x is) [ inl w ↦ old key x w | inr w ↦ new x w ]
 
 -- ---- other rows than those of machines
 
@@ -44,21 +36,20 @@ renewed h operators pools members images lives receipts =
 
 -- images that are referred to stay
 record KeepsImages (h : Hall) (images : Rows texts BootImage) : Type 0 where
-  keyed : StandUnder (λ (i : BootImage). i.name) images
   lives : (arch : ℕ) (l : Live) → at h.lives arch ≡ Some l → HasRow images l.image
   machines : (id : ℕ) (m : Machine) → at h.machines id ≡ Some m → HasRowIf images m.image
 
 -- the other tables grow by rows whose references are to rows, and no two operators have one digest
 record Renewed (h after : Hall) : Type 0 where
-  operators : Grown (λ (o : Operator). o.name) (λ o. ⊤) h.operators after.operators
-  pools : Grown (λ (p : Pool). p.name) (λ p. ⊤) h.pools after.pools
-  members : Grown (λ (m : Member). pair m.pool m.operator) (λ m. HasRow after.pools m.pool × HasRow after.operators m.operator) h.members after.members
+  operators : Grown (λ (o : Operator). ⊤) h.operators after.operators
+  pools : Grown (λ (p : Pool). ⊤) h.pools after.pools
+  members : Grown (λ (m : Member). HasRow after.pools m.pool × HasRow after.operators m.operator) h.members after.members
   images : KeepsImages h after.images
-  lives : Grown (λ (l : Live). arch_number l.arch) (λ l. HasRow after.images l.image) h.lives after.lives
-  receipts : Grown (λ (r : Receipt). pair r.operator r.key) (λ r. HasRow after.operators r.operator) h.receipts after.receipts
+  lives : Grown (λ (l : Live). HasRow after.images l.image) h.lives after.lives
+  receipts : Grown (λ (r : Receipt). HasRow after.operators r.operator) h.receipts after.receipts
   digests : (name other : List ℕ) (o p : Operator) → at after.operators name ≡ Some o → at after.operators other ≡ Some p → o.digest ≡ p.digest → name ≡ other
 
-module _ (h : Hall) (operators : Rows texts Operator) (pools : Rows texts Pool) (members : Rows pairs Member) (images : Rows texts BootImage) (lives : Rows numbers Live) (receipts : Rows pairs Receipt) (s : IsSound h) (new : Renewed h (renewed h operators pools members images lives receipts)) where
+module _ (h : Hall) (operators : Rows texts Operator) (pools : Rows texts Pool) (members : Rows pairs Member) (images : Rows texts BootImage) (lives : Rows numbers Live) (receipts : Rows pairs Receipt) (s : IsSound h) (keyed : IsKeyed (renewed h operators pools members images lives receipts)) (new : Renewed h (renewed h operators pools members images lives receipts)) where
   abbrev after : Hall
   after = renewed h operators pools members images lives receipts
 
@@ -100,18 +91,7 @@ module _ (h : Hall) (operators : Rows texts Operator) (pools : Rows texts Pool) 
 
   renewed_sound : IsSound after
   renewed_sound = record {
-    keyed = record {
-      operators = stand_grown new.operators s.keyed.operators;
-      pools = stand_grown new.pools s.keyed.pools;
-      members = stand_grown new.members s.keyed.members;
-      images = new.images.keyed;
-      lives = stand_grown new.lives s.keyed.lives;
-      machines = s.keyed.machines;
-      interfaces = s.keyed.interfaces;
-      boots = s.keyed.boots;
-      orders = s.keyed.orders;
-      receipts = stand_grown new.receipts s.keyed.receipts;
-    };
+    keyed = keyed;
     member_pools = each_grown new.members (λ m. HasRow pools m.pool) (λ key m is. new.pools.stay m.pool (s.member_pools key m is)) (λ m has. has.0);
     member_operators = each_grown new.members (λ m. HasRow operators m.operator) (λ key m is. new.operators.stay m.operator (s.member_operators key m is)) (λ m has. has.1);
     live_images = lives_have;
@@ -140,46 +120,45 @@ module _ (h : Hall) (operators : Rows texts Operator) (pools : Rows texts Pool) 
 
 module _ (h : Hall) (s : IsSound h) where
   images_same : KeepsImages h h.images
-  images_same = record { keyed = s.keyed.images; lives = s.live_images; machines = s.machine_images }
+  images_same = record { lives = s.live_images; machines = s.machine_images }
 
   pub pool_sound : (p : Pool) → IsSound (written (write.PutPool p) h)
   pool_sound p =
-      renewed_sound h h.operators (put p.name p h.pools) h.members h.images h.lives h.receipts s
-      (record { operators = same; pools = one_more p tt; members = same; images = images_same; lives = same; receipts = same; digests = s.digests })
+      renewed_sound h h.operators (put p.name p h.pools) h.members h.images h.lives h.receipts s (keyed-written (write.PutPool p) h s.keyed)
+      (record { operators = same; pools = one_more p.name p tt; members = same; images = images_same; lives = same; receipts = same; digests = s.digests })
 
   pub member_sound : (m : Member) → HasRow h.pools m.pool → HasRow h.operators m.operator → IsSound (written (write.PutMember m) h)
   member_sound m pool operator =
-      renewed_sound h h.operators h.pools (put (pair m.pool m.operator) m h.members) h.images h.lives h.receipts s
-      (record { operators = same; pools = same; members = one_more m (pool, operator); images = images_same; lives = same; receipts = same; digests = s.digests })
+      renewed_sound h h.operators h.pools (put (pair m.pool m.operator) m h.members) h.images h.lives h.receipts s (keyed-written (write.PutMember m) h s.keyed)
+      (record { operators = same; pools = same; members = one_more (pair m.pool m.operator) m (pool, operator); images = images_same; lives = same; receipts = same; digests = s.digests })
 
   pub image_sound : (i : BootImage) → IsSound (written (write.PutImage i) h)
   image_sound i =
-      renewed_sound h h.operators h.pools h.members (put i.name i h.images) h.lives h.receipts s
+      renewed_sound h h.operators h.pools h.members (put i.name i h.images) h.lives h.receipts s (keyed-written (write.PutImage i) h s.keyed)
       (record { operators = same; pools = same; members = same; images = one_image_more; lives = same; receipts = same; digests = s.digests })
     where
       one_image_more : KeepsImages h (put i.name i h.images)
       one_image_more = record {
-        keyed = stand_put (λ (x : BootImage). x.name) h.images i s.keyed.images;
         lives = λ arch l is. has-put h.images i.name i l.image (s.live_images arch l is);
         machines = λ id m is name its. has-put h.images i.name i name (s.machine_images id m is name its);
       }
 
   pub live_sound : (l : Live) → HasRow h.images l.image → IsSound (written (write.PutLive l) h)
   live_sound l image =
-      renewed_sound h h.operators h.pools h.members h.images (put (arch_number l.arch) l h.lives) h.receipts s
-      (record { operators = same; pools = same; members = same; images = images_same; lives = one_more l image; receipts = same; digests = s.digests })
+      renewed_sound h h.operators h.pools h.members h.images (put (arch_number l.arch) l h.lives) h.receipts s (keyed-written (write.PutLive l) h s.keyed)
+      (record { operators = same; pools = same; members = same; images = images_same; lives = one_more (arch_number l.arch) l image; receipts = same; digests = s.digests })
 
   -- a receipt of an operator who is recorded
   pub receipt_sound : (r : Receipt) → HasRow h.operators r.operator → IsSound (written (write.PutReceipt r) h)
   receipt_sound r operator =
-      renewed_sound h h.operators h.pools h.members h.images h.lives (put (pair r.operator r.key) r h.receipts) s
-      (record { operators = same; pools = same; members = same; images = images_same; lives = same; receipts = one_more r operator; digests = s.digests })
+      renewed_sound h h.operators h.pools h.members h.images h.lives (put (pair r.operator r.key) r h.receipts) s (keyed-written (write.PutReceipt r) h s.keyed)
+      (record { operators = same; pools = same; members = same; images = images_same; lives = same; receipts = one_more (pair r.operator r.key) r operator; digests = s.digests })
 
   -- an operator whose digest no other operator has
   pub operator_sound : (o : Operator) → ((name : List ℕ) (p : Operator) → at h.operators name ≡ Some p → p.digest ≡ o.digest → name ≡ o.name) → IsSound (written (write.PutOperator o) h)
   operator_sound o alone =
-      renewed_sound h (put o.name o h.operators) h.pools h.members h.images h.lives h.receipts s
-      (record { operators = one_more o tt; pools = same; members = same; images = images_same; lives = same; receipts = same; digests = digests })
+      renewed_sound h (put o.name o h.operators) h.pools h.members h.images h.lives h.receipts s (keyed-written (write.PutOperator o) h s.keyed)
+      (record { operators = one_more o.name o tt; pools = same; members = same; images = images_same; lives = same; receipts = same; digests = digests })
     where
       digests : (name other : List ℕ) (a b : Operator) → at (put o.name o h.operators) name ≡ Some a → at (put o.name o h.operators) other ≡ Some b → a.digest ≡ b.digest → name ≡ other
       digests name other a b is_a is_b same = elim (put_cases h.operators o.name o name a is_a) [
@@ -197,7 +176,7 @@ module _ (h : Hall) (s : IsSound h) where
   pub image_gone_sound : (name : List ℕ) → ((arch : ℕ) (l : Live) → at h.lives arch ≡ Some l → l.image ≢ name) → ((id : ℕ) (m : Machine) → at h.machines id ≡ Some m → m.image ≢ Some name)
       → IsSound (written (write.ImageGone name) h)
   image_gone_sound name no_live no_machine =
-      renewed_sound h h.operators h.pools h.members (gone name h.images) h.lives h.receipts s
+      renewed_sound h h.operators h.pools h.members (gone name h.images) h.lives h.receipts s (keyed-written (write.ImageGone name) h s.keyed)
       (record { operators = same; pools = same; members = same; images = image_gone; lives = same; receipts = same; digests = s.digests })
     where
       stays : (key : List ℕ) → key ≢ name → HasRow h.images key → HasRow (gone name h.images) key
@@ -205,7 +184,6 @@ module _ (h : Hall) (s : IsSound h) where
 
       image_gone : KeepsImages h (gone name h.images)
       image_gone = record {
-        keyed = stand_gone (λ (x : BootImage). x.name) h.images name s.keyed.images;
         lives = λ arch l is. stays l.image (no_live arch l is) (s.live_images arch l is);
         machines = λ id m is key its. stays key (λ same. no_machine id m is (its ∙ ap (λ x. Some x) same)) (s.machine_images id m is key its);
       }

@@ -1,5 +1,5 @@
 -- What follows for a command from the absence of each cause to refuse it.
-use Rattle.std.{specs.Prelude.{◌≡◌, not, ℕ, Bool, true, false, List, ◌∷◌, Option, Some, None}, proofs.Common.refl}
+use Rattle.std.{specs.{Prelude.{◌≡◌, not, ℕ, Bool, true, false, List, [], ◌∷◌, Option, Some, None, find, is_some}, Option.option_flatten}, proofs.Common.{refl, ap, ◌∙◌}}
 use Rattle.hall_types.specs.declared.{machine.Machine.Machine, operator.Operator.Operator, refusal.Refusal.Refusal}
 use Rattle.hall_types.specs.declared.refusal.Refusal.TheVariants as cause
 use Rattle.hall_events.specs.declared.command.MachineCommand.{MachineCommand}
@@ -9,6 +9,16 @@ use Rattle.desk_command.specs.{Causes.{action_of, causes_at, first_of, forbidden
 pub first_none : (c : Option Refusal) (cs : List (Option Refusal)) → first_of (c ∷ cs) ≡ None → (c ≡ None) × (first_of cs ≡ None)
 first_none None cs is = (refl, is)
 first_none (Some refusal) cs is = cc
+
+-- the first cause is what the first that is one holds
+found_first : (cs : List (Option Refusal)) → option_flatten (find (λ c. is_some c) cs) ≡ first_of cs
+found_first [] = refl
+found_first (None ∷ cs) = found_first cs
+found_first (Some refusal ∷ cs) = refl
+
+pub first_found : (cs : List (Option Refusal)) (found : Option (Option Refusal)) (first : Option Refusal)
+    → found ≡ find (λ c. is_some c) cs → first ≡ option_flatten found → first ≡ first_of cs
+first_found cs found first is its = its ∙ ap option_flatten is ∙ found_first cs
 
 pub when_none : (b : Bool) (refusal : Refusal) → when b refusal ≡ None → b ≡ false
 when_none true refusal is = cc

@@ -1,6 +1,7 @@
 pub mod AllowedLaws
 pub mod Causes
 pub mod Command
+pub mod DecisionLaws
 pub mod Effect
 pub mod View
 pub mod Client

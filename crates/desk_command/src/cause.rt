@@ -1,15 +1,13 @@
 //! Why commands are refused.
-ghost use Rattle.std.specs.{Prelude.{◌≡◌, ◌∷◌, ◌||◌, [], nat_le, not, is_some, if◌then◌else◌, Some}, Str.bytes_eq};
-ghost use Rattle.hall_types.specs.{Number.next_number, declared.machine.TheConstants.{MAX_INTERFACES, MAX_MACHINES}};
-ghost use Rattle.hall_types.specs.declared.refusal.Refusal.TheVariants as cause;
-ghost use Rattle.desk_command.specs.Causes.{action_of, causes, causes_at, first_of, forbidden, is_arch, is_barred, is_deployed, is_idle, is_number, is_stale, missing, no_live, no_live_if, no_step, own, own_of_act, when};
+ghost use Rattle.std.specs.Prelude.{◌≡◌, Some, find, is_some};
+ghost use Rattle.desk_command.specs.Causes.{action_of, causes, causes_at, first_of, forbidden, is_arch, is_barred, is_idle, is_number, is_stale, missing, no_live, no_live_if, no_step, own, own_of_act, when};
 
 use crate::action::{action_of, release_action};
 use crate::view::CommandView;
 use hall_events::{HallCommand, MachineCommand};
 use hall_types::{
-    Act, Arch, Erase, MAX_INTERFACES, MAX_MACHINES, MAX_NUMBER, Machine, Name, Number, Operator,
-    Refusal, Status, Version, arch_number,
+    Act, Arch, Erase, MAX_INTERFACES, MAX_MACHINES, MAX_NUMBER, Machine, Number, Operator, Refusal,
+    Status, Version, arch_number,
 };
 use life_cycle::{Action, Signal, may, next};
 
@@ -17,6 +15,21 @@ fn when(holds: bool, refusal: Refusal) -> Option<Refusal>
     ensures { result ≡ when holds refusal }
 {
     if holds { Some(refusal) } else { None }
+}
+
+// The first of these that is a cause.
+fn found(causes: &[Option<Refusal>]) -> Option<Option<Refusal>>
+    ensures { result ≡ find (λ cause. is_some cause) causes.now }
+{
+    causes.iter().copied().find(|cause| cause.is_some())
+}
+
+// The first cause that there is.
+#[tactic(auto, using(crate::specs::AllowedLaws::first_found))]
+fn first(causes: &[Option<Refusal>]) -> Option<Refusal>
+    ensures { result ≡ first_of causes.now }
+{
+    found(causes).flatten()
 }
 
 fn is_number(its: Option<Number>, id: Number) -> bool
@@ -122,43 +135,17 @@ fn is_arch(its: Option<Arch>, arch: Arch) -> bool
     }
 }
 
-fn own_of_interface(view: &CommandView, adds: bool) -> Option<Refusal>
-    ensures { result ≡ if adds then first_of (when (is_some view.now.by_mac) cause.Taken ∷ when (nat_le MAX_INTERFACES view.now.interfaces) cause.Full ∷ [])
-        else first_of (when (nat_le view.now.interfaces 1) cause.LastInterface ∷ []) }
-{
-    if !adds {
-        return when(view.interfaces <= 1, Refusal::LastInterface);
-    }
-    if view.by_mac.is_some() {
-        return Some(Refusal::Taken);
-    }
-    when(view.interfaces >= MAX_INTERFACES as u64, Refusal::Full)
-}
-
-// A cause, or else the next.
-fn or(first: Option<Refusal>, next: Option<Refusal>) -> Option<Refusal>
-    ensures { result ≡ first_of (first ∷ next ∷ []) }
-{
-    match first {
-        Some(refusal) => Some(refusal),
-        None => next,
-    }
-}
-
-fn is_deployed(status: Status) -> bool
-    ensures { result ≡ is_deployed status }
-{
-    matches!(status, Status::Deployed)
-}
-
 // The first of the causes that are an act's own.
 fn own_of_act(view: &CommandView, machine: &Machine, act: Act) -> Option<Refusal>
     ensures { result ≡ first_of (own_of_act view.now machine.now act) }
 {
     match act {
-        Act::Lock => when(!is_deployed(machine.status), Refusal::WrongStatus),
+        Act::Lock => when(
+            !matches!(machine.status, Status::Deployed),
+            Refusal::WrongStatus,
+        ),
         Act::Unlock => when(!machine.locked, Refusal::WrongStatus),
-        Act::Test | Act::Rescue => or(no_step(machine, Action::Act(act)), no_live(view)),
+        Act::Test | Act::Rescue => first(&[no_step(machine, Action::Act(act)), no_live(view)]),
         _ => no_step(machine, Action::Act(act)),
     }
 }
@@ -168,22 +155,27 @@ fn own(view: &CommandView, machine: &Machine, command: &MachineCommand) -> Optio
     ensures { result ≡ first_of (own view.now machine.now command.now) }
 {
     match *command {
-        MachineCommand::AddInterface { .. } => own_of_interface(view, true),
-        MachineCommand::RemoveInterface { .. } => own_of_interface(view, false),
+        MachineCommand::AddInterface { .. } => first(&[
+            when(view.by_mac.is_some(), Refusal::Taken),
+            when(view.interfaces >= MAX_INTERFACES as u64, Refusal::Full),
+        ]),
+        MachineCommand::RemoveInterface { .. } => {
+            when(view.interfaces <= 1, Refusal::LastInterface)
+        }
         MachineCommand::SetPool { .. } | MachineCommand::Delete => {
             when(!is_idle(machine.status), Refusal::WrongStatus)
         }
         MachineCommand::Commission { .. } => {
-            or(no_step(machine, Action::Commission), no_live(view))
+            first(&[no_step(machine, Action::Commission), no_live(view)])
         }
-        MachineCommand::Deploy { .. } => or(
+        MachineCommand::Deploy { .. } => first(&[
             no_step(machine, Action::Deploy),
             when(!is_arch(view.image, machine.arch), Refusal::WrongArch),
-        ),
-        MachineCommand::Release { erase } => or(
+        ]),
+        MachineCommand::Release { erase } => first(&[
             no_step(machine, release_action(erase)),
             no_live_if(view, erase),
-        ),
+        ]),
         MachineCommand::Act(act) => own_of_act(view, machine, act),
     }
 }
@@ -198,68 +190,14 @@ fn cause_at(
 ) -> Option<Refusal>
     ensures { result ≡ first_of (causes_at (Some machine.now) view.now by.now version command.now) }
 {
-    if let Some(refusal) = missing(view, machine, command) {
-        return Some(refusal);
-    }
-    if let Some(refusal) = forbidden(by, machine, view.is_member, command) {
-        return Some(refusal);
-    }
-    if is_stale(version, machine.version) {
-        return Some(Refusal::StaleVersion);
-    }
-    if is_barred(machine, command) {
-        return Some(Refusal::Locked);
-    }
-    or(
+    first(&[
+        missing(view, machine, command),
+        forbidden(by, machine, view.is_member, command),
+        when(is_stale(version, machine.version), Refusal::StaleVersion),
+        when(is_barred(machine, command), Refusal::Locked),
         own(view, machine, command),
         when(machine.version.get() == MAX_NUMBER, Refusal::Exhausted),
-    )
-}
-
-fn cause_of_disabling(view: &CommandView, by: &Operator, operator: &Name) -> Option<Refusal>
-    ensures { result ≡ first_of (when (not (is_some view.now.operator)) cause.NoOperator ∷ when (bytes_eq operator.now by.now.name) cause.SelfDisable ∷ []) }
-{
-    if view.operator.is_none() {
-        return Some(Refusal::NoOperator);
-    }
-    when(operator.text() == by.name.text(), Refusal::SelfDisable)
-}
-
-fn cause_of_deleting(view: &CommandView) -> Option<Refusal>
-    ensures { result ≡ first_of (when (not (is_some view.now.image)) cause.NoImage ∷ when view.now.image_used cause.InUse ∷ []) }
-{
-    if view.image.is_none() {
-        return Some(Refusal::NoImage);
-    }
-    when(view.image_used, Refusal::InUse)
-}
-
-fn cause_of_grant(view: &CommandView) -> Option<Refusal>
-    ensures { result ≡ first_of (when (not view.now.has_pool) cause.NoPool ∷ when (not (is_some view.now.operator)) cause.NoOperator ∷ when view.now.is_member cause.Taken ∷ []) }
-{
-    if !view.has_pool {
-        return Some(Refusal::NoPool);
-    }
-    if view.operator.is_none() {
-        return Some(Refusal::NoOperator);
-    }
-    when(view.is_member, Refusal::Taken)
-}
-
-fn cause_of_machine(view: &CommandView) -> Option<Refusal>
-    ensures { result ≡ first_of (when (not view.now.has_pool) cause.NoPool ∷ when (is_some view.now.by_mac || is_some view.now.by_uuid) cause.Taken
-        ∷ when (nat_le MAX_MACHINES view.now.machines) cause.Full ∷ when (not (is_some (next_number view.now.numbers.machine))) cause.Exhausted ∷ []) }
-{
-    if !view.has_pool {
-        return Some(Refusal::NoPool);
-    }
-    if view.by_mac.is_some() || view.by_uuid.is_some() {
-        return Some(Refusal::Taken);
-    }
-    if view.machines >= MAX_MACHINES {
-        return Some(Refusal::Full);
-    }
-    when(view.numbers.machine.next().is_none(), Refusal::Exhausted)
+    ])
 }
 
 /// Why a command is refused, if it is: the first cause in the order of the refusals' numbers.
@@ -272,13 +210,31 @@ pub(crate) fn cause(view: &CommandView, by: &Operator, command: &HallCommand) ->
             view.operator.is_some() || view.has_digest,
             Refusal::Taken,
         ),
-        HallCommand::DisableOperator { operator } => cause_of_disabling(view, by, operator),
+        HallCommand::DisableOperator { operator } => match view.operator {
+            Some(_) => when(operator.text() == by.name.text(), Refusal::SelfDisable),
+            None => Some(Refusal::NoOperator),
+        },
         HallCommand::AddPool { .. } => when(view.has_pool, Refusal::Taken),
-        HallCommand::Grant { .. } => cause_of_grant(view),
+        HallCommand::Grant { .. } => first(&[
+            when(!view.has_pool, Refusal::NoPool),
+            when(view.operator.is_none(), Refusal::NoOperator),
+            when(view.is_member, Refusal::Taken),
+        ]),
         HallCommand::AddImage { .. } => when(view.image.is_some(), Refusal::Taken),
-        HallCommand::DeleteImage { .. } => cause_of_deleting(view),
+        HallCommand::DeleteImage { .. } => match view.image {
+            Some(_) => when(view.image_used, Refusal::InUse),
+            None => Some(Refusal::NoImage),
+        },
         HallCommand::SetLive { .. } => when(view.image.is_none(), Refusal::NoImage),
-        HallCommand::AddMachine { .. } => cause_of_machine(view),
+        HallCommand::AddMachine { .. } => first(&[
+            when(!view.has_pool, Refusal::NoPool),
+            when(
+                view.by_mac.is_some() || view.by_uuid.is_some(),
+                Refusal::Taken,
+            ),
+            when(view.machines >= MAX_MACHINES, Refusal::Full),
+            when(view.numbers.machine.next().is_none(), Refusal::Exhausted),
+        ]),
         HallCommand::OnMachine {
             version,
             command,

@@ -88,13 +88,9 @@ pub fn command(
         return Err(DeskFault::Refused(refusal));
     }
     let (change, subject) = effect(alloc, view, by, command, moment)?;
-    let Ok(reply) = reply(alloc, &subject) else {
-        return Err(DeskFault::Memory);
-    };
-    match with_receipt(alloc, change, by, key, command, &reply) {
-        Ok(rows) => Ok((rows, reply)),
-        Err(AllocError) => Err(DeskFault::Memory),
-    }
+    let reply = reply(alloc, &subject)?;
+    let rows = with_receipt(alloc, change, by, key, command, &reply)?;
+    Ok((rows, reply))
 }
 
 /// What a request is answered whose key has a receipt: the answer that the receipt keeps, or `KeyReused` where it was
@@ -106,14 +102,10 @@ pub fn repeated(
 ) -> Result<(Change, Reply), DeskFault>
     ensures { Decides result (replied (repeated receipt.now command.now)) }
 {
-    let Ok(text) = command.text(alloc) else {
-        return Err(DeskFault::Memory);
-    };
+    let text = command.text(alloc)?;
     if receipt.command.as_str() != text.as_str() {
         return Err(DeskFault::Refused(Refusal::KeyReused));
     }
-    match Reply::stored(alloc, receipt) {
-        Ok(reply) => Ok((Change::from(Vec::new(alloc)), reply)),
-        Err(AllocError) => Err(DeskFault::Memory),
-    }
+    let reply = Reply::stored(alloc, receipt)?;
+    Ok((Change::from(Vec::new(alloc)), reply))
 }

@@ -1,5 +1,5 @@
 //! What commands make of a hall.
-ghost use Rattle.std.specs.Prelude.{◌≡◌, [], ◌∷◌, IfOk, IfErr, Ok, None};
+ghost use Rattle.std.specs.Prelude.{◌≡◌, [], ◌∷◌, IfOk, Ok, None};
 ghost use Rattle.hall_types.specs.{declared.change.RowWrite.TheVariants.{PutImage, PutInterface, PutMachine, PutNumbers}, Number.next_number};
 ghost use Rattle.hall_events.specs.Reply.{done};
 ghost use Rattle.desk_command.specs.declared.effects.Subject.TheVariants as subject;
@@ -67,10 +67,8 @@ fn acted(
     let Ok(entered) = enter(&before, step, moment, view.numbers) else {
         return Err(DeskFault::Refused(Refusal::Exhausted));
     };
-    match entry_rows(alloc, machine, view.order, &entered) {
-        Ok(rows) => Ok((Change::from(rows), Subject::Machine(entered.machine))),
-        Err(AllocError) => Err(DeskFault::Memory),
-    }
+    let rows = entry_rows(alloc, machine, view.order, &entered)?;
+    Ok((Change::from(rows), Subject::Machine(entered.machine)))
 }
 
 // A change of the row or of the interfaces raises the version.
@@ -91,23 +89,17 @@ fn about(machine: &Machine) -> Subject
 }
 
 // A row and another one.
-fn two(alloc: Global, first: RowWrite, second: RowWrite) -> Result<Change, DeskFault>
-    ensures rows { IfOk result (λ rows. rows ≡ first ∷ second ∷ []) }
-    ensures memory { IfErr result (λ fault. fault ≡ DeskFault.Memory) }
+fn two(alloc: Global, first: RowWrite, second: RowWrite) -> Result<Change, AllocError>
+    ensures { IfOk result (λ rows. rows ≡ first ∷ second ∷ []) }
 {
-    let Ok(rows) = vec![in alloc; first, second] else {
-        return Err(DeskFault::Memory);
-    };
+    let rows = vec![in alloc; first, second]?;
     Ok(Change::from(rows))
 }
 
-fn one(alloc: Global, row: RowWrite) -> Result<Change, DeskFault>
-    ensures rows { IfOk result (λ rows. rows ≡ row ∷ []) }
-    ensures memory { IfErr result (λ fault. fault ≡ DeskFault.Memory) }
+fn one(alloc: Global, row: RowWrite) -> Result<Change, AllocError>
+    ensures { IfOk result (λ rows. rows ≡ row ∷ []) }
 {
-    let Ok(rows) = vec![in alloc; row] else {
-        return Err(DeskFault::Memory);
-    };
+    let rows = vec![in alloc; row]?;
     Ok(Change::from(rows))
 }
 
@@ -227,10 +219,8 @@ fn added(
     };
     let machine = Machine::new(id, arch, pool, uuid);
     let subject = about(&machine);
-    match added_rows(alloc, machine, mac, view.numbers) {
-        Ok(rows) => Ok((Change::from(rows), subject)),
-        Err(AllocError) => Err(DeskFault::Memory),
-    }
+    let rows = added_rows(alloc, machine, mac, view.numbers)?;
+    Ok((Change::from(rows), subject))
 }
 
 fn disabled(alloc: Global, operator: Option<Operator>) -> Effect
@@ -269,10 +259,8 @@ fn put(alloc: Global, row: RowWrite) -> Effect
 fn put_image(alloc: Global, image: &Image) -> Effect
     ensures { Effects result (Ok (PutImage image.now ∷ [], done)) }
 {
-    match image.copy(alloc) {
-        Ok(copy) => put(alloc, RowWrite::PutImage(copy)),
-        Err(AllocError) => Err(DeskFault::Memory),
-    }
+    let copy = image.copy(alloc)?;
+    put(alloc, RowWrite::PutImage(copy))
 }
 
 /// The rows that a command writes if it isn't refused, and what it is answered.

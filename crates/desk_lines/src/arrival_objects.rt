@@ -4,7 +4,7 @@ use crate::arrival_texts::arrival_text;
 use crate::command_texts::command_text;
 use crate::frame_texts::{file_text, kind_word, port_word, silence_words};
 use crate::members::Members;
-use crate::request_texts::{MAX_BODY, method_word, path_text, said};
+use crate::request_texts::{MAX_BODY, body_of, method_word, path_text};
 use hall_desk::{Account, Answer, Arrival, Came, Input, Moved};
 use hall_events::{Event, HallCommand};
 use hall_types::Port;
@@ -46,7 +46,7 @@ fn push_frame_answer(
     account: &Account,
 ) -> Result<(), AllocError> {
     match (answer, &account.came) {
-        (Answer::Octets(octets), _) => {
+        (Answer::Frame(octets), _) => {
             members.push_text("event.outcome", "success")?;
             members.push_text("file.name", file_text(octets.as_slice()))
         }
@@ -108,18 +108,14 @@ fn push_request(alloc: Global, members: &mut Members, came: &Came) -> Result<(),
     }
 }
 
-fn outcome_word(status: &str) -> &'static str {
-    if status == "200" {
-        "success"
-    } else {
-        "failure"
-    }
+fn outcome_word(status: u16) -> &'static str {
+    if status == 200 { "success" } else { "failure" }
 }
 
-fn push_response(members: &mut Members, octets: &[u8]) -> Result<(), AllocError> {
-    let (status, body) = said(octets);
+fn push_response(members: &mut Members, status: u16, octets: &[u8]) -> Result<(), AllocError> {
+    let body = body_of(octets);
     members.push_text("event.outcome", outcome_word(status))?;
-    members.push_number("http.response.status_code", status.parse().unwrap_or(0))?;
+    members.push_number("http.response.status_code", u64::from(status))?;
     members.push_number("http.response.body.bytes", body.len() as u64)?;
     if body.starts_with('{') && body.len() <= MAX_BODY {
         members.push_text("http.response.body.content", body)?;
@@ -129,8 +125,8 @@ fn push_response(members: &mut Members, octets: &[u8]) -> Result<(), AllocError>
 
 fn push_answer(members: &mut Members, answer: &Answer) -> Result<(), AllocError> {
     match answer {
-        Answer::Octets(octets) => push_response(members, octets.as_slice()),
-        Answer::Silence => Ok(()),
+        Answer::Response { status, octets } => push_response(members, *status, octets.as_slice()),
+        Answer::Frame(_) | Answer::Silence => Ok(()),
         Answer::Unavailable => {
             members.push_text("event.outcome", "failure")?;
             members.push_text("event.reason", "unavailable")

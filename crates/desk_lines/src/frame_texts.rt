@@ -62,9 +62,9 @@ pub(crate) fn file_text(octets: &[u8]) -> &str {
 
 fn reply_text(answer: &Answer) -> &str {
     match answer {
+        Answer::Frame(octets) => file_text(octets.as_slice()),
         Answer::Silence => "silence",
-        Answer::Unavailable => "unavailable",
-        Answer::Octets(octets) => file_text(octets.as_slice()),
+        Answer::Response { .. } | Answer::Unavailable => "unavailable",
     }
 }
 

@@ -73,18 +73,18 @@ fn request_text(alloc: Global, octets: &[u8], came: &Came) -> Result<String, All
     }
 }
 
-/// The status of a response (RFC 9112 section 4), and its body.
-pub(crate) fn said(octets: &[u8]) -> (&str, &str) {
+/// The body of a response (RFC 9112 section 2.1).
+pub(crate) fn body_of(octets: &[u8]) -> &str {
     let text = std::str::from_utf8(octets).unwrap_or("");
     match text.split_once("\r\n\r\n") {
-        Some((head, body)) => (head.get(9..12).unwrap_or(""), body),
-        None => ("", ""),
+        Some((_, body)) => body,
+        None => "",
     }
 }
 
 // The status of a response, and its body where it is short and no script, which has a token.
-fn response_text(alloc: Global, octets: &[u8]) -> Result<String, AllocError> {
-    let (status, body) = said(octets);
+fn response_text(alloc: Global, status: u16, octets: &[u8]) -> Result<String, AllocError> {
+    let body = body_of(octets);
     if body.starts_with('{') && body.len() <= MAX_BODY {
         format!(in alloc; "{status} {body}")
     } else {
@@ -95,9 +95,9 @@ fn response_text(alloc: Global, octets: &[u8]) -> Result<String, AllocError> {
 
 fn answer_text(alloc: Global, answer: &Answer) -> Result<String, AllocError> {
     match answer {
-        Answer::Silence => String::from_str(alloc, "silence"),
+        Answer::Response { status, octets } => response_text(alloc, *status, octets.as_slice()),
         Answer::Unavailable => String::from_str(alloc, "unavailable"),
-        Answer::Octets(octets) => response_text(alloc, octets.as_slice()),
+        Answer::Frame(_) | Answer::Silence => String::from_str(alloc, "silence"),
     }
 }
 

@@ -1,24 +1,8 @@
 -- The program `understood` finds the message that a frame carries, where the octets are one.
-use Rattle.std.{proofs.{Common.{◌≡◌, ℕ, ◌≤◌, Bool, true, false, List, [], ◌∷◌, ◌++◌, length, Option, Some, None, Result, Ok, Err, refl, sym, ap, ◌∙◌, arith}, lemmas.Bool.Decides.nat_tests}, specs.{Prelude.{slice_index, slice_range, IfOk, ok_or}, Cmp.Lexicographic.bytes_decides}}
-use Rattle.dhcp_frame.specs.{Area.{Entry, reading, value_of}, Message.{Message, HasHeader, ReadsIf, IsFrame, message_of, options_area, file_area, sname_area}, Overload.overload_of, Understood.{◌>>=◌, has_cookie, header, options_in, options_if, understood}, declared.{overload.Overload.Overload, fault.FrameFault.{FrameFault, TheVariants.BadOverload}}, AreaLaws.{reading-from_Reads, Reads-from_reading}}
+use Rattle.std.{proofs.{Common.{◌≡◌, ℕ, ◌≤◌, Bool, true, false, List, length, Option, Some, None, Result, Ok, Err, refl, sym, ap, arith}, lemmas.Bool.Decides.nat_tests}, specs.{Prelude.{slice_index, IfOk, ok_or}, Cmp.Lexicographic.bytes_decides}}
+use Rattle.dhcp_frame.specs.{Area.{Entry, reading}, Message.{Message, HasHeader, ReadsIf, IsFrame, options_area, file_area, sname_area}, Understood.{◌>>=◌, has_cookie, header, options_in, options_if, understood}, declared.{fault.FrameFault.{FrameFault}}, AreaLaws.{reading-from_Reads, Reads-from_reading}}
 
 -- ---- the header
-
-tests_long : (octets : List ℕ) → header octets ≡ Ok tt → 240 ≤ length octets
-unfolding header
-tests_long octets e = grind (arith, nat_tests)
-
-tests_request : (octets : List ℕ) → header octets ≡ Ok tt → slice_index octets 0 ≡ 1
-unfolding header
-tests_request octets e = grind (arith, nat_tests)
-
-tests_ethernet : (octets : List ℕ) → header octets ≡ Ok tt → slice_index octets 1 ≡ 1
-unfolding header
-tests_ethernet octets e = grind (arith, nat_tests)
-
-tests_six : (octets : List ℕ) → header octets ≡ Ok tt → slice_index octets 2 ≡ 6
-unfolding header
-tests_six octets e = grind (arith, nat_tests)
 
 tests_cookie : (octets : List ℕ) → header octets ≡ Ok tt → has_cookie octets ≡ true
 unfolding header
@@ -29,12 +13,12 @@ unfolding header
 tests_ok octets long request ethernet six cookie = grind (arith, nat_tests)
 
 HasHeader-from_tests : (octets : List ℕ) → header octets ≡ Ok tt → HasHeader octets
-unfolding has_cookie
+unfolding header has_cookie
 HasHeader-from_tests octets e = record {
-  long = tests_long octets e;
-  request = tests_request octets e;
-  ethernet = tests_ethernet octets e;
-  six = tests_six octets e;
+  long = grind (arith, nat_tests);
+  request = grind (arith, nat_tests);
+  ethernet = grind (arith, nat_tests);
+  six = grind (arith, nat_tests);
   cookie = (bytes_decides _ _).0 (tests_cookie octets e);
 }
 
@@ -55,32 +39,6 @@ ReadsIf-from_options_if false area es e = cc
 options_if-from_ReadsIf : (used : Bool) (area : List ℕ) (es : List Entry) → ReadsIf used area es → options_if used area ≡ Ok es
 options_if-from_ReadsIf true area es r = rw (reading-from_Reads r) refl
 options_if-from_ReadsIf false area es r = cc
-
--- ---- reading, a step at a time
-
-pub understood-header : (octets : List ℕ) (fault : FrameFault) → header octets ≡ Err fault → understood octets ≡ Err fault
-unfolding understood
-understood-header octets fault a = rw a refl
-
-pub understood-options : (octets area : List ℕ) (fault : FrameFault) → header octets ≡ Ok tt → area ≡ options_area octets → options_if true area ≡ Err fault → understood octets ≡ Err fault
-unfolding understood
-understood-options octets area fault a b e = rw (a, ← b, e) refl
-
-pub understood-overload : (octets area : List ℕ) (own : List Entry) → header octets ≡ Ok tt → area ≡ options_area octets → options_if true area ≡ Ok own → overload_of (value_of 52 own) ≡ None → understood octets ≡ Err BadOverload
-unfolding understood
-understood-overload octets area own a b e o = rw (a, ← b, e, o) refl
-
-pub understood-file : (octets area : List ℕ) (own : List Entry) (overload : Overload) (fault : FrameFault) → header octets ≡ Ok tt → area ≡ options_area octets → options_if true area ≡ Ok own → overload_of (value_of 52 own) ≡ Some overload → options_if overload.file (file_area octets) ≡ Err fault → understood octets ≡ Err fault
-unfolding understood
-understood-file octets area own overload fault a b e o f = rw (a, ← b, e, o, f) refl
-
-pub understood-sname : (octets area : List ℕ) (own in_file : List Entry) (overload : Overload) (fault : FrameFault) → header octets ≡ Ok tt → area ≡ options_area octets → options_if true area ≡ Ok own → overload_of (value_of 52 own) ≡ Some overload → options_if overload.file (file_area octets) ≡ Ok in_file → options_if overload.sname (sname_area octets) ≡ Err fault → understood octets ≡ Err fault
-unfolding understood
-understood-sname octets area own in_file overload fault a b e o f s = rw (a, ← b, e, o, f, s) refl
-
-pub understood-whole : (octets area : List ℕ) (own in_file in_sname : List Entry) (overload : Overload) → header octets ≡ Ok tt → area ≡ options_area octets → options_if true area ≡ Ok own → overload_of (value_of 52 own) ≡ Some overload → options_if overload.file (file_area octets) ≡ Ok in_file → options_if overload.sname (sname_area octets) ≡ Ok in_sname → understood octets ≡ Ok (message_of octets (own ++ in_file ++ in_sname))
-unfolding understood
-understood-whole octets area own in_file in_sname overload a b e o f s = rw (a, ← b, e, o, f, s) refl
 
 -- ---- the whole
 

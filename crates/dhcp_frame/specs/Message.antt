@@ -1,5 +1,5 @@
 -- A client's DHCP message (RFC 2131 section 2): its fields, and its options in order.
-use Rattle.std.specs.Prelude.{◌≡◌, ◌≤◌, ℕ, Bool, true, false, List, [], ◌∷◌, ◌++◌, drop, length, Some, slice_index, slice_range}
+use Rattle.std.specs.Prelude.{◌≡◌, ◌≤◌, ℕ, Bool, true, false, List, [], ◌++◌, drop, length, Some, slice_index, slice_range}
 use Rattle.byteorder.specs.Endian.{big_number}
 use Rattle.dhcp_frame.specs.{Area.{Entry, Reads, value_of}, Overload.overload_of, declared.{overload.Overload.Overload, option_codes.TheConstants.OVERLOAD, layout.TheConstants.{OP, HTYPE, HLEN, XID, SECS, FLAGS, CIADDR, YIADDR, GIADDR, CHADDR, SNAME, FILE, COOKIE, OPTIONS, BOOT_REQUEST, ETHERNET, ETHERNET_LEN, MAGIC_COOKIE}}}
 

@@ -81,6 +81,7 @@ fn area_if(used: bool, area: &[u8]) -> Result<&[u8], FrameFault>
     Ok(area)
 }
 
+#[tactic(auto, unfolding(crate::specs::Understood::understood))]
 fn read_inner(octets: &[u8]) -> Result<Frame<'_>, FrameFault>
     ensures { result ≡ understood octets.now }
 {

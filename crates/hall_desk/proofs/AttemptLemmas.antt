@@ -1,14 +1,14 @@
 -- Attempts: what is carried out, what is answered without the hall, and what is missed.
-use Rattle.std.{proofs.Common.{◌≡◌, ◌∙◌, ℕ, List, ◌∷◌, Result, Ok, Err, refl, sym, subst, inl, inr}, specs.Prelude.{◌≢◌, ◌⊎◌, IfOk}}
-use Rattle.dhcp_frame.specs.{Message.{Message, IsFrame}, declared.fault.FrameFault.FrameFault}
-use Rattle.pxe_vendor.specs.{Client.IsClient, Place.Site, declared.{clients.Client.Client, serve.NotServed.{NotServed, TheVariants.Memory}}}
+use Rattle.std.{proofs.Common.{◌≡◌, ◌∙◌, ℕ, List, ◌∷◌, Result, Ok, Err, refl, sym, subst, inl, inr}, specs.Prelude.{◌≢◌, IfOk}}
+use Rattle.dhcp_frame.specs.{Message.{Message}}
+use Rattle.pxe_vendor.specs.{Place.Site, declared.{clients.Client.Client}}
 use Rattle.hall_types.specs.Hall.{Hall, applied, second}
 use Rattle.hall_events.specs.{Reply.{Content, script, refused, counted, repeated, machine_is, machine_gone, done, waiting_orders, machine_list, one_machine, stored, boot_file, nothing}, declared.event.Event.Event}
 use Rattle.boot_desk.specs.Sound.{IsSound}
 use Rattle.hall_laws.specs.{Decision.decision_of, Step.IsTyped}
 use Rattle.hall_http.specs.{Request.IsEvent, declared.fault.HttpFault.{HttpFault, TheVariants.Memory as NoMemory}}
 use Rattle.hall_store.specs.{Rules.AllKeep, declared.store.{HallStore.Ghosts, Unavailable.Unavailable as Refusing}}
-use Rattle.hall_desk.specs.{Attempt.{IsAnswered, IsAttempt}, Octets.{asks, answered, frame_answer, IsFrom, Means, missed_answer, refusal_of, response_answer}, Plan.IsCarriedOut, declared.arrival.{Answer.{Answer, TheVariants.Unavailable}, Input.{Input, TheVariants.{Datagram, Quiet, Request}}}}
+use Rattle.hall_desk.specs.{Account.given_or, Attempt.{IsAnswered, IsAttempt}, Octets.{asks, answered, frame_answer, Means, missed_answer, refusal_of, response_answer}, Plan.IsCarriedOut, declared.arrival.{Answer.{Answer, TheVariants.Unavailable}, Input.{Input, TheVariants.{Datagram, Quiet, Request}}}}
 
 -- the rows of every decision keep the tables' rules and a sound hall
 pub record AreRules : Type 0 where
@@ -121,47 +121,21 @@ module _ {S : Type 0} (g : Ghosts S) where
 
   -- a request that makes no event
   pub attempt_refused : (wider : (s : S) (h : Hall) (hs : List Hall) → g.leaves s hs → g.leaves s (h ∷ hs))
-      → (s : S) (site : Site) (octets : List ℕ) (moment : ℕ) (fresh : List ℕ) (fault : HttpFault) → IsEvent octets (Err fault) → fault ≢ NoMemory
-      → (r : Result Answer Refusing) → IfOk r (λ a. a ≡ response_answer (refused (refusal_of fault)))
+      → (s : S) (site : Site) (octets : List ℕ) (moment : ℕ) (fresh : List ℕ) (fault : HttpFault) → IsEvent octets (Err fault)
+      → (r : Result Answer Refusing) → IfOk r (λ a. fault ≢ NoMemory) → IfOk r (λ a. a ≡ response_answer (refused (refusal_of fault)))
       → IsAttempt g s s site (Request octets) moment fresh r
-  attempt_refused wider s site octets moment fresh fault first known (Ok a) is =
+  attempt_refused wider s site octets moment fresh fault first (Ok a) known is =
       attempt_answered wider s site (Request octets) moment fresh a (record { why = fault; first = first; known = known; answer = is })
-  attempt_refused wider s site octets moment fresh fault first known (Err error) is = attempt_missed wider s site (Request octets) moment fresh error
-
--- ---- datagrams without a client
-
-abbrev frame_ok : Message → Result Message FrameFault
-frame_ok message = Ok message
-
-abbrev client_ok : Client → Result Client NotServed
-client_ok client = Ok client
-
-abbrev client_err : NotServed → Result Client NotServed
-client_err cause = Err cause
-
-pub no_frame : (octets : List ℕ) (fault : FrameFault)
-    → ((message : Message) → IsFrame octets message → Err fault ≡ Ok message) → (message : Message) (client : Client) → IsFrom octets message client → ⊥
-no_frame octets fault only message client is = let e = only message is.carries in cc
-
-pub no_client : (octets : List ℕ) (read : Message) (cause : NotServed)
-    → ((other : Message) → IsFrame octets other → frame_ok read ≡ frame_ok other)
-    → ((client : Client) → IsClient read client → (client_err cause ≡ client_ok client) ⊎ (client_err cause ≡ client_err Memory)) → (cause ≡ Memory → ⊥)
-    → (message : Message) (client : Client) → IsFrom octets message client → ⊥
-no_client octets read cause only clients other message client is =
-    let e = only message is.carries in
-    let same : read ≡ message = cc in
-    elim (clients client (subst (λ (m : Message). IsClient m client) (sym same) is.sent)) [ inl gone ↦ absurd cc | inr memory ↦ other cc ]
+  attempt_refused wider s site octets moment fresh fault first (Err error) known is = attempt_missed wider s site (Request octets) moment fresh error
 
 -- ---- answers
 
 module _ {S : Type 0} (g : Ghosts S) (old new : S) (site : Site) (input : Input) (moment : ℕ) (fresh : List ℕ) where
-  pub answered_ok : (a : Answer) → IsAttempt g old new site input moment fresh {E = Refusing} (Ok a) → IsAnswered g old new site input moment fresh a
-  answered_ok a it = record { step = λ h held sound. inl (it.came h held sound); idle = it.idle; still = it.still; unavailable = it.unavailable; crash = it.crash }
-
-  pub answered_err : (e : Refusing) (a : Answer) → a ≡ missed_answer input → IsAttempt g old new site input moment fresh (Err e)
-      → IsAnswered g old new site input moment fresh a
-  answered_err e a is it = record {
-    step = λ h held sound. inr (record { answer = is; same = refl }, it.missed h held);
+  -- what was carried out, or counts as not having come, is answered
+  pub answered_so : (r : Result Answer Refusing) → IsAttempt g old new site input moment fresh r → IsAnswered g old new site input moment fresh (given_or (missed_answer input) r)
+  answered_so (Ok a) it = record { step = λ h held sound. inl (it.came h held sound); idle = it.idle; still = it.still; unavailable = it.unavailable; crash = it.crash }
+  answered_so (Err e) it = record {
+    step = λ h held sound. inr (record { answer = refl; same = refl }, it.missed h held);
     idle = it.idle;
     still = it.still;
     unavailable = λ its. it.missed;

@@ -7,4 +7,3 @@ pub mod ReadingLemmas
 pub mod RunLemmas
 pub mod ServedLemmas
 pub mod StopLemmas
-pub mod PlanLemmas

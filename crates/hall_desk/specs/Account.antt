@@ -9,7 +9,7 @@ use Rattle.boot_desk.specs.{FrameEvent.{frame_decision, frame_view}, declared.fr
 use Rattle.desk_command.specs.{Command.{may_send, needs_admin, sender}, View.command_view}
 use Rattle.hall_http.specs.Request.{IsEvent}
 use Rattle.hall_laws.specs.Decision.{decision_of, may_answer}
-use Rattle.hall_desk.specs.{Moved.moved_by, Octets.{IsFrom, missed_answer}, declared.{account.{Account.Account, Came.Came, Notes.Notes}, arrival.{Answer.Answer, Input.Input}}}
+use Rattle.hall_desk.specs.{Moved.moved_by, Octets.{IsFrom}, declared.{account.{Account.Account, Came.Came, Found.Found, Notes.Notes}, arrival.{Answer.Answer, Input.Input}}}
 use Rattle.hall_desk.specs.declared.account.Came.TheVariants as came
 use Rattle.hall_desk.specs.declared.arrival.Answer.TheVariants as answer
 use Rattle.hall_desk.specs.declared.arrival.Input.TheVariants as input
@@ -46,17 +46,17 @@ IsReadAs input.Quiet (came.Refused fault) = ⊥
 IsReadAs input.Quiet (came.Asked e) = ⊥
 IsReadAs input.Quiet came.Quiet = ⊤
 
--- ---- notes
+-- ---- what is found
 
--- the operator whose token came is noted, if it is one's
-abbrev pub sent_by : Option Operator → Notes → Notes
-sent_by None notes = notes
-sent_by (Some operator) notes = record notes { operator = Some operator.name }
+-- the operator whose token came, if it is one's
+abbrev pub sent_by : Option Operator → Found → Found
+sent_by None found = found
+sent_by (Some operator) found = record found { operator = Some operator.name }
 
--- the machine that an arrival is about is noted, if there is one
-abbrev pub about : Option Machine → Notes → Notes
-about None notes = notes
-about (Some m) notes = record notes { machine = Some (record { machine = m.id; status = m.status }) }
+-- the machine that an arrival is about, if there is one
+abbrev pub about : Option Machine → Found → Found
+about None found = found
+about (Some m) found = record found { machine = Some (record { machine = m.id; status = m.status }) }
 
 -- ---- who sent an event, and the machine that it is about
 
@@ -99,8 +99,14 @@ machine_of h moment other = None
 -- ---- what is noted of an arrival
 
 -- the sender and the machine of an event
-abbrev pub found_for : Hall → ℕ → Event → Notes → Notes
-found_for h moment e notes = about (machine_of h moment e) (sent_by (sender_of h e) notes)
+abbrev pub found_for : Hall → ℕ → Event → Found → Found
+found_for h moment e found = about (machine_of h moment e) (sent_by (sender_of h e) found)
+
+abbrev pub nothing_found : Found
+nothing_found = record { operator = None; machine = None }
+
+abbrev pub with_found : Found → Notes → Notes
+with_found found notes = record notes { operator = found.operator; machine = found.machine }
 
 -- the move that these rows make of the machine that was found
 abbrev pub with_move : List RowWrite → Notes → Notes
@@ -112,7 +118,7 @@ nothing_noted = record { decision = None; unlisted = false; operator = None; mac
 
 -- all of an event that was carried out
 abbrev pub noted_of : Site → Hall → Event → ℕ → List ℕ → Notes
-noted_of site h e moment fresh = with_move (decision_of site h e moment fresh).rows (found_for h moment e nothing_noted)
+noted_of site h e moment fresh = with_move (decision_of site h e moment fresh).rows (with_found (found_for h moment e nothing_found) nothing_noted)
 
 -- a client that is to be enlisted isn't, by a desk that doesn't enlist
 abbrev pub is_unlisted : Bool → Decision → Bool
@@ -127,7 +133,7 @@ IsDecided enlists h port client notes = IfSome notes.decision (λ its. (its ≡ 
 
 -- the machine that a client's frame makes, if it was carried out
 abbrev pub IsMoved : Site → Hall → Port → Client → ℕ → List ℕ → Answer → Notes → Type 0
-IsMoved site h port client moment fresh (answer.Octets octets) notes = notes.moved ≡ moved_by None (decision_of site h (event.Frame port client) moment fresh).rows
+IsMoved site h port client moment fresh (answer.Frame octets) notes = notes.moved ≡ moved_by None (decision_of site h (event.Frame port client) moment fresh).rows
 IsMoved site h port client moment fresh other notes = notes.moved ≡ None
 
 -- an event was carried out, and all of it is noted; or it counts as not having come, and moved no machine
@@ -143,9 +149,9 @@ IsFound enlists site h (input.Request octets) moment fresh a account = (e : Even
 IsFound enlists site h input.Quiet moment fresh a account = IsNoted site h event.Quiet moment fresh a account.notes
 
 -- the answer that was given, or that of an arrival that counts as not having come
-abbrev pub given_or_missed : {E : Type 0} → Input → Result Answer E → Answer
-given_or_missed what (Ok a) = a
-given_or_missed what (Err e) = missed_answer what
+abbrev pub given_or : {E : Type 0} → Answer → Result Answer E → Answer
+given_or missed (Ok a) = a
+given_or missed (Err e) = missed
 
 -- what came is a datagram
 abbrev pub IsDatagram : Input → Type 0

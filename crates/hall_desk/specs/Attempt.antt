@@ -41,11 +41,8 @@ module _ {S : Type 0} (g : Ghosts S) (old new : S) (site : Site) (input : Input)
     pub unavailable : a ≡ Unavailable → (h : Hall) → g.holds old h → g.holds new h
     pub crash : (h : Hall) → g.holds old h → IsSound h → (hs : List Hall) → g.leaves old hs → IsTorn h hs
 
--- Where a store took no wrong answer of a disk for a right one (`clean`), it took none before, and this was attempted, or answered.
+-- Where a store took no wrong answer of a disk for a right one (`clean`), it took none before, and this was answered.
 module _ {S : Type 0} (g : Ghosts S) (old new : S) (site : Site) (input : Input) (moment : ℕ) (fresh : List ℕ) where
-  abbrev pub Attempts : {E : Type 0} → Result Answer E → Type 0
-  Attempts r = g.is_clean new → g.is_clean old × IsAttempt g old new site input moment fresh r
-
   abbrev pub GivesAnswer : Answer → Type 0
   GivesAnswer a = g.is_clean new → g.is_clean old × IsAnswered g old new site input moment fresh a
 

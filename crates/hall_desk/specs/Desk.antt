@@ -1,5 +1,5 @@
 -- What a desk is made of.
-use Rattle.std.specs.Prelude.{Bool}
+use Rattle.std.specs.Prelude.{◌≡◌, Bool}
 use Rattle.pxe_vendor.specs.Place.{Site}
 use Rattle.hall_desk.specs.declared.desk.Desk.{Desk}
 
@@ -15,3 +15,8 @@ module _ {S : Type 0} where
   -- whether it enlists unknown clients
   abbrev pub enlists_of : Desk S → Bool
   enlists_of desk = desk.enlists
+
+-- the desk serves the same place, and enlists as before
+pub record Stays {S : Type 0} (old new : Desk S) : Type 0 where
+  pub site : site_of new ≡ site_of old
+  pub enlists : enlists_of new ≡ enlists_of old

@@ -4,7 +4,7 @@ use Rattle.dhcp_frame.specs.{Message.{Message, IsFrame}, Reply.reply_octets}
 use Rattle.pxe_vendor.specs.{Answer.answer_to, Client.IsClient, Place.Site, declared.clients.Client.Client}
 use Rattle.hall_types.specs.{Hall.{Hall, applied, second}, declared.{port.Port.Port, refusal.Refusal.Refusal}}
 use Rattle.hall_types.specs.declared.refusal.Refusal.TheVariants as cause
-use Rattle.hall_events.specs.{Reply.{Content, refused, boot_file, reply_of}, declared.event.Event.Event}
+use Rattle.hall_events.specs.{Reply.{Content, refused, boot_file, reply_of}, declared.{event.Event.Event, reply.Reply.{Reply, TheVariants.Http}}}
 use Rattle.hall_events.specs.declared.event.Event.TheVariants as event
 use Rattle.hall_http.specs.{Request.IsEvent, declared.{fault.HttpFault.HttpFault, response.TheConstants.UNAVAILABLE}, Response.response_of}
 use Rattle.hall_http.specs.declared.fault.HttpFault.TheVariants as fault
@@ -15,7 +15,8 @@ use Rattle.hall_desk.specs.declared.arrival.Input.TheVariants as input
 
 -- the octets that are sent for an answer
 abbrev pub octets_of : Answer → List ℕ
-octets_of (answer.Octets octets) = octets
+octets_of (answer.Frame octets) = octets
+octets_of (answer.Response status octets) = octets
 octets_of answer.Unavailable = UNAVAILABLE.now
 octets_of answer.Silence = []
 
@@ -23,12 +24,17 @@ octets_of answer.Silence = []
 
 -- how the hall's answer to a client is sent: there is nothing to send but a boot file
 abbrev pub frame_answer : Site → Message → Client → Content → Answer
-frame_answer site message client (boot_file file) = answer.Octets (reply_octets (answer_to message client site file))
+frame_answer site message client (boot_file file) = answer.Frame (reply_octets (answer_to message client site file))
 frame_answer site message client other = answer.Silence
+
+-- the status of an answer by HTTP
+abbrev pub status_of : Reply → ℕ
+status_of (Http status kind body) = status
+status_of other = 0
 
 -- how the hall's answer to a request is sent
 abbrev pub response_answer : Content → Answer
-response_answer content = answer.Octets (response_of (reply_of second content))
+response_answer content = answer.Response (status_of (reply_of second content)) (response_of (reply_of second content))
 
 -- a quiet moment has no one to answer
 abbrev pub no_answer : Content → Answer

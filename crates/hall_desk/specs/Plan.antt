@@ -5,7 +5,14 @@ use Rattle.hall_types.specs.{Hall.{Hall, applied, second}, declared.{change.RowW
 use Rattle.boot_desk.specs.{FrameEvent.enlisted, declared.frames.Decision.{Decision, TheVariants.Enlist}}
 use Rattle.hall_events.specs.{Reply.reply_of, declared.reply.Reply.Reply}
 use Rattle.hall_store.specs.{Rules.AllKeep, declared.store.HallStore.Ghosts}
-use Rattle.hall_laws.specs.Decision.{Decided}
+use Rattle.hall_laws.specs.Decision.{Decided, decision_of}
+use Rattle.hall_events.specs.declared.event.Event.{Event}
+use Rattle.hall_desk.specs.declared.arrival.Stamp.{Stamp}
+use Rattle.pxe_vendor.specs.Place.{Site}
+
+-- what a hall makes of an event that comes to a place with a stamp
+abbrev pub decided_at : Site → Stamp → Event → Hall → Decided
+decided_at site stamp e h = decision_of site h e stamp.moment stamp.fresh
 
 -- the rows and the answer are those of the decision
 pub record IsPlanOf (decided : Decided) (rows : List RowWrite) (reply : Reply) : Type 0 where

@@ -1,8 +1,16 @@
--- Who sends a request.
-use Rattle.std.specs.Prelude.{Option, None, Some, if◌then◌else◌}
-use Rattle.hall_types.specs.declared.operator.Operator.{Operator}
+-- Who sends a request, and who may.
+use Rattle.std.specs.Prelude.{Bool, Option, None, Some, if◌then◌else◌}
+use Rattle.hall_types.specs.declared.{kinds.Role.Role, operator.Operator.Operator}
+use Rattle.hall_laws.specs.Decision.{may_answer, may_see_machines, may_see_orders}
+use Rattle.hall_desk.specs.declared.requests.Right.{Right}
 
 -- the operator, if there is one who is enabled
 abbrev pub if_enabled : Option Operator → Option Operator
 if_enabled None = None
 if_enabled (Some operator) = if operator.enabled then Some operator else None
+
+-- whether a role has a right
+abbrev pub may : Right → Role → Bool
+may Right.SeeOrders = may_see_orders
+may Right.AnswerOrders = may_answer
+may Right.SeeMachines = may_see_machines

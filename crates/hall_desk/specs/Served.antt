@@ -1,7 +1,6 @@
 -- What serving one request over a reader and a writer did.
 use Rattle.std.specs.{Prelude.{◌≡◌, ◌<◌, ◌≤◌, ◌⊎◌, ℕ, List, [], ◌++◌, take, length, Option, Some, Bool, true}, Io.KnownBytes.{Consumes, IsAtEnd}}
 use Rattle.pxe_vendor.specs.Place.{Site}
-use Rattle.hall_types.specs.Hall.{Hall}
 use Rattle.hall_http.specs.Decided.{Ends, IsDecided}
 use Rattle.hall_desk.specs.{Attempt.IsAnswered, Octets.octets_of, declared.{arrival.{Answer.Answer, Input.TheVariants.Request}, reading.Reading.Reading, serving.Served.{Served, TheVariants.{Answered, ReadFailed, WriteFailed}}}}
 use Rattle.hall_desk.specs.declared.reading.Reading.TheVariants as reading

@@ -1,6 +1,6 @@
 //! What a desk did with one arrival, for a log.
 ghost use Rattle.std.specs.Prelude.{◌≡◌, Some, option_map};
-ghost use Rattle.hall_desk.specs.{Account.{about, sent_by}, Moved.moved_by};
+ghost use Rattle.hall_desk.specs.{Account.{about, nothing_noted, sent_by, with_found}, Moved.moved_by};
 
 use crate::moved::{Moved, Seen, moved_by};
 use boot_desk::{BootView, Decision, OrderView, ReportView};
@@ -50,21 +50,28 @@ pub struct Account {
 }
 
 impl Account {
-    pub(crate) fn note_came(&mut self, came: Came)
-        ensures { self.new ≡ record self.old { came = came } }
+    /// The account of what was answered without the hall.
+    pub(crate) fn of(came: Came) -> Account
+        ensures { result ≡ record { came = came; notes = nothing_noted } }
     {
-        self.came = came;
+        Account {
+            came,
+            notes: Notes::NONE,
+        }
     }
 }
 
-impl Notes {
-    /// Nothing was found or changed.
-    pub const NONE: Notes = Notes {
-        decision: None,
-        unlisted: false,
+/// The operator whose token came, and the machine that an arrival is about, as far as they were found.
+#[derive(Clone, Copy)]
+pub(crate) struct Found {
+    pub(crate) operator: Option<Name>,
+    pub(crate) machine: Option<Seen>,
+}
+
+impl Found {
+    pub(crate) const NOTHING: Found = Found {
         operator: None,
         machine: None,
-        moved: None,
     };
 
     pub(crate) fn note_operator(&mut self, operator: &Option<Operator>)
@@ -114,6 +121,25 @@ impl Notes {
         if let Some(machine) = &view.machine {
             self.note_machine(machine);
         }
+    }
+}
+
+impl Notes {
+    /// Nothing was found or changed.
+    pub const NONE: Notes = Notes {
+        decision: None,
+        unlisted: false,
+        operator: None,
+        machine: None,
+        moved: None,
+    };
+
+    /// What was found, whatever came of it.
+    pub(crate) fn note_found(&mut self, found: Found)
+        ensures { self.new ≡ with_found found self.old }
+    {
+        self.operator = found.operator;
+        self.machine = found.machine;
     }
 
     pub(crate) fn note_change(&mut self, change: &Change)

@@ -11,7 +11,14 @@ pub enum Input {
     Quiet,
 }
 
-/// What comes, when, and with 16 fresh octets, which become the token of a boot that is issued.
+/// When something comes, and 16 fresh octets, which become the token of a boot that is issued.
+#[derive(Clone, Copy)]
+pub(crate) struct Stamp {
+    pub(crate) moment: Moment,
+    pub(crate) fresh: Token,
+}
+
+/// What comes, and its stamp.
 #[derive(Drop)]
 pub struct Arrival {
     pub moment: Moment,
@@ -22,8 +29,10 @@ pub struct Arrival {
 /// What the desk answers.
 #[derive(Drop)]
 pub enum Answer {
-    /// The octets of a datagram, or of a response by HTTP.
-    Octets(Octets),
+    /// The octets of a datagram.
+    Frame(Octets),
+    /// A response by HTTP: its status code (RFC 9110 section 15), and all of its octets.
+    Response { status: u16, octets: Octets },
     /// The arrival counts as not having come: memory or the store failed.
     Unavailable,
     Silence,
@@ -39,7 +48,7 @@ impl Answer {
         ensures { result.now ≡ octets_of self.now }
     {
         match self {
-            Answer::Octets(octets) => octets.as_slice(),
+            Answer::Frame(octets) | Answer::Response { octets, .. } => octets.as_slice(),
             Answer::Unavailable => UNAVAILABLE,
             Answer::Silence => &[],
         }

@@ -5,13 +5,11 @@ ghost use Rattle.desk_command.specs.{Command.sender, Look.Looks};
 ghost use Rattle.hall_laws.specs.{Decision.decision_of, Laws.IsFrame};
 ghost use Rattle.hall_types.specs.Hall.{Hall, second};
 ghost use Rattle.boot_desk.specs.Sound.{IsSound};
-ghost use Rattle.hall_desk.specs.{Account.{IsDatagram, IsFound, IsReadAs}, Answering.Answers, Attempt.{ChangeNothing, GivesAnswer, IsOnlyRead}, Desk.{enlists_of, site_of, store_of}, Headline.HasHistory, History.{BeginsWith, Item, Origin, carried_out, exchanges}, Plan.{CarriesOut, Plans}, Sender.if_enabled, Stops.{AndCutRun, AreGiven, HasRun, IsLeft, IsSettled, OrUnreplied}};
+ghost use Rattle.hall_desk.specs.{Account.{IsFound, IsReadAs}, Answering.{Answers, Gives}, Attempt.{ChangeNothing, IsOnlyRead}, Desk.{enlists_of, site_of, store_of}, Headline.HasHistory, History.{BeginsWith, Item, Origin, carried_out, exchanges}, Plan.{CarriesOut, Plans}, Sender.if_enabled, Stops.{AndCutRun, AreGiven, HasRun, IsLeft, IsSettled, OrUnreplied}};
 
-use crate::account::{Account, Came, Notes};
-use crate::arrival::{Answer, Arrival};
-use crate::attempts::{attempt, missed};
+use crate::account::{Account, Found};
+use crate::arrival::{Answer, Arrival, Input, Stamp};
 use crate::laws::histories_keep_the_laws;
-use crate::planning::planned;
 use crate::requests::enabled_sender;
 use crate::typed::event_is_typed;
 use crate::writing::write;
@@ -25,10 +23,10 @@ use std::alloc::{AllocError, Global};
 /// A desk: the store of its hall, and the place that it serves. Contracts see both.
 #[derive(Drop)]
 pub struct Desk<S> {
-    store: S,
-    place: Place,
+    pub(crate) store: S,
+    pub(crate) place: Place,
     // Whether unknown clients are enlisted.
-    enlists: bool,
+    pub(crate) enlists: bool,
 }
 
 // Whether an event is refused by a desk that doesn't enlist: a client's frame that writes rows enlists the client.
@@ -92,16 +90,9 @@ impl<S: HallStore> Desk<S> {
             (λ h planned. Plans (decision_of (site_of self.old) h event.now moment fresh) planned) }
         ensures unlisted { enlists_of self.old ≡ false → IsFrame event.now → IfOk result (λ planned. planned.0 ≡ []) }
     {
-        let mut notes = Notes::NONE;
-        let (change, reply) = planned(
-            alloc,
-            &mut self.store,
-            &self.place,
-            event,
-            moment,
-            fresh,
-            &mut notes,
-        )?;
+        let mut found = Found::NOTHING;
+        let stamp = Stamp { moment, fresh };
+        let (change, reply) = self.planned(alloc, event, stamp, &mut found)?;
         if is_refused(self.enlists, event, &change) {
             return Err(Unavailable);
         }
@@ -186,31 +177,19 @@ impl<S: HallStore> Desk<S> {
     }
 
     // Answers what came, with an account of it.
-    #[tactic(auto, using(crate::proofs::AttemptLemmas::answered_ok, crate::proofs::AttemptLemmas::answered_err))]
     fn take(&mut self, alloc: Global, arrival: &Arrival) -> (Answer, Account)
-        ensures site { site_of self.new ≡ site_of self.old }
-        ensures answer { GivesAnswer S.HallStore (store_of self.old) (store_of self.new)
-            (site_of self.old) arrival.now.input arrival.now.moment arrival.now.fresh result.0 }
-        ensures came { IsReadAs arrival.now.input result.1.came }
-        ensures found { S.HallStore.is_clean (store_of self.new) → (h : Hall) → S.HallStore.holds (store_of self.old) h
-            → IsFound (enlists_of self.old) (site_of self.old) h arrival.now.input arrival.now.moment arrival.now.fresh result.0 result.1 }
-        ensures enlists { enlists_of self.new ≡ enlists_of self.old }
-        ensures unlisted { enlists_of self.old ≡ false → IsDatagram arrival.now.input → S.HallStore.is_clean (store_of self.new) → IsOnlyRead S.HallStore (store_of self.old) (store_of self.new) }
+        ensures { Gives S.HallStore self.old self.new arrival.now.input arrival.now.moment arrival.now.fresh result }
     {
-        let mut account = Account {
-            came: Came::Quiet,
-            notes: Notes::NONE,
+        let stamp = Stamp {
+            moment: arrival.moment,
+            fresh: arrival.fresh,
         };
-        match attempt(
-            alloc,
-            &mut self.store,
-            &self.place,
-            arrival,
-            self.enlists,
-            &mut account,
-        ) {
-            Ok(answer) => (answer, account),
-            Err(Unavailable) => (missed(&arrival.input), account),
+        match &arrival.input {
+            Input::Datagram { port, octets } => {
+                self.answer_datagram(alloc, *port, octets.as_slice(), stamp)
+            }
+            Input::Request(octets) => self.answer_request(alloc, octets.as_slice(), stamp),
+            Input::Quiet => self.answer_quiet(alloc, stamp),
         }
     }
 

@@ -2,8 +2,8 @@
 #![tactic(auto)]
 
 mod account;
+mod answering;
 mod arrival;
-mod attempts;
 mod carrying;
 mod desk;
 mod laws;

@@ -1,8 +1,9 @@
 //! Answers in octets.
-ghost use Rattle.std.specs.Prelude.{◌≡◌, IfOk};
+ghost use Rattle.std.specs.Prelude.{◌≡◌, ◌≢◌, IfOk};
 ghost use Rattle.hall_events.specs.Reply.{reply_of, Content};
 ghost use Rattle.hall_types.specs.Hall.{second, Hall};
 ghost use Rattle.hall_events.specs.Reply as content;
+ghost use Rattle.hall_http.specs.declared.fault.HttpFault.TheVariants as why;
 ghost use Rattle.hall_desk.specs.Octets.{refusal_of, response_answer, frame_answer};
 ghost use Rattle.pxe_vendor.specs.Place.{Site};
 ghost use Rattle.hall_laws.specs.Decision.{framed};
@@ -21,11 +22,17 @@ use std::alloc::Global;
 fn response_with(alloc: Global, reply: &Reply) -> Result<Answer, Unavailable>
     ensures { (said : Content) → reply.now ≡ reply_of second said → IfOk result (λ answer. answer ≡ response_answer said) }
 {
+    let Reply::Http { status, .. } = reply else {
+        return Err(Unavailable);
+    };
     if !is_response(reply) {
         return Err(Unavailable);
     }
-    let octets = bytes_of(alloc, reply)?;
-    Ok(Answer::Octets(Octets::from(octets)))
+    let octets = Octets::from(bytes_of(alloc, reply)?);
+    Ok(Answer::Response {
+        status: *status,
+        octets,
+    })
 }
 
 /// The response with an answer by HTTP. `Unavailable` if memory is wanting, or a receipt kept a status that no response
@@ -52,10 +59,14 @@ fn refusal_of(fault: HttpFault) -> Refusal
     }
 }
 
-/// The response to a request that makes no event.
+/// The response to a request that makes no event. There is none where memory was wanting to read it.
 pub(crate) fn fault_response(alloc: Global, fault: HttpFault) -> Result<Answer, Unavailable>
-    ensures { IfOk result (λ answer. answer ≡ response_answer (content.refused (refusal_of fault))) }
+    ensures known { IfOk result (λ answer. fault ≢ why.Memory) }
+    ensures response { IfOk result (λ answer. answer ≡ response_answer (content.refused (refusal_of fault))) }
 {
+    if let HttpFault::Memory = fault {
+        return Err(Unavailable);
+    }
     let reply = Reply::refused(alloc, refusal_of(fault))?;
     response(alloc, reply)
 }
@@ -74,7 +85,7 @@ pub(crate) fn client_answer(
         return Ok(Answer::Silence);
     }
     match boot_reply(alloc, frame, client, place) {
-        Ok(octets) => Ok(Answer::Octets(Octets::from(octets))),
+        Ok(octets) => Ok(Answer::Frame(Octets::from(octets))),
         Err(_) => Err(Unavailable),
     }
 }

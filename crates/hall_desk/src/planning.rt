@@ -1,60 +1,85 @@
 //! What is planned for every event.
-ghost use Rattle.std.specs.Prelude.{◌≡◌, OnOk};
-ghost use Rattle.hall_types.specs.Hall.{Hall};
-ghost use Rattle.hall_laws.specs.Decision.{decision_of};
+ghost use Rattle.std.specs.Prelude.{◌≡◌};
 ghost use Rattle.desk_command.specs.Look.{Looks};
-ghost use Rattle.hall_desk.specs.{Account.found_for, Plan.Plans};
+ghost use Rattle.hall_desk.specs.{Account.found_for, Desk.{Stays, site_of, store_of}, Plan.{Plans, decided_at}};
 
-use crate::account::Notes;
-use crate::plans::{plan_frame, plan_quiet, plan_report, plan_script};
+use crate::account::Found;
+use crate::arrival::Stamp;
+use crate::desk::Desk;
+use crate::plans::{
+    OrderAnswer, noted_boot_view, noted_expired_view, noted_report_view, plan_frame, plan_quiet,
+    plan_report, plan_script,
+};
 use crate::requests::{
-    plan_command, plan_machines, plan_one_machine, plan_order_answer, plan_orders,
+    Sent, plan_command, plan_machines, plan_one_machine, plan_order_answer, plan_orders,
 };
 use hall_events::{Event, Reply};
 use hall_store::{HallStore, Unavailable};
-use hall_types::{Change, Moment, Token};
-use pxe_vendor::Place;
+use hall_types::Change;
 use std::alloc::Global;
 
-/// What is planned for an event: the rows to write, and the answer. The store's hall isn't changed.
-#[tactic(auto, unfolding(hall_laws::specs::Decision::decision_of))]
-pub(crate) fn planned<S: HallStore>(
-    alloc: Global,
-    store: &mut S,
-    place: &Place,
-    event: &Event,
-    moment: Moment,
-    fresh: Token,
-    notes: &mut Notes,
-) -> Result<(Change, Reply), Unavailable>
-    ensures planned { Looks S.HallStore store.old store.new result
-        (λ h its. Plans (decision_of place.now h event.now moment fresh) its) }
-    ensures noted { S.HallStore.is_clean store.new → OnOk result ((h : Hall) → S.HallStore.holds store.old h → notes.new ≡ found_for h moment event.now notes.old) }
-    ensures unmoved { notes.new.moved ≡ notes.old.moved }
-{
-    match event {
-        Event::Frame { port, client } => plan_frame(alloc, store, place, *port, client),
-        Event::Script { mac } => plan_script(alloc, store, place, *mac, moment, fresh, notes),
-        Event::Report {
-            boot,
-            token,
-            progress,
-        } => plan_report(alloc, store, *boot, *token, *progress, moment, notes),
-        Event::Orders { bearer } => plan_orders(alloc, store, *bearer, notes),
-        Event::OrderAnswer {
-            bearer,
-            order,
-            outcome,
-        } => plan_order_answer(alloc, store, *bearer, *order, *outcome, moment, notes),
-        Event::Machines { bearer } => plan_machines(alloc, store, *bearer, notes),
-        Event::OneMachine { bearer, machine } => {
-            plan_one_machine(alloc, store, *bearer, *machine, notes)
+impl<S: HallStore> Desk<S> {
+    /// What is planned for an event: the rows to write, and the answer. The hall isn't changed.
+    #[tactic(auto, unfolding(hall_laws::specs::Decision::decision_of))]
+    pub(crate) fn planned(
+        &mut self,
+        alloc: Global,
+        event: &Event,
+        stamp: Stamp,
+        found: &mut Found,
+    ) -> Result<(Change, Reply), Unavailable>
+        ensures stays { Stays self.old self.new }
+        ensures planned { Looks S.HallStore (store_of self.old) (store_of self.new) result
+            (λ h its. Plans (decided_at (site_of self.old) stamp event.now h) its × (found.new ≡ found_for h stamp.moment event.now found.old)) }
+    {
+        let (store, place) = (&mut self.store, &self.place);
+        match event {
+            Event::Frame { port, client } => plan_frame(alloc, store, place, *port, client),
+            Event::Script { mac } => {
+                let view = noted_boot_view(alloc, store, *mac, found)?;
+                plan_script(alloc, view, place, stamp)
+            }
+            Event::Report {
+                boot,
+                token,
+                progress,
+            } => {
+                let view = noted_report_view(alloc, store, *boot, found)?;
+                plan_report(alloc, view, *token, *progress, stamp.moment)
+            }
+            Event::Orders { bearer } => plan_orders(alloc, store, *bearer, found),
+            Event::OrderAnswer {
+                bearer,
+                order,
+                outcome,
+            } => {
+                let answer = OrderAnswer {
+                    order: *order,
+                    outcome: *outcome,
+                    moment: stamp.moment,
+                };
+                plan_order_answer(alloc, store, *bearer, answer, found)
+            }
+            Event::Machines { bearer } => plan_machines(alloc, store, *bearer, found),
+            Event::OneMachine { bearer, machine } => {
+                plan_one_machine(alloc, store, *bearer, *machine, found)
+            }
+            Event::Command {
+                bearer,
+                key,
+                command,
+            } => {
+                let sent = Sent {
+                    key: *key,
+                    wish: command,
+                    moment: stamp.moment,
+                };
+                plan_command(alloc, store, *bearer, sent, found)
+            }
+            Event::Quiet => {
+                let view = noted_expired_view(alloc, store, stamp.moment, found)?;
+                plan_quiet(alloc, view, stamp.moment)
+            }
         }
-        Event::Command {
-            bearer,
-            key,
-            command,
-        } => plan_command(alloc, store, *bearer, *key, command, moment, notes),
-        Event::Quiet => plan_quiet(alloc, store, moment, notes),
     }
 }

@@ -1,18 +1,22 @@
 //! What is planned for each event.
-ghost use Rattle.std.specs.Prelude.{◌≡◌, [], List, IfOk, OnOk, option_copied, option_map};
+ghost use Rattle.std.specs.Prelude.{◌≡◌, [], List, IfOk, option_copied, option_map};
 ghost use Rattle.pxe_vendor.specs.Place.{Site};
 ghost use Rattle.hall_types.specs.{Hall.{Hall, second}, Lookup.next_expired, declared.change.RowWrite.RowWrite};
 ghost use Rattle.hall_events.specs.Reply.{nothing, reply_of};
 ghost use Rattle.boot_desk.specs.{Decided.Decides, Expiry.swept, Fetch.Fetched, OrderAnswer.answered, Report.{Judged, reported}};
 ghost use Rattle.boot_desk.specs.FrameEvent as event;
-ghost use Rattle.boot_desk.specs.Views as view;
+ghost use Rattle.boot_desk.specs.Views as views;
 ghost use Rattle.hall_laws.specs.Decision as made;
 ghost use Rattle.hall_laws.specs.Decision.{framed, given_if, judged, refuses, verdict_content};
 ghost use Rattle.desk_command.specs.Look.{Looks};
 ghost use Rattle.hall_desk.specs.{Account.about, Plan.{Plans, rows_for}};
 
-use crate::account::Notes;
-use boot_desk::{Decision, DeskFault, Verdict, enlist, fetch, frame, order_answer, report, sweep};
+use crate::account::Found;
+use crate::arrival::Stamp;
+use boot_desk::{
+    BootView, Decision, DeskFault, ReportView, Verdict, enlist, fetch, frame, order_answer, report,
+    sweep,
+};
 use desk_command::{expired_view, frame_view, order_view, report_view, view_at};
 use hall_events::Reply;
 use hall_store::{HallStore, Unavailable};
@@ -90,6 +94,7 @@ fn client_reply(
     Ok(Reply::boot_file(file))
 }
 
+/// What is planned for a client's frame.
 pub(crate) fn plan_frame<S: HallStore>(
     alloc: Global,
     store: &mut S,
@@ -121,24 +126,32 @@ fn script_plan(
     }
 }
 
-pub(crate) fn plan_script<S: HallStore>(
+/// The machine that an address is recorded with, which is noted.
+pub(crate) fn noted_boot_view<S: HallStore>(
     alloc: Global,
     store: &mut S,
-    place: &Place,
     mac: MacAddress,
-    moment: Moment,
-    fresh: Token,
-    notes: &mut Notes,
-) -> Result<(Change, Reply), Unavailable>
-    ensures planned { Looks S.HallStore store.old store.new result
-        (λ h planned. Plans (given_if place.now.host (view.view_at h mac) moment fresh) planned) }
-    ensures noted { S.HallStore.is_clean store.new → OnOk result ((h : Hall) → S.HallStore.holds store.old h → notes.new ≡ about (option_map (λ its. its.machine) (view.view_at h mac)) notes.old) }
-    ensures unmoved { notes.new.moved ≡ notes.old.moved }
+    found: &mut Found,
+) -> Result<Option<BootView>, Unavailable>
+    ensures { Looks S.HallStore store.old store.new result
+        (λ h answer. (answer ≡ views.view_at h mac) × (found.new ≡ about (option_map (λ its. its.machine) (views.view_at h mac)) found.old)) }
 {
     let view = view_at(alloc, store, mac)?;
-    notes.note_boot_view(&view);
+    found.note_boot_view(&view);
+    Ok(view)
+}
+
+/// What is planned for a request for a script.
+pub(crate) fn plan_script(
+    alloc: Global,
+    view: Option<BootView>,
+    place: &Place,
+    stamp: Stamp,
+) -> Result<(Change, Reply), Unavailable>
+    ensures { IfOk result (λ planned. Plans (given_if place.now.host view stamp.moment stamp.fresh) planned) }
+{
     let plan = match &view {
-        Some(view) => script_plan(alloc, fetch(alloc, view, place, moment, fresh)),
+        Some(view) => script_plan(alloc, fetch(alloc, view, place, stamp.moment, stamp.fresh)),
         None => refused(alloc, Refusal::NoMachine),
     };
     drop(view);
@@ -169,71 +182,89 @@ fn verdict_plan(
     }
 }
 
-pub(crate) fn plan_report<S: HallStore>(
+/// The boot that a report is on, whose machine is noted.
+pub(crate) fn noted_report_view<S: HallStore>(
     alloc: Global,
     store: &mut S,
     boot: Number,
+    found: &mut Found,
+) -> Result<Option<ReportView>, Unavailable>
+    ensures { Looks S.HallStore store.old store.new result
+        (λ h answer. (answer ≡ views.report_view h boot) × (found.new ≡ about (option_map (λ its. its.at.machine) (views.report_view h boot)) found.old)) }
+{
+    let view = report_view(alloc, store, boot)?;
+    found.note_report_view(&view);
+    Ok(view)
+}
+
+/// What is planned for a report.
+pub(crate) fn plan_report(
+    alloc: Global,
+    view: Option<ReportView>,
     token: Token,
     progress: Progress,
     moment: Moment,
-    notes: &mut Notes,
 ) -> Result<(Change, Reply), Unavailable>
-    ensures planned { Looks S.HallStore store.old store.new result
-        (λ h planned. Plans (judged (reported (view.report_view h boot) token progress moment)) planned) }
-    ensures noted { S.HallStore.is_clean store.new → OnOk result ((h : Hall) → S.HallStore.holds store.old h → notes.new ≡ about (option_map (λ its. its.at.machine) (view.report_view h boot)) notes.old) }
-    ensures unmoved { notes.new.moved ≡ notes.old.moved }
+    ensures { IfOk result (λ planned. Plans (judged (reported view token progress moment)) planned) }
 {
-    let view = report_view(alloc, store, boot)?;
-    notes.note_report_view(&view);
     let plan = verdict_plan(alloc, report(alloc, view.as_ref(), token, progress, moment));
     drop(view);
     plan
 }
 
-/// The answer to an order, of a sender that may answer.
+/// The answer to an order, and when it came.
+#[derive(Clone, Copy)]
+pub(crate) struct OrderAnswer {
+    pub(crate) order: Number,
+    pub(crate) outcome: Outcome,
+    pub(crate) moment: Moment,
+}
+
+/// What is planned for the answer to an order, of a sender that may answer.
 pub(crate) fn judge_answer<S: HallStore>(
     alloc: Global,
     store: &mut S,
-    order: Number,
-    outcome: Outcome,
-    moment: Moment,
-    notes: &mut Notes,
+    answer: OrderAnswer,
+    found: &mut Found,
 ) -> Result<(Change, Reply), Unavailable>
-    ensures planned { Looks S.HallStore store.old store.new result
-        (λ h planned. Plans (judged (answered (view.order_view h order) outcome moment)) planned) }
-    ensures noted { S.HallStore.is_clean store.new → OnOk result ((h : Hall) → S.HallStore.holds store.old h → notes.new ≡ about (option_map (λ its. its.at.machine) (view.order_view h order)) notes.old) }
-    ensures unmoved { notes.new.moved ≡ notes.old.moved }
+    ensures { Looks S.HallStore store.old store.new result
+        (λ h planned. Plans (judged (answered (views.order_view h answer.order) answer.outcome answer.moment)) planned
+        × (found.new ≡ about (option_map (λ its. its.at.machine) (views.order_view h answer.order)) found.old)) }
 {
-    let view = order_view(alloc, store, order)?;
-    notes.note_order_view(&view);
-    let plan = verdict_plan(alloc, order_answer(alloc, view.as_ref(), outcome, moment));
+    let view = order_view(alloc, store, answer.order)?;
+    found.note_order_view(&view);
+    let judged = order_answer(alloc, view.as_ref(), answer.outcome, answer.moment);
+    let plan = verdict_plan(alloc, judged);
     drop(view);
     plan
 }
 
-// No answer, with the rows of what expired.
-#[tactic(auto, unfolding(hall_events::specs::Reply::reply_of))]
-fn quiet_plan(swept: Result<Change, AllocError>) -> Result<(Change, Reply), Unavailable>
-    ensures { (rows : List RowWrite) → IfOk swept (λ change. change ≡ rows) → IfOk result (λ planned. Plans (record { rows = rows; content = nothing }) planned) }
-{
-    Ok((swept?, Reply::Nothing))
-}
-
-/// A quiet moment: the machine whose deadline comes first expires, if it is due.
-pub(crate) fn plan_quiet<S: HallStore>(
+/// The machine whose deadline comes first and is due, which is noted.
+pub(crate) fn noted_expired_view<S: HallStore>(
     alloc: Global,
     store: &mut S,
     moment: Moment,
-    notes: &mut Notes,
-) -> Result<(Change, Reply), Unavailable>
-    ensures planned { Looks S.HallStore store.old store.new result
-        (λ h planned. Plans (record { rows = swept (view.machine_view h (next_expired h moment)) moment; content = nothing }) planned) }
-    ensures noted { S.HallStore.is_clean store.new → OnOk result ((h : Hall) → S.HallStore.holds store.old h → notes.new ≡ about (option_map (λ its. its.machine) (view.machine_view h (next_expired h moment))) notes.old) }
-    ensures unmoved { notes.new.moved ≡ notes.old.moved }
+    found: &mut Found,
+) -> Result<Option<BootView>, Unavailable>
+    ensures { Looks S.HallStore store.old store.new result
+        (λ h answer. (answer ≡ views.machine_view h (next_expired h moment))
+        × (found.new ≡ about (option_map (λ its. its.machine) (views.machine_view h (next_expired h moment))) found.old)) }
 {
     let view = expired_view(alloc, store, moment)?;
-    notes.note_boot_view(&view);
-    let plan = quiet_plan(sweep(alloc, view.as_ref(), moment));
+    found.note_boot_view(&view);
+    Ok(view)
+}
+
+/// What is planned for a quiet moment: no answer, with the rows of what expired.
+#[tactic(auto, unfolding(hall_events::specs::Reply::reply_of))]
+pub(crate) fn plan_quiet(
+    alloc: Global,
+    view: Option<BootView>,
+    moment: Moment,
+) -> Result<(Change, Reply), Unavailable>
+    ensures { IfOk result (λ planned. Plans (record { rows = swept view moment; content = nothing }) planned) }
+{
+    let swept = sweep(alloc, view.as_ref(), moment);
     drop(view);
-    plan
+    Ok((swept?, Reply::Nothing))
 }

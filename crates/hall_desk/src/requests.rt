@@ -1,36 +1,35 @@
 //! What is planned for what operators and the power program ask.
-ghost use Rattle.std.specs.Prelude.{◌≡◌, [], map, IfOk, OnOk, Ok, None, option_map};
-ghost use Rattle.hall_types.specs.{Hall.{Hall, pair}, Lookup.waiting, Rows.{at, listed}};
+ghost use Rattle.std.specs.Prelude.{◌≡◌, [], map, IfOk, Ok, None, option_map};
+ghost use Rattle.hall_types.specs.{Hall.pair, Lookup.waiting, Rows.{at, listed}};
 ghost use Rattle.boot_desk.specs.{Decided.Decides, OrderAnswer.answered};
-ghost use Rattle.boot_desk.specs.Views as view;
+ghost use Rattle.boot_desk.specs.Views as views;
 ghost use Rattle.desk_command.specs.Command as commands;
 ghost use Rattle.desk_command.specs.{Command.replied, Effect.Effect, Look.Looks};
 ghost use Rattle.hall_laws.specs.Decision.{commanded, if_role, judged, listed_if, listed_of, may_answer, may_see_machines, may_see_orders, says};
 ghost use Rattle.hall_events.specs.Reply.{machine_list, waiting_orders};
-ghost use Rattle.hall_desk.specs.{Account.{about, if_may, machine_keyed, machine_named, machine_sent, sent_by}, Plan.Plans, Sender.if_enabled};
+ghost use Rattle.hall_desk.specs.{Account.{about, if_may, machine_keyed, machine_named, machine_sent, sent_by}, Plan.Plans, Sender.{if_enabled, may}};
 
-use crate::account::Notes;
+use crate::account::Found;
 use crate::listing::list_machines;
-use crate::plans::{judge_answer, refused};
+use crate::plans::{OrderAnswer, judge_answer, refused};
 use boot_desk::DeskFault;
 use desk_command::{command, command_view, may_send, repeated, sender};
 use hall_events::{HallCommand, Reply};
 use hall_store::{HallStore, Unavailable};
-use hall_types::{Change, Digest, Moment, Number, Operator, Outcome, Refusal, RequestKey, Role};
+use hall_types::{Change, Digest, Moment, Number, Operator, Refusal, RequestKey, Role};
 use std::alloc::{AllocError, Global};
 
 // The operator of a bearer token's digest, who is noted.
 fn noted_sender<S: HallStore>(
     store: &mut S,
     bearer: Option<Digest>,
-    notes: &mut Notes,
+    found: &mut Found,
 ) -> Result<Option<Operator>, Unavailable>
-    ensures sender { Looks S.HallStore store.old store.new result (λ h answer. answer ≡ commands.sender h bearer) }
-    ensures noted { S.HallStore.is_clean store.new → OnOk result ((h : Hall) → S.HallStore.holds store.old h → notes.new ≡ sent_by (commands.sender h bearer) notes.old) }
-    ensures unmoved { notes.new.moved ≡ notes.old.moved }
+    ensures { Looks S.HallStore store.old store.new result
+        (λ h answer. (answer ≡ commands.sender h bearer) × (found.new ≡ sent_by (commands.sender h bearer) found.old)) }
 {
     let operator = sender(store, bearer)?;
-    notes.note_operator(&operator);
+    found.note_operator(&operator);
     Ok(operator)
 }
 
@@ -55,7 +54,38 @@ pub(crate) fn enabled_sender<S: HallStore>(
     Ok(if_enabled(operator))
 }
 
+// ---- what only some roles may ask for
+
+/// What an operator may ask for beside commands.
+#[derive(Clone, Copy)]
+pub(crate) enum Right {
+    SeeOrders,
+    AnswerOrders,
+    SeeMachines,
+}
+
+impl Right {
+    // The power program and admins see the orders; the power program alone answers them; users and admins see machines.
+    fn is_of(self, role: Role) -> bool
+        ensures { result ≡ may self role }
+    {
+        match self {
+            Right::SeeOrders => matches!(role, Role::Admin | Role::Power),
+            Right::AnswerOrders => matches!(role, Role::Power),
+            Right::SeeMachines => matches!(role, Role::Admin | Role::User),
+        }
+    }
+}
+
 // ---- commands
+
+/// A command as it was sent, and when it came.
+#[derive(Clone, Copy)]
+pub(crate) struct Sent<'a> {
+    pub(crate) key: RequestKey,
+    pub(crate) wish: &'a HallCommand,
+    pub(crate) moment: Moment,
+}
 
 // The answer to a command.
 fn command_plan(
@@ -76,21 +106,19 @@ fn plan_new_command<S: HallStore>(
     alloc: Global,
     store: &mut S,
     by: &Operator,
-    key: RequestKey,
-    wish: &HallCommand,
-    moment: Moment,
-    notes: &mut Notes,
+    sent: Sent<'_>,
+    found: &mut Found,
 ) -> Result<(Change, Reply), Unavailable>
-    ensures planned { Looks S.HallStore store.old store.new result
-        (λ h planned. Plans (commanded (commands.keyed h by.now None key wish.now moment)) planned) }
-    ensures noted { S.HallStore.is_clean store.new → OnOk result ((h : Hall) → S.HallStore.holds store.old h → notes.new ≡ about (machine_named h by.now wish.now) notes.old) }
-    ensures unmoved { notes.new.moved ≡ notes.old.moved }
+    ensures { Looks S.HallStore store.old store.new result
+        (λ h planned. Plans (commanded (commands.keyed h by.now None sent.entry.key sent.entry.wish.now sent.entry.moment)) planned
+        × (found.new ≡ about (machine_named h by.now sent.entry.wish.now) found.old)) }
 {
+    let Sent { key, wish, moment } = sent;
     if !may_send(by.role, wish) {
         return refused(alloc, Refusal::RoleNeeded);
     }
     let view = command_view(alloc, store, by, wish)?;
-    notes.note_command_view(&view);
+    found.note_command_view(&view);
     let plan = command_plan(alloc, command(alloc, &view, by, key, wish, moment));
     drop(view);
     plan
@@ -101,78 +129,47 @@ fn plan_keyed<S: HallStore>(
     alloc: Global,
     store: &mut S,
     by: &Operator,
-    key: RequestKey,
-    wish: &HallCommand,
-    moment: Moment,
-    notes: &mut Notes,
+    sent: Sent<'_>,
+    found: &mut Found,
 ) -> Result<(Change, Reply), Unavailable>
-    ensures planned { Looks S.HallStore store.old store.new result
-        (λ h planned. Plans (commanded (commands.keyed h by.now (at h.receipts (pair by.now.name key)) key wish.now moment)) planned) }
-    ensures noted { S.HallStore.is_clean store.new → OnOk result ((h : Hall) → S.HallStore.holds store.old h → notes.new ≡ about (machine_keyed h by.now (at h.receipts (pair by.now.name key)) wish.now) notes.old) }
-    ensures unmoved { notes.new.moved ≡ notes.old.moved }
+    ensures { Looks S.HallStore store.old store.new result
+        (λ h planned. Plans (commanded (commands.keyed h by.now (at h.receipts (pair by.now.name sent.entry.key)) sent.entry.key sent.entry.wish.now sent.entry.moment)) planned
+        × (found.new ≡ about (machine_keyed h by.now (at h.receipts (pair by.now.name sent.entry.key)) sent.entry.wish.now) found.old)) }
 {
+    let Sent { key, wish, moment } = sent;
     match store.receipt(alloc, &by.name, key)? {
         Some(receipt) => {
             let plan = command_plan(alloc, repeated(alloc, &receipt, wish));
             drop(receipt);
             plan
         }
-        None => plan_new_command(alloc, store, by, key, wish, moment, notes),
+        None => plan_new_command(alloc, store, by, Sent { key, wish, moment }, found),
     }
 }
 
+/// What is planned for a command.
 #[tactic(auto, unfolding(desk_command::specs::Command::command_decision))]
 pub(crate) fn plan_command<S: HallStore>(
     alloc: Global,
     store: &mut S,
     bearer: Option<Digest>,
-    key: RequestKey,
-    wish: &HallCommand,
-    moment: Moment,
-    notes: &mut Notes,
+    sent: Sent<'_>,
+    found: &mut Found,
 ) -> Result<(Change, Reply), Unavailable>
-    ensures planned { Looks S.HallStore store.old store.new result
-        (λ h planned. Plans (commanded (commands.command_decision h bearer key wish.now moment)) planned) }
-    ensures noted { S.HallStore.is_clean store.new → OnOk result ((h : Hall) → S.HallStore.holds store.old h → notes.new ≡ about (machine_sent h (commands.sender h bearer) key wish.now) (sent_by (commands.sender h bearer) notes.old)) }
-    ensures unmoved { notes.new.moved ≡ notes.old.moved }
+    ensures { Looks S.HallStore store.old store.new result
+        (λ h planned. Plans (commanded (commands.command_decision h bearer sent.entry.key sent.entry.wish.now sent.entry.moment)) planned
+        × (found.new ≡ about (machine_sent h (commands.sender h bearer) sent.entry.key sent.entry.wish.now) (sent_by (commands.sender h bearer) found.old))) }
 {
-    match noted_sender(store, bearer, notes)? {
-        Some(by) if by.enabled => plan_keyed(alloc, store, &by, key, wish, moment, notes),
+    let Sent { key, wish, moment } = sent;
+    match noted_sender(store, bearer, found)? {
+        Some(by) if by.enabled => {
+            plan_keyed(alloc, store, &by, Sent { key, wish, moment }, found)
+        }
         Some(_) | None => refused(alloc, Refusal::UnknownToken),
     }
 }
 
-// ---- orders and listings
-
-// The power program and admins see the orders.
-fn may_see_orders(role: Role) -> bool
-    ensures { result ≡ may_see_orders role }
-{
-    match role {
-        Role::Admin | Role::Power => true,
-        Role::User => false,
-    }
-}
-
-// The power program alone answers orders.
-fn may_answer(role: Role) -> bool
-    ensures { result ≡ may_answer role }
-{
-    match role {
-        Role::Power => true,
-        Role::Admin | Role::User => false,
-    }
-}
-
-// Users and admins see machines.
-fn may_see_machines(role: Role) -> bool
-    ensures { result ≡ may_see_machines role }
-{
-    match role {
-        Role::Admin | Role::User => true,
-        Role::Power => false,
-    }
-}
+// ---- orders and lists
 
 // An answer that writes nothing.
 pub(crate) fn said(
@@ -184,6 +181,7 @@ pub(crate) fn said(
     Ok((Change::from(Vec::new(alloc)), reply?))
 }
 
+// The orders that wait.
 fn list_orders<S: HallStore>(alloc: Global, store: &mut S) -> Result<(Change, Reply), Unavailable>
     ensures { Looks S.HallStore store.old store.new result
         (λ h planned. Plans (says (waiting_orders (waiting h))) planned) }
@@ -192,20 +190,20 @@ fn list_orders<S: HallStore>(alloc: Global, store: &mut S) -> Result<(Change, Re
     said(alloc, Reply::orders(alloc, &orders))
 }
 
+/// What is planned for a request for the orders.
 pub(crate) fn plan_orders<S: HallStore>(
     alloc: Global,
     store: &mut S,
     bearer: Option<Digest>,
-    notes: &mut Notes,
+    found: &mut Found,
 ) -> Result<(Change, Reply), Unavailable>
-    ensures planned { Looks S.HallStore store.old store.new result
-        (λ h planned. Plans (if_role may_see_orders (commands.sender h bearer) (says (waiting_orders (waiting h)))) planned) }
-    ensures noted { S.HallStore.is_clean store.new → OnOk result ((h : Hall) → S.HallStore.holds store.old h → notes.new ≡ sent_by (commands.sender h bearer) notes.old) }
-    ensures unmoved { notes.new.moved ≡ notes.old.moved }
+    ensures { Looks S.HallStore store.old store.new result
+        (λ h planned. Plans (if_role may_see_orders (commands.sender h bearer) (says (waiting_orders (waiting h)))) planned
+        × (found.new ≡ sent_by (commands.sender h bearer) found.old)) }
 {
-    match noted_sender(store, bearer, notes)? {
+    match noted_sender(store, bearer, found)? {
         Some(by) if by.enabled => {
-            if may_see_orders(by.role) {
+            if Right::SeeOrders.is_of(by.role) {
                 list_orders(alloc, store)
             } else {
                 refused(alloc, Refusal::RoleNeeded)
@@ -215,24 +213,22 @@ pub(crate) fn plan_orders<S: HallStore>(
     }
 }
 
+/// What is planned for the answer to an order.
 pub(crate) fn plan_order_answer<S: HallStore>(
     alloc: Global,
     store: &mut S,
     bearer: Option<Digest>,
-    order: Number,
-    outcome: Outcome,
-    moment: Moment,
-    notes: &mut Notes,
+    answer: OrderAnswer,
+    found: &mut Found,
 ) -> Result<(Change, Reply), Unavailable>
-    ensures planned { Looks S.HallStore store.old store.new result
-        (λ h planned. Plans (if_role may_answer (commands.sender h bearer) (judged (answered (view.order_view h order) outcome moment))) planned) }
-    ensures noted { S.HallStore.is_clean store.new → OnOk result ((h : Hall) → S.HallStore.holds store.old h → notes.new ≡ about (if_may may_answer (commands.sender h bearer) (option_map (λ its. its.at.machine) (view.order_view h order))) (sent_by (commands.sender h bearer) notes.old)) }
-    ensures unmoved { notes.new.moved ≡ notes.old.moved }
+    ensures { Looks S.HallStore store.old store.new result
+        (λ h planned. Plans (if_role may_answer (commands.sender h bearer) (judged (answered (views.order_view h answer.order) answer.outcome answer.moment))) planned
+        × (found.new ≡ about (if_may may_answer (commands.sender h bearer) (option_map (λ its. its.at.machine) (views.order_view h answer.order))) (sent_by (commands.sender h bearer) found.old))) }
 {
-    match noted_sender(store, bearer, notes)? {
+    match noted_sender(store, bearer, found)? {
         Some(by) if by.enabled => {
-            if may_answer(by.role) {
-                judge_answer(alloc, store, order, outcome, moment, notes)
+            if Right::AnswerOrders.is_of(by.role) {
+                judge_answer(alloc, store, answer, found)
             } else {
                 refused(alloc, Refusal::RoleNeeded)
             }
@@ -256,22 +252,21 @@ fn list_one<S: HallStore>(
     let interfaces = store.interfaces_of(alloc, machine.id)?;
     said(alloc, Reply::one_machine(alloc, &machine, &interfaces))
 }
-
+/// What is planned for a request for one machine.
 pub(crate) fn plan_one_machine<S: HallStore>(
     alloc: Global,
     store: &mut S,
     bearer: Option<Digest>,
     id: Number,
-    notes: &mut Notes,
+    found: &mut Found,
 ) -> Result<(Change, Reply), Unavailable>
-    ensures planned { Looks S.HallStore store.old store.new result
-        (λ h planned. Plans (if_role may_see_machines (commands.sender h bearer) (listed_if h (at h.machines id))) planned) }
-    ensures noted { S.HallStore.is_clean store.new → OnOk result ((h : Hall) → S.HallStore.holds store.old h → notes.new ≡ sent_by (commands.sender h bearer) notes.old) }
-    ensures unmoved { notes.new.moved ≡ notes.old.moved }
+    ensures { Looks S.HallStore store.old store.new result
+        (λ h planned. Plans (if_role may_see_machines (commands.sender h bearer) (listed_if h (at h.machines id))) planned
+        × (found.new ≡ sent_by (commands.sender h bearer) found.old)) }
 {
-    match noted_sender(store, bearer, notes)? {
+    match noted_sender(store, bearer, found)? {
         Some(by) if by.enabled => {
-            if may_see_machines(by.role) {
+            if Right::SeeMachines.is_of(by.role) {
                 list_one(alloc, store, id)
             } else {
                 refused(alloc, Refusal::RoleNeeded)
@@ -281,20 +276,20 @@ pub(crate) fn plan_one_machine<S: HallStore>(
     }
 }
 
+/// What is planned for a request for all machines.
 pub(crate) fn plan_machines<S: HallStore>(
     alloc: Global,
     store: &mut S,
     bearer: Option<Digest>,
-    notes: &mut Notes,
+    found: &mut Found,
 ) -> Result<(Change, Reply), Unavailable>
-    ensures planned { Looks S.HallStore store.old store.new result
-        (λ h planned. Plans (if_role may_see_machines (commands.sender h bearer) (says (machine_list (map (listed_of h) (listed h.machines))))) planned) }
-    ensures noted { S.HallStore.is_clean store.new → OnOk result ((h : Hall) → S.HallStore.holds store.old h → notes.new ≡ sent_by (commands.sender h bearer) notes.old) }
-    ensures unmoved { notes.new.moved ≡ notes.old.moved }
+    ensures { Looks S.HallStore store.old store.new result
+        (λ h planned. Plans (if_role may_see_machines (commands.sender h bearer) (says (machine_list (map (listed_of h) (listed h.machines))))) planned
+        × (found.new ≡ sent_by (commands.sender h bearer) found.old)) }
 {
-    match noted_sender(store, bearer, notes)? {
+    match noted_sender(store, bearer, found)? {
         Some(by) if by.enabled => {
-            if may_see_machines(by.role) {
+            if Right::SeeMachines.is_of(by.role) {
                 list_machines(alloc, store)
             } else {
                 refused(alloc, Refusal::RoleNeeded)

@@ -72,9 +72,9 @@ placed : (t comma name value rest : List ℕ) → ((t ++ (comma ++ (name ++ 58 �
 placed t comma name value rest = simp append_assoc
 
 -- a member is written, and then the others
-member_pushed : (later : Bool) (m : Member) (others : List Member) (t u v w : List ℕ) → u ≡ t ++ before later m.0 → v ≡ u ++ compact_text m.1
+member_pushed : (later : Bool) (m : Member) (others : List Member) (t : List ℕ) {u v w : List ℕ} → u ≡ t ++ before later m.0 → v ≡ u ++ compact_text m.1
     → w ≡ v ++ written true others → w ≡ t ++ written later (m ∷ others)
-member_pushed later m others t u v w named valued rest =
+member_pushed later m others t named valued rest =
     rest
     ∙ ap (λ (text : List ℕ). text ++ written true others) (valued ∙ ap (λ (text : List ℕ). text ++ compact_text m.1) named)
     ∙ placed t (comma_if later) (quoted m.0) (compact_text m.1) (written true others)
@@ -84,32 +84,27 @@ none_left : (t : List ℕ) → t ≡ t ++ written true []
 none_left t = sym (append-nil t)
 
 -- four members are written
-pub four_pushed : (later : Bool) (a b c d : Member) (t a1 a2 b1 b2 c1 c2 d1 d2 : List ℕ)
+pub four_pushed : (later : Bool) (a b c d : Member) (t : List ℕ) {a1 a2 b1 b2 c1 c2 d1 d2 : List ℕ}
     → a1 ≡ t ++ before later a.0 → a2 ≡ a1 ++ compact_text a.1
     → b1 ≡ a2 ++ before true b.0 → b2 ≡ b1 ++ compact_text b.1
     → c1 ≡ b2 ++ before true c.0 → c2 ≡ c1 ++ compact_text c.1
     → d1 ≡ c2 ++ before true d.0 → d2 ≡ d1 ++ compact_text d.1
     → d2 ≡ t ++ written later (a ∷ b ∷ c ∷ d ∷ [])
-four_pushed later a b c d t a1 a2 b1 b2 c1 c2 d1 d2 an av bn bv cn cv dn dv =
-    member_pushed later a (b ∷ c ∷ d ∷ []) t a1 a2 d2 an av
-    (member_pushed true b (c ∷ d ∷ []) a2 b1 b2 d2 bn bv
-    (member_pushed true c (d ∷ []) b2 c1 c2 d2 cn cv
-    (member_pushed true d [] c2 d1 d2 d2 dn dv (none_left d2))))
+four_pushed later a b c d t an av bn bv cn cv dn dv =
+    member_pushed later a (b ∷ c ∷ d ∷ []) t an av (member_pushed true b (c ∷ d ∷ []) _ bn bv
+    (member_pushed true c (d ∷ []) _ cn cv (member_pushed true d [] _ dn dv (none_left _))))
 
 -- five members are written
-pub five_pushed : (later : Bool) (a b c d e : Member) (t a1 a2 b1 b2 c1 c2 d1 d2 e1 e2 : List ℕ)
+pub five_pushed : (later : Bool) (a b c d e : Member) (t : List ℕ) {a1 a2 b1 b2 c1 c2 d1 d2 e1 e2 : List ℕ}
     → a1 ≡ t ++ before later a.0 → a2 ≡ a1 ++ compact_text a.1
     → b1 ≡ a2 ++ before true b.0 → b2 ≡ b1 ++ compact_text b.1
     → c1 ≡ b2 ++ before true c.0 → c2 ≡ c1 ++ compact_text c.1
     → d1 ≡ c2 ++ before true d.0 → d2 ≡ d1 ++ compact_text d.1
     → e1 ≡ d2 ++ before true e.0 → e2 ≡ e1 ++ compact_text e.1
     → e2 ≡ t ++ written later (a ∷ b ∷ c ∷ d ∷ e ∷ [])
-five_pushed later a b c d e t a1 a2 b1 b2 c1 c2 d1 d2 e1 e2 an av bn bv cn cv dn dv en ev =
-    member_pushed later a (b ∷ c ∷ d ∷ e ∷ []) t a1 a2 e2 an av
-    (member_pushed true b (c ∷ d ∷ e ∷ []) a2 b1 b2 e2 bn bv
-    (member_pushed true c (d ∷ e ∷ []) b2 c1 c2 e2 cn cv
-    (member_pushed true d (e ∷ []) c2 d1 d2 e2 dn dv
-    (member_pushed true e [] d2 e1 e2 e2 en ev (none_left e2)))))
+five_pushed later a b c d e t an av bn bv cn cv dn dv en ev =
+    member_pushed later a (b ∷ c ∷ d ∷ e ∷ []) t an av (member_pushed true b (c ∷ d ∷ e ∷ []) _ bn bv
+    (member_pushed true c (d ∷ e ∷ []) _ cn cv (member_pushed true d (e ∷ []) _ dn dv (member_pushed true e [] _ en ev (none_left _)))))
 
 -- one address of a list more
 pub mac_written : (interfaces : List Interface) (i : ℕ) (interface : Interface) (text new : List ℕ) (later : Bool) (whole : List ℕ)

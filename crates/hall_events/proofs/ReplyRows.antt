@@ -1,5 +1,5 @@
 -- Worked answers, written out by hand.
-use Rattle.std.{proofs.Common.{◌≡◌, ℕ, true, false, List, [], ◌∷◌, Some, None, refl}, specs.{Prelude.{⊤, codes}, Fmt.digits}}
+use Rattle.std.{proofs.Common.{◌≡◌, ℕ, true, List, [], ◌∷◌, Some, None, refl}, specs.{Prelude.{⊤, codes}, Fmt.digits}}
 use Rattle.hex.proofs.OnLiterals.{hex_on_literals}
 use Rattle.uuid.proofs.OnLiterals.{uuid_on_literals}
 use Rattle.json.specs.Print.{escape_byte}

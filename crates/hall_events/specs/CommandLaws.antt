@@ -2,7 +2,7 @@
 use Rattle.std.{proofs.{Common.{◌≡◌, ◌<◌, ◌^◌, ℕ, Bool, false, List, [], ◌∷◌, ◌++◌, Option, Some, None, refl, sym, ap, ◌∙◌, inl, arith}, lemmas.List.get_or_default}, specs.{Prelude.{codes, map, unwrap_or, if◌then◌else◌, option_map}, List.AllByRecursion, Result.result_unwrap_or, Str.bytes_eq}}
 use Rattle.hex.{specs.Hex.{IsBytes, decode_of, encode_lower, encode_with}, proofs.HexLemmas.decode_of-encode_lower}
 use Rattle.uuid.{specs.Text.{lower, parsed}, proofs.RoundTrips.parses_hyphenated}
-use Rattle.pxe_vendor.specs.{MacText.mac_text, Arch.arch_text, declared.arch.Arch.{Arch, TheVariants.{Bios, Uefi32, Uefi64, Arm64}}}
+use Rattle.pxe_vendor.specs.{MacText.mac_text, Arch.arch_text, declared.arch.Arch.{Arch, TheVariants.{Bios}}}
 use Rattle.serde_json.specs.{Data.{Data, string, boolean}, Find.get}
 use Rattle.hall_types.specs.{Act.{act_text, acts}, Kinds.{archs, with_text, role_text, role_of_text, erase_text}, KindLaws.role_by_text, Number.IsNumber, Octets.AreOctets, declared.kinds.{Role.{Role, TheVariants.Admin}, Erase.{Erase, TheVariants.{Quick, Full}}}}
 use Rattle.hall_types.specs.declared.act.Act.TheVariants as does
@@ -23,29 +23,22 @@ uuid_plain (Some uuid) = (tt, tt)
 
 own_plain : (c : MachineCommand) (more : List Member) → ArePlain more → ArePlain (own_members c ++ more)
 unfolding ArePlain
-own_plain (AddInterface mac) more h = (tt, h)
-own_plain (RemoveInterface mac) more h = (tt, h)
-own_plain (SetPool pool) more h = (tt, h)
-own_plain (Commission tests) more h = (tt, h)
-own_plain (Deploy image) more h = (tt, h)
+own_plain Delete more h = h
+own_plain (Act a) more h = h
 own_plain (Release None) more h = (tt, h)
 own_plain (Release (Some Full)) more h = (tt, h)
-own_plain (Release (Some Quick)) more h = (tt, h)
-own_plain c more h = h
+own_plain c more h = (tt, h)
 
 members_plain : (c : HallCommand) → IsCommand c → ArePlain (members_of c)
 unfolding members_of ArePlain
 members_plain (AddOperator operator role digest) h = (tt, (tt, (tt, (tt, tt))))
-members_plain (DisableOperator operator) h = (tt, (tt, tt))
-members_plain (AddPool pool) h = (tt, (tt, tt))
 members_plain (Grant pool operator) h = (tt, (tt, (tt, tt)))
 members_plain (AddImage image) h = (tt, (tt, (ItemsArePlain-texts image.args 0, (tt, (tt, (tt, tt))))))
-members_plain (DeleteImage image) h = (tt, (tt, tt))
-members_plain (SetLive image) h = (tt, (tt, tt))
 members_plain (AddMachine mac a pool uuid) h = (tt, (tt, (tt, (tt, uuid_plain uuid))))
 members_plain (OnMachine machine None c) h = (tt, (number_fits machine h.0, own_plain c [] tt))
 members_plain (OnMachine machine (Some version) c) h =
     (tt, (number_fits machine h.0, own_plain c ((codes "version", count version) ∷ []) (number_fits version h.1, tt)))
+members_plain other h = (tt, (tt, tt))
 
 pub IsPlain-command : (c : HallCommand) → IsCommand c → IsPlain (command_data c) 2
 unfolding ArePlain
@@ -104,9 +97,7 @@ arch_in text = unwrap_or (with_text arch_text text archs) Bios
 arch_in-arch_text : (a : Arch) → arch_in (arch_text a) ≡ a
 unfolding arch_in arch_text
 arch_in-arch_text Bios = refl
-arch_in-arch_text Uefi32 = refl
-arch_in-arch_text Uefi64 = refl
-arch_in-arch_text Arm64 = refl
+arch_in-arch_text other = refl
 
 role_in : List ℕ → Role
 role_in text = unwrap_or (role_of_text text) Admin
@@ -163,12 +154,8 @@ on_machine machine None (AddInterface mac) h = rw (mac_in-mac_text mac h) refl
 on_machine machine (Some version) (AddInterface mac) h = rw (mac_in-mac_text mac h) refl
 on_machine machine None (RemoveInterface mac) h = rw (mac_in-mac_text mac h) refl
 on_machine machine (Some version) (RemoveInterface mac) h = rw (mac_in-mac_text mac h) refl
-on_machine machine None (Release None) h = refl
-on_machine machine (Some version) (Release None) h = refl
 on_machine machine None (Release (Some Full)) h = refl
 on_machine machine (Some version) (Release (Some Full)) h = refl
-on_machine machine None (Release (Some Quick)) h = refl
-on_machine machine (Some version) (Release (Some Quick)) h = refl
 on_machine machine None (Act does.Test) h = refl
 on_machine machine None c h = refl
 on_machine machine (Some version) (Act does.Test) h = refl
@@ -177,15 +164,11 @@ on_machine machine (Some version) c h = refl
 command_of-command_data : (c : HallCommand) → IsCommand c → command_of (command_data c) ≡ c
 unfolding command_of command_in members_of kind_word
 command_of-command_data (AddOperator operator r digest) h = rw (role_in-role_text r, octets_in-encode_lower digest h.1) refl
-command_of-command_data (DisableOperator operator) h = refl
-command_of-command_data (AddPool pool) h = refl
-command_of-command_data (Grant pool operator) h = refl
 command_of-command_data (AddImage image) h = rw (arch_in-arch_text image.arch, texts_of-texts image.args) refl
-command_of-command_data (DeleteImage image) h = refl
-command_of-command_data (SetLive image) h = refl
 command_of-command_data (AddMachine mac a pool None) h = rw (arch_in-arch_text a, mac_in-mac_text mac h.0) refl
 command_of-command_data (AddMachine mac a pool (Some uuid)) h = rw (arch_in-arch_text a, mac_in-mac_text mac h.0, uuid_in-text uuid h.1) refl
 command_of-command_data (OnMachine machine version c) h = on_machine machine version c h.2
+command_of-command_data other h = refl
 
 -- ---- a command from its text
 

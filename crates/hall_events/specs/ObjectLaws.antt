@@ -57,16 +57,13 @@ ItemsArePlain-texts (text ∷ texts) levels = (tt, ItemsArePlain-texts texts lev
 
 mutual
   pub no_float : (d : Data) (levels : ℕ) → IsPlain d levels → has_float d ≡ false
-  no_float null levels h = refl
-  no_float (boolean b) levels h = refl
   no_float (number (unsigned n)) levels h = refl
-  no_float (number (negative z)) levels h = absurd h
-  no_float (number (float x)) levels h = absurd h
-  no_float (string s) levels h = refl
+  no_float (number other) levels h = absurd h
   no_float (array ds) zero h = absurd h
   no_float (array ds) (suc levels) h = items_no_float ds levels h
   no_float (object ms) zero h = absurd h
   no_float (object ms) (suc levels) h = members_no_float ms levels h
+  no_float other levels h = refl
 
   items_no_float : (ds : Items) (levels : ℕ) → ItemsArePlain ds levels → items_have_float ds ≡ false
   items_no_float no_items levels h = refl
@@ -80,16 +77,13 @@ mutual
 
 mutual
   pub numbers : (d : Data) (levels : ℕ) → IsPlain d levels → HasNumbers (outline d)
-  numbers null levels h = tt
-  numbers (boolean b) levels h = tt
   numbers (number (unsigned n)) levels h = IsNumber-decimal n h
-  numbers (number (negative z)) levels h = absurd h
-  numbers (number (float x)) levels h = absurd h
-  numbers (string s) levels h = tt
+  numbers (number other) levels h = absurd h
   numbers (array ds) zero h = absurd h
   numbers (array ds) (suc levels) h = item_numbers ds levels h
   numbers (object ms) zero h = absurd h
   numbers (object ms) (suc levels) h = member_numbers ms levels h
+  numbers other levels h = tt
 
   item_numbers : (ds : Items) (levels : ℕ) → ItemsArePlain ds levels → ItemsHaveNumbers (items_outline ds)
   item_numbers no_items levels h = tt
@@ -107,14 +101,11 @@ either_deep a b levels h g = omega arith
 
 mutual
   pub shallow : (d : Data) (levels : ℕ) → IsPlain d levels → depth (outline d) ≤ levels
-  shallow null levels h = omega arith
-  shallow (boolean b) levels h = omega arith
-  shallow (number n) levels h = omega arith
-  shallow (string s) levels h = omega arith
   shallow (array ds) zero h = absurd h
   shallow (array ds) (suc levels) h = deeper (items_shallow ds levels h)
   shallow (object ms) zero h = absurd h
   shallow (object ms) (suc levels) h = deeper (members_shallow ms levels h)
+  shallow other levels h = omega arith
 
   items_shallow : (ds : Items) (levels : ℕ) → ItemsArePlain ds levels → items_depth (items_outline ds) ≤ levels
   items_shallow no_items levels h = omega arith
@@ -146,16 +137,13 @@ abbrev mutual
 
 mutual
   found-outline : (d : Data) (levels : ℕ) → IsPlain d levels → found (outline d) ≡ d
-  found-outline null levels h = refl
-  found-outline (boolean b) levels h = refl
   found-outline (number (unsigned n)) levels h = rw (number_of-decimal n h) refl
-  found-outline (number (negative z)) levels h = absurd h
-  found-outline (number (float x)) levels h = absurd h
-  found-outline (string s) levels h = refl
+  found-outline (number other) levels h = absurd h
   found-outline (array ds) zero h = absurd h
   found-outline (array ds) (suc levels) h = ap array (items_found-outline ds levels h)
   found-outline (object ms) zero h = absurd h
   found-outline (object ms) (suc levels) h = ap object (members_found-outline ms levels h)
+  found-outline other levels h = refl
 
   items_found-outline : (ds : Items) (levels : ℕ) → ItemsArePlain ds levels → items_found (items_outline ds) ≡ ds
   items_found-outline no_items levels h = refl

@@ -3,7 +3,7 @@ use Rattle.std.{proofs.{Common.{◌≡◌, ℕ, List, [], ◌∷◌, ◌++◌, O
 use Rattle.serde_json.specs.{Data.Data, Find.get, Written.compact_text}
 use Rattle.ipxe_script.specs.{Text.{lines_in, words_in}, Script.{words_of, spelling, IsLine, IsScript}, LineLaws.{text_of, words_in-text_of, lines_in-spelling}, declared.command.Command.{Command, TheVariants.{Kernel, Initrd, Boot, Exit, Sanboot, Echo, Poweroff}}}
 use Rattle.hall_types.specs.{Hall.Schema, Kinds.with_text, Refusal.{refusal_name, refusal_of_text, refusal_row}, Status.{status_text, statuses}, declared.{refusal.Refusal.{Refusal, TheVariants.{BadRequest, Unavailable}}, status.Status.{Status, TheVariants.{New, Broken}}}}
-use Rattle.hall_events.specs.{Object.object_of, ObjectLaws.{IsPlain, text_in, number_in, value_in, value_in-compact_text}, CommandLaws.number_fits, Listing.Listing, Reply.{Content, script, refused, counted, repeated, machine_is, machine_gone, done, waiting_orders, machine_list, one_machine, stored, boot_file, nothing, IsReadable, ListedMachine, reply_of, refusal_data, result_data, id_data, status_data, with_machine, no_machine, listing}, declared.reply.{Reply.{Reply, TheVariants.{Http, File, Nothing}}, BodyKind.TheVariants.{Text, Json}}}
+use Rattle.hall_events.specs.{Object.object_of, ObjectLaws.{IsPlain, text_in, number_in, value_in, value_in-compact_text}, CommandLaws.number_fits, Listing.Listing, Reply.{Content, script, refused, counted, repeated, machine_is, machine_gone, done, boot_file, nothing, IsReadable, ListedMachine, reply_of, refusal_data, result_data, id_data, status_data, with_machine, no_machine, listing}, declared.reply.{Reply.{Reply, TheVariants.{Http, File, Nothing}}, BodyKind.TheVariants.{Text, Json}}}
 
 -- ---- the commands of a script
 
@@ -30,12 +30,7 @@ script_command (name ∷ words) =
 script_command-words_of : (c : Command) → script_command (words_of c) ≡ c
 unfolding script_command
 script_command-words_of (Kernel uri args) = refl
-script_command-words_of (Initrd uri) = refl
-script_command-words_of Boot = refl
-script_command-words_of Exit = refl
-script_command-words_of Sanboot = refl
-script_command-words_of (Echo words) = refl
-script_command-words_of Poweroff = refl
+script_command-words_of other = refl
 
 -- the commands of lines, of which the last is empty
 commands_in : List (List ℕ) → List Command
@@ -116,12 +111,9 @@ content_of-reply_of schema (machine_is id status version) h =
     ∙ ap (λ s. machine_is id s version) (status_in-text status)
 content_of-reply_of schema (machine_gone id) h = found (id_data id) (number_fits id h, tt)
 content_of-reply_of schema done h = found (object_of []) tt
-content_of-reply_of schema (waiting_orders orders) h = absurd h
-content_of-reply_of schema (machine_list machines) h = absurd h
-content_of-reply_of schema (one_machine listed) h = absurd h
-content_of-reply_of schema (stored status body) h = absurd h
 content_of-reply_of schema (boot_file file) h = refl
 content_of-reply_of schema nothing h = refl
+content_of-reply_of schema other h = absurd h
 
 -- equal answers say the same
 pub one_content : (s t : Schema) (c d : Content) → IsReadable c → IsReadable d → reply_of s c ≡ reply_of t d → c ≡ d

@@ -60,29 +60,20 @@ impl Demand {
 fn address_in(alloc: Global, target: &[u8]) -> Result<MacAddress, HttpFault>
     ensures { Answers result (address_in target.now) }
 {
-    match address_of(alloc, second_segment(target)) {
-        Ok(Some(address)) => Ok(address),
-        Ok(None) => Err(HttpFault::BadRequest),
-        Err(_) => Err(HttpFault::Memory),
-    }
+    let address = address_of(alloc, second_segment(target))?;
+    address.ok_or(HttpFault::BadRequest)
 }
 
 fn number_in(target: &[u8]) -> Result<Number, HttpFault>
     ensures { result ≡ number_in target.now }
 {
-    match number_of(second_segment(target)) {
-        Some(number) => Ok(number),
-        None => Err(HttpFault::BadRequest),
-    }
+    number_of(second_segment(target)).ok_or(HttpFault::BadRequest)
 }
 
 fn token_in(target: &[u8]) -> Result<Token, HttpFault>
     ensures { result ≡ token_in target.now }
 {
-    match token_of(third_segment(target)) {
-        Some(token) => Ok(token),
-        None => Err(HttpFault::BadRequest),
-    }
+    token_of(third_segment(target)).ok_or(HttpFault::BadRequest)
 }
 
 fn script_demand(alloc: Global, target: &[u8]) -> Result<Demand, HttpFault>

@@ -1,4 +1,7 @@
 //! Why a request makes no event.
+ghost use Rattle.std.specs.Prelude.{◌≡◌};
+
+use std::alloc::AllocError;
 use thiserror::Error;
 
 /// Why a request makes no event: the first cause of this order, from BadRequest by its head to TooLarge, and
@@ -23,4 +26,14 @@ pub enum HttpFault {
     /// Memory is wanting.
     #[error("Memory")]
     Memory = 6,
+}
+
+impl From<AllocError> for HttpFault {
+    ghost use Rattle.hall_http.specs.declared.fault.HttpFault.TheVariants.{Memory};
+
+    ghost from_gives = { λ _ fault. fault ≡ Memory };
+
+    fn from(_error: AllocError) -> HttpFault {
+        HttpFault::Memory
+    }
 }

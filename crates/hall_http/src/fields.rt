@@ -58,15 +58,11 @@ fn is_length(text: &[u8]) -> bool
 fn length_of(text: Option<&[u8]>) -> Result<u64, HttpFault>
     ensures { result ≡ length_of (option_copied text.entry) }
 {
-    match text {
-        None => Err(HttpFault::NeedLength),
-        Some(text) => {
-            if is_length(text) {
-                Ok(decimal(text))
-            } else {
-                Err(HttpFault::BadRequest)
-            }
-        }
+    let text = text.ok_or(HttpFault::NeedLength)?;
+    if is_length(text) {
+        Ok(decimal(text))
+    } else {
+        Err(HttpFault::BadRequest)
     }
 }
 

@@ -8,61 +8,29 @@ use crate::member::{erase_at, mac_at, name_at, number_at, tests_at, version_at};
 use hall_events::{HallCommand, MachineCommand, MachineKind};
 use serde_json::Value;
 
-fn add_interface(json: &Value) -> Option<MachineCommand>
-    ensures { result ≡ command.with_mac made.AddInterface (view json.now) }
-{
-    let mac = mac_at(json)?;
-    Some(MachineCommand::AddInterface { mac })
-}
-
-fn remove_interface(json: &Value) -> Option<MachineCommand>
-    ensures { result ≡ command.with_mac made.RemoveInterface (view json.now) }
-{
-    let mac = mac_at(json)?;
-    Some(MachineCommand::RemoveInterface { mac })
-}
-
-fn set_pool(json: &Value) -> Option<MachineCommand>
-    ensures { result ≡ command.with_name made.SetPool (codes "pool") (view json.now) }
-{
-    let pool = name_at(json, "pool")?;
-    Some(MachineCommand::SetPool { pool })
-}
-
-fn commission(json: &Value) -> Option<MachineCommand>
-    ensures { result ≡ command.commission_command (view json.now) }
-{
-    let tests = tests_at(json)?;
-    Some(MachineCommand::Commission { tests })
-}
-
-fn deploy(json: &Value) -> Option<MachineCommand>
-    ensures { result ≡ command.with_name made.Deploy (codes "image") (view json.now) }
-{
-    let image = name_at(json, "image")?;
-    Some(MachineCommand::Deploy { image })
-}
-
-fn release(json: &Value) -> Option<MachineCommand>
-    ensures { result ≡ command.release_command (view json.now) }
-{
-    let erase = erase_at(json)?;
-    Some(MachineCommand::Release { erase })
-}
-
 // What is done to the machine.
 #[tactic(auto, unfolding(crate::specs::Command::machine_command))]
 fn machine_command(kind: MachineKind, json: &Value) -> Option<MachineCommand>
     ensures { result ≡ command.machine_command kind (view json.now) }
 {
     match kind {
-        MachineKind::AddInterface => add_interface(json),
-        MachineKind::RemoveInterface => remove_interface(json),
-        MachineKind::SetPool => set_pool(json),
-        MachineKind::Commission => commission(json),
+        MachineKind::AddInterface => Some(MachineCommand::AddInterface { mac: mac_at(json)? }),
+        MachineKind::RemoveInterface => {
+            Some(MachineCommand::RemoveInterface { mac: mac_at(json)? })
+        }
+        MachineKind::SetPool => Some(MachineCommand::SetPool {
+            pool: name_at(json, "pool")?,
+        }),
+        MachineKind::Commission => Some(MachineCommand::Commission {
+            tests: tests_at(json)?,
+        }),
         MachineKind::Delete => Some(MachineCommand::Delete),
-        MachineKind::Deploy => deploy(json),
-        MachineKind::Release => release(json),
+        MachineKind::Deploy => Some(MachineCommand::Deploy {
+            image: name_at(json, "image")?,
+        }),
+        MachineKind::Release => Some(MachineCommand::Release {
+            erase: erase_at(json)?,
+        }),
         MachineKind::Act(act) => Some(MachineCommand::Act(act)),
     }
 }

@@ -23,14 +23,8 @@ pub fn progress_in(alloc: Global, body: &[u8]) -> Result<Option<Progress>, Alloc
     ensures { IfOk result (λ progress. progress ≡ from_json.progress_in body.now) }
 {
     match value_of(alloc, body)? {
-        Some(json) => {
-            if is_sole(&json, "stage") {
-                Ok(progress_at(&json))
-            } else {
-                Ok(None)
-            }
-        }
-        None => Ok(None),
+        Some(json) if is_sole(&json, "stage") => Ok(progress_at(&json)),
+        _ => Ok(None),
     }
 }
 
@@ -41,13 +35,7 @@ pub fn outcome_in(alloc: Global, body: &[u8]) -> Result<Option<Outcome>, AllocEr
     ensures { IfOk result (λ outcome. outcome ≡ from_json.outcome_in body.now) }
 {
     match value_of(alloc, body)? {
-        Some(json) => {
-            if is_sole(&json, "outcome") {
-                Ok(outcome_at(&json))
-            } else {
-                Ok(None)
-            }
-        }
-        None => Ok(None),
+        Some(json) if is_sole(&json, "outcome") => Ok(outcome_at(&json)),
+        _ => Ok(None),
     }
 }

@@ -36,15 +36,12 @@ fn report_event(
     ensures { Answers result (made.report_event boot token size after.now) }
 {
     let body = body_of(size, after)?;
-    match progress_in(alloc, body) {
-        Ok(Some(progress)) => Ok(Event::Report {
-            boot,
-            token,
-            progress,
-        }),
-        Ok(None) => Err(HttpFault::BadRequest),
-        Err(_) => Err(HttpFault::Memory),
-    }
+    let progress = progress_in(alloc, body)?.ok_or(HttpFault::BadRequest)?;
+    Ok(Event::Report {
+        boot,
+        token,
+        progress,
+    })
 }
 
 fn answer_event(
@@ -57,15 +54,12 @@ fn answer_event(
     ensures { Answers result (made.answer_event bearer order size after.now) }
 {
     let body = body_of(size, after)?;
-    match outcome_in(alloc, body) {
-        Ok(Some(outcome)) => Ok(Event::OrderAnswer {
-            bearer,
-            order,
-            outcome,
-        }),
-        Ok(None) => Err(HttpFault::BadRequest),
-        Err(_) => Err(HttpFault::Memory),
-    }
+    let outcome = outcome_in(alloc, body)?.ok_or(HttpFault::BadRequest)?;
+    Ok(Event::OrderAnswer {
+        bearer,
+        order,
+        outcome,
+    })
 }
 
 fn command_event(
@@ -77,15 +71,12 @@ fn command_event(
     ensures { Answers result (made.command_event bearer size after.now) }
 {
     let body = body_of(size, after)?;
-    match command_in(alloc, body) {
-        Ok(Some(KeyedCommand { key, command })) => Ok(Event::Command {
-            bearer,
-            key,
-            command,
-        }),
-        Ok(None) => Err(HttpFault::BadRequest),
-        Err(_) => Err(HttpFault::Memory),
-    }
+    let KeyedCommand { key, command } = command_in(alloc, body)?.ok_or(HttpFault::BadRequest)?;
+    Ok(Event::Command {
+        bearer,
+        key,
+        command,
+    })
 }
 
 // The event of a demand, with what follows the head.

@@ -106,10 +106,7 @@ fn routed(alloc: Global, target: &str) -> Result<Option<Resource>, InsertError>
     ensures { IfOk result (λ resource. resource ≡ resource_of target.now) }
 {
     let router = router(alloc)?;
-    match router.at(target) {
-        Ok(found) => Ok(Some(*found.value)),
-        Err(_) => Ok(None),
-    }
+    Ok(router.at(target).ok().map(|found| *found.value))
 }
 
 /// What a target names, if it has a route. The error is want of memory.

@@ -21,10 +21,7 @@ fn slash_index(octets: &[u8]) -> usize
     ensures place { result ≡ slash_index octets.now }
     ensures within { result ≤ length octets.now }
 {
-    match first_slash(octets) {
-        Some(at) => at,
-        None => octets.len(),
-    }
+    first_slash(octets).unwrap_or(octets.len())
 }
 
 fn before_slash(octets: &[u8]) -> &[u8]
@@ -97,10 +94,7 @@ pub(crate) fn address_of(alloc: Global, text: &[u8]) -> Result<Option<MacAddress
     ensures { IfOk result (λ address. address ≡ address_of text.now) }
 {
     let octets = with_colons(alloc, text)?;
-    match read_mac(octets.as_slice()) {
-        Some(address) => Ok(Some(MacAddress::from(address))),
-        None => Ok(None),
-    }
+    Ok(read_mac(octets.as_slice()).map(MacAddress::from))
 }
 
 /// The number that a segment says.
@@ -115,8 +109,6 @@ pub(crate) fn number_of(text: &[u8]) -> Option<Number>
 pub(crate) fn token_of(text: &[u8]) -> Option<Token>
     ensures { result ≡ octets_of_text 16 text.now }
 {
-    match <[u8; 16] as FromHex>::from_hex(text) {
-        Ok(octets) => Some(Token::from(octets)),
-        Err(_) => None,
-    }
+    let octets = <[u8; 16] as FromHex>::from_hex(text).ok()?;
+    Some(Token::from(octets))
 }

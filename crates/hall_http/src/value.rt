@@ -33,10 +33,7 @@ pub(crate) fn version_of(member: Option<&Value>) -> Option<Option<Version>>
 {
     match member {
         None => Some(None),
-        Some(value) => match version_number(value) {
-            Some(version) => Some(Some(version)),
-            None => None,
-        },
+        Some(value) => Some(Some(version_number(value)?)),
     }
 }
 
@@ -62,10 +59,7 @@ fn uuid_of_value(value: &Value) -> Option<Option<MachineUuid>>
 {
     match value {
         Value::Null => Some(None),
-        Value::String(text) => match uuid_of_text(text.as_str()) {
-            Some(uuid) => Some(Some(uuid)),
-            None => None,
-        },
+        Value::String(text) => Some(Some(uuid_of_text(text.as_str())?)),
         Value::Bool(_) | Value::Number(_) | Value::Array(_) | Value::Object(_) => None,
     }
 }
@@ -86,10 +80,7 @@ fn erase_of_word(word: &str) -> Option<Option<Erase>>
     if word == "none" {
         return Some(None);
     }
-    match word.parse::<Erase>() {
-        Ok(erase) => Some(Some(erase)),
-        Err(_) => None,
-    }
+    Some(Some(word.parse().ok()?))
 }
 
 // The erasing that a value asks for.

@@ -4,15 +4,11 @@ use Rattle.hall_types.specs.{Rows.at, declared.{change.RowWrite.RowWrite, kinds.
 use Rattle.hall_events.specs.{Reply.Content, declared.{command.{HallCommand.TheVariants.OnMachine, MachineCommand.MachineCommand}, event.Event.Event}}
 use Rattle.hall_events.specs.declared.command.MachineCommand.TheVariants as on
 use Rattle.hall_events.specs.declared.event.Event.TheVariants as event
-use Rattle.life_cycle.specs.{Permission.{is_owner, is_owner_in}, declared.{action.Action.Action, signal.Signal.TheVariants.By}}
+use Rattle.life_cycle.specs.{Permission.{is_owner, is_owner_in, permission_for, who_acts}, declared.{action.Action.Action, signal.Signal.TheVariants.By}}
 use Rattle.life_cycle.specs.declared.action.Action.TheVariants as act
 use Rattle.boot_desk.specs.Sound.{IsSound}
 use Rattle.desk_command.specs.Causes.{action_of}
-use Rattle.hall_laws.{specs.{Refusing.IsRefusal, Step.{IsStep, Step}, Writes.{CauseOf, First, IsCommanded, IsEntering, boot_first, nothing_first, order_first}, Past.IsAccepted}, proofs.MachineRows.is_changed}
-
--- a refusal leaves the hall as it was
-abbrev pub RefusalsStay : Type 0
-RefusalsStay = (s : Step) (content : Content) → IsStep s → s.answer ≡ Some content → IsRefusal content → s.after ≡ s.before
+use Rattle.hall_laws.{specs.{Step.{IsStep, Step}, Writes.{CauseOf, First, IsCommanded, IsEntering, boot_first, nothing_first, order_first}, Laws.IsByOwner, Past.IsAccepted}, proofs.{AnswerLemmas.keeps_hall, MachineRows.is_changed}}
 
 same_action : (a b : Action) → By a ≡ By b → a ≡ b
 same_action a b e = cc
@@ -30,44 +26,50 @@ by_command s e moment rows content x action signal = by x.first x.cause
     by (order_first o outcome) cause = let e = sym cause.1 ∙ signal in cc
 
 -- the command was accepted
-pub accepts : RefusalsStay → (s : Step) → IsStep s → IsSound s.before → (moment : ℕ) (rows : List RowWrite) (content : Content) (x : IsEntering s.before s.arrival.event moment rows content) (id : ℕ) (m : Machine)
+pub accepts : (s : Step) → IsStep s → IsSound s.before → (moment : ℕ) (rows : List RowWrite) (content : Content) (x : IsEntering s.before s.arrival.event moment rows content) (id : ℕ) (m : Machine)
     → id ≡ x.machine.id → m ≡ x.new.machine → at s.after.machines id ≡ Some m → s.answer ≡ Some content
     → (c : IsCommanded s.before s.arrival.event x.machine x.entering x.signal) → IsAccepted c.operator.name c.key (OnMachine id c.version c.command) content s
-accepts stay s step sound moment rows content x id m same its is answer c = record {
+accepts s step sound moment rows content x id m same its is answer c = record {
   bearer = c.bearer;
   by = c.operator;
   known = c.sender_is;
   named = refl;
   answered = record { event = c.event_is ∙ ap (λ n. event.Command c.bearer c.key (OnMachine n c.version c.command)) (sym same); answer = answer };
-  accepted = λ refusal. is_changed s sound s.arrival.event moment rows content x id m same its is (stay s content step answer refusal);
+  accepted = λ refusal. is_changed s sound s.arrival.event moment rows content x id m same its is (keeps_hall s content step answer refusal);
   changes = is_changed s sound s.arrival.event moment rows content x id m same its is;
 }
 
-pub owner_named : (o : Operator) (m : Machine) → is_owner o m ≡ true → m.owner ≡ Some o.name
+owner_named : (o : Operator) (m : Machine) → is_owner o m ≡ true → m.owner ≡ Some o.name
 owner_named o m = by m.owner
   where
     by : (owner : Option (List ℕ)) → is_owner_in owner o.name ≡ true → owner ≡ Some o.name
     by None is = cc
     by (Some its) is = ap (λ (x : List ℕ). Some x) ((bytes_eq-Decides its o.name).0 is)
 
+-- by the owner, where only the owner may act so
+pub by_owner : (s : Step) → IsStep s → IsSound s.before → (moment : ℕ) (rows : List RowWrite) (content : Content) (x : IsEntering s.before s.arrival.event moment rows content) (id : ℕ) (m : Machine)
+    → id ≡ x.machine.id → m ≡ x.new.machine → at s.after.machines id ≡ Some m → s.answer ≡ Some content
+    → (c : IsCommanded s.before s.arrival.event x.machine x.entering x.signal) (action : Action) → c.action ≡ action
+    → (permission_for (who_acts action) c.operator x.machine c.member ≡ None → is_owner c.operator x.machine ≡ true) → IsByOwner id c.command s
+by_owner s step sound moment rows content x id m same its is answer c action acts alone = record {
+  operator = c.operator.name;
+  key = c.key;
+  version = c.version;
+  content = content;
+  accepted = accepts s step sound moment rows content x id m same its is answer c;
+  machine = x.machine;
+  found = ap (at s.before.machines) same ∙ x.found;
+  owner = owner_named c.operator x.machine (alone (ap (λ (a : Action). permission_for (who_acts a) c.operator x.machine c.member) (sym acts) ∙ c.may));
+}
+
 -- ---- which command an action is
 
 pub release_erasing : (command : MachineCommand) → action_of command ≡ Some act.ReleaseErasing → (kind : Erase) × (command ≡ on.Release (Some kind))
-release_erasing (on.Release None) is = cc
 release_erasing (on.Release (Some kind)) is = (kind, refl)
-release_erasing (on.AddInterface mac) is = cc
-release_erasing (on.RemoveInterface mac) is = cc
-release_erasing (on.SetPool pool) is = cc
-release_erasing (on.Commission tests) is = cc
-release_erasing (on.Deploy image) is = cc
 release_erasing other is = cc
 
 pub deploy : (command : MachineCommand) → action_of command ≡ Some act.Deploy → (image : List ℕ) × (command ≡ on.Deploy image)
 deploy (on.Deploy image) is = (image, refl)
 deploy (on.Release None) is = cc
 deploy (on.Release (Some kind)) is = cc
-deploy (on.AddInterface mac) is = cc
-deploy (on.RemoveInterface mac) is = cc
-deploy (on.SetPool pool) is = cc
-deploy (on.Commission tests) is = cc
 deploy other is = cc

@@ -8,29 +8,24 @@ use Rattle.hall_laws.{specs.{Step.{IsStep, Step}, Laws.{CountsAny, CountsStarted
 
 -- the boot is done or failed
 abbrev is_verdict : Stage → Bool
-is_verdict stage.Offered = false
-is_verdict stage.Started = false
 is_verdict stage.Done = true
 is_verdict stage.Failed = true
+is_verdict other = false
 
 -- ---- what the stages take
 
 no_offer : (p : Progress) → is_offered (stage_after p) ≡ false
 no_offer report.Started = refl
-no_offer report.Done = refl
-no_offer report.Failed = refl
+no_offer other = refl
 
 takes_started : (its : Stage) → Takes its report.Started → is_offered its ≡ true
 takes_started stage.Offered t = refl
-takes_started stage.Started t = absurd t
-takes_started stage.Done t = absurd t
-takes_started stage.Failed t = absurd t
+takes_started other t = absurd t
 
 takes_open : (its : Stage) (p : Progress) → Takes its p → is_verdict its ≡ false
-takes_open stage.Offered p t = refl
-takes_open stage.Started p t = refl
 takes_open stage.Done p t = absurd t
 takes_open stage.Failed p t = absurd t
+takes_open other p t = refl
 
 -- ---- the invariant
 
@@ -91,8 +86,8 @@ module _ (past : List Step) (s : Step) (sound : IsSound s.before) (old : KnowsCo
     issued_then : IsSound s.after → (n : ℕ) → CountsAny n s → n ≤ s.after.last.boot
     issued_then later n c = let r = reported n c.0 c.1 in later.last_boot n (ap (λ o. is_some o) (ap (at s.after.boots) (sym r.number_is) ∙ r.at_boot.after))
 
-pub counts_step : (past : List Step) (s : Step) → Unit {0} → IsStep s → IsSound s.before → IsSound s.after → KnowsCounts past s.before → KnowsCounts (past ++ (s ∷ [])) s.after
-counts_step past s given step sound later old =
+pub counts_step : (past : List Step) (s : Step) → IsStep s → IsSound s.before → IsSound s.after → KnowsCounts past s.before → KnowsCounts (past ++ (s ∷ [])) s.after
+counts_step past s step sound later old =
     let does = step_does s step sound in
     record {
       any = λ n some b is. elim (some_of_more (CountsAny n) past s some) [ inl was ↦ any_stays past s sound old does n was b is | inr now ↦ any_now past s sound old does n now b is ];

@@ -12,7 +12,7 @@ use Rattle.hall_events.specs.declared.command.MachineCommand.TheVariants as on
 use Rattle.life_cycle.specs.{Entering.{back_after, boot_after, is_origin, is_rescue, keeps_erase, keeps_owner, limit_of}, Table.{step_of, who_gives}}
 use Rattle.boot_desk.specs.{Class.class_in, Fetch.fetched, Following.followed, FrameEvent.{frame_decision, new_machine as new_machine_of}, OrderAnswer.answered, Report.reported, Texts.{local_script, work_script}}
 use Rattle.desk_command.specs.{Causes.causes, Command.{body_of, command_decision, commanded}, Effect.effect, View.command_view}
-use Rattle.hall_laws.{specs.{Decision.{Decided, decision_of}, Step.{Arrival, IsRun, IsStep, Step}, Worked.{ada, boot, came, command, host, lasts, live, mac, order, receipt, site, start, token}}, proofs.Computing.{bytes_eq-itself, computed}}
+use Rattle.hall_laws.{specs.{Decision.{Decided, decision_of}, Step.{Arrival, IsRun, IsStep, Step}, Worked.{ada, boot, came, command, host, lasts, live, mac, order, receipt, site, start, token}}, proofs.{Computing.{bytes_eq-itself, computed}, FirstSteps.whole_step as step}}
 
 -- ---- what is decided
 
@@ -23,45 +23,41 @@ pow = record { name = codes "pow"; role = Power; digest = 2 ∷ []; enabled = tr
 abbrev pub made : Content → List RowWrite → Decided
 made content rows = record { rows = rows; content = content }
 
--- the step in which this came, and was decided so
-abbrev pub step : Hall → Arrival → Decided → Step
-step h a its = record { before = h; arrival = a; answer = Some its.content; after = applied its.rows h }
-
-model : (h : Hall) (a : Arrival) (its : Decided) → decision_of a.site h a.event a.moment a.fresh ≡ its → IsStep (step h a its)
+pub model : (h : Hall) (a : Arrival) (its : Decided) → decision_of a.site h a.event a.moment a.fresh ≡ its → IsStep (step h a its)
 model h a its is = inl (record { answer = ap (λ (d : Decided). Some d.content) (sym is); after = ap (λ (d : Decided). applied d.rows h) (sym is) })
 
 -- ---- an image, the power program and a machine
 
-abbrev image_added-decision : Decided
+abbrev pub image_added-decision : Decided
 image_added-decision = made done (PutImage live ∷ receipt 1 (AddImage live) done ∷ [])
 
 abbrev pub image_added : Step
 image_added = step start (command 1 (AddImage live)) image_added-decision
 
-image_added-is : IsStep image_added
+pub image_added-is : IsStep image_added
 unfolding texts pairs decision_of command_decision commanded causes effect command_view
 image_added-is = model start (command 1 (AddImage live)) image_added-decision (simp (computed))
 
-abbrev image_live-decision : Decided
+abbrev pub image_live-decision : Decided
 image_live-decision = made done (PutLive (record { arch = Uefi64; image = live.name }) ∷ receipt 2 (SetLive live.name) done ∷ [])
 
 abbrev pub image_live : Step
 image_live = step image_added.after (command 2 (SetLive live.name)) image_live-decision
 
-image_live-is : IsStep image_live
+pub image_live-is : IsStep image_live
 unfolding texts pairs decision_of command_decision commanded causes effect command_view
 image_live-is = model image_added.after (command 2 (SetLive live.name)) image_live-decision (simp (computed))
 
 abbrev pows : HallCommand
 pows = AddOperator pow.name Power pow.digest
 
-abbrev power_added-decision : Decided
+abbrev pub power_added-decision : Decided
 power_added-decision = made done (PutOperator pow ∷ receipt 3 pows done ∷ [])
 
 abbrev pub power_added : Step
 power_added = step image_live.after (command 3 pows) power_added-decision
 
-power_added-is : IsStep power_added
+pub power_added-is : IsStep power_added
 unfolding texts pairs decision_of command_decision commanded causes effect command_view
 power_added-is = model image_live.after (command 3 pows) power_added-decision (simp (computed))
 
@@ -71,14 +67,14 @@ adds = AddMachine mac Uefi64 (codes "default") None
 abbrev pub new_machine : Machine
 new_machine = blank_machine 1 Uefi64 (codes "default") None
 
-abbrev machine_added-decision : Decided
+abbrev pub machine_added-decision : Decided
 machine_added-decision = made (machine_is 1 New 1)
     (PutMachine new_machine None ∷ PutInterface (record { mac = mac; machine = 1 }) ∷ lasts 1 0 0 ∷ receipt 4 adds (machine_is 1 New 1) ∷ [])
 
 abbrev pub machine_added : Step
 machine_added = step power_added.after (command 4 adds) machine_added-decision
 
-machine_added-is : IsStep machine_added
+pub machine_added-is : IsStep machine_added
 unfolding texts pairs numbers decision_of command_decision commanded causes effect command_view
 machine_added-is = model power_added.after (command 4 adds) machine_added-decision (simp (computed))
 
@@ -90,27 +86,27 @@ commissions = OnMachine 1 None (on.Commission false)
 abbrev pub commissioning : Machine
 commissioning = record new_machine { status = Commissioning; version = 2; deadline = Some 2800; waiting = Some 1 }
 
-abbrev commissioned-decision : Decided
+abbrev pub commissioned-decision : Decided
 commissioned-decision = made (machine_is 1 Commissioning 2)
     (PutMachine commissioning (Some 1) ∷ PutOrder (order 1 Waiting) ∷ lasts 1 0 1 ∷ receipt 5 commissions (machine_is 1 Commissioning 2) ∷ [])
 
 abbrev pub commissioned : Step
 commissioned = step machine_added.after (command 5 commissions) commissioned-decision
 
-commissioned-is : IsStep commissioned
+pub commissioned-is : IsStep commissioned
 unfolding texts pairs numbers arch_number status_number step_of who_gives limit_of keeps_owner boot_after is_rescue is_origin back_after keeps_erase followed decision_of command_decision commanded causes effect command_view
 commissioned-is = model machine_added.after (command 5 commissions) commissioned-decision (simp (computed))
 
 abbrev powered : Machine
 powered = record commissioning { waiting = None; version = 3 }
 
-abbrev order_done-decision : Decided
+abbrev pub order_done-decision : Decided
 order_done-decision = made counted (PutOrder (order 1 Ended) ∷ PutMachine powered (Some 2) ∷ [])
 
 abbrev pub order_done : Step
 order_done = step commissioned.after (came (OrderAnswer (Some pow.digest) 1 Turned)) order_done-decision
 
-order_done-is : IsStep order_done
+pub order_done-is : IsStep order_done
 unfolding texts numbers status_number step_of who_gives limit_of keeps_owner boot_after is_rescue is_origin back_after keeps_erase answered decision_of
 order_done-is = model commissioned.after (came (OrderAnswer (Some pow.digest) 1 Turned)) order_done-decision (simp (computed))
 
@@ -120,37 +116,37 @@ commission_script = work_script host purpose.Commission None (boot 1 purpose.Com
 abbrev pub booted : Machine
 booted = record powered { boot = Some 1; boots = 1; version = 4 }
 
-abbrev commission_booted-decision : Decided
+abbrev pub commission_booted-decision : Decided
 commission_booted-decision = made (script commission_script)
     (PutMachine booted (Some 3) ∷ PutBoot (boot 1 purpose.Commission stage.Offered) ∷ lasts 1 1 1 ∷ [])
 
 abbrev pub commission_booted : Step
 commission_booted = step order_done.after (came (Script mac)) commission_booted-decision
 
-commission_booted-is : IsStep commission_booted
+pub commission_booted-is : IsStep commission_booted
 unfolding texts numbers arch_number class_in followed fetched decision_of
 commission_booted-is = model order_done.after (came (Script mac)) commission_booted-decision (simp (computed))
 
-abbrev boot_started-decision : Decided
+abbrev pub boot_started-decision : Decided
 boot_started-decision = made counted (PutBoot (boot 1 purpose.Commission stage.Started) ∷ [])
 
 abbrev pub boot_started : Step
 boot_started = step commission_booted.after (came (Report 1 token Started)) boot_started-decision
 
-boot_started-is : IsStep boot_started
+pub boot_started-is : IsStep boot_started
 unfolding numbers status_number step_of who_gives limit_of keeps_owner boot_after is_rescue is_origin back_after keeps_erase followed reported decision_of
 boot_started-is = model commission_booted.after (came (Report 1 token Started)) boot_started-decision (simp (computed))
 
 abbrev pub ready : Machine
 ready = record new_machine { status = Ready; version = 5 }
 
-abbrev commission_done-decision : Decided
+abbrev pub commission_done-decision : Decided
 commission_done-decision = made counted (PutBoot (boot 1 purpose.Commission stage.Done) ∷ PutMachine ready (Some 4) ∷ [])
 
 abbrev pub commission_done : Step
 commission_done = step boot_started.after (came (Report 1 token Done)) commission_done-decision
 
-commission_done-is : IsStep commission_done
+pub commission_done-is : IsStep commission_done
 unfolding numbers status_number step_of who_gives limit_of keeps_owner boot_after is_rescue is_origin back_after keeps_erase followed reported decision_of
 commission_done-is = model boot_started.after (came (Report 1 token Done)) commission_done-decision (simp (computed))
 
@@ -162,14 +158,14 @@ allocates = OnMachine 1 None (on.Act does.Allocate)
 abbrev pub allocated : Machine
 allocated = record ready { status = Allocated; owner = Some ada.name; version = 6 }
 
-abbrev machine_allocated-decision : Decided
+abbrev pub machine_allocated-decision : Decided
 machine_allocated-decision = made (machine_is 1 Allocated 6)
     (PutMachine allocated (Some 5) ∷ receipt 6 allocates (machine_is 1 Allocated 6) ∷ [])
 
 abbrev pub machine_allocated : Step
 machine_allocated = step commission_done.after (command 6 allocates) machine_allocated-decision
 
-machine_allocated-is : IsStep machine_allocated
+pub machine_allocated-is : IsStep machine_allocated
 unfolding texts pairs numbers arch_number status_number step_of who_gives limit_of keeps_owner boot_after is_rescue is_origin back_after keeps_erase followed decision_of command_decision commanded causes effect command_view
 machine_allocated-is = model commission_done.after (command 6 allocates) machine_allocated-decision (simp (computed))
 
@@ -179,52 +175,52 @@ deploys = OnMachine 1 None (on.Deploy live.name)
 abbrev pub deploying : Machine
 deploying = record allocated { status = Deploying; image = Some live.name; version = 7; deadline = Some 3400; waiting = Some 2 }
 
-abbrev deploy_begun-decision : Decided
+abbrev pub deploy_begun-decision : Decided
 deploy_begun-decision = made (machine_is 1 Deploying 7)
     (PutMachine deploying (Some 6) ∷ PutOrder (order 2 Waiting) ∷ lasts 1 1 2 ∷ receipt 7 deploys (machine_is 1 Deploying 7) ∷ [])
 
 abbrev pub deploy_begun : Step
 deploy_begun = step machine_allocated.after (command 7 deploys) deploy_begun-decision
 
-deploy_begun-is : IsStep deploy_begun
+pub deploy_begun-is : IsStep deploy_begun
 unfolding texts pairs numbers arch_number status_number step_of who_gives limit_of keeps_owner boot_after is_rescue is_origin back_after keeps_erase followed decision_of command_decision commanded causes effect command_view
 deploy_begun-is = model machine_allocated.after (command 7 deploys) deploy_begun-decision (simp (computed))
 
 abbrev pub deploy_script : List Line
 deploy_script = work_script host purpose.Deploy None (boot 2 purpose.Deploy stage.Offered) live
 
-abbrev deploy_booted-decision : Decided
+abbrev pub deploy_booted-decision : Decided
 deploy_booted-decision = made (script deploy_script)
     (PutMachine (record deploying { boot = Some 2; boots = 1; version = 8 }) (Some 7) ∷ PutBoot (boot 2 purpose.Deploy stage.Offered) ∷ lasts 1 2 2 ∷ [])
 
 abbrev pub deploy_booted : Step
 deploy_booted = step deploy_begun.after (came (Script mac)) deploy_booted-decision
 
-deploy_booted-is : IsStep deploy_booted
+pub deploy_booted-is : IsStep deploy_booted
 unfolding texts numbers arch_number class_in followed fetched decision_of
 deploy_booted-is = model deploy_begun.after (came (Script mac)) deploy_booted-decision (simp (computed))
 
 abbrev pub deployed : Machine
 deployed = record allocated { status = Deployed; image = Some live.name; version = 9 }
 
-abbrev deploy_done-decision : Decided
+abbrev pub deploy_done-decision : Decided
 deploy_done-decision = made counted
     (PutBoot (boot 2 purpose.Deploy stage.Done) ∷ PutMachine deployed (Some 8) ∷ PutOrder (order 2 Withdrawn) ∷ [])
 
 abbrev pub deploy_done : Step
 deploy_done = step deploy_booted.after (came (Report 2 token Done)) deploy_done-decision
 
-deploy_done-is : IsStep deploy_done
+pub deploy_done-is : IsStep deploy_done
 unfolding numbers status_number step_of who_gives limit_of keeps_owner boot_after is_rescue is_origin back_after keeps_erase followed reported decision_of
 deploy_done-is = model deploy_booted.after (came (Report 2 token Done)) deploy_done-decision (simp (computed))
 
-abbrev booted_locally-decision : Decided
+abbrev pub booted_locally-decision : Decided
 booted_locally-decision = made (script (local_script Uefi64)) []
 
 abbrev pub booted_locally : Step
 booted_locally = step deploy_done.after (came (Script mac)) booted_locally-decision
 
-booted_locally-is : IsStep booted_locally
+pub booted_locally-is : IsStep booted_locally
 unfolding texts numbers arch_number class_in followed fetched decision_of
 booted_locally-is = model deploy_done.after (came (Script mac)) booted_locally-decision (simp (computed))
 
@@ -236,28 +232,31 @@ releases = OnMachine 1 None (on.Release (Some Full))
 abbrev pub erasing : Machine
 erasing = record deployed { status = DiskErasing; erase = Some Full; version = 10; deadline = Some 8200; waiting = Some 3 }
 
-abbrev erasing_begun-decision : Decided
+abbrev pub erasing_begun-decision : Decided
 erasing_begun-decision = made (machine_is 1 DiskErasing 10)
     (PutMachine erasing (Some 9) ∷ PutOrder (order 3 Waiting) ∷ lasts 1 2 3 ∷ receipt 8 releases (machine_is 1 DiskErasing 10) ∷ [])
 
 abbrev pub erasing_begun : Step
 erasing_begun = step booted_locally.after (command 8 releases) erasing_begun-decision
 
-erasing_begun-is : IsStep erasing_begun
+pub erasing_begun-is : IsStep erasing_begun
 unfolding texts pairs numbers arch_number status_number step_of who_gives limit_of keeps_owner boot_after is_rescue is_origin back_after keeps_erase followed decision_of command_decision commanded causes effect command_view
 erasing_begun-is = model booted_locally.after (command 8 releases) erasing_begun-decision (simp (computed))
 
 abbrev pub erase_script : List Line
 erase_script = work_script host purpose.Erase (Some Full) (boot 3 purpose.Erase stage.Offered) live
 
-abbrev erase_booted-decision : Decided
+abbrev pub erasing_booted : Machine
+erasing_booted = record erasing { boot = Some 3; boots = 1; version = 11 }
+
+abbrev pub erase_booted-decision : Decided
 erase_booted-decision = made (script erase_script)
-    (PutMachine (record erasing { boot = Some 3; boots = 1; version = 11 }) (Some 10) ∷ PutBoot (boot 3 purpose.Erase stage.Offered) ∷ lasts 1 3 3 ∷ [])
+    (PutMachine erasing_booted (Some 10) ∷ PutBoot (boot 3 purpose.Erase stage.Offered) ∷ lasts 1 3 3 ∷ [])
 
 abbrev pub erase_booted : Step
 erase_booted = step erasing_begun.after (came (Script mac)) erase_booted-decision
 
-erase_booted-is : IsStep erase_booted
+pub erase_booted-is : IsStep erase_booted
 unfolding texts numbers arch_number class_in followed fetched decision_of
 erase_booted-is = model erasing_begun.after (came (Script mac)) erase_booted-decision (simp (computed))
 

@@ -1,82 +1,21 @@
 -- No law is empty: at some step of the day its premise holds.
-use Rattle.std.{proofs.{Common.{◌≡◌, ◌≢◌, ℕ, List, [], ◌∷◌, ◌++◌, Some, None, refl, sym, ap, ◌∙◌, inl, inr, All, arith}, lemmas.List.Elements.All-from_recursion}, specs.{Prelude.codes, Fmt.digits}}
-use Rattle.ipxe_script.specs.{Purpose.{IsDeploying, IsErasing}, PurposeLaws.{HasKernelWord-boot, IsArgument-hall}, Script.{IsScript, spelling}, ScriptLaws.IsScript-boot, Word.{IsWord, is_first_octet, is_uri, is_word, is_word_octet}}
-use Rattle.hex.specs.Hex.{encode_with}
-use Rattle.hall_types.specs.{Hall.{Hall, second}, Kinds.{erase_text, purpose_text}, Rows.{at, numbers, texts}, declared.{kinds.{Erase.TheVariants.Full, OrderStage.TheVariants.{Waiting, Done as Ended}, Outcome.TheVariants.Done as Turned, Progress.TheVariants.Started}, machine.Machine.Machine, refusal.Refusal.TheVariants.UnknownToken, status.Status.TheVariants.{Commissioning, New}}}
+use Rattle.std.{proofs.Common.{◌≡◌, ◌≢◌, [], ◌∷◌, ◌++◌, Some, None, refl, sym, ap, ◌∙◌, inl, inr, arith}, specs.Prelude.drop}
+use Rattle.ipxe_script.specs.{Purpose.{IsDeploying, IsErasing}, Script.{IsScript, spelling}}
+use Rattle.hall_types.specs.{Hall.{Hall, second}, Kinds.purpose_text, Rows.{at, numbers, texts}, declared.{kinds.{Erase.TheVariants.Full, OrderStage.TheVariants.{Waiting, Done as Ended}, Outcome.TheVariants.Done as Turned, Progress.TheVariants.Started}, machine.Machine.Machine, refusal.Refusal.TheVariants.UnknownToken, status.Status.TheVariants.{Commissioning, New}}}
 use Rattle.hall_types.specs.declared.kinds.Purpose.TheVariants as purpose
 use Rattle.hall_types.specs.declared.kinds.Stage.TheVariants as stage
 use Rattle.hall_types.specs.declared.port.Port.TheVariants as port
 use Rattle.pxe_vendor.specs.declared.arch.Arch.TheVariants.{Uefi64}
 use Rattle.hall_events.specs.Reply.{machine_is, nothing, refused, reply_of, script}
 use Rattle.hall_events.specs.declared.event.Event.TheVariants as event
-use Rattle.boot_desk.specs.Texts.{desk_arguments, local_script, work_script}
-use Rattle.hall_laws.{specs.{Refusing.IsRefusal, Laws.{AreTyped, CountsSome, CountsVerdict, FirstRequest, GivesText, HasStatus, IsDeployed, IsFrame, IsMachineAt, IsMade, IsWaiting, KeyedRequest, MakesBoot, MakesMachine, MakesOrder}, Past.{CountsReport, IsAccepted, IsEntry, WasAnswered}, Worked.{ada, boot, host, live, mac, order, token}, WorkedLaws.{the_image, typed}}, proofs.{Computing.computed, Day.{added_again, adds, boot_started, booted_locally, client, client_enlisted, commission_booted, commission_done, commission_script, commissioned, commissioning, day, deploy_booted, deploy_script, deployed, erase_booted, erase_script, erasing_begun, frame_unanswered, machine_added, new_machine, order_done, token_unknown, until_deployed}}}
+use Rattle.boot_desk.specs.{SoundLaws.some_is, Texts.local_script}
+use Rattle.hall_laws.{specs.{Refusing.IsRefusal, Laws.{AreTyped, CountsSome, CountsVerdict, FirstRequest, GivesText, HasStatus, IsDeployed, IsFrame, IsMachineAt, IsMade, IsWaiting, KeyedRequest, MakesBoot, MakesMachine, MakesOrder}, Past.{CountsReport, IsAccepted, IsEntry, WasAnswered}, Worked.{ada, boot, mac, order, token}, WorkedLaws.{plain_typed, the_image, typed, worked_purpose, worked_script}}, proofs.{Computing.computed, Day.{added_again, adds, boot_started, booted_locally, client, client_enlisted, commission_booted, commission_done, commission_script, commissioned, commissioning, day, deploy_booted, deploy_script, deployed, erase_booted, erase_script, erasing_begun, frame_unanswered, machine_added, new_machine, order_done, token_unknown, until_deployed}}}
 
 -- ---- types
 
 -- what the day's arrivals bring is of its type
 day_is_typed : AreTyped day
-day_is_typed = (
-  typed _ (the_image _ _),
-  (
-    typed _ (λ bearer key image is. cc),
-    (
-      typed _ (λ bearer key image is. cc),
-      (
-        typed _ (λ bearer key image is. cc),
-        (
-          typed _ (λ bearer key image is. cc),
-          (
-            typed _ (λ bearer key image is. cc),
-            (
-              typed _ (λ bearer key image is. cc),
-              (
-                typed _ (λ bearer key image is. cc),
-                (
-                  typed _ (λ bearer key image is. cc),
-                  (
-                    typed _ (λ bearer key image is. cc),
-                    (
-                      typed _ (λ bearer key image is. cc),
-                      (
-                        typed _ (λ bearer key image is. cc),
-                        (
-                          typed _ (λ bearer key image is. cc),
-                          (
-                            typed _ (λ bearer key image is. cc),
-                            (
-                              typed _ (λ bearer key image is. cc),
-                              (
-                                typed _ (λ bearer key image is. cc),
-                                (
-                                  typed _ (λ bearer key image is. cc),
-                                  (
-                                    typed _ (λ bearer key image is. cc),
-                                    (
-                                      typed _ (λ bearer key image is. cc),
-                                      (
-                                        typed _ (λ bearer key image is. cc),
-                                        tt,
-                                      ),
-                                    ),
-                                  ),
-                                ),
-                              ),
-                            ),
-                          ),
-                        ),
-                      ),
-                    ),
-                  ),
-                ),
-              ),
-            ),
-          ),
-        ),
-      ),
-    ),
-  ),
-)
+day_is_typed = (typed _ (the_image _ _), plain_typed (drop 1 day) refl refl)
 
 -- ---- scripts
 
@@ -89,44 +28,22 @@ deployed_asks : WasAnswered booted_locally (event.Script mac) (script (local_scr
 unfolding texts numbers
 deployed_asks = (record { event = refl; answer = refl }, record { interface = record { mac = mac; machine = 1 }; recorded = simp (computed); found = simp (computed) }, refl)
 
-abbrev erase_arguments : List (List ℕ)
-erase_arguments = desk_arguments host purpose.Erase (Some Full) (boot 3 purpose.Erase stage.Offered)
-
-erase_words : All IsWord erase_arguments
-unfolding is_word is_first_octet is_word_octet purpose_text erase_text digits encode_with
-erase_words = All-from_recursion IsWord erase_arguments (refl, (refl, (refl, (refl, (refl, tt)))))
-
-is_erase_script : IsScript erase_script
-unfolding is_word is_first_octet is_word_octet is_uri work_script
-is_erase_script = IsScript-boot live.kernel erase_arguments live.initrd refl erase_words refl (omega arith)
-
 -- a script is given whose kernel erases disks
 pub gives_erasing : GivesText mac erase_script erase_booted × IsScript erase_script × IsErasing (spelling erase_script)
-unfolding work_script purpose_text
+unfolding purpose_text
 gives_erasing = (
   record { event = refl; answer = refl },
-  is_erase_script,
-  (HasKernelWord-boot (codes "hall.purpose=erase") live.kernel erase_arguments live.initrd (IsArgument-hall (codes "purpose=erase")) is_erase_script).1 (0, omega arith, refl),
+  worked_script purpose.Erase (Some Full) 3 stage.Offered (omega arith),
+  worked_purpose purpose.Erase (Some Full) 3 stage.Offered (omega arith),
 )
-
-abbrev deploy_arguments : List (List ℕ)
-deploy_arguments = desk_arguments host purpose.Deploy None (boot 2 purpose.Deploy stage.Offered)
-
-deploy_words : All IsWord deploy_arguments
-unfolding is_word is_first_octet is_word_octet purpose_text digits encode_with
-deploy_words = All-from_recursion IsWord deploy_arguments (refl, (refl, (refl, (refl, tt))))
-
-is_deploy_script : IsScript deploy_script
-unfolding is_word is_first_octet is_word_octet is_uri work_script
-is_deploy_script = IsScript-boot live.kernel deploy_arguments live.initrd refl deploy_words refl (omega arith)
 
 -- a script is given whose kernel writes an image to a disk
 pub gives_deploying : GivesText mac deploy_script deploy_booted × IsScript deploy_script × IsDeploying (spelling deploy_script)
-unfolding work_script purpose_text
+unfolding purpose_text
 gives_deploying = (
   record { event = refl; answer = refl },
-  is_deploy_script,
-  (HasKernelWord-boot (codes "hall.purpose=deploy") live.kernel deploy_arguments live.initrd (IsArgument-hall (codes "purpose=deploy")) is_deploy_script).1 (0, omega arith, refl),
+  worked_script purpose.Deploy None 2 stage.Offered (omega arith),
+  worked_purpose purpose.Deploy None 2 stage.Offered (omega arith),
 )
 
 -- ---- counting
@@ -159,13 +76,7 @@ unfolding numbers
 enters = (commissioning, simp (computed), λ was is same. by was (sym is ∙ simp (computed)) same)
   where
     by : (was : Machine) → Some was ≡ Some new_machine → was.status ≡ Commissioning → ⊥
-    by was is same = let new : was.status ≡ New = ap (λ (m : Machine). m.status) (some was new_machine is) in not_both (sym new ∙ same)
-      where
-        some : (a b : Machine) → Some a ≡ Some b → a ≡ b
-        some a b is = cc
-
-        not_both : New ≡ Commissioning → ⊥
-        not_both is = cc
+    by was is same = let apart : New ≡ Commissioning = sym (ap (λ (m : Machine). m.status) (some_is was new_machine is)) ∙ same in cc
 
 machine_stood : at commissioned.before.machines 1 ≡ Some new_machine
 unfolding numbers

@@ -5,7 +5,7 @@ use Rattle.hall_events.specs.declared.command.HallCommand.TheVariants.{OnMachine
 use Rattle.hall_events.specs.declared.command.MachineCommand.TheVariants as on
 use Rattle.hall_events.specs.declared.event.Event.TheVariants as event
 use Rattle.boot_desk.specs.Sound.{IsSound}
-use Rattle.hall_laws.{specs.{Step.{IsStep, Step}, Laws.{IsDeleted, KeepsMachines}}, proofs.{Commanded.RefusalsStay, Effects.{Effect, decided, did, edits, enters, goes, idles, issues, leaves, makes, missed, notes, step_does, StepDoes}}}
+use Rattle.hall_laws.{specs.{Step.{IsStep, Step}, Laws.{IsDeleted, KeepsMachines}}, proofs.{AnswerLemmas.keeps_hall, Effects.{Effect, decided, did, edits, enters, goes, idles, issues, leaves, makes, missed, notes, step_does, StepDoes}}}
 
 abbrev Stays : Rows numbers Machine → ℕ → Type 0
 Stays machines id = (k : Machine) × (at machines id ≡ Some k)
@@ -30,8 +30,8 @@ has_still g machines id same stays = (stays.0, ap (λ rows. at rows id) same ∙
 none_some : (m : Machine) → None ≡ Some m → ⊥
 none_some m is = cc
 
-pub keeps_machines : RefusalsStay → (past : List Step) (s : Step) → IsStep s → IsSound s.before → KeepsMachines past s
-keeps_machines stay past s is sound id m there = by_does (step_does s is sound)
+pub keeps_machines : (past : List Step) (s : Step) → IsStep s → IsSound s.before → KeepsMachines past s
+keeps_machines past s is sound id m there = by_does (step_does s is sound)
   where
     by_effect : s.answer ≡ Some (decided s).content → Effect s.before s.arrival.event s.arrival.moment s.arrival.fresh (decided s).content s.after → Stays s.after.machines id ⊎ IsDeleted id s
     by_effect answer (leaves quiet has) = inl (has_still s.after.machines s.before.machines id has.machines (m, there))
@@ -57,7 +57,7 @@ keeps_machines stay past s is sound id m there = by_does (step_does s is sound)
               known = d.sender_is;
               named = refl;
               answered = record { event = d.event_is ∙ ap (λ n. event.Command d.bearer d.key (OnMachine n d.version on.Delete)) (sym same); answer = answer };
-              accepted = λ refusal. moved (stay s (decided s).content is answer refusal);
+              accepted = λ refusal. moved (keeps_hall s (decided s).content is answer refusal);
               changes = moved;
             };
           })

@@ -1,15 +1,15 @@
 -- A script that deploys is given after a deploy, and boots the image that this deploy named.
-use Rattle.std.{proofs.Common.{◌≡◌, ℕ, List, [], ◌∷◌, ◌++◌, refl, sym, ap, subst, ◌∙◌}, specs.Prelude.{Option, Some, Ok}}
+use Rattle.std.{proofs.{Common.{◌≡◌, ℕ, List, [], ◌∷◌, ◌++◌, refl, sym, ap, subst, ◌∙◌}, lemmas.Option.none-some}, specs.Prelude.{Option, Some, Ok}}
 use Rattle.ipxe_script.specs.{Purpose.IsDeploying, Script.{IsScript, spelling}, declared.command.Command.Command}
-use Rattle.hall_types.specs.{Hall.Hall, Image.BootImage, Rows.at, declared.{change.RowWrite.RowWrite, machine.Machine.Machine, status.Status.{Status, TheVariants.{Deploying, New}}}}
+use Rattle.hall_types.specs.{Hall.{Hall, new_hall, second}, Image.BootImage, Rows.at, declared.{change.RowWrite.RowWrite, machine.Machine.Machine, status.Status.{Status, TheVariants.{Deploying, New}}}}
 use Rattle.hall_types.specs.declared.kinds.Purpose.TheVariants as purpose
-use Rattle.hall_events.specs.{Reply.Content, declared.command.{HallCommand.TheVariants.OnMachine, MachineCommand.MachineCommand}}
+use Rattle.hall_events.specs.{Reply.Content, declared.command.{MachineCommand.MachineCommand}}
 use Rattle.hall_events.specs.declared.command.MachineCommand.TheVariants as on
-use Rattle.life_cycle.specs.{Entering.{keeps_owner, kept}, EnteringLaws.entered-image, Permission.{permission_for, who_acts}, PermissionLaws.owner_deploys, StepLaws.ways_to_deploying, declared.action.Action.Action}
+use Rattle.life_cycle.specs.{Entering.{keeps_owner, kept}, EnteringLaws.entered-image, PermissionLaws.owner_deploys, StepLaws.ways_to_deploying, declared.action.Action.Action}
 use Rattle.life_cycle.specs.declared.action.Action.TheVariants as act
 use Rattle.boot_desk.specs.{Fetch.fetched, Purposes.{HasNoHallWords, IsWork}, Sound.IsSound, SoundLaws.{some_is, some_of}, Texts.work_script, Views.{row_at, view_of}, declared.views.BootView.BootView}
 use Rattle.desk_command.specs.Effect.{prepared}
-use Rattle.hall_laws.{specs.{Step.{IsStep, IsTypedStep, Step}, Writes.{IsCommanded, IsEntering}, Laws.{DeploysRightly, IsDeploy}, Past.{IsAccepted, IsEntry, Last}}, proofs.{Commanded.{RefusalsStay, accepts, by_command, deploy, owner_named}, Effects.{StepDoes, decided, did, missed, step_does}, Enterings.new_status, Frame.{last_kept, last_new}, Images.{ImagesMove, image_before, image_stays, images_move, same_images}, MachineRows.{IsSettled, MachineWas, has_entered, is_entry, machine_was, no_entry, settled_same, was_made, was_settled}, Scripts.{HasWholeRows, given_script, machine_there, rows_step, view_words, was_given}}}
+use Rattle.hall_laws.{specs.{Step.{IsStep, IsTypedStep, Step}, Writes.{IsCommanded, IsEntering}, Laws.{DeploysRightly, IsByOwner, IsDeploy}, Past.{IsEntry, Last}}, proofs.{Commanded.{by_command, by_owner, deploy}, Effects.{StepDoes, decided, did, missed, step_does}, Enterings.new_status, Forgetting.no_machines, Frame.{last_kept, last_new}, Images.{ImagesMove, image_before, image_stays, images_move, same_images}, MachineRows.{IsSettled, MachineWas, has_entered, is_entry, machine_was, no_entry, settled_same, was_made, was_settled}, Scripts.{HasWholeRows, given_script, machine_there, new_rows, rows_step, view_words, was_given}}}
 
 -- the machine's last entry was a deploy with its image, which is recorded as it was then
 pub record WasDeployed (past : List Step) (h : Hall) (id : ℕ) (m : Machine) : Type 0 where
@@ -35,7 +35,7 @@ image_kept : (status : Status) → status ≡ Deploying → (image : Option (Lis
 unfolding keeps_owner
 image_kept status is image = ap (λ x. kept (keeps_owner x) image) is
 
-module _ (stay : RefusalsStay) (past : List Step) (s : Step) (step : IsStep s) (sound : IsSound s.before) (later : IsSound s.after) where
+module _ (past : List Step) (s : Step) (step : IsStep s) (sound : IsSound s.before) (later : IsSound s.after) where
   same_machine : ImagesMove s.before s.arrival.event s.after → (id : ℕ) (k m : Machine) → at s.before.machines id ≡ Some k → at s.after.machines id ≡ Some m → IsSettled k m → WasDeployed past s.before id k → WasDeployed (past ++ (s ∷ [])) s.after id m
   same_machine move id k m was is settled d = record {
     entry = last_kept (IsEntry id) past s (no_entry s id k m was is settled.status) d.entry;
@@ -55,15 +55,8 @@ module _ (stay : RefusalsStay) (past : List Step) (s : Step) (step : IsStep s) (
     has = has;
     recorded = row.1;
     deploy = record {
-      operator = c.operator.name;
-      key = c.key;
-      version = c.version;
-      content = content;
-      accepted = subst (λ (o : MachineCommand). IsAccepted c.operator.name c.key (OnMachine id c.version o) content s) command
-          (accepts stay s step sound s.arrival.moment rows content x id m same its is answer c);
-      machine = x.machine;
-      found = ap (at s.before.machines) same ∙ x.found;
-      owner = owner_named c.operator x.machine (owner_deploys c.operator x.machine c.member (ap (λ (a : Action). permission_for (who_acts a) c.operator x.machine c.member) (sym by.1) ∙ c.may));
+      by_owner = subst (λ (o : MachineCommand). IsByOwner id o s) command
+          (by_owner s step sound s.arrival.moment rows content x id m same its is answer c act.Deploy by.1 (owner_deploys c.operator x.machine c.member));
       recorded = image_before s.before s.arrival.event s.after move c.bearer c.key x.machine.id c.version c.command c.event_is name row.0 row.1;
     };
   }
@@ -102,21 +95,18 @@ module _ (stay : RefusalsStay) (past : List Step) (s : Step) (step : IsStep s) (
       same_machine (same_images (ap (λ (h : Hall). h.images) after)) id m m was is (settled_same m m refl) (old.deployed id m was deploys)
   deployed_after (did answer after writes effect) old id m is deploys = by (machine_was s.before sound s.arrival.event s.arrival.moment s.arrival.fresh (decided s).content id m s.after effect is)
     where
-      unlike : New ≡ Deploying → ⊥
-      unlike e = cc
-
       move : ImagesMove s.before s.arrival.event s.after
       move = subst (ImagesMove s.before s.arrival.event) (sym after) (images_move s.before s.arrival.event s.arrival.moment s.arrival.fresh (decided s) writes)
 
       by : MachineWas s.before s.arrival.event s.arrival.moment (decided s).content id m → WasDeployed (past ++ (s ∷ [])) s.after id m
       by (was_settled k was settled) = same_machine move id k m was is settled (old.deployed id k was (sym settled.status ∙ deploys))
-      by (was_made event none new) = absurd (unlike (ap (λ (y : Machine). y.status) (sym new) ∙ deploys))
+      by (was_made event none new above) = let apart : New ≡ Deploying = ap (λ (y : Machine). y.status) (sym new) ∙ deploys in cc
       by (has_entered rows x same its) = deploy_now move rows (decided s).content x id m same its is answer deploys
 
-pub deploys_step : RefusalsStay → (past : List Step) (s : Step) → IsTypedStep s → IsStep s → IsSound s.before → IsSound s.after → KnowsDeploys past s.before → KnowsDeploys (past ++ (s ∷ [])) s.after
-deploys_step stay past s brings step sound later old =
+pub deploys_step : (past : List Step) (s : Step) → IsTypedStep s → IsStep s → IsSound s.before → IsSound s.after → KnowsDeploys past s.before → KnowsDeploys (past ++ (s ∷ [])) s.after
+deploys_step past s brings step sound later old =
     let does = step_does s step sound in
-    record { whole = rows_step s brings does old.whole; deployed = deployed_after stay past s step sound later does old }
+    record { whole = rows_step s brings does old.whole; deployed = deployed_after past s step sound later does old }
 
 pub deploys_rightly : DeployingTexts → (past : List Step) (s : Step) → IsTypedStep s → IsStep s → IsSound s.before → KnowsDeploys past s.before → DeploysRightly past s
 deploys_rightly texts past s brings step sound old mac commands was deploys =
@@ -137,3 +127,6 @@ deploys_rightly texts past s brings step sound old mac commands was deploys =
       boot = says.1.boot;
       boots = says.1.is ∙ ap (work_script s.arrival.site.host purpose.Deploy g.machine.erase says.1.boot) same;
     }
+
+pub new_deploys : (admin digest : List ℕ) → KnowsDeploys [] (new_hall second admin digest)
+new_deploys admin digest = record { whole = new_rows admin digest; deployed = λ id m is deploys. absurd (none-some m (sym (no_machines second admin digest id) ∙ is)) }

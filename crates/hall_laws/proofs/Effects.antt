@@ -7,9 +7,6 @@ use Rattle.boot_desk.specs.{EntryLaws.cleared, Fetch.{booted, new_boot}, Followi
 use Rattle.desk_command.specs.Command.{receipt_of}
 use Rattle.hall_laws.specs.{Decision.{Decided, decision_of}, Step.{IsStep, Step}, HallLaws.{applied_entry, boots_first, entered_hall, last_queued, orders_first, queued}, Writes.{EditsInterfaces, IsOfNoMachine, IsDeleting, IsEditing, IsEntering, IsIdled, IsIssuing, IsNoted, AsksForMachine, Writes, WritesAll, edits_machine, ends_waiting, enters_status, is_command, issues_boot, machine_goes, makes_machine, notes_report, with_receipt, withdrawn_at, without_receipt, writes_aside, writes_nothing}, WritesLaws.decision_writes}
 
-pub some_same : (a b : Content) → Some a ≡ Some b → a ≡ b
-some_same a b is = cc
-
 -- the hall's machines, boots, orders and last numbers are these
 pub record Has (g : Hall) (of_machines : Rows numbers Machine) (of_boots : Rows numbers Boot) (of_orders : Rows numbers Order) (of_last : Numbers) : Type 0 where
   pub machines : g.machines ≡ of_machines

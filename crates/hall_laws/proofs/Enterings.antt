@@ -21,8 +21,6 @@ same_work m n is = record { id = ap (λ (x : Machine). x.id) is; status = ap (λ
 prepared_same : (command : MachineCommand) (o : Operator) (m : Machine) → SameWork m (prepared command o m)
 prepared_same (on.Commission tests) o m = record { id = refl; status = refl; boot = refl }
 prepared_same (on.Act does.Allocate) o m = record { id = refl; status = refl; boot = refl }
-prepared_same (on.Deploy image) o m = record { id = refl; status = refl; boot = refl }
-prepared_same (on.Release erase) o m = record { id = refl; status = refl; boot = refl }
 prepared_same other o m = record { id = refl; status = refl; boot = refl }
 
 module _ (h : Hall) (e : Event) (moment : ℕ) (rows : List RowWrite) (content : Content) (x : IsEntering h e moment rows content) where

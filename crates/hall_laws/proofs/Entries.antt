@@ -3,12 +3,12 @@ use Rattle.std.{proofs.Common.{◌≡◌, ◌⊎◌, ℕ, List, refl, sym, ap, �
 use Rattle.hall_types.specs.{Hall.Hall, Rows.at, declared.{change.RowWrite.RowWrite, machine.Machine.Machine}}
 use Rattle.hall_events.specs.Reply.{Content, counted}
 use Rattle.boot_desk.specs.Sound.{IsSound}
-use Rattle.hall_laws.{specs.{Step.{IsStep, Step}, Writes.{CauseOf, First, IsEntering, boot_first, nothing_first, order_first}, Laws.{EntersByTable, IsMade, IsSignalled, TakesRow, by_answer, by_command, by_deadline, by_fourth_boot, by_report}}, proofs.{Commanded.{RefusalsStay, accepts}, Effects.{StepDoes, decided, did, missed, step_does}, Enterings.new_status, MachineRows.{MachineWas, has_entered, machine_was, was_made, was_settled}}}
+use Rattle.hall_laws.{specs.{Step.{IsStep, Step}, Writes.{CauseOf, First, IsEntering, boot_first, nothing_first, order_first}, Laws.{EntersByTable, IsMade, IsSignalled, TakesRow, by_answer, by_command, by_deadline, by_fourth_boot, by_report}}, proofs.{Commanded.accepts, Effects.{StepDoes, decided, did, missed, step_does}, Enterings.new_status, MachineRows.{MachineWas, has_entered, machine_was, was_made, was_settled}}}
 
 -- the row that an entry took
-pub row_taken : RefusalsStay → (s : Step) → IsStep s → IsSound s.before → (rows : List RowWrite) (content : Content) (x : IsEntering s.before s.arrival.event s.arrival.moment rows content) (id : ℕ) (m : Machine)
+pub row_taken : (s : Step) → IsStep s → IsSound s.before → (rows : List RowWrite) (content : Content) (x : IsEntering s.before s.arrival.event s.arrival.moment rows content) (id : ℕ) (m : Machine)
     → id ≡ x.machine.id → m ≡ x.new.machine → at s.after.machines id ≡ Some m → s.answer ≡ Some content → (takes : TakesRow id s) × (takes.to ≡ x.step)
-row_taken stay s step sound rows content x id m same its is answer = (
+row_taken s step sound rows content x id m same its is answer = (
   record {
     machine = x.machine;
     after = m;
@@ -34,7 +34,7 @@ row_taken stay s step sound rows content x id m same its is answer = (
       command = c.command;
       action = c.action;
       content = content;
-      accepted = accepts stay s step sound s.arrival.moment rows content x id m same its is answer c;
+      accepted = accepts s step sound s.arrival.moment rows content x id m same its is answer c;
       acts = c.acts;
       signal_is = c.signal_is;
     })
@@ -64,16 +64,16 @@ row_taken stay s step sound rows content x id m same its is answer = (
       signal_is = c.1;
     })
 
-pub enters_by_table : RefusalsStay → (past : List Step) (s : Step) → IsStep s → IsSound s.before → EntersByTable past s
-enters_by_table stay past s step sound id entry = by (step_does s step sound)
+pub enters_by_table : (past : List Step) (s : Step) → IsStep s → IsSound s.before → EntersByTable past s
+enters_by_table past s step sound id entry = by (step_does s step sound)
   where
     m : Machine
     m = entry.0
 
     by_row : (content : Content) → s.answer ≡ Some content → MachineWas s.before s.arrival.event s.arrival.moment content id m → IsMade id s ⊎ TakesRow id s
     by_row content answer (was_settled k was settled) = absurd (entry.2 k was (sym settled.status))
-    by_row content answer (was_made event none new) = inl (none, event)
-    by_row content answer (has_entered rows x same its) = inr (row_taken stay s step sound rows content x id m same its entry.1 answer).0
+    by_row content answer (was_made event none new above) = inl (none, event)
+    by_row content answer (has_entered rows x same its) = inr (row_taken s step sound rows content x id m same its entry.1 answer).0
 
     by : StepDoes s → IsMade id s ⊎ TakesRow id s
     by (missed answer after) = absurd (entry.2 m (ap (λ (h : Hall). at h.machines id) (sym after) ∙ entry.1) refl)

@@ -1,14 +1,14 @@
 -- A script that erases is given after a release that erases.
-use Rattle.std.{proofs.Common.{◌≡◌, ℕ, List, [], ◌∷◌, ◌++◌, refl, sym, ap, subst, ◌∙◌}, specs.Prelude.{Option, Some, Ok}}
+use Rattle.std.{proofs.{Common.{◌≡◌, ℕ, List, [], ◌∷◌, ◌++◌, refl, sym, ap, subst, ◌∙◌}, lemmas.Option.none-some}, specs.Prelude.{Option, Some, Ok}}
 use Rattle.ipxe_script.specs.{Purpose.IsErasing, Script.{IsScript, spelling}, declared.command.Command.Command}
-use Rattle.hall_types.specs.{Hall.Hall, Rows.at, declared.{change.RowWrite.RowWrite, kinds.Erase.Erase, machine.Machine.Machine, status.Status.{Status, TheVariants.{DiskErasing, New}}}}
-use Rattle.hall_events.specs.{Reply.Content, declared.command.{HallCommand.TheVariants.OnMachine, MachineCommand.MachineCommand}}
+use Rattle.hall_types.specs.{Hall.{Hall, new_hall, second}, Rows.at, declared.{change.RowWrite.RowWrite, kinds.Erase.Erase, machine.Machine.Machine, status.Status.{Status, TheVariants.{DiskErasing, New}}}}
+use Rattle.hall_events.specs.{Reply.Content, declared.command.{MachineCommand.MachineCommand}}
 use Rattle.hall_events.specs.declared.command.MachineCommand.TheVariants as on
-use Rattle.life_cycle.specs.{Entering.{keeps_erase, kept}, EnteringLaws.entered-erase, Permission.{permission_for, who_acts}, PermissionLaws.owner_releases_erasing, StepLaws.ways_to_disk_erasing, declared.action.Action.Action}
+use Rattle.life_cycle.specs.{Entering.{keeps_erase, kept}, EnteringLaws.entered-erase, PermissionLaws.owner_releases_erasing, StepLaws.ways_to_disk_erasing, declared.action.Action.Action}
 use Rattle.life_cycle.specs.declared.action.Action.TheVariants as act
-use Rattle.boot_desk.specs.{Fetch.fetched, Purposes.{ErasesBy, HasNoHallWords}, Sound.IsSound, Views.view_of, declared.views.BootView.BootView}
+use Rattle.boot_desk.specs.{Fetch.fetched, Purposes.{ErasesBy, HasNoHallWords}, Sound.IsSound, SoundLaws.some_is, Views.view_of, declared.views.BootView.BootView}
 use Rattle.desk_command.specs.Effect.{prepared}
-use Rattle.hall_laws.{specs.{Step.{IsStep, IsTypedStep, Step}, Writes.{IsCommanded, IsEntering}, Laws.{ErasesRightly, IsReleaseErasing}, Past.{IsAccepted, IsEntry, Last}}, proofs.{Commanded.{RefusalsStay, accepts, by_command, owner_named, release_erasing}, Effects.{StepDoes, decided, did, missed, step_does}, Enterings.new_status, Frame.{last_kept, last_new}, MachineRows.{IsSettled, MachineWas, has_entered, is_entry, machine_was, no_entry, settled_same, was_made, was_settled}, Scripts.{HasWholeRows, given_script, machine_there, rows_step, view_words, was_given}}}
+use Rattle.hall_laws.{specs.{Step.{IsStep, IsTypedStep, Step}, Writes.{IsCommanded, IsEntering}, Laws.{ErasesRightly, IsByOwner, IsReleaseErasing}, Past.{IsEntry, Last}}, proofs.{Commanded.{by_command, by_owner, release_erasing}, Effects.{StepDoes, decided, did, missed, step_does}, Enterings.new_status, Forgetting.no_machines, Frame.{last_kept, last_new}, MachineRows.{IsSettled, MachineWas, has_entered, is_entry, machine_was, no_entry, settled_same, was_made, was_settled}, Scripts.{HasWholeRows, given_script, machine_there, new_rows, rows_step, view_words, was_given}}}
 
 -- the machine's last entry was a release that erases, of the kind that its row has
 abbrev pub Released : List Step → ℕ → Machine → Type 0
@@ -33,7 +33,7 @@ kind_kept : (status : Status) → status ≡ DiskErasing → (erase : Option Era
 unfolding keeps_erase
 kind_kept status is erase = ap (λ x. kept (keeps_erase x) erase) is
 
-module _ (stay : RefusalsStay) (past : List Step) (s : Step) (step : IsStep s) (sound : IsSound s.before) where
+module _ (past : List Step) (s : Step) (step : IsStep s) (sound : IsSound s.before) where
   same_machine : (id : ℕ) (k m : Machine) → at s.before.machines id ≡ Some k → at s.after.machines id ≡ Some m → IsSettled k m → Released past id k → Released (past ++ (s ∷ [])) id m
   same_machine id k m was is settled r = (last_kept (IsEntry id) past s (no_entry s id k m was is settled.status) r.0, r.1, settled.erase ∙ r.2, r.3)
 
@@ -69,17 +69,8 @@ module _ (stay : RefusalsStay) (past : List Step) (s : Step) (step : IsStep s) (
       command = named.1
 
       release : IsReleaseErasing id kind s
-      release = record {
-        operator = c.operator.name;
-        key = c.key;
-        version = c.version;
-        content = content;
-        accepted = subst (λ (o : MachineCommand). IsAccepted c.operator.name c.key (OnMachine id c.version o) content s) command
-            (accepts stay s step sound s.arrival.moment rows content x id m same its is answer c);
-        machine = x.machine;
-        found = ap (at s.before.machines) same ∙ x.found;
-        owner = owner_named c.operator x.machine (owner_releases_erasing c.operator x.machine c.member (ap (λ (a : Action). permission_for (who_acts a) c.operator x.machine c.member) (sym by.1) ∙ c.may));
-      }
+      release = subst (λ (o : MachineCommand). IsByOwner id o s) command
+          (by_owner s step sound s.arrival.moment rows content x id m same its is answer c act.ReleaseErasing by.1 (owner_releases_erasing c.operator x.machine c.member))
 
   released_after : StepDoes s → KnowsReleases past s.before → (id : ℕ) (m : Machine) → at s.after.machines id ≡ Some m → m.status ≡ DiskErasing → Released (past ++ (s ∷ [])) id m
   released_after (missed answer after) old id m is erases =
@@ -87,21 +78,15 @@ module _ (stay : RefusalsStay) (past : List Step) (s : Step) (step : IsStep s) (
       same_machine id m m was is (settled_same m m refl) (old.released id m was erases)
   released_after (did answer after writes effect) old id m is erases = by (machine_was s.before sound s.arrival.event s.arrival.moment s.arrival.fresh (decided s).content id m s.after effect is)
     where
-      unlike : New ≡ DiskErasing → ⊥
-      unlike e = cc
-
       by : MachineWas s.before s.arrival.event s.arrival.moment (decided s).content id m → Released (past ++ (s ∷ [])) id m
       by (was_settled k was settled) = same_machine id k m was is settled (old.released id k was (sym settled.status ∙ erases))
-      by (was_made event none new) = absurd (unlike (ap (λ (y : Machine). y.status) (sym new) ∙ erases))
+      by (was_made event none new above) = let apart : New ≡ DiskErasing = ap (λ (y : Machine). y.status) (sym new) ∙ erases in cc
       by (has_entered rows x same its) = release_now rows (decided s).content x id m same its is answer erases
 
-pub releases_step : RefusalsStay → (past : List Step) (s : Step) → IsTypedStep s → IsStep s → IsSound s.before → IsSound s.after → KnowsReleases past s.before → KnowsReleases (past ++ (s ∷ [])) s.after
-releases_step stay past s brings step sound later old =
+pub releases_step : (past : List Step) (s : Step) → IsTypedStep s → IsStep s → IsSound s.before → IsSound s.after → KnowsReleases past s.before → KnowsReleases (past ++ (s ∷ [])) s.after
+releases_step past s brings step sound later old =
     let does = step_does s step sound in
-    record { whole = rows_step s brings does old.whole; released = released_after stay past s step sound does old }
-
-some_kind : (a b : Erase) → Some a ≡ Some b → a ≡ b
-some_kind a b is = cc
+    record { whole = rows_step s brings does old.whole; released = released_after past s step sound does old }
 
 pub erases_rightly : ErasingTexts → (past : List Step) (s : Step) → IsTypedStep s → IsStep s → IsSound s.before → KnowsReleases past s.before → ErasesRightly past s
 erases_rightly texts past s brings step sound old mac commands was erases =
@@ -119,5 +104,8 @@ erases_rightly texts past s brings step sound old mac commands was erases =
       kind = r.1;
       release = r.3;
       named = texts.kept s.arrival.site.host v s.arrival.moment s.arrival.fresh g.rows commands r.1 words whole g.is erases r.2;
-      only = λ other names. some_kind other r.1 (sym (texts.kind s.arrival.site.host v s.arrival.moment s.arrival.fresh g.rows commands other words whole g.is names) ∙ r.2);
+      only = λ other names. some_is other r.1 (sym (texts.kind s.arrival.site.host v s.arrival.moment s.arrival.fresh g.rows commands other words whole g.is names) ∙ r.2);
     }
+
+pub new_releases : (admin digest : List ℕ) → KnowsReleases [] (new_hall second admin digest)
+new_releases admin digest = record { whole = new_rows admin digest; released = λ id m is erases. absurd (none-some m (sym (no_machines second admin digest id) ∙ is)) }

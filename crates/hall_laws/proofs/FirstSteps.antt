@@ -1,7 +1,7 @@
 -- Steps of the first schema beside those of the second.
-use Rattle.std.{proofs.Common.{refl, inl}, specs.Prelude.{Some, map}}
+use Rattle.std.{proofs.Common.{List, [], ◌∷◌, refl, inl}, specs.Prelude.{⊤, Some, map}}
 use Rattle.hall_types.specs.Hall.{Hall, applied}
-use Rattle.hall_laws.{specs.{Decision.{Decided, decision_of}, Step.{Arrival, IsStep, Step}, FirstSchema.{AllKeepFull, AsksQuick, IsFirstStep, IsForgotten, KeepsFull, first_content}}, proofs.{Forgetting.{carried_again, first_row, rows_forgotten}, MachineWrites.{RowsAre, applied_are}}}
+use Rattle.hall_laws.{specs.{Decision.{Decided, decision_of}, Step.{Arrival, IsStep, Step}, FirstSchema.{AllKeepFull, AsksQuick, IsFirstRun, IsFirstStep, IsForgotten, KeepsFull, first_content}}, proofs.{Forgetting.{carried_again, first_row, rows_forgotten}, MachineWrites.{RowsAre, applied_are}}}
 
 -- the step in which this came, and was decided so
 abbrev pub whole_step : Hall → Arrival → Decided → Step
@@ -34,3 +34,32 @@ next_pair x h its are pair = record { full = applied_are KeepsFull its.rows x ar
 pub came : (x h : Hall) (a : Arrival) → IsPair x h → (AsksQuick a.event → ⊥) → IsFirstStep (first_step h a (decision_of a.site x a.event a.moment a.fresh))
 came x h a pair asks =
     first_is x h a (decision_of a.site x a.event a.moment a.fresh) pair asks (inl (record { answer = refl; after = refl }))
+
+-- ---- runs of what came, each with what was decided of it
+
+-- the hall after them
+abbrev pub whole_end : Hall → List (Arrival × Decided) → Hall
+whole_end x [] = x
+whole_end x (d ∷ more) = whole_end (whole_step x d.0 d.1).after more
+
+-- the steps of the first schema, and the hall after them
+abbrev pub first_steps : Hall → List (Arrival × Decided) → List Step
+first_steps h [] = []
+first_steps h (d ∷ more) = first_step h d.0 d.1 ∷ first_steps (first_step h d.0 d.1).after more
+
+abbrev pub first_end : Hall → List (Arrival × Decided) → Hall
+first_end h [] = h
+first_end h (d ∷ more) = first_end (first_step h d.0 d.1).after more
+
+-- each was decided so in the second schema, doesn't ask for quick erasing, and writes machines that keep `full`, where they keep a kind
+abbrev pub AreDecided : Hall → List (Arrival × Decided) → Type 0
+AreDecided x [] = ⊤
+AreDecided x (d ∷ more) =
+    IsStep (whole_step x d.0 d.1) × (AsksQuick d.0.event → ⊥) × RowsAre KeepsFull d.1.rows × AreDecided (whole_step x d.0 d.1).after more
+
+pub first_runs : (came : List (Arrival × Decided)) (x h : Hall) → IsPair x h → AreDecided x came
+    → IsFirstRun h (first_steps h came) (first_end h came) × IsPair (whole_end x came) (first_end h came)
+first_runs [] x h pair are = (refl, pair)
+first_runs (d ∷ more) x h pair are =
+    let rest = first_runs more (whole_step x d.0 d.1).after (first_step h d.0 d.1).after (next_pair x h d.1 are.2 pair) are.3 in
+    ((refl, first_is x h d.0 d.1 pair are.1 are.0, rest.0), rest.1)

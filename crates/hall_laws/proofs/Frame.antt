@@ -1,8 +1,8 @@
 -- Laws of the past from an invariant: what holds of the past and the hall is kept by each step, and gives the law at each step.
-use Rattle.std.{proofs.Common.{◌≡◌, ◌⊎◌, List, [], ◌∷◌, ◌++◌, refl, sym, ap, subst, ◌∙◌, inl, inr, append_assoc, append-nil}, specs.List.AllByRecursion}
-use Rattle.hall_types.specs.Hall.{Hall, first, second}
+use Rattle.std.{proofs.Common.{◌≡◌, ◌⊎◌, ℕ, List, [], ◌∷◌, ◌++◌, refl, sym, ap, subst, ◌∙◌, inl, inr, append_assoc, append-nil}, specs.List.AllByRecursion}
+use Rattle.hall_types.specs.Hall.{Hall, first, new_hall, second}
 use Rattle.boot_desk.specs.Sound.{IsSound}
-use Rattle.hall_laws.specs.{Migration.Continues, Step.{IsRun, IsStep, Step}, Past.{AtEachStep, Last, NoneOf, SomeOf}}
+use Rattle.hall_laws.specs.{Migration.Continues, Step.{IsRun, IsStep, Step}, Laws.Always, Past.{AtEachStep, Last, NoneOf, SomeOf}}
 
 -- ---- steps of a past
 
@@ -84,19 +84,38 @@ module _ (keep : KeepSound) (Given : Step → Type 0) (I : List Step → Hall �
       (run_holds (past ++ (s ∷ [])) steps s.after end given.1
       (record { sound = next.0; in_second = next.1; holds = keeps past s given.0 run.1 here.sound next.0 here.holds }) run.2)
 
-  pub at_each_given : (P : List Step → Step → Type 0) → ((past : List Step) (s : Step) → Given s → IsStep s → IsSound s.before → I past s.before → P past s)
+  at_each : (P : List Step → Step → Type 0) → ((past : List Step) (s : Step) → Given s → IsStep s → IsSound s.before → I past s.before → P past s)
       → (steps : List Step) (h end : Hall) → AllByRecursion Given steps → IsSound h → h.schema ≡ second → I [] h → IsRun h steps end → AtEachStep P steps
-  at_each_given P gives steps h end given sound in_second start run past s later are =
+  at_each P gives steps h end given sound in_second start run past s later are =
       let parts = run_split past later s h end (subst (λ xs. IsRun h xs end) are run) in
       let all = all_split past later s (subst (AllByRecursion Given) are given) in
       let here = run_holds [] past h s.before all.0 (record { sound = sound; in_second = in_second; holds = start }) parts.0 in
       gives past s all.1 parts.1 here.sound here.holds
 
-  pub at_each : (P : List Step → Step → Type 0) → ((past : List Step) (s : Step) → IsStep s → IsSound s.before → I past s.before → P past s)
-      → (steps : List Step) (h end : Hall) → AllByRecursion Given steps → IsSound h → h.schema ≡ second → I [] h → IsRun h steps end → AtEachStep P steps
-  at_each P gives = at_each_given P (λ past s given. gives past s)
+  -- from a new hall
+  pub from_new_given : ((admin digest : List ℕ) → IsSound (new_hall second admin digest)) → ((admin digest : List ℕ) → I [] (new_hall second admin digest))
+      → (P : List Step → Step → Type 0) → ((past : List Step) (s : Step) → Given s → IsStep s → IsSound s.before → I past s.before → P past s)
+      → (admin digest : List ℕ) (end : Hall) (steps : List Step) → AllByRecursion Given steps → IsRun (new_hall second admin digest) steps end → AtEachStep P steps
+  from_new_given sound start P gives admin digest end steps given run =
+      at_each P gives steps (new_hall second admin digest) end given (sound admin digest) refl (start admin digest) run
 
--- where nothing is asked of the steps
-pub anything : (steps : List Step) → AllByRecursion (λ s. Unit {0}) steps
+anything : (steps : List Step) → AllByRecursion (λ s. Unit {0}) steps
 anything [] = tt
 anything (s ∷ steps) = (tt, anything steps)
+
+-- where nothing is asked of the steps
+module _ (keep : KeepSound) (I : List Step → Hall → Type 0) (keeps : (past : List Step) (s : Step) → IsStep s → IsSound s.before → IsSound s.after → I past s.before → I (past ++ (s ∷ [])) s.after) where
+  pub from_new : ((admin digest : List ℕ) → IsSound (new_hall second admin digest)) → ((admin digest : List ℕ) → I [] (new_hall second admin digest))
+      → (P : List Step → Step → Type 0) → ((past : List Step) (s : Step) → IsStep s → IsSound s.before → I past s.before → P past s)
+      → (admin digest : List ℕ) (end : Hall) (steps : List Step) → IsRun (new_hall second admin digest) steps end → AtEachStep P steps
+  from_new sound start P gives admin digest end steps =
+      from_new_given keep (λ s. Unit {0}) I (λ past s given. keeps past s) sound start P (λ past s given. gives past s) admin digest end steps (anything steps)
+
+  -- from each sound hall
+  pub always : ((h : Hall) → I [] h) → (P : List Step → Step → Type 0) → ((past : List Step) (s : Step) → IsStep s → IsSound s.before → I past s.before → P past s) → Always P
+  always start P gives h end steps sound in_second =
+      at_each keep (λ s. Unit {0}) I (λ past s given. keeps past s) P (λ past s given. gives past s) steps h end (anything steps) sound in_second (start h)
+
+-- a law of each step by itself
+pub at_step : KeepSound → (P : List Step → Step → Type 0) → ((past : List Step) (s : Step) → IsStep s → IsSound s.before → P past s) → Always P
+at_step keep P gives = always keep (λ past h. Unit {0}) (λ past s is sound later old. tt) (λ h. tt) P (λ past s is sound old. gives past s is sound)

@@ -1,6 +1,6 @@
 -- The images of a hall after a step.
-use Rattle.std.{proofs.{Common.{◌≡◌, ℕ, List, [], ◌∷◌, refl, sym, ap, subst, ◌∙◌}, lemmas.{Bool.both_ways, List.Elements.{All-contains, All-from_recursion}, Option.none-some, Slice.Eq.bytes_eq-Decides}}, specs.{Prelude.{Option, Some, None, Bool, true, false, ◌||◌}, List.{AllByRecursion, list_any}, Str.bytes_eq}}
-use Rattle.hall_types.specs.{ChangeLaws.applied_append, Hall.{Hall, applied}, Image.BootImage, Lookup.{is_image_used, is_named}, Rows.{at, gone, listed, put}, RowLaws.{at-gone-other, at-put-other, gone_found}, ListLaws.Contains-listed, declared.{change.RowWrite.RowWrite, machine.Machine.Machine}}
+use Rattle.std.{proofs.{Common.{◌≡◌, ℕ, List, [], ◌∷◌, refl, sym, ap, subst, ◌∙◌}, lemmas.Option.none-some}, specs.Prelude.{Option, Some, None, false}}
+use Rattle.hall_types.specs.{ChangeLaws.applied_append, Hall.{Hall, applied}, Image.BootImage, Lookup.is_image_used, LookupLaws.image_unused, Rows.{at, gone, put}, RowLaws.{at-gone-other, at-put-other, gone_found}, declared.{change.RowWrite.RowWrite, machine.Machine.Machine}}
 use Rattle.hall_types.specs.declared.change.RowWrite.TheVariants as write
 use Rattle.hall_store.specs.Rules.{Keeps}
 use Rattle.hall_events.specs.{Reply.Content, declared.{command.{HallCommand.TheVariants.{AddImage, OnMachine}, MachineCommand.MachineCommand}, event.Event.Event}}
@@ -61,32 +61,13 @@ module _ (h : Hall) (e : Event) (moment : ℕ) (fresh : List ℕ) where
 
 -- ---- an image that a machine has
 
-or_false : (a b : Bool) → (a || b) ≡ false → (a ≡ false) × (b ≡ false)
-or_false true b is = cc
-or_false false b is = (refl, is)
-
-all_fail : {X : Type 0} (p : X → Bool) (xs : List X) → list_any p xs ≡ false → AllByRecursion (λ x. p x ≡ false) xs
-all_fail p [] is = tt
-all_fail p (x ∷ xs) is = let parts = or_false (p x) (list_any p xs) is in (parts.0, all_fail p xs parts.1)
-
--- an image that goes is no machine's
-not_used : (h : Hall) (name : List ℕ) (id : ℕ) (m : Machine) → is_image_used h name ≡ false → at h.machines id ≡ Some m → m.image ≡ Some name → ⊥
-not_used h name id m used there has =
-    both_ways (is_named m.image name) fails (ap (λ o. is_named o name) has ∙ (bytes_eq-Decides name name).1 refl)
-  where
-    fails : is_named m.image name ≡ false
-    fails = All-contains (λ (y : Machine). is_named y.image name ≡ false) (listed h.machines) m
-        (All-from_recursion (λ (y : Machine). is_named y.image name ≡ false) (listed h.machines)
-        (all_fail (λ (y : Machine). is_named y.image name) (listed h.machines) (or_false (list_any (λ l. bytes_eq l.image name) (listed h.lives)) (list_any (λ (y : Machine). is_named y.image name) (listed h.machines)) used).1))
-        (Contains-listed h.machines id m there)
-
 -- the image of a machine is the same after a step
 pub image_stays : (h : Hall) (e : Event) (g : Hall) → ImagesMove h e g → (id : ℕ) (m : Machine) (name : List ℕ) (i : BootImage) → at h.machines id ≡ Some m → m.image ≡ Some name → at h.images name ≡ Some i → at g.images name ≡ Some i
 image_stays h e g (same_images same) id m name i there has is = ap (λ x. at x name) same ∙ is
 image_stays h e g (new_image bearer key new event_is free same) id m name i there has is =
     ap (λ x. at x name) same ∙ (at-put-other h.images new.name new name (λ own. none-some i (sym free ∙ (ap (at h.images) (sym own) ∙ is))) ∙ is)
 image_stays h e g (image_goes other used same) id m name i there has is =
-    ap (λ x. at x name) same ∙ (at-gone-other h.images other name (λ own. not_used h other id m used there (has ∙ ap (λ (x : List ℕ). Some x) own)) ∙ is)
+    ap (λ x. at x name) same ∙ (at-gone-other h.images other name (λ own. (image_unused h other used).1 id m there (has ∙ ap (λ (x : List ℕ). Some x) own)) ∙ is)
 
 -- a command on a machine brings no image
 pub image_before : (h : Hall) (e : Event) (g : Hall) → ImagesMove h e g → (bearer : Option (List ℕ)) (key : List ℕ) (id : ℕ) (version : Option ℕ) (command : MachineCommand) → e ≡ event.Command bearer key (OnMachine id version command)

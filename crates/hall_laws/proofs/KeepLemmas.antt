@@ -5,7 +5,7 @@ use Rattle.hall_types.specs.declared.change.RowWrite.TheVariants as write
 use Rattle.hall_store.specs.Rules.{AllKeep, KeepsBoots, KeepsMachines, KeepsOrders}
 use Rattle.hall_events.specs.{Reply.Content, declared.event.Event.Event}
 use Rattle.life_cycle.specs.EnteringLaws.{entered-id, entered-order-queued}
-use Rattle.boot_desk.specs.{EntryLaws.{cleared, next_is}, Fetch.{booted, new_boot}, Following.{entry_rows, machine_row, queued_rows}, OrderAnswer.{idle, stage_for}, Sound.IsSound, SoundLaws.{has-put, some_is}, Views.row_at}
+use Rattle.boot_desk.specs.{EntryLaws.{cleared, next_is}, Fetch.{booted, new_boot}, Following.{entry_rows, machine_row, queued_rows}, OrderAnswer.{idle, stage_for}, Sound.IsSound, SoundLaws.{has-put, operators_stay, some_is}, Views.row_at}
 use Rattle.desk_command.specs.Command.{receipt_of}
 use Rattle.hall_laws.specs.{Decision.Decided, HallLaws.{applied_entry, boots_first, entered_hall, orders_first, same_receipts}, Writes.{CauseOf, EditsInterfaces, First, IsEditing, IsEntering, IsIdled, IsIssuing, IsMaking, IsNoted, Writes, WritesAll, boot_first, edits_machine, ends_waiting, enters_status, first_rows, issues_boot, machine_goes, makes_machine, notes_report, nothing_first, order_first, with_receipt, withdrawn_at, without_receipt, writes_aside, writes_nothing}}
 
@@ -199,15 +199,6 @@ module _ (h : Hall) (s : IsSound h) where
   writes_keep e moment fresh rows content (writes_aside by x) r = subst (λ ws. AllKeep ws h) (sym x.rows_are) (x.keeps, tt)
 
   -- ---- receipts
-
-  -- no row takes an operator away
-  operators_written : (w : RowWrite) (g : Hall) (name : List ℕ) → HasRow g.operators name → HasRow (written w g).operators name
-  operators_written (write.PutOperator o) g name has = has-put g.operators o.name o name has
-  operators_written other g name has = has
-
-  operators_stay : (rows : List RowWrite) (g : Hall) (name : List ℕ) → HasRow g.operators name → HasRow (applied rows g).operators name
-  operators_stay [] g name has = has
-  operators_stay (w ∷ ws) g name has = operators_stay ws (written w g) name (operators_written w g name has)
 
   referred : (g : Hall) → IsSound g → AreReferred g
   referred g sound = record { pools = sound.machine_pools; owners = sound.machine_owners; images = sound.machine_images; uuids = sound.uuids }

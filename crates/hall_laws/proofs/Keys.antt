@@ -3,11 +3,11 @@ use Rattle.std.{proofs.{Common.{◌≡◌, ℕ, List, [], ◌∷◌, ◌++◌, r
 use Rattle.pxe_vendor.specs.Place.{Site}
 use Rattle.hall_types.specs.{ChangeLaws.applied_append, Hall.{Hall, applied, pair, second}, Rows.{at, put}, RowLaws.{at-put-other, at-put-same}, declared.{change.RowWrite.RowWrite, operator.Operator.Operator, receipt.Receipt.Receipt, refusal.Refusal.TheVariants.{KeyReused, UnknownToken}}}
 use Rattle.hall_types.specs.declared.change.RowWrite.TheVariants as write
-use Rattle.hall_events.specs.{Command.command_text, Reply.{Content, boot_file, counted, done, machine_gone, machine_is, machine_list, nothing, one_machine, refused, repeated as repeated_before, reply_of, script, stored, waiting_orders}, declared.command.HallCommand.HallCommand}
+use Rattle.hall_events.specs.{Command.command_text, Reply.{Content, done, machine_gone, machine_is, reply_of, stored}, declared.command.HallCommand.HallCommand}
 use Rattle.hall_events.specs.declared.event.Event.TheVariants as event
 use Rattle.boot_desk.specs.{Sound.IsSound, SoundLaws.some_is}
 use Rattle.desk_command.specs.{Command.{body_of, command_decision, keyed, of_sender, receipt_of, repeated, sender}, Effect.Effect}
-use Rattle.hall_laws.{specs.{Decision.{Decided, commanded, decision_of}, Step.{IsStep, Step}, HallLaws.same_receipts, Writes.{LeavesReceipt, Writes, WritesAll, is_command, is_done, with_receipt, without_receipt}, Laws.{AcceptsKey, AcceptsOnce, IsAnsweredAgain, RepeatsFirst, disabled, first_again, reused}, Past.{IsAccepted, SomeOf}}, proofs.{Answered.came_so, Effects.{StepDoes, decided, did, missed, step_does}, Frame.{none_from, some_of_more}}}
+use Rattle.hall_laws.{specs.{Decision.{Decided, commanded, decision_of}, Step.{IsStep, Step}, HallLaws.same_receipts, Writes.{LeavesReceipt, Writes, WritesAll, is_command, is_done, with_receipt, without_receipt}, Laws.{AcceptsKey, AcceptsOnce, AcceptsWithOk, HasStatus, IsAnsweredAgain, RepeatsFirst, disabled, first_again, reused}, Past.{IsAccepted, SomeOf}}, proofs.{AnswerLemmas.came_so, Effects.{StepDoes, decided, did, missed, step_does}, Frame.{none_from, some_of_more}}}
 
 -- ---- the receipts after a step
 
@@ -86,16 +86,7 @@ unfolding reply_of
 stored_same (machine_is id status version) is = refl
 stored_same (machine_gone id) is = refl
 stored_same done is = refl
-stored_same (script commands) is = cc
-stored_same (refused refusal) is = cc
-stored_same counted is = cc
-stored_same repeated_before is = cc
-stored_same (waiting_orders orders) is = cc
-stored_same (machine_list machines) is = cc
-stored_same (one_machine listed) is = cc
-stored_same (stored status body) is = cc
-stored_same (boot_file file) is = cc
-stored_same nothing is = cc
+stored_same other is = cc
 
 -- ---- the invariant
 
@@ -105,8 +96,8 @@ pub record KeepsReceipts (past : List Step) (h : Hall) : Type 0 where
   pub first : (name key : List ℕ) (command : HallCommand) (content : Content) → SomeOf (IsAccepted name key command content) past
       → (o : Operator) × (is_done content ≡ true) × (at h.receipts (pair name key) ≡ Some (receipt_of o key command content))
 
-pub keys_step : (past : List Step) (s : Step) → Unit {0} → IsStep s → IsSound s.before → IsSound s.after → KeepsReceipts past s.before → KeepsReceipts (past ++ (s ∷ [])) s.after
-keys_step past s given step sound later old =
+pub keys_step : (past : List Step) (s : Step) → IsStep s → IsSound s.before → IsSound s.after → KeepsReceipts past s.before → KeepsReceipts (past ++ (s ∷ [])) s.after
+keys_step past s step sound later old =
     let does = step_does s step sound in
     record {
       any = λ name key some. elim (some_of_more (AcceptsKey name key) past s some) [
@@ -167,3 +158,25 @@ repeats_first past s step sound old name key first later =
 
 pub new_keys : (h : Hall) → KeepsReceipts [] h
 new_keys h = record { any = λ name key none. absurd none; first = λ name key command content none. absurd none }
+
+-- ---- an accepted command is answered by the status 200
+
+done_ok : (c : Content) → is_done c ≡ true → HasStatus 200 (reply_of second c)
+unfolding reply_of
+done_ok (machine_is id status version) is = refl
+done_ok (machine_gone id) is = refl
+done_ok done is = refl
+done_ok other is = cc
+
+pub accepts_with_ok : (past : List Step) (s : Step) → IsStep s → IsSound s.before → AcceptsWithOk past s
+accepts_with_ok past s is sound operator key command content accepted = by (step_does s is sound)
+  where
+    by_writes : s.answer ≡ Some (decided s).content → s.after ≡ applied (decided s).rows s.before → WritesAll s.before s.arrival.event s.arrival.moment s.arrival.fresh (decided s) → HasStatus 200 (reply_of second content)
+    by_writes answer after (without_receipt none w) =
+        absurd (accepted.changes (after ∙ ap (λ rows. applied rows s.before) (none (ap is_command accepted.answered.event))))
+    by_writes answer after (with_receipt own w x) =
+        subst (λ c. HasStatus 200 (reply_of second c)) (some_is (decided s).content content (sym answer ∙ accepted.answered.answer)) (done_ok (decided s).content x.says)
+
+    by : StepDoes s → HasStatus 200 (reply_of second content)
+    by (missed answer same) = absurd (accepted.changes same)
+    by (did answer after writes effect) = by_writes answer after writes

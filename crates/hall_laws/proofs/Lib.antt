@@ -1,9 +1,6 @@
-pub mod RefusalLemmas
+pub mod AnswerLemmas
 pub mod KeepLemmas
 pub mod SoundLemmas
-pub mod AcceptedLemmas
-pub mod Answered
-pub mod Asked
 pub mod BootRows
 pub mod Commanded
 mod Computing
@@ -19,17 +16,14 @@ pub mod Erasing
 pub mod Frame
 pub mod Images
 pub mod Keys
-pub mod LocalBoots
 pub mod MachineRows
 pub mod NumbersOnceLemmas
 pub mod OrderRows
 pub mod OrderLemmas
 pub mod OwnBoots
 pub mod Receipts
-pub mod Refused
 pub mod Scripts
 mod WrongDays
-mod FirstComputing
 pub mod Erased
 mod FirstDay
 mod FirstDayLaws
@@ -43,4 +37,3 @@ pub mod PlainScripts
 pub mod PlainSteps
 pub mod Sparing
 pub mod Twins
-mod WholeDay

@@ -1,5 +1,5 @@
 -- Where each machine's row comes from that there is after a step.
-use Rattle.std.{proofs.Common.{◌≡◌, ◌≢◌, ℕ, List, refl, sym, ap, subst, ◌∙◌, inl, inr, arith}, specs.Prelude.{Option, Some, None, is_some}}
+use Rattle.std.{proofs.Common.{◌≡◌, ◌≢◌, ◌+◌, ℕ, List, refl, sym, ap, subst, ◌∙◌, inl, inr, arith}, specs.Prelude.{Option, Some, None, is_some}}
 use Rattle.hall_types.specs.{Hall.Hall, Rows.{at, put}, RowLaws.{gone_found, put_cases}, declared.{change.RowWrite.RowWrite, machine.Machine.Machine}, Machine.blank_machine}
 use Rattle.hall_events.specs.{Reply.Content, declared.event.Event.Event}
 use Rattle.boot_desk.specs.{EntryLaws.next_is, Fetch.booted, OrderAnswer.idle, Sound.IsSound, SoundLaws.some_is}
@@ -14,7 +14,7 @@ pub record IsSettled (k m : Machine) : Type 0 where
 
 pub data MachineWas (h : Hall) (e : Event) (moment : ℕ) (content : Content) (id : ℕ) (m : Machine) : Type 0 where
   was_settled : (k : Machine) → at h.machines id ≡ Some k → IsSettled k m → MachineWas h e moment content id m
-  was_made : AsksForMachine e → at h.machines id ≡ None → m ≡ blank_machine m.id m.arch m.pool m.uuid → MachineWas h e moment content id m
+  was_made : AsksForMachine e → at h.machines id ≡ None → m ≡ blank_machine m.id m.arch m.pool m.uuid → id ≡ h.last.machine + 1 → MachineWas h e moment content id m
   has_entered : (rows : List RowWrite) (x : IsEntering h e moment rows content) → id ≡ x.machine.id → m ≡ x.new.machine → MachineWas h e moment content id m
 
 pub settled_same : (k m : Machine) → m ≡ k → IsSettled k m
@@ -43,7 +43,7 @@ module _ (h : Hall) (s : IsSound h) (e : Event) (moment : ℕ) (fresh : List ℕ
   pub machine_was : (g : Hall) → Effect h e moment fresh content g → at g.machines id ≡ Some m → MachineWas h e moment content id m
   machine_was g (leaves quiet has) is = was_settled m (ap (λ x. at x id) (sym has.machines) ∙ is) (settled_same m m refl)
   machine_was g (makes event new shape next has) is = elim (put_cases h.machines new.id new id m (ap (λ x. at x id) (sym has.machines) ∙ is)) [
-    | inl w ↦ was_made event (none_is (at h.machines id) (unused w.0)) (subst (λ (x : Machine). x ≡ blank_machine x.id x.arch x.pool x.uuid) (sym w.1) shape)
+    | inl w ↦ was_made event (none_is (at h.machines id) (unused w.0)) (subst (λ (x : Machine). x ≡ blank_machine x.id x.arch x.pool x.uuid) (sym w.1) shape) (w.0 ∙ next_is h.last.machine new.id next)
     | inr w ↦ was_settled m w.1 (settled_same m m refl)
   ]
     where

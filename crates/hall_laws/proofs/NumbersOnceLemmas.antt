@@ -1,9 +1,9 @@
 -- No number is issued twice.
-use Rattle.std.{proofs.{Common.{◌≡◌, ◌≤◌, ◌+◌, ℕ, List, [], ◌∷◌, ◌++◌, sym, ap, ◌∙◌, inl, inr, arith}, lemmas.Option.none-some}, specs.Prelude.{Some, None, is_some, not, ◌==◌}}
-use Rattle.hall_types.specs.{Hall.Hall, Rows.{Keys, Rows, at, put}, RowLaws.{gone_found, put_cases, where_found}, declared.{boot.Boot.Boot, machine.Machine.Machine, number.Numbers.Numbers, order.Order.Order}}
+use Rattle.std.{proofs.{Common.{◌≡◌, ◌≤◌, ◌+◌, ℕ, List, [], ◌∷◌, ◌++◌, sym, ap, ◌∙◌, inl, inr, arith}, lemmas.Option.none-some}, specs.Prelude.{Option, Some, None, is_some}}
+use Rattle.hall_types.specs.{Hall.Hall, Rows.at, declared.number.Numbers.Numbers}
 use Rattle.hall_events.specs.{Reply.Content, declared.event.Event.Event}
 use Rattle.boot_desk.specs.{EntryLaws.next_is, Sound.IsSound}
-use Rattle.hall_laws.{specs.{Step.{IsStep, Step}, HallLaws.boots_first, Writes.{CauseOf, First, boot_first, nothing_first, order_first}, Laws.{MakesBoot, MakesMachine, MakesOrder, NumbersOnce}, Past.SomeOf}, proofs.{Effects.{Effect, StepDoes, did, edits, enters, goes, idles, issues, leaves, makes, missed, notes, step_does}, Enterings.{last_boot_same, last_machine_same, last_order_grows, new_id, queued_number}, Frame.{none_from, some_of_more}, OrderRows.{OrderWas, answered_now, entry_orders, queued_now, stays_order, withdrawn_now}}}
+use Rattle.hall_laws.{specs.{Step.{IsStep, Step}, Laws.{MakesBoot, MakesMachine, MakesOrder, NumbersOnce}, Past.SomeOf}, proofs.{BootRows.{BootWas, boot_was, issued_now, reported_now, same_boot}, Effects.{Effect, StepDoes, decided, did, edits, enters, goes, idles, issues, leaves, makes, missed, notes, step_does}, Enterings.{last_boot_same, last_machine_same, last_order_grows}, Frame.{none_from, some_of_more}, MachineRows.{MachineWas, has_entered, machine_was, was_made, was_settled}, OrderRows.{OrderNow, order_now, queued_order, same_order, settled_order}}}
 
 -- ---- the last numbers grow
 
@@ -39,72 +39,6 @@ effect_grows h e moment fresh content g (idles rows x has) = grow_by h g _ has.l
 effect_grows h e moment fresh content g (edits command rows x has) = grow_by h g _ has.last (le_same _) (le_same _) (le_same _)
 effect_grows h e moment fresh content g (goes command id deletes has) = grow_by h g _ has.last (le_same _) (le_same _) (le_same _)
 
--- ---- a new row has a number above the last one
-
--- a row that is put in the place of another is none that is new
-pub put_known : {K X : Type 0} {keys : Keys K} (rows : Rows keys X) (n : K) (was x : X) (q : K) (y : X) → at rows n ≡ Some was → at rows q ≡ None → at (put n x rows) q ≡ Some y → ⊥
-put_known rows n was x q y there none is = elim (put_cases rows n x q y is) [
-  | inl w ↦ none-some was (sym none ∙ (ap (at rows) w.0 ∙ there))
-  | inr w ↦ none-some y (sym none ∙ w.1)
-]
-
-machine_above : (h : Hall) (e : Event) (moment : ℕ) (fresh : List ℕ) (content : Content) (g : Hall) → Effect h e moment fresh content g
-    → (id : ℕ) (m : Machine) → at h.machines id ≡ None → at g.machines id ≡ Some m → id ≤ h.last.machine → ⊥
-machine_above h e moment fresh content g (leaves quiet has) id m none is le = none-some m (sym none ∙ (ap (λ x. at x id) (sym has.machines) ∙ is))
-machine_above h e moment fresh content g (makes event new shape next has) id m none is le =
-    elim (put_cases h.machines new.id new id m (ap (λ x. at x id) (sym has.machines) ∙ is)) [
-      | inl w ↦ omega (arith, le, w.0, next_is h.last.machine new.id next)
-      | inr w ↦ none-some m (sym none ∙ w.1)
-    ]
-machine_above h e moment fresh content g (issues rows x has) id m none is le = put_known h.machines x.machine.id x.machine _ id m x.found none (ap (λ x. at x id) (sym has.machines) ∙ is)
-machine_above h e moment fresh content g (enters rows x has) id m none is le =
-    put_known h.machines x.new.machine.id x.machine _ id m (ap (at h.machines) (new_id h e moment rows content x) ∙ x.found) none (ap (λ x. at x id) (sym has.machines) ∙ is)
-machine_above h e moment fresh content g (notes rows x has) id m none is le = none-some m (sym none ∙ (ap (λ x. at x id) (sym has.machines) ∙ is))
-machine_above h e moment fresh content g (idles rows x has) id m none is le = put_known h.machines x.machine.id x.machine _ id m x.found none (ap (λ x. at x id) (sym has.machines) ∙ is)
-machine_above h e moment fresh content g (edits command rows x has) id m none is le =
-    put_known h.machines x.after.id x.machine _ id m (ap (at h.machines) (ap (λ (k : Machine). k.id) x.same) ∙ x.found) none (ap (λ x. at x id) (sym has.machines) ∙ is)
-machine_above h e moment fresh content g (goes command gone_id deletes has) id m none is le =
-    none-some m (sym none ∙ (gone_found h.machines gone_id id m (ap (λ x. at x id) (sym has.machines) ∙ is)).1)
-
-boot_above : (h : Hall) (e : Event) (moment : ℕ) (fresh : List ℕ) (content : Content) (g : Hall) → Effect h e moment fresh content g
-    → (n : ℕ) (b : Boot) → at h.boots n ≡ None → at g.boots n ≡ Some b → n ≤ h.last.boot → ⊥
-boot_above h e moment fresh content g (leaves quiet has) n b none is le = none-some b (sym none ∙ (ap (λ x. at x n) (sym has.boots) ∙ is))
-boot_above h e moment fresh content g (makes event new shape next has) n b none is le = none-some b (sym none ∙ (ap (λ x. at x n) (sym has.boots) ∙ is))
-boot_above h e moment fresh content g (issues rows x has) n b none is le =
-    elim (put_cases h.boots x.number _ n b (ap (λ x. at x n) (sym has.boots) ∙ is)) [
-      | inl w ↦ omega (arith, le, w.0, next_is h.last.boot x.number x.next)
-      | inr w ↦ none-some b (sym none ∙ w.1)
-    ]
-boot_above h e moment fresh content g (enters rows x has) n b none is le = by x.first x.cause (ap (λ x. at x n) (sym has.boots) ∙ is)
-  where
-    by : (first : First) → CauseOf h e moment content x.machine x.entering x.signal first → at (boots_first first h.boots) n ≡ Some b → ⊥
-    by nothing_first c there = none-some b (sym none ∙ there)
-    by (boot_first a progress) c there = put_known h.boots a.number a _ n b c.2.recorded none there
-    by (order_first o outcome) c there = none-some b (sym none ∙ there)
-boot_above h e moment fresh content g (notes rows x has) n b none is le = put_known h.boots x.boot.number x.boot _ n b x.cause.recorded none (ap (λ x. at x n) (sym has.boots) ∙ is)
-boot_above h e moment fresh content g (idles rows x has) n b none is le = none-some b (sym none ∙ (ap (λ x. at x n) (sym has.boots) ∙ is))
-boot_above h e moment fresh content g (edits command rows x has) n b none is le = none-some b (sym none ∙ (ap (λ x. at x n) (sym has.boots) ∙ is))
-boot_above h e moment fresh content g (goes command id deletes has) n b none is le =
-    none-some b (sym none ∙ (where_found (λ (x : Boot). not (x.machine == id)) h.boots n b (ap (λ x. at x n) (sym has.boots) ∙ is)).0)
-
-order_above : (h : Hall) → IsSound h → (e : Event) (moment : ℕ) (fresh : List ℕ) (content : Content) (g : Hall) → Effect h e moment fresh content g
-    → (n : ℕ) (o : Order) → at h.orders n ≡ None → at g.orders n ≡ Some o → n ≤ h.last.order → ⊥
-order_above h s e moment fresh content g (leaves quiet has) n o none is le = none-some o (sym none ∙ (ap (λ x. at x n) (sym has.orders) ∙ is))
-order_above h s e moment fresh content g (makes event new shape next has) n o none is le = none-some o (sym none ∙ (ap (λ x. at x n) (sym has.orders) ∙ is))
-order_above h s e moment fresh content g (issues rows x has) n o none is le = none-some o (sym none ∙ (ap (λ x. at x n) (sym has.orders) ∙ is))
-order_above h s e moment fresh content g (enters rows x has) n o none is le = by (entry_orders h s e moment rows content x n o (ap (λ x. at x n) (sym has.orders) ∙ is))
-  where
-    by : OrderWas h x.first x.new n o → ⊥
-    by (queued_now q queue number its) = omega (arith, le, number, queued_number h e moment rows content x q queue)
-    by (stays_order there) = none-some o (sym none ∙ there)
-    by (withdrawn_now k there its) = none-some k (sym none ∙ there)
-    by (answered_now k outcome first there its) = none-some k (sym none ∙ there)
-order_above h s e moment fresh content g (notes rows x has) n o none is le = none-some o (sym none ∙ (ap (λ x. at x n) (sym has.orders) ∙ is))
-order_above h s e moment fresh content g (idles rows x has) n o none is le = put_known h.orders x.order.number x.order _ n o x.cause.recorded none (ap (λ x. at x n) (sym has.orders) ∙ is)
-order_above h s e moment fresh content g (edits command rows x has) n o none is le = none-some o (sym none ∙ (ap (λ x. at x n) (sym has.orders) ∙ is))
-order_above h s e moment fresh content g (goes command id deletes has) n o none is le =
-    none-some o (sym none ∙ (where_found (λ (x : Order). not (x.machine == id)) h.orders n o (ap (λ x. at x n) (sym has.orders) ∙ is)).0)
-
 -- ---- steps
 
 -- what was made is not above the last numbers
@@ -124,8 +58,8 @@ step_grows s (missed answer after) = record {
 le_more : (n a b : ℕ) → n ≤ a → a ≤ b → n ≤ b
 le_more n a b p q = omega (arith, p, q)
 
-pub given_step : (past : List Step) (s : Step) → Unit {0} → IsStep s → IsSound s.before → IsSound s.after → IsGivenOut past s.before → IsGivenOut (past ++ (s ∷ [])) s.after
-given_step past s given is sound later old =
+pub given_step : (past : List Step) (s : Step) → IsStep s → IsSound s.before → IsSound s.after → IsGivenOut past s.before → IsGivenOut (past ++ (s ∷ [])) s.after
+given_step past s is sound later old =
     let grows = step_grows s (step_does s is sound) in
     record {
       machines = λ id some. elim (some_of_more (MakesMachine id) past s some) [ inl was ↦ le_more _ _ _ (old.machines id was) grows.machine | inr now ↦ later.last_machine id (ap (λ o. is_some o) now.2) ];
@@ -133,24 +67,49 @@ given_step past s given is sound later old =
       orders = λ n some. elim (some_of_more (MakesOrder n) past s some) [ inl was ↦ le_more _ _ _ (old.orders n was) grows.order | inr now ↦ later.last_order n (ap (λ o. is_some o) now.2) ];
     }
 
-machine_new : (s : Step) → StepDoes s → (id : ℕ) → MakesMachine id s → id ≤ s.before.last.machine → ⊥
-machine_new s (did answer after writes effect) id made le = machine_above s.before _ _ _ _ s.after effect id made.0 made.1 made.2 le
-machine_new s (missed answer after) id made le = none-some made.0 (sym made.1 ∙ (ap (λ (h : Hall). at h.machines id) (sym after) ∙ made.2))
+-- ---- a new row has a number above the last one
 
-boot_new : (s : Step) → StepDoes s → (n : ℕ) → MakesBoot n s → n ≤ s.before.last.boot → ⊥
-boot_new s (did answer after writes effect) n made le = boot_above s.before _ _ _ _ s.after effect n made.0 made.1 made.2 le
-boot_new s (missed answer after) n made le = none-some made.0 (sym made.1 ∙ (ap (λ (h : Hall). at h.boots n) (sym after) ∙ made.2))
+-- a row that is there afterwards and wasn't before is there after no step that missed
+missed_none : {X : Type 0} (s : Step) (row_in : Hall → Option X) (x : X) → s.after ≡ s.before → row_in s.before ≡ None → row_in s.after ≡ Some x → ⊥
+missed_none s row_in x same none is = none-some x (sym none ∙ (ap row_in (sym same) ∙ is))
 
-order_new : (s : Step) → IsSound s.before → StepDoes s → (n : ℕ) → MakesOrder n s → n ≤ s.before.last.order → ⊥
-order_new s sound (did answer after writes effect) n made le = order_above s.before sound _ _ _ _ s.after effect n made.0 made.1 made.2 le
-order_new s sound (missed answer after) n made le = none-some made.0 (sym made.1 ∙ (ap (λ (h : Hall). at h.orders n) (sym after) ∙ made.2))
+module _ (s : Step) (sound : IsSound s.before) where
+  machine_new : StepDoes s → (id : ℕ) → MakesMachine id s → id ≤ s.before.last.machine → ⊥
+  machine_new (missed answer after) id made le = missed_none s (λ h. at h.machines id) made.0 after made.1 made.2
+  machine_new (did answer after writes effect) id made le =
+      by (machine_was s.before sound s.arrival.event s.arrival.moment s.arrival.fresh (decided s).content id made.0 s.after effect made.2)
+    where
+      by : MachineWas s.before s.arrival.event s.arrival.moment (decided s).content id made.0 → ⊥
+      by (was_settled k was settled) = none-some k (sym made.1 ∙ was)
+      by (was_made event none new above) = omega (arith, le, above)
+      by (has_entered rows x same its) = none-some x.machine (sym made.1 ∙ (ap (at s.before.machines) same ∙ x.found))
+
+  boot_new : StepDoes s → (n : ℕ) → MakesBoot n s → n ≤ s.before.last.boot → ⊥
+  boot_new (missed answer after) n made le = missed_none s (λ h. at h.boots n) made.0 after made.1 made.2
+  boot_new (did answer after writes effect) n made le =
+      by (boot_was s.before s.arrival.event s.arrival.moment s.arrival.fresh (decided s).content s.after effect n made.0 made.2)
+    where
+      by : BootWas s.before s.arrival.event s.arrival.fresh (decided s).content s.after n made.0 → ⊥
+      by (same_boot was) = none-some made.0 (sym made.1 ∙ was)
+      by (issued_now rows x number its machines) = omega (arith, le, number, next_is s.before.last.boot x.number x.next)
+      by (reported_now m k progress cause was its) = none-some k (sym made.1 ∙ was)
+
+  order_new : StepDoes s → (n : ℕ) → MakesOrder n s → n ≤ s.before.last.order → ⊥
+  order_new (missed answer after) n made le = missed_none s (λ h. at h.orders n) made.0 after made.1 made.2
+  order_new (did answer after writes effect) n made le =
+      by (order_now s.before sound s.arrival.event s.arrival.moment s.arrival.fresh (decided s).content s.after effect n made.0 made.2)
+    where
+      by : OrderNow s.before s.arrival.event s.arrival.moment (decided s).content s.after n made.0 → ⊥
+      by (same_order was) = none-some made.0 (sym made.1 ∙ was)
+      by (queued_order rows x q queue above its machines) = omega (arith, le, above)
+      by (settled_order k was fails) = none-some k (sym made.1 ∙ was)
 
 pub numbers_once : (past : List Step) (s : Step) → IsStep s → IsSound s.before → IsGivenOut past s.before → NumbersOnce past s
 numbers_once past s is sound old =
     let does = step_does s is sound in
     record {
-      machines = λ id made. none_from (MakesMachine id) past (λ some. machine_new s does id made (old.machines id some));
-      boots = λ n made. none_from (MakesBoot n) past (λ some. boot_new s does n made (old.boots n some));
+      machines = λ id made. none_from (MakesMachine id) past (λ some. machine_new s sound does id made (old.machines id some));
+      boots = λ n made. none_from (MakesBoot n) past (λ some. boot_new s sound does n made (old.boots n some));
       orders = λ n made. none_from (MakesOrder n) past (λ some. order_new s sound does n made (old.orders n some));
     }
 

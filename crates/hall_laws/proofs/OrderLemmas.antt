@@ -1,12 +1,11 @@
 -- Orders are queued at entries, one waits for each machine, and an answer counts once.
-use Rattle.std.{proofs.{Common.{◌≡◌, ◌+◌, ◌≤◌, ◌⊎◌, ℕ, List, [], ◌∷◌, ◌++◌, refl, sym, ap, subst, ◌∙◌, inl, inr, arith}, lemmas.{Bool.both_ways, Option.none-some}}, specs.Prelude.{Option, Some, None, true, false, is_some, not, ◌==◌}}
-use Rattle.hall_types.specs.{Hall.Hall, Lookup.waits, Rows.{at, put}, RowLaws.{at-put-other, at-put-same, put_cases, where_found}, declared.{change.RowWrite.RowWrite, kinds.{OrderStage.TheVariants.Waiting, Outcome.Outcome}, machine.Machine.Machine, order.Order.Order}}
-use Rattle.hall_types.specs.declared.kinds.Outcome.TheVariants as outcome
+use Rattle.std.{proofs.{Common.{◌≡◌, ◌≤◌, ◌⊎◌, ℕ, List, [], ◌∷◌, ◌++◌, refl, sym, ap, subst, ◌∙◌, inl, inr, arith}, lemmas.{Bool.both_ways, Option.none-some}}, specs.Prelude.{Option, Some, None, true, false, is_some}}
+use Rattle.hall_types.specs.{Hall.Hall, Lookup.waits, Rows.{at, put}, RowLaws.{at-put-other, at-put-same}, declared.{kinds.{OrderStage.TheVariants.Waiting, Outcome.Outcome}, machine.Machine.Machine, order.Order.Order}}
 use Rattle.hall_events.specs.{Reply.{Content, counted}, declared.event.Event.Event}
 use Rattle.hall_events.specs.declared.event.Event.TheVariants as event
 use Rattle.life_cycle.specs.{EnteringLaws.{IsQueued, entered-id, entered-order-queued}, declared.step.Step.Step as TableStep}
 use Rattle.boot_desk.specs.{EntryLaws.cleared, OrderAnswer.stage_for, Sound.IsSound, SoundLaws.some_is}
-use Rattle.hall_laws.{specs.{Step.{IsStep, Step}, HallLaws.{orders_first, queued}, Writes.{CauseOf, First, IsOrderAnswered, IsEntering, boot_first, is_command, nothing_first, order_first, withdrawn_at}, Laws.{CountsAnswerOnce, CountsSome, IsQueuedAtEntry, QueuesAtEntries, WaitsForOne, WaitsNoMore, Withdraws}, Past.{CountsAnswer, SomeOf}}, proofs.{Commanded.RefusalsStay, Effects.{Effect, StepDoes, decided, did, edits, enters, goes, idles, issues, leaves, makes, missed, notes, step_does}, Enterings.{new_id, queued_number}, Entries.row_taken, Frame.{none_from, some_of_more}, MachineRows.is_entry, NumbersOnceLemmas.{order_grows, put_known}, OrderRows.{OrderWas, answered_now, entry_orders, queued_now, stays_order, withdrawn_now}}}
+use Rattle.hall_laws.{specs.{Step.{IsStep, Step}, HallLaws.{orders_first, queued}, Writes.{CauseOf, First, IsOrderAnswered, boot_first, is_command, nothing_first, order_first, withdrawn_at}, Laws.{CountsAnswerOnce, CountsSome, IsQueuedAtEntry, QueuesAtEntries, WaitsForOne, WaitsNoMore, Withdraws}, Past.{CountsAnswer, SomeOf}}, proofs.{Effects.{Effect, StepDoes, decided, did, edits, enters, goes, idles, issues, leaves, makes, missed, notes, step_does}, Enterings.{new_id, queued_number}, Entries.row_taken, Frame.{none_from, some_of_more}, MachineRows.is_entry, NumbersOnceLemmas.order_grows, OrderRows.{OrderNow, not_waiting, order_now, queued_order, same_order, settled_order}}}
 
 -- ---- one waits
 
@@ -25,89 +24,45 @@ one_waits h s = record {
 
 -- ---- orders are queued at entries
 
-pub queues_at_entries : RefusalsStay → (past : List Step) (s : Step) → IsStep s → IsSound s.before → QueuesAtEntries past s
-queues_at_entries stay past s step sound n o none some = by_step (step_does s step sound)
+pub queues_at_entries : (past : List Step) (s : Step) → IsStep s → IsSound s.before → QueuesAtEntries past s
+queues_at_entries past s step sound n o none some = by_step (step_does s step sound)
   where
-    by_entry : (rows : List RowWrite) (content : Content) (x : IsEntering s.before s.arrival.event s.arrival.moment rows content) → s.answer ≡ Some content → s.after.machines ≡ put x.new.machine.id x.new.machine s.before.machines
-        → OrderWas s.before x.first x.new n o → IsQueuedAtEntry o s
-    by_entry rows content x answer machines (stays_order there) = absurd (none-some o (sym none ∙ there))
-    by_entry rows content x answer machines (withdrawn_now k there its) = absurd (none-some k (sym none ∙ there))
-    by_entry rows content x answer machines (answered_now k outcome first there its) = absurd (none-some k (sym none ∙ there))
-    by_entry rows content x answer machines (queued_now q queue number its) =
+    by : s.answer ≡ Some (decided s).content → OrderNow s.before s.arrival.event s.arrival.moment (decided s).content s.after n o → IsQueuedAtEntry o s
+    by answer (same_order there) = absurd (none-some o (sym none ∙ there))
+    by answer (settled_order k there fails) = absurd (none-some k (sym none ∙ there))
+    by answer (queued_order rows x q queue above its machines) =
         let facts : IsQueued x.entering x.step s.before.last x.new.numbers o =
         subst (IsQueued x.entering x.step s.before.last x.new.numbers) (sym its) (entered-order-queued x.entering x.step s.arrival.moment s.before.last x.new x.enters q queue) in
         let own : o.machine ≡ x.new.machine.id = facts.machine ∙ sym (entered-id x.entering x.step s.arrival.moment s.before.last x.new x.enters) in
-        let machine : o.machine ≡ x.machine.id = own ∙ new_id s.before s.arrival.event s.arrival.moment rows content x in
+        let machine : o.machine ≡ x.machine.id = own ∙ new_id s.before s.arrival.event s.arrival.moment rows (decided s).content x in
         let row : at s.after.machines o.machine ≡ Some x.new.machine = ap (λ rows. at rows o.machine) machines ∙ (ap (at (put x.new.machine.id x.new.machine s.before.machines)) own ∙ at-put-same s.before.machines x.new.machine.id x.new.machine) in
-        let taken = row_taken stay s step sound rows content x o.machine x.new.machine machine refl row answer in
+        let taken = row_taken s step sound rows (decided s).content x o.machine x.new.machine machine refl row answer in
         record {
           waits = facts.stage;
-          entry = is_entry s sound s.arrival.event s.arrival.moment rows content x o.machine x.new.machine machine refl row;
+          entry = is_entry s sound s.arrival.event s.arrival.moment rows (decided s).content x o.machine x.new.machine machine refl row;
           takes = taken.0;
           kind = ap (λ (t : TableStep). t.order) taken.1 ∙ facts.kind;
         }
 
-    unmoved : at s.before.orders n ≡ Some o → IsQueuedAtEntry o s
-    unmoved there = absurd (none-some o (sym none ∙ there))
-
-    by : (content : Content) → s.answer ≡ Some content → Effect s.before s.arrival.event s.arrival.moment s.arrival.fresh content s.after → IsQueuedAtEntry o s
-    by content answer (leaves quiet has) = unmoved (ap (λ x. at x n) (sym has.orders) ∙ some)
-    by content answer (makes event m new next has) = unmoved (ap (λ x. at x n) (sym has.orders) ∙ some)
-    by content answer (issues rows x has) = unmoved (ap (λ x. at x n) (sym has.orders) ∙ some)
-    by content answer (enters rows x has) =
-        by_entry rows content x answer has.machines (entry_orders s.before sound s.arrival.event s.arrival.moment rows content x n o (ap (λ x. at x n) (sym has.orders) ∙ some))
-    by content answer (notes rows x has) = unmoved (ap (λ x. at x n) (sym has.orders) ∙ some)
-    by content answer (idles rows x has) = absurd (put_known s.before.orders x.order.number x.order _ n o x.cause.recorded none (ap (λ x. at x n) (sym has.orders) ∙ some))
-    by content answer (edits command rows x has) = unmoved (ap (λ x. at x n) (sym has.orders) ∙ some)
-    by content answer (goes command id deletes has) = unmoved (where_found (λ (x : Order). not (x.machine == id)) s.before.orders n o (ap (λ x. at x n) (sym has.orders) ∙ some)).0
-
     by_step : StepDoes s → IsQueuedAtEntry o s
-    by_step (missed answer after) = unmoved (ap (λ (h : Hall). at h.orders n) (sym after) ∙ some)
-    by_step (did answer after writes effect) = by (decided s).content answer effect
-
--- ---- where an order comes from
-
-not_waiting : (its : Outcome) → waits (stage_for its) ≡ false
-not_waiting outcome.Done = refl
-not_waiting outcome.Failed = refl
-
--- it is as it was, it has a new number, or it doesn't wait
-pub data OrderNow (h : Hall) (n : ℕ) (o : Order) : Type 0 where
-  same_order : at h.orders n ≡ Some o → OrderNow h n o
-  new_order : n ≡ h.last.order + 1 → OrderNow h n o
-  settled_order : waits o.stage ≡ false → OrderNow h n o
-
-order_now : (h : Hall) → IsSound h → (e : Event) (moment : ℕ) (fresh : List ℕ) (content : Content) (g : Hall) → Effect h e moment fresh content g → (n : ℕ) (o : Order) → at g.orders n ≡ Some o → OrderNow h n o
-order_now h s e moment fresh content g (leaves quiet has) n o is = same_order (ap (λ x. at x n) (sym has.orders) ∙ is)
-order_now h s e moment fresh content g (makes event m new next has) n o is = same_order (ap (λ x. at x n) (sym has.orders) ∙ is)
-order_now h s e moment fresh content g (issues rows x has) n o is = same_order (ap (λ x. at x n) (sym has.orders) ∙ is)
-order_now h s e moment fresh content g (enters rows x has) n o is = by (entry_orders h s e moment rows content x n o (ap (λ x. at x n) (sym has.orders) ∙ is))
-  where
-    by : OrderWas h x.first x.new n o → OrderNow h n o
-    by (queued_now q queue number its) = new_order (number ∙ queued_number h e moment rows content x q queue)
-    by (stays_order there) = same_order there
-    by (withdrawn_now k there its) = settled_order (ap (λ (y : Order). waits y.stage) its)
-    by (answered_now k outcome first there its) = settled_order (ap (λ (y : Order). waits y.stage) its ∙ not_waiting outcome)
-order_now h s e moment fresh content g (notes rows x has) n o is = same_order (ap (λ x. at x n) (sym has.orders) ∙ is)
-order_now h s e moment fresh content g (idles rows x has) n o is = elim (put_cases h.orders x.order.number (record x.order { stage = stage_for x.outcome }) n o (ap (λ x. at x n) (sym has.orders) ∙ is)) [
-  | inl w ↦ settled_order (ap (λ (y : Order). waits y.stage) w.1 ∙ not_waiting x.outcome)
-  | inr w ↦ same_order w.1
-]
-order_now h s e moment fresh content g (edits command rows x has) n o is = same_order (ap (λ x. at x n) (sym has.orders) ∙ is)
-order_now h s e moment fresh content g (goes command id deletes has) n o is = same_order (where_found (λ (x : Order). not (x.machine == id)) h.orders n o (ap (λ x. at x n) (sym has.orders) ∙ is)).0
+    by_step (missed answer after) = absurd (none-some o (sym none ∙ (ap (λ (h : Hall). at h.orders n) (sym after) ∙ some)))
+    by_step (did answer after writes effect) = by answer (order_now s.before sound s.arrival.event s.arrival.moment s.arrival.fresh (decided s).content s.after effect n o some)
 
 -- ---- an order that doesn't wait
 
 pub waits_no_more : (past : List Step) (s : Step) → IsStep s → IsSound s.before → WaitsNoMore past s
 waits_no_more past s step sound n k o was idle is wait = by_step (step_does s step sound)
   where
-    by : OrderNow s.before n o → ⊥
-    by (same_order there) = idle (ap (λ (y : Order). y.stage) (some_is k o (sym was ∙ there)) ∙ wait)
-    by (new_order number) = omega (arith, number, sound.last_order n (ap (λ y. is_some y) was))
-    by (settled_order fails) = both_ways (waits o.stage) fails (ap waits wait)
+    as_it_was : at s.before.orders n ≡ Some o → ⊥
+    as_it_was there = idle (ap (λ (y : Order). y.stage) (some_is k o (sym was ∙ there)) ∙ wait)
+
+    by : OrderNow s.before s.arrival.event s.arrival.moment (decided s).content s.after n o → ⊥
+    by (same_order there) = as_it_was there
+    by (queued_order rows x q queue above its machines) = omega (arith, above, sound.last_order n (ap (λ y. is_some y) was))
+    by (settled_order k there fails) = both_ways (waits o.stage) fails (ap waits wait)
 
     by_step : StepDoes s → ⊥
-    by_step (missed answer after) = by (same_order (ap (λ (h : Hall). at h.orders n) (sym after) ∙ is))
+    by_step (missed answer after) = as_it_was (ap (λ (h : Hall). at h.orders n) (sym after) ∙ is)
     by_step (did answer after writes effect) = by (order_now s.before sound s.arrival.event s.arrival.moment s.arrival.fresh (decided s).content s.after effect n o is)
 
 -- ---- an answer that counted
@@ -188,10 +143,10 @@ module _ (past : List Step) (s : Step) (sound : IsSound s.before) (old : KnowsAn
   settled_stays : (n : ℕ) → SomeOf (Settles n) past → (o : Order) → at s.after.orders n ≡ Some o → waits o.stage ≡ false
   settled_stays n some o is = by_step does
     where
-      by : OrderNow s.before n o → waits o.stage ≡ false
+      by : OrderNow s.before s.arrival.event s.arrival.moment (decided s).content s.after n o → waits o.stage ≡ false
       by (same_order there) = old.settled n some o there
-      by (new_order number) = absurd (omega (arith, number, old.issued n some))
-      by (settled_order fails) = fails
+      by (queued_order rows x q queue above its machines) = absurd (omega (arith, above, old.issued n some))
+      by (settled_order k there fails) = fails
 
       by_step : StepDoes s → waits o.stage ≡ false
       by_step (missed answer after) = old.settled n some o (ap (λ (h : Hall). at h.orders n) (sym after) ∙ is)
@@ -205,8 +160,8 @@ module _ (past : List Step) (s : Step) (sound : IsSound s.before) (old : KnowsAn
   issued_now later n (inl c) = later.last_order n (answered_at s does sound n c.0 c.1).there
   issued_now later n (inr w) = later.last_order n (ap (λ o. is_some o) w.4)
 
-pub answers_step : (past : List Step) (s : Step) → Unit {0} → IsStep s → IsSound s.before → IsSound s.after → KnowsAnswers past s.before → KnowsAnswers (past ++ (s ∷ [])) s.after
-answers_step past s given step sound later old =
+pub answers_step : (past : List Step) (s : Step) → IsStep s → IsSound s.before → IsSound s.after → KnowsAnswers past s.before → KnowsAnswers (past ++ (s ∷ [])) s.after
+answers_step past s step sound later old =
     let does = step_does s step sound in
     record {
       settled = λ n some o is. elim (some_of_more (Settles n) past s some) [ inl was ↦ settled_stays past s sound old does n was o is | inr now ↦ settled_now past s sound old does n now o is ];

@@ -1,10 +1,11 @@
--- Where each order comes from that there is after a machine entered a status.
-use Rattle.std.{proofs.Common.{◌≡◌, ℕ, List, refl, ap, ◌∙◌, inl, inr}, specs.Prelude.{Option, Some, None}}
-use Rattle.hall_types.specs.{Hall.Hall, Rows.{Rows, at, numbers}, RowLaws.put_cases, declared.{change.RowWrite.RowWrite, kinds.{OrderStage.TheVariants.Withdrawn, Outcome.Outcome}, order.Order.Order}}
+-- Where each order comes from that there is after a machine entered a status, and after each step.
+use Rattle.std.{proofs.Common.{◌≡◌, ◌+◌, ℕ, List, refl, sym, ap, ◌∙◌, inl, inr}, specs.Prelude.{Option, Some, None, false, not, ◌==◌}}
+use Rattle.hall_types.specs.{Hall.Hall, Lookup.waits, Rows.{Rows, at, numbers, put}, RowLaws.{put_cases, where_found}, declared.{change.RowWrite.RowWrite, kinds.{OrderStage.TheVariants.Withdrawn, Outcome.Outcome}, order.Order.Order}}
+use Rattle.hall_types.specs.declared.kinds.Outcome.TheVariants as outcome
 use Rattle.hall_events.specs.{Reply.Content, declared.event.Event.Event}
 use Rattle.life_cycle.specs.declared.entering.Entered.{Entered}
 use Rattle.boot_desk.specs.{EntryLaws.cleared, OrderAnswer.stage_for, Sound.IsSound, Views.row_at}
-use Rattle.hall_laws.specs.{HallLaws.{orders_first, queued}, Writes.{CauseOf, First, IsEntering, boot_first, nothing_first, order_first, withdrawn_at}}
+use Rattle.hall_laws.{specs.{HallLaws.{orders_first, queued}, Writes.{CauseOf, First, IsEntering, boot_first, nothing_first, order_first, withdrawn_at}}, proofs.{Effects.{Effect, edits, enters, goes, idles, issues, leaves, makes, notes}, Enterings.queued_number}}
 
 -- it is queued now, it is as it was, it is withdrawn now, or it is answered now
 pub data OrderWas (h : Hall) (first : First) (new : Entered) (n : ℕ) (o : Order) : Type 0 where
@@ -40,3 +41,35 @@ module _ (h : Hall) (s : IsSound h) (e : Event) (moment : ℕ) (rows : List RowW
 
   pub entry_orders : at (queued x.new.order (cleared (withdrawn_at h x.machine x.first) (orders_first x.first h.orders))) n ≡ Some o → OrderWas h x.first x.new n o
   entry_orders is = queued_cases x.new.order refl (cleared (withdrawn_at h x.machine x.first) (orders_first x.first h.orders)) is (first_cases x.first refl x.cause)
+
+-- ---- after each step
+
+pub not_waiting : (its : Outcome) → waits (stage_for its) ≡ false
+not_waiting outcome.Done = refl
+not_waiting outcome.Failed = refl
+
+-- it is as it was, it is queued with a new number, or it doesn't wait
+pub data OrderNow (h : Hall) (e : Event) (moment : ℕ) (content : Content) (g : Hall) (n : ℕ) (o : Order) : Type 0 where
+  same_order : at h.orders n ≡ Some o → OrderNow h e moment content g n o
+  queued_order : (rows : List RowWrite) (x : IsEntering h e moment rows content) (q : Order) → x.new.order ≡ Some q → n ≡ h.last.order + 1 → o ≡ q → g.machines ≡ put x.new.machine.id x.new.machine h.machines → OrderNow h e moment content g n o
+  settled_order : (k : Order) → at h.orders n ≡ Some k → waits o.stage ≡ false → OrderNow h e moment content g n o
+
+module _ (h : Hall) (s : IsSound h) (e : Event) (moment : ℕ) (fresh : List ℕ) (content : Content) (g : Hall) where
+  pub order_now : Effect h e moment fresh content g → (n : ℕ) (o : Order) → at g.orders n ≡ Some o → OrderNow h e moment content g n o
+  order_now (leaves quiet has) n o is = same_order (ap (λ x. at x n) (sym has.orders) ∙ is)
+  order_now (makes event m new next has) n o is = same_order (ap (λ x. at x n) (sym has.orders) ∙ is)
+  order_now (issues rows x has) n o is = same_order (ap (λ x. at x n) (sym has.orders) ∙ is)
+  order_now (enters rows x has) n o is = by (entry_orders h s e moment rows content x n o (ap (λ x. at x n) (sym has.orders) ∙ is))
+    where
+      by : OrderWas h x.first x.new n o → OrderNow h e moment content g n o
+      by (queued_now q queue number its) = queued_order rows x q queue (number ∙ queued_number h e moment rows content x q queue) its has.machines
+      by (stays_order there) = same_order there
+      by (withdrawn_now k there its) = settled_order k there (ap (λ (y : Order). waits y.stage) its)
+      by (answered_now k outcome first there its) = settled_order k there (ap (λ (y : Order). waits y.stage) its ∙ not_waiting outcome)
+  order_now (notes rows x has) n o is = same_order (ap (λ x. at x n) (sym has.orders) ∙ is)
+  order_now (idles rows x has) n o is = elim (put_cases h.orders x.order.number (record x.order { stage = stage_for x.outcome }) n o (ap (λ x. at x n) (sym has.orders) ∙ is)) [
+    | inl w ↦ settled_order x.order (ap (at h.orders) w.0 ∙ x.cause.recorded) (ap (λ (y : Order). waits y.stage) w.1 ∙ not_waiting x.outcome)
+    | inr w ↦ same_order w.1
+  ]
+  order_now (edits command rows x has) n o is = same_order (ap (λ x. at x n) (sym has.orders) ∙ is)
+  order_now (goes command id deletes has) n o is = same_order (where_found (λ (x : Order). not (x.machine == id)) h.orders n o (ap (λ x. at x n) (sym has.orders) ∙ is)).0

@@ -1,10 +1,10 @@
 -- A machine's current boot is its own boot, so a report that counts is of its machine's own boot.
 use Rattle.std.{proofs.{Common.{◌≡◌, ◌≤◌, ℕ, List, [], ◌∷◌, ◌++◌, refl, sym, ap, subst, ◌∙◌, inl, inr, arith}, lemmas.Option.none-some}, specs.Prelude.{Option, Some, None, is_some}}
-use Rattle.hall_types.specs.{Hall.Hall, Rows.{at, put}, RowLaws.{at-put-same, gone_found, put_cases}, declared.{boot.Boot.Boot, machine.Machine.Machine, status.Status.{Status, TheVariants.{EnteringRescue, Rescue}}}}
+use Rattle.hall_types.specs.{Hall.{Hall, new_hall, second}, Rows.{at, put}, RowLaws.{at-put-same, gone_found, put_cases}, declared.{boot.Boot.Boot, machine.Machine.Machine, status.Status.{Status, TheVariants.{EnteringRescue, Rescue}}}}
 use Rattle.hall_events.specs.Reply.{Content}
 use Rattle.life_cycle.specs.Entering.{boot_after}
 use Rattle.boot_desk.specs.{EntryLaws.next_is, Fetch.{booted, new_boot}, OrderAnswer.idle, Sound.IsSound, SoundLaws.some_is, Views.row_at}
-use Rattle.hall_laws.{specs.{Step.{IsStep, Step}, Laws.CountsOwnBoot, Past.{IsIssue, IsOtherEntry, IsOwnBoot, IssuesFor}}, proofs.{BootRows.{BootWas, boot_was, counted_report, issued_now, reported_now, same_boot}, Effects.{Effect, StepDoes, decided, did, edits, enters, goes, idles, issues, leaves, makes, missed, notes, step_does}, Enterings.{new_boot_is, new_id, new_status}, Frame.{last_kept, last_new, none_append}, MachineRows.no_entry}}
+use Rattle.hall_laws.{specs.{Step.{IsStep, Step}, Laws.CountsOwnBoot, Past.{IsIssue, IsOtherEntry, IsOwnBoot, IssuesFor}}, proofs.{BootRows.{BootWas, boot_was, counted_report, issued_now, reported_now, same_boot}, Effects.{Effect, StepDoes, decided, did, edits, enters, goes, idles, issues, leaves, makes, missed, notes, step_does}, Enterings.{new_boot_is, new_id, new_status}, Forgetting.no_machines, Frame.{last_kept, last_new, none_append}, MachineRows.no_entry}}
 
 -- the boot with this number is the machine's own boot, and its row has the token that was issued
 pub record Own (past : List Step) (h : Hall) (id n : ℕ) : Type 0 where
@@ -144,8 +144,8 @@ module _ (past : List Step) (s : Step) (sound : IsSound s.before) (old : OwnsBoo
       (λ e. no_entry s id m m was is refl e.0)
       (λ b there. (b, ap (λ (h : Hall). at h.boots n) (sym after) ∙ there, refl))
 
-pub owns_step : (past : List Step) (s : Step) → Unit {0} → IsStep s → IsSound s.before → IsSound s.after → OwnsBoots past s.before → OwnsBoots (past ++ (s ∷ [])) s.after
-owns_step past s given step sound later old = record { owns = own_later past s sound old (step_does s step sound) }
+pub owns_step : (past : List Step) (s : Step) → IsStep s → IsSound s.before → IsSound s.after → OwnsBoots past s.before → OwnsBoots (past ++ (s ∷ [])) s.after
+owns_step past s step sound later old = record { owns = own_later past s sound old (step_does s step sound) }
 
 pub counts_own : (past : List Step) (s : Step) → IsStep s → IsSound s.before → OwnsBoots past s.before → CountsOwnBoot past s
 counts_own past s step sound old number token progress was =
@@ -153,3 +153,6 @@ counts_own past s step sound old number token progress was =
     let b = c.at_boot.boot in
     let o = old.owns c.at_boot.machine.id b.number c.at_boot.machine c.at_boot.found c.at_boot.cause.current in
     (o.boot, o.number ∙ c.number_is, sym (o.token b c.at_boot.cause.recorded) ∙ c.token_is, subst (λ i. IsOwnBoot i o.boot past) (sym o.machine) o.own)
+
+pub new_owns : (admin digest : List ℕ) → OwnsBoots [] (new_hall second admin digest)
+new_owns admin digest = record { owns = λ id n m is. absurd (none-some m (sym (no_machines second admin digest id) ∙ is)) }

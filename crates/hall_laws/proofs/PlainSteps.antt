@@ -2,10 +2,10 @@
 use Rattle.std.{proofs.{Common.{◌≡◌, ◌≢◌, ℕ, List, true, refl, sym, ap, subst, ◌∙◌, inl, inr}, lemmas.Option.none-some}, specs.Prelude.{Option, Some, None, option_map}}
 use Rattle.ipxe_script.specs.declared.command.Command.{Command}
 use Rattle.hall_types.specs.{Hall.{Hall, applied, first}, Rows.{Rows, at, numbers}, RowLaws.same_rows, declared.{boot.Boot.Boot, change.RowWrite.RowWrite, kinds.{Erase.{Erase, TheVariants.{Full, Quick}}, Progress.Progress}, machine.Machine.Machine}, Image.BootImage}
-use Rattle.hall_events.specs.{Reply.{Content, counted, done, machine_gone, machine_is, refused, script}, declared.{command.{HallCommand.{HallCommand, TheVariants.OnMachine}, MachineCommand.TheVariants.{Deploy, Release}}, event.Event.Event}}
+use Rattle.hall_events.specs.{Reply.{Content, counted, done, machine_gone, machine_is, script}, declared.{command.{HallCommand.{HallCommand, TheVariants.OnMachine}, MachineCommand.{MachineCommand, TheVariants.{Deploy, Release}}}, event.Event.Event}}
 use Rattle.boot_desk.specs.{Sound.IsSound, SoundLaws.some_is}
 use Rattle.desk_command.specs.Command.{sender}
-use Rattle.hall_laws.{specs.{Decision.{Decided, decision_of}, Migration.IsMigrated, Refusing.IsRefusal, Step.{Arrival, IsStep, Step}, Writes.{WritesAll, is_command, is_done, with_receipt, without_receipt}, WritesLaws.decision_writes, Laws.{CountsAny, CountsSome, CountsVerdict, GivesText, IsDeploy, IsMachineAt, IsReleaseErasing, MakesBoot, MakesMachine, MakesOrder, Withdraws}, Past.{CountsReport, IsAccepted, IsEntry, IsIssue, IsOtherEntry, IsRescueEntry, IssuesFor, WasAnswered}, FirstSchema.{AllKeepFull, IsForgotten, IsPlain, NeverAsksQuick, first_content, plain, without_kind}}, proofs.Forgetting.{carried_again, carried_only}}
+use Rattle.hall_laws.{specs.{Decision.{Decided, decision_of}, Migration.IsMigrated, Refusing.IsRefusal, Step.{Arrival, IsStep, Step}, Writes.{WritesAll, is_command, is_done, with_receipt, without_receipt}, WritesLaws.decision_writes, Laws.{CountsAny, CountsSome, CountsVerdict, GivesText, IsByOwner, IsDeploy, IsMachineAt, IsReleaseErasing, MakesBoot, MakesMachine, MakesOrder, Withdraws}, Past.{CountsReport, IsAccepted, IsEntry, IsIssue, IsOtherEntry, IsRescueEntry, IssuesFor, WasAnswered}, FirstSchema.{AllKeepFull, IsForgotten, IsPlain, NeverAsksQuick, first_content, plain, without_kind}}, proofs.Forgetting.{carried_again, carried_only}}
 
 -- ---- halls
 
@@ -82,10 +82,6 @@ same_script one other is = cc
 script_of : (c : Content) (commands : List Command) → first_content c ≡ script commands → IsScriptOf c commands
 script_of (script whole) commands is = record { whole = whole; is = refl; its = sym (same_script (plain whole) commands is) }
 script_of other commands is = cc
-
-refusal_before : (c : Content) → IsRefusal (first_content c) → IsRefusal c
-refusal_before (refused refusal) is = (refusal, refl)
-refusal_before other is = let e = is.1 in cc
 
 refusal_after : (c : Content) → IsRefusal c → IsRefusal (first_content c)
 refusal_after c is = (is.0, ap first_content is.1)
@@ -287,27 +283,21 @@ module _ (w s : Step) (t : IsTwin w s) where
         changes = changes_back is.changes;
       }
 
-  pub release_to : (id : ℕ) (kind : Erase) → IsReleaseErasing id kind w → IsReleaseErasing id kind s
-  release_to id kind is = record {
+  by_owner_to : (id : ℕ) (command : MachineCommand) → IsByOwner id command w → IsByOwner id command s
+  by_owner_to id command is = record {
     operator = is.operator;
     key = is.key;
     version = is.version;
     content = is.content;
-    accepted = accepted_to is.operator is.key (OnMachine id is.version (Release (Some kind))) is.content is.accepted;
+    accepted = accepted_to is.operator is.key (OnMachine id is.version command) is.content is.accepted;
     machine = without_kind is.machine;
     found = plain_row w.before s.before t.plain.before id is.machine is.found;
     owner = is.owner;
   }
 
+  pub release_to : (id : ℕ) (kind : Erase) → IsReleaseErasing id kind w → IsReleaseErasing id kind s
+  release_to id kind = by_owner_to id (Release (Some kind))
+
   pub deploy_to : (id : ℕ) (name : List ℕ) (image : BootImage) → IsDeploy id name image w → IsDeploy id name image s
-  deploy_to id name image is = record {
-    operator = is.operator;
-    key = is.key;
-    version = is.version;
-    content = is.content;
-    accepted = accepted_to is.operator is.key (OnMachine id is.version (Deploy name)) is.content is.accepted;
-    machine = without_kind is.machine;
-    found = plain_row w.before s.before t.plain.before id is.machine is.found;
-    owner = is.owner;
-    recorded = same_images w.before s.before t.plain.before name ∙ is.recorded;
-  }
+  deploy_to id name image is =
+      record { by_owner = by_owner_to id (Deploy name) is.by_owner; recorded = same_images w.before s.before t.plain.before name ∙ is.recorded }

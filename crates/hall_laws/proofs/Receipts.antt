@@ -1,13 +1,13 @@
 -- A command that is answered by the status 200 was accepted, now or before.
-use Rattle.std.{proofs.{Common.{◌≡◌, ℕ, List, [], ◌∷◌, ◌++◌, refl, sym, ap, subst, ◌∙◌}, lemmas.{Option.none-some, Slice.Eq.bytes_eq-Decides}}, specs.{Prelude.{◌≢◌, ◌==◌, Option, Some, None, Bool, true, false, Ok, Err, if◌then◌else◌}, Str.bytes_eq}}
-use Rattle.hall_types.specs.{Hall.{Hall, applied, pair, second}, Refusal.{refusal_row, refusal_status}, Rows.{at, pairs, put, same_key}, RowLaws.{at-put, at-put-same, key-same}, declared.{change.RowWrite.RowWrite, operator.Operator.Operator, receipt.Receipt.Receipt, refusal.Refusal.Refusal}}
+use Rattle.std.{proofs.{Common.{◌≡◌, ℕ, List, [], ◌∷◌, ◌++◌, refl, sym, ap, subst, ◌∙◌}, lemmas.Option.none-some}, specs.Prelude.{◌≢◌, ◌==◌, Option, Some, None, Bool, true, false, Ok, Err, if◌then◌else◌}}
+use Rattle.hall_types.specs.{Hall.{Hall, applied, new_hall, pair, second}, Refusal.{refusal_row, refusal_status}, Rows.{at, no_rows, pairs, put, same_key}, RowLaws.{at-no_rows, at-put, at-put-same, key-same}, declared.{change.RowWrite.RowWrite, operator.Operator.Operator, receipt.Receipt.Receipt, refusal.Refusal.Refusal}}
 use Rattle.hall_types.specs.declared.change.RowWrite.TheVariants as write
 use Rattle.hall_types.specs.declared.refusal.Refusal.TheVariants as cause
 use Rattle.hall_events.specs.{Command.command_text, Reply.{Content, refused, reply_of, stored}, declared.command.HallCommand.HallCommand}
 use Rattle.hall_events.specs.declared.event.Event.TheVariants as event
 use Rattle.boot_desk.specs.{Sound.IsSound, SoundLaws.some_is}
-use Rattle.desk_command.specs.{Causes.{causes, first_of}, Command.{command_decision, commanded as judged, keyed, may_send, needs_admin, of_sender, receipt_of, sender, unless, with_receipt as receipted}, Effect.{Effect, effect}, View.command_view}
-use Rattle.hall_laws.{specs.{Decision.{Decided, commanded, decision_of}, Step.{IsStep, Step}, Writes.{LeavesReceipt, WritesAll, is_command, is_done, with_receipt, without_receipt}, Laws.{AnswersAccepted, HasStatus, WasAccepted}, Past.{IsAccepted, SomeOf}}, proofs.{Answered.{CameSo, came_so}, Effects.{StepDoes, decided, did, missed, step_does}, Frame.{some_before, some_now}, Keys.{ReceiptsMove, command_of, new_key, receipt_put, receipts_move, same_keys, stored_same}}}
+use Rattle.desk_command.specs.{Command.{command_decision, receipt_of, sender, with_receipt as receipted}, DecisionLaws.command_cases, Effect.{Effect, effect}, View.command_view}
+use Rattle.hall_laws.{specs.{Decision.{Decided, commanded, decision_of}, Step.{IsStep, Step}, Writes.{LeavesReceipt, WritesAll, is_command, is_done, with_receipt, without_receipt}, Laws.{AnswersAccepted, HasStatus, WasAccepted}, Past.{IsAccepted, SomeOf}}, proofs.{AnswerLemmas.{CameSo, came_so}, Effects.{StepDoes, decided, did, missed, step_does}, Frame.{some_before, some_now}, Keys.{ReceiptsMove, command_of, new_key, receipt_put, receipts_move, same_keys, stored_same}}}
 
 -- ---- statuses
 
@@ -73,8 +73,8 @@ left_accepted s own answer x move = record {
   changes = moved s (pair x.operator.name x.key) (receipt_of x.operator x.key x.command (decided s).content) x.new move;
 }
 
-pub receipts_step : (past : List Step) (s : Step) → Unit {0} → IsStep s → IsSound s.before → IsSound s.after → AllOfAccepted past s.before → AllOfAccepted (past ++ (s ∷ [])) s.after
-receipts_step past s given step sound after_sound old at_key r there = by (step_does s step sound)
+pub receipts_step : (past : List Step) (s : Step) → IsStep s → IsSound s.before → IsSound s.after → AllOfAccepted past s.before → AllOfAccepted (past ++ (s ∷ [])) s.after
+receipts_step past s step sound after_sound old at_key r there = by (step_does s step sound)
   where
     by_put : (own : List RowWrite) → s.answer ≡ Some (decided s).content → (x : LeavesReceipt s.before s.arrival.event own (decided s))
         → s.after.receipts ≡ put (pair x.operator.name x.key) (receipt_of x.operator x.key x.command (decided s).content) s.before.receipts → IsOfAccepted (past ++ (s ∷ [])) at_key r
@@ -109,8 +109,8 @@ receipts_step past s given step sound after_sound old at_key r there = by (step_
     by (did answer after writes effect) = by_move answer (receipts_move s (decided s) after writes)
 
 -- a new hall has no receipt
-pub no_receipts : (h : Hall) → ((at_key : List (List ℕ)) → at h.receipts at_key ≡ None) → AllOfAccepted [] h
-no_receipts h none at_key r there = absurd (none-some r (sym (none at_key) ∙ there))
+pub no_receipts : (admin digest : List ℕ) → AllOfAccepted [] (new_hall second admin digest)
+no_receipts admin digest at_key r there = absurd (none-some r (sym (at-no_rows pairs at_key no_rows refl) ∙ there))
 
 -- ---- a request that is answered by the status 200, and writes nothing
 
@@ -129,40 +129,17 @@ module _ (h : Hall) (o : Operator) (key : List ℕ) (command : HallCommand) (mom
   no_append [] w is = cc
   no_append (x ∷ ws) w is = cc
 
-  refused_again : (why : Refusal) → Again (Err why)
-  refused_again why ok none = absurd (refused_not_ok why ok)
-
-  by_effect : (e : Effect) → Again (receipted o key command e)
-  by_effect (Ok decision) ok none = absurd (no_append decision.0 (write.PutReceipt (receipt_of o key command decision.1)) none)
-  by_effect (Err why) ok none = absurd (refused_not_ok why ok)
-
-  by_causes : (first : Option Refusal) (e : Effect) → Again (unless first (receipted o key command e))
-  by_causes (Some why) e = refused_again why
-  by_causes None e = by_effect e
-
-  by_role : (b : Bool) (e : Effect) → Again e → Again (if b then e else Err cause.RoleNeeded)
-  by_role true e again = again
-  by_role false e again = refused_again cause.RoleNeeded
-
-  new_again : Again (keyed h o None key command moment)
-  unfolding judged
-  new_again = by_role (may_send o.role (needs_admin command)) _ (by_causes (first_of (causes (command_view h o command) o command)) (effect (command_view h o command) o command moment))
-
-  by_text : (r : Receipt) (b : Bool) → bytes_eq r.command (command_text command) ≡ b → at h.receipts (pair o.name key) ≡ Some r → Again (if b then Ok ([], stored r.status r.body) else Err cause.KeyReused)
-  by_text r true same there ok none = record { receipt = r; there = there; text = (bytes_eq-Decides r.command (command_text command)).0 same; content = refl }
-  by_text r false same there ok none = refused_again cause.KeyReused ok none
-
-  by_receipt : (receipt : Option Receipt) → at h.receipts (pair o.name key) ≡ receipt → Again (keyed h o receipt key command moment)
-  by_receipt (Some r) there = by_text r (bytes_eq r.command (command_text command)) refl there
-  by_receipt None there = new_again
-
-  by_enabled : (b : Bool) → Again (if b then keyed h o (at h.receipts (pair o.name key)) key command moment else Err cause.UnknownToken)
-  by_enabled true = by_receipt (at h.receipts (pair o.name key)) refl
-  by_enabled false = refused_again cause.UnknownToken
+  by_effect : (by : Operator) (e : Effect) → Again (receipted by key command e)
+  by_effect by (Ok decision) ok none = absurd (no_append decision.0 (write.PutReceipt (receipt_of by key command decision.1)) none)
+  by_effect by (Err why) ok none = absurd (refused_not_ok why ok)
 
   asked_again : (bearer : Option (List ℕ)) → sender h bearer ≡ Some o → Again (command_decision h bearer key command moment)
-  unfolding command_decision
-  asked_again bearer known = subst (λ by. Again (of_sender h by key command moment)) (sym known) (by_enabled o.enabled)
+  asked_again bearer known =
+      command_cases h bearer key command moment Again (λ why ok none. absurd (refused_not_ok why ok))
+      (λ by r sent there same ok none.
+      let own : by ≡ o = some_is by o (sym sent ∙ known) in
+      record { receipt = r; there = ap (λ (x : Operator). at h.receipts (pair x.name key)) (sym own) ∙ there; text = same; content = refl })
+      (λ by sent enabled free causes. by_effect by (effect (command_view h by command) by command moment))
 
 -- ---- the law
 

@@ -2,11 +2,11 @@
 use Rattle.std.{proofs.{Common.{◌≡◌, ◌≤◌, ℕ, List, [], ◌∷◌, ◌++◌, refl, sym, ap, subst, ◌∙◌, inl, inr, arith}, lemmas.Option.none-some}, specs.Prelude.{Option, Some, None, Ok, Err}}
 use Rattle.pxe_vendor.specs.Place.{Site}
 use Rattle.ipxe_script.specs.{Script.IsScript, declared.command.Command.Command}
-use Rattle.hall_types.specs.{Hall.{Hall, new_hall, second}, Image.{BootImage, IsImage}, Kinds.arch_number, Number.max_number, Rows.{at, numbers, texts}, RowLaws.{at-no_rows, gone_found, put_cases}, declared.{boot.Boot.Boot, change.RowWrite.RowWrite, image.Live.Live, machine.{Interface.Interface, Machine.Machine}, number.Numbers.Numbers}}
+use Rattle.hall_types.specs.{Hall.{Hall, applied, new_hall, second}, Image.{BootImage, IsImage}, Kinds.arch_number, Number.max_number, Rows.{at, numbers, texts}, RowLaws.{at-no_rows, gone_found, put_cases}, declared.{boot.Boot.Boot, change.RowWrite.RowWrite, image.Live.Live, machine.{Interface.Interface, Machine.Machine}, number.Numbers.Numbers, status.Status.TheVariants.Deployed}}
 use Rattle.hall_events.specs.{Reply.{Content, script}, declared.event.Event.Event}
 use Rattle.hall_events.specs.declared.event.Event.TheVariants as event
-use Rattle.boot_desk.specs.{Fetch.{Fetched, fetched}, Purposes.HasNoHallWords, Sound.IsSound, Views.{image_named, interface_view, machine_view, row_at, view_of}, WholeScripts.{IsBoot, IsWholeView, fetched_is_script, number_in_range}}
-use Rattle.hall_laws.{specs.{Decision.{decision_of, given, given_if}, Step.{IsStep, IsTypedStep, Step}, Laws.{GivesScripts, IsMachineAt}, Past.WasAnswered}, proofs.{Answered.came_so, BootRows.{BootWas, boot_was, issued_now, reported_now, same_boot}, Effects.{Effect, StepDoes, decided, did, edits, enters, goes, idles, issues, leaves, makes, missed, notes, step_does}, Enterings.last_boot_same, Images.{image_goes, images_move, ImagesMove, new_image, same_images}}}
+use Rattle.boot_desk.specs.{Fetch.{Fetched, fetched}, Purposes.HasNoHallWords, Sound.IsSound, Texts.local_script, Views.{image_named, interface_view, machine_view, row_at, view_of}, declared.views.BootView.BootView, WholeScripts.{IsBoot, IsWholeView, fetched_is_script, number_in_range}}
+use Rattle.hall_laws.{specs.{Decision.{Decided, decision_of, given, given_if}, Step.{IsStep, IsTypedStep, Step}, Laws.{BootsLocally, GivesScripts, IsMachineAt}, Past.WasAnswered}, proofs.{AnswerLemmas.came_so, BootRows.{BootWas, boot_was, issued_now, reported_now, same_boot}, Effects.{Effect, StepDoes, decided, did, edits, enters, goes, idles, issues, leaves, makes, missed, notes, step_does}, Enterings.last_boot_same, Images.{image_goes, images_move, ImagesMove, new_image, same_images}}}
 
 -- the machine that is given a script
 pub record IsGiven (site : Site) (h : Hall) (mac : List ℕ) (moment : ℕ) (fresh : List ℕ) (commands : List Command) : Type 0 where
@@ -141,3 +141,22 @@ knows_step past s brings step sound later old = rows_step s brings (step_does s 
 
 pub gives_scripts : (past : List Step) (s : Step) → IsTypedStep s → IsStep s → IsSound s.before → KnowsRows past s.before → GivesScripts past s
 gives_scripts past s brings step sound old mac commands was = given_script s commands brings old mac (was_given s mac commands step was)
+
+-- ---- a Deployed machine is told to boot its own disk
+
+-- what a script request makes of the machine at its address
+pub asked_decision : (site : Site) (h : Hall) (mac : List ℕ) (m : Machine) (moment : ℕ) (fresh : List ℕ) → IsMachineAt h mac m → decision_of site h (event.Script mac) moment fresh ≡ given (fetched site.host (view_of h m) moment fresh)
+unfolding decision_of
+asked_decision site h mac m moment fresh asks =
+    ap (λ v. given_if site.host v moment fresh) (ap (interface_view h) asks.recorded ∙ ap (machine_view h) asks.found)
+
+-- what the decisions' own law says of Deployed machines
+abbrev pub DeployedBoots : Type 0
+DeployedBoots = (host : List ℕ) (v : BootView) (moment : ℕ) (fresh : List ℕ) → v.machine.status ≡ Deployed → fetched host v moment fresh ≡ Ok ([], local_script v.machine.arch)
+
+pub boots_locally : DeployedBoots → (past : List Step) (s : Step) → IsStep s → BootsLocally past s
+boots_locally law past s step mac m content was asks deployed =
+    let came = came_so s (event.Script mac) content step was in
+    let is : decision_of s.arrival.site s.before (event.Script mac) s.arrival.moment s.arrival.fresh ≡ given (Ok ([], local_script m.arch)) =
+    asked_decision s.arrival.site s.before mac m s.arrival.moment s.arrival.fresh asks ∙ ap given (law s.arrival.site.host (view_of s.before m) s.arrival.moment s.arrival.fresh deployed) in
+    (sym came.content_is ∙ ap (λ (d : Decided). d.content) is, came.after ∙ ap (λ (d : Decided). applied d.rows s.before) is)

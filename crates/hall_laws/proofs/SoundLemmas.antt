@@ -1,15 +1,14 @@
 -- A sound hall of the second schema stays one at every step.
-use Rattle.std.{specs.Prelude.{◌≡◌, ℕ, Bool, true, false, List, [], ◌∷◌, Option, Some, None, Ok, Err, map, if◌then◌else◌}, proofs.Common.{refl, sym, ap, subst, inl, inr, ◌∙◌}}
+use Rattle.std.{specs.Prelude.{◌≡◌, ℕ, List, [], ◌∷◌, Option, Some, None, Ok, Err, map}, proofs.Common.{refl, sym, ap, subst, inl, inr, ◌∙◌}}
 use Rattle.ipxe_script.specs.declared.command.Command.{Command}
 use Rattle.pxe_vendor.specs.{Place.Site, declared.clients.Client.Client}
-use Rattle.hall_types.specs.{Hall.{Hall, applied, first, second, written}, Lookup.{next_expired, waiting}, LookupLaws.next_expired-is, Rows.{at, listed as rows_of}, declared.{change.RowWrite.RowWrite, kinds.{Outcome.Outcome, Progress.Progress, Role.Role}, machine.{Interface.Interface, Machine.Machine}, operator.Operator.Operator, port.Port.Port}}
+use Rattle.hall_types.specs.{Hall.{Hall, applied, first, second, written}, Lookup.{next_expired, waiting}, LookupLaws.{next_expired-is, row_cases}, Rows.{at, listed as rows_of}, declared.{change.RowWrite.RowWrite, kinds.{Outcome.Outcome, Progress.Progress}, machine.{Interface.Interface, Machine.Machine}, port.Port.Port}}
 use Rattle.hall_types.specs.declared.change.RowWrite.TheVariants as write
-use Rattle.hall_types.specs.declared.refusal.Refusal.TheVariants as cause
 use Rattle.hall_events.specs.{Reply.{Content, machine_list, waiting_orders}, declared.{command.HallCommand.HallCommand, event.Event.Event}}
 use Rattle.hall_events.specs.declared.event.Event.TheVariants as event
-use Rattle.boot_desk.specs.{Expiry.swept, Fetch.{Fetched, fetched}, FrameEvent.{enlisted, frame_decision, frame_view}, OrderAnswer.answered, Report.{Judged, reported}, Sound.IsSound, Views.{interface_view, machine_view, order_view, report_view, view_of}, declared.{fault.Verdict.Verdict, frames.Decision.{Decision as FrameDecision, TheVariants.{Loader, ScriptUrl, Enlist, Silent}}}}
+use Rattle.boot_desk.specs.{Expiry.swept, Fetch.{Fetched, fetched}, FrameEvent.{enlisted, frame_decision, frame_view}, OrderAnswer.answered, Report.{Judged, reported}, Sound.IsSound, Views.{interface_view, machine_view, order_view, report_view, view_of}, declared.{fault.Verdict.Verdict, frames.Decision.{Decision as FrameDecision, TheVariants.{Enlist}}}}
 use Rattle.desk_command.specs.{Command.{command_decision, sender}, Effect.Effect}
-use Rattle.hall_laws.specs.{Decision.{Decided, commanded, decision_of, framed, given, given_if, if_role, judged, listed_if, listed_of, may_answer, may_see_machines, may_see_orders, refuses, says}, Migration.Continues, Step.{IsRun, IsStep, Step}}
+use Rattle.hall_laws.specs.{Decision.{Decided, commanded, decision_of, framed, given, given_if, judged, listed_if, listed_of, may_answer, may_see_machines, may_see_orders, says}, Migration.Continues, Step.{IsRun, IsStep, Step}, WritesLaws.{listed_cases, role_cases}}
 
 -- what the decisions' own laws say of sound halls
 pub record KeepSound : Type 0 where
@@ -33,19 +32,7 @@ Keeps h d = IsSound (applied d.rows h)
 
 schema_written : (w : RowWrite) (h : Hall) → (written w h).schema ≡ h.schema
 schema_written (write.PutOperator o) h = refl
-schema_written (write.PutPool p) h = refl
-schema_written (write.PutMember m) h = refl
-schema_written (write.PutImage i) h = refl
-schema_written (write.ImageGone name) h = refl
-schema_written (write.PutLive l) h = refl
-schema_written (write.PutMachine m was) h = refl
-schema_written (write.MachineGone id) h = refl
-schema_written (write.PutInterface i) h = refl
-schema_written (write.InterfaceGone mac) h = refl
-schema_written (write.PutBoot b) h = refl
-schema_written (write.PutOrder o) h = refl
-schema_written (write.PutReceipt r) h = refl
-schema_written (write.PutNumbers n) h = refl
+schema_written other h = refl
 
 pub schema_stays : (rows : List RowWrite) (h : Hall) → (applied rows h).schema ≡ h.schema
 schema_stays [] h = refl
@@ -56,25 +43,18 @@ module _ (k : KeepSound) where
 
   module _ (site : Site) (h : Hall) (s : IsSound h) (moment : ℕ) (fresh : List ℕ) where
     frame_keeps : (port : Port) (client : Client) (d : FrameDecision) → frame_decision (frame_view h client) port client ≡ d → Keeps h (framed d site h client)
-    frame_keeps port client Loader is = s
-    frame_keeps port client ScriptUrl is = s
     frame_keeps port client Enlist is = k.enlistings h client port s is
-    frame_keeps port client (Silent silence) is = s
+    frame_keeps port client other is = s
 
     given_keeps : (m : Machine) → at h.machines m.id ≡ Some m → (answer : Fetched) → fetched site.host (view_of h m) moment fresh ≡ answer → Keeps h (given answer)
     given_keeps m was (Ok d) is = k.scripts h m site.host fresh moment d.0 d.1 s was is
     given_keeps m was (Err refusal) is = s
 
-    known : (id : ℕ) (m : Machine) → at h.machines id ≡ Some m → at h.machines m.id ≡ Some m
-    known id m there = ap (at h.machines) (s.keyed.machines id m there) ∙ there
-
-    machine_keeps : (i : Interface) (x : Option Machine) → at h.machines i.machine ≡ x → Keeps h (given_if site.host (machine_view h x) moment fresh)
-    machine_keeps i None there = s
-    machine_keeps i (Some m) there = given_keeps m (known i.machine m there) (fetched site.host (view_of h m) moment fresh) refl
-
     script_keeps : (x : Option Interface) → Keeps h (given_if site.host (interface_view h x) moment fresh)
     script_keeps None = s
-    script_keeps (Some i) = machine_keeps i (at h.machines i.machine) refl
+    script_keeps (Some i) =
+        row_cases (λ (m : Machine). m.id) h.machines s.keyed.machines i.machine (λ x. Keeps h (given_if site.host (machine_view h x) moment fresh)) s
+        (λ m own was. given_keeps m was (fetched site.host (view_of h m) moment fresh) refl)
 
     report_keeps : (number : ℕ) (token : List ℕ) (progress : Progress) (j : Judged) → reported (report_view h number) token progress moment ≡ j → Keeps h (judged j)
     report_keeps number token progress (Ok d) is = k.reports h number token progress moment d.0 d.1 s is
@@ -83,19 +63,6 @@ module _ (k : KeepSound) where
     answer_keeps : (number : ℕ) (outcome : Outcome) (j : Judged) → answered (order_view h number) outcome moment ≡ j → Keeps h (judged j)
     answer_keeps number outcome (Ok d) is = k.answers h number outcome moment d.0 d.1 s is
     answer_keeps number outcome (Err refusal) is = s
-
-    role_keeps : (may : Role → Bool) (o : Option Operator) (d : Decided) → Keeps h d → Keeps h (if_role may o d)
-    role_keeps may None d keeps = s
-    role_keeps may (Some o) d keeps = by o.enabled (may o.role)
-      where
-        by : (enabled its : Bool) → Keeps h (if enabled then (if its then d else refuses cause.RoleNeeded) else refuses cause.UnknownToken)
-        by true true = keeps
-        by true false = s
-        by false its = s
-
-    listed_keeps : (m : Option Machine) → Keeps h (listed_if h m)
-    listed_keeps None = s
-    listed_keeps (Some m) = s
 
     command_keeps : h.schema ≡ second → (bearer : Option (List ℕ)) (key : List ℕ) (command : HallCommand) (e : Effect) → command_decision h bearer key command moment ≡ e → Keeps h (commanded e)
     command_keeps in_second bearer key command (Ok d) is = k.commands h bearer key command moment d.0 d.1 s in_second is
@@ -113,14 +80,14 @@ module _ (k : KeepSound) where
   decision_keeps site h (event.Report boot token progress) moment fresh s in_second =
       report_keeps site h s moment fresh boot token progress (reported (report_view h boot) token progress moment) refl
   decision_keeps site h (event.Orders bearer) moment fresh s in_second =
-      role_keeps site h s moment fresh may_see_orders (sender h bearer) (says (waiting_orders (waiting h))) s
+      role_cases (Keeps h) (λ why. s) may_see_orders (sender h bearer) (says (waiting_orders (waiting h))) s
   decision_keeps site h (event.OrderAnswer bearer order outcome) moment fresh s in_second =
-      role_keeps site h s moment fresh may_answer (sender h bearer) (judged (answered (order_view h order) outcome moment))
+      role_cases (Keeps h) (λ why. s) may_answer (sender h bearer) (judged (answered (order_view h order) outcome moment))
       (answer_keeps site h s moment fresh order outcome (answered (order_view h order) outcome moment) refl)
   decision_keeps site h (event.Machines bearer) moment fresh s in_second =
-      role_keeps site h s moment fresh may_see_machines (sender h bearer) (says (machine_list (map (listed_of h) (rows_of h.machines)))) s
+      role_cases (Keeps h) (λ why. s) may_see_machines (sender h bearer) (says (machine_list (map (listed_of h) (rows_of h.machines)))) s
   decision_keeps site h (event.OneMachine bearer machine) moment fresh s in_second =
-      role_keeps site h s moment fresh may_see_machines (sender h bearer) (listed_if h (at h.machines machine)) (listed_keeps site h s moment fresh (at h.machines machine))
+      role_cases (Keeps h) (λ why. s) may_see_machines (sender h bearer) (listed_if h (at h.machines machine)) (listed_cases (Keeps h) s h (λ m. s) (at h.machines machine))
   decision_keeps site h (event.Command bearer key command) moment fresh s in_second =
       command_keeps site h s moment fresh in_second bearer key command (command_decision h bearer key command moment) refl
   decision_keeps site h event.Quiet moment fresh s in_second = quiet_keeps site h s moment fresh (next_expired h moment) refl

@@ -44,9 +44,7 @@ kept_spares false kind spares = none_spares
 -- a command that isn't a release for quick erasing sets no such kind
 prepared_spares : (command : MachineCommand) (o : Operator) (m : Machine) → command ≢ on.Release (Some Quick) → Spares m.erase → Spares (prepared command o m).erase
 prepared_spares (on.Release kind) o m other spares = λ quick. other (ap (λ (x : Option Erase). on.Release x) quick)
-prepared_spares (on.Commission tests) o m other spares = spares
 prepared_spares (on.Act does.Allocate) o m other spares = spares
-prepared_spares (on.Deploy image) o m other spares = spares
 prepared_spares command o m other spares = spares
 
 withdrawn_spares : (waiting : Option Order) → RowsSpare (withdrawn_row waiting)

@@ -1,5 +1,5 @@
 -- What a wrong hall would do: the day up to some step, and then one step that the model doesn't make. Each breaks a law.
-use Rattle.std.{proofs.Common.{◌≡◌, ◌≢◌, ◌⊎◌, ◌∙◌, ℕ, List, [], ◌∷◌, ◌++◌, Some, None, refl, sym, ap, subst, inl, inr, arith}, specs.{Prelude.codes, List.AllByRecursion}}
+use Rattle.std.{proofs.{Common.{◌≡◌, ◌≢◌, ◌⊎◌, ◌∙◌, ℕ, List, [], ◌∷◌, ◌++◌, Some, None, refl, sym, ap, subst, inl, inr, arith}, lemmas.Option.none-some}, specs.{Prelude.codes, List.AllByRecursion}}
 use Rattle.pxe_vendor.specs.declared.arch.Arch.TheVariants.{Uefi64}
 use Rattle.hall_types.specs.{Hall.{Hall, second}, RowLaws.{at-put-same, at-gone-same}, Rows.{at, numbers, texts}, declared.{boot.Boot.Boot, change.RowWrite.TheVariants.{MachineGone, PutMachine, PutOrder, PutPool}, kinds.{OrderStage.TheVariants.{Waiting, Done as Ended}, Outcome.TheVariants.Done as Turned, Progress.TheVariants.{Done, Started}}, machine.{Interface.Interface, Machine.Machine}, operator.Pool.Pool, refusal.Refusal.TheVariants.{KeyReused, UnknownToken}, status.Status.TheVariants.{Commissioning, Deployed, Deploying, DiskErasing, New, Ready}}, Machine.blank_machine}
 use Rattle.hall_types.specs.declared.kinds.Purpose.TheVariants as purpose
@@ -7,12 +7,9 @@ use Rattle.hall_types.specs.declared.kinds.Stage.TheVariants as stage
 use Rattle.hall_events.specs.Reply.{counted, done, machine_is, nothing, refused, reply_of, script, stored}
 use Rattle.hall_events.specs.declared.event.Event.TheVariants as event
 use Rattle.life_cycle.specs.declared.signal.Signal.{Signal}
-use Rattle.boot_desk.specs.Texts.{hold_script, local_script}
+use Rattle.boot_desk.specs.{SoundLaws.some_is, Texts.{hold_script, local_script}}
 use Rattle.desk_command.specs.Command.{sender}
-use Rattle.hall_laws.{specs.{Step.Step, Laws.{AcceptsOnce, AcceptsWithOk, AlwaysWaitsForOne, AnswersAccepted, BootsLocally, CountsAnswerOnce, CountsOwnBoot, CountsStartedFirst, CountsVerdictOnce, DeploysRightly, EntersByTable, ErasesRightly, HasStatus, IsDeleted, IsMachineAt, IsSignalled, KeepsMachines, NumbersOnce, QueuesAtEntries, RefusesWithoutChange, RepeatsFirst, ScriptIsAsked, WaitsNoMore, by_answer, by_command, by_deadline, by_fourth_boot, by_report}, Past.{AtEachStep, IsAccepted}, Worked.{ada, boot, came, command, mac, order, start, token}}, proofs.{Computing.computed, Day.{adds, boot_started, booted, booted_locally, commission_booted, commission_done, commissioned, deploy_script, deployed, erase_script, image_added, image_live, machine_added, made, new_machine, order_done, pow, power_added, ready, step, until_deployed}, DayLaws.{accepts, gives_deploying, gives_erasing, makes_machine}}}
-
-some : {A : Type 0} (a b : A) → Some a ≡ Some b → a ≡ b
-some a b is = cc
+use Rattle.hall_laws.{specs.{Step.Step, Laws.{AcceptsOnce, AcceptsWithOk, AlwaysWaitsForOne, AnswersAccepted, BootsLocally, CountsAnswerOnce, CountsOwnBoot, CountsStartedFirst, CountsVerdictOnce, DeploysRightly, EntersByTable, ErasesRightly, HasStatus, IsDeleted, IsMachineAt, IsSignalled, KeepsMachines, NumbersOnce, QueuesAtEntries, RefusesWithoutChange, RepeatsFirst, ScriptIsAsked, WaitsNoMore, by_answer, by_command, by_deadline, by_fourth_boot, by_report}, Past.{AtEachStep, IsAccepted}, Worked.{ada, boot, came, command, mac, order, start, token}}, proofs.{Computing.computed, Day.{adds, boot_started, booted, booted_locally, commission_booted, commission_done, commissioned, deploy_script, deployed, erase_script, image_added, image_live, machine_added, made, new_machine, order_done, pow, power_added, ready, until_deployed}, DayLaws.{accepts, gives_deploying, gives_erasing, makes_machine}, FirstSteps.whole_step as step}}
 
 -- what is a law of the steps up to one, and then that one, holds of it
 last : (P : List Step → Step → Type 0) (past : List Step) (s : Step) → AtEachStep P (past ++ (s ∷ [])) → P past s
@@ -30,7 +27,7 @@ ready_asks = record { interface = record { mac = mac; machine = 1 }; recorded = 
 
 one_machine : (h : Hall) (m n : Machine) → IsMachineAt h mac m → IsMachineAt h mac n → m ≡ n
 one_machine h m n one other =
-    some m n (sym one.found ∙ ap (λ (i : Interface). at h.machines i.machine) (some one.interface other.interface (sym one.recorded ∙ other.recorded)) ∙ other.found)
+    some_is m n (sym one.found ∙ ap (λ (i : Interface). at h.machines i.machine) (some_is one.interface other.interface (sym one.recorded ∙ other.recorded)) ∙ other.found)
 
 -- a script is given at a quiet moment
 script_unasked : AtEachStep ScriptIsAsked (until_deployed ++ (step booted_locally.before (came event.Quiet) (made (script erase_script) []) ∷ [])) → ⊥
@@ -55,10 +52,8 @@ erased = step booted_locally.before (came (event.Script mac)) (made (script eras
 deployed_machine_is_erased : AtEachStep ErasesRightly (until_deployed ++ (erased ∷ [])) → ⊥
 deployed_machine_is_erased law =
     let right = last ErasesRightly until_deployed erased law mac erase_script (record { event = refl; answer = refl }) gives_erasing.2 in
-    differ (ap (λ (m : Machine). m.status) (one_machine booted_locally.before deployed right.machine asks right.asks) ∙ right.status)
-  where
-    differ : Deployed ≡ DiskErasing → ⊥
-    differ e = cc
+    let apart : Deployed ≡ DiskErasing = ap (λ (m : Machine). m.status) (one_machine booted_locally.before deployed right.machine asks right.asks) ∙ right.status in
+    cc
 
 abbrev until_commissioned : List Step
 until_commissioned = image_added ∷ image_live ∷ power_added ∷ machine_added ∷ commissioned ∷ []
@@ -76,10 +71,8 @@ overwritten = step commission_done.after (came (event.Script mac)) (made (script
 ready_machine_is_deployed : AtEachStep DeploysRightly (until_ready ++ (overwritten ∷ [])) → ⊥
 ready_machine_is_deployed law =
     let right = last DeploysRightly until_ready overwritten law mac deploy_script (record { event = refl; answer = refl }) gives_deploying.2 in
-    differ (ap (λ (m : Machine). m.status) (one_machine commission_done.after ready right.machine ready_asks right.asks) ∙ right.status)
-  where
-    differ : Ready ≡ Deploying → ⊥
-    differ e = cc
+    let apart : Ready ≡ Deploying = ap (λ (m : Machine). m.status) (one_machine commission_done.after ready right.machine ready_asks right.asks) ∙ right.status in
+    cc
 
 -- ---- reports
 
@@ -109,13 +102,10 @@ report_with_other_token law =
     let issue = own.3.issue in
     let is : at issue.step.after.boots 1 ≡ Some own.0 = ap (λ n. at issue.step.after.boots n) (sym own.1) ∙ own.3.is.after in
     elim (in_all BootAfter until_booted issue.earlier issue.later issue.step boots_after issue.are) [
-      | inl none ↦ no_boot own.0 (sym none ∙ is)
-      | inr there ↦ differ (ap (λ (b : Boot). b.token) (some _ own.0 (sym there ∙ is)) ∙ own.2)
+      | inl none ↦ none-some own.0 (sym none ∙ is)
+      | inr there ↦ differ (ap (λ (b : Boot). b.token) (some_is _ own.0 (sym there ∙ is)) ∙ own.2)
     ]
   where
-    no_boot : (b : Boot) → None ≡ Some b → ⊥
-    no_boot b e = cc
-
     differ : token ≡ 8 ∷ [] → ⊥
     differ e = cc
 
@@ -173,16 +163,10 @@ not_signalled m its (by_fourth_boot c) = let e = c.held.event in cc
 
 deployed_by_refused_report : AtEachStep EntersByTable (until_booted ++ (jumps ∷ [])) → ⊥
 deployed_by_refused_report law =
-    elim (last EntersByTable until_booted jumps law 1 (deployed, is_deployed, differ)) [ inl made ↦ there (sym made.0 ∙ was_booted) | inr takes ↦ not_signalled takes.machine takes.signal takes.signalled ]
+    elim (last EntersByTable until_booted jumps law 1 (deployed, is_deployed, differ)) [ inl made ↦ none-some booted (sym made.0 ∙ was_booted) | inr takes ↦ not_signalled takes.machine takes.signal takes.signalled ]
   where
-    there : None ≡ Some booted → ⊥
-    there e = cc
-
-    not_both : Commissioning ≡ Deployed → ⊥
-    not_both e = cc
-
     differ : (m : Machine) → at jumps.before.machines 1 ≡ Some m → m.status ≡ Deployed → ⊥
-    differ m is same = not_both (ap (λ (n : Machine). n.status) (some booted m (sym was_booted ∙ is)) ∙ same)
+    differ m is same = let apart : Commissioning ≡ Deployed = ap (λ (n : Machine). n.status) (some_is booted m (sym was_booted ∙ is)) ∙ same in cc
 
 -- ---- request keys
 
@@ -307,10 +291,7 @@ was_ended = simp (computed)
 
 done_order_waits : AtEachStep WaitsNoMore (until_commissioned ++ order_done ∷ waits_again ∷ []) → ⊥
 done_order_waits law =
-    law (until_commissioned ++ (order_done ∷ [])) waits_again [] refl 1 (order 1 Ended) (order 1 Waiting) was_ended (λ e. ended e) (at-put-same waits_again.before.orders 1 (order 1 Waiting)) refl
-  where
-    ended : Ended ≡ Waiting → ⊥
-    ended e = cc
+    law (until_commissioned ++ (order_done ∷ [])) waits_again [] refl 1 (order 1 Ended) (order 1 Waiting) was_ended (λ waits. cc) (at-put-same waits_again.before.orders 1 (order 1 Waiting)) refl
 
 -- an answer to an order counts twice
 abbrev answered_twice : Step
@@ -329,11 +310,8 @@ was_ready = simp (computed)
 
 -- a machine is gone after a quiet moment
 machine_vanishes : AtEachStep KeepsMachines (until_ready ++ (gone ∷ [])) → ⊥
-machine_vanishes law = elim (last KeepsMachines until_ready gone law 1 ready was_ready) [ inl there ↦ none there.0 (sym (at-gone-same gone.before.machines 1) ∙ there.1) | inr deleted ↦ not_quiet deleted ]
+machine_vanishes law = elim (last KeepsMachines until_ready gone law 1 ready was_ready) [ inl there ↦ none-some there.0 (sym (at-gone-same gone.before.machines 1) ∙ there.1) | inr deleted ↦ not_quiet deleted ]
   where
-    none : (m : Machine) → None ≡ Some m → ⊥
-    none m e = cc
-
     not_quiet : IsDeleted 1 gone → ⊥
     not_quiet deleted = let e = deleted.accepted.answered.event in cc
 

@@ -46,16 +46,20 @@ GivesScripts past s = (mac : List ℕ) (commands : List Command) → GivesText m
 abbrev pub AreTyped : List Step → Type 0
 AreTyped steps = AllByRecursion IsTypedStep steps
 
--- an accepted release of the machine with this way of erasing, by the operator who was its owner just before
-pub record IsReleaseErasing (id : ℕ) (kind : Erase) (s : Step) : Type 0 where
+-- an accepted command on the machine, by the operator who was its owner just before
+pub record IsByOwner (id : ℕ) (command : MachineCommand) (s : Step) : Type 0 where
   pub operator : List ℕ
   pub key : List ℕ
   pub version : Option ℕ
   pub content : Content
-  pub accepted : IsAccepted operator key (OnMachine id version (on.Release (Some kind))) content s
+  pub accepted : IsAccepted operator key (OnMachine id version command) content s
   pub machine : Machine
   pub found : at s.before.machines id ≡ Some machine
   pub owner : machine.owner ≡ Some operator
+
+-- a release of the machine with this way of erasing
+abbrev pub IsReleaseErasing : ℕ → Erase → Step → Type 0
+IsReleaseErasing id kind s = IsByOwner id (on.Release (Some kind)) s
 
 -- the machine is in Disk erasing, its last entry was such a release, and the script names the kind that this release named, and
 -- no other
@@ -75,16 +79,9 @@ ErasesRightly past s =
     (mac : List ℕ) (commands : List Command) → GivesText mac commands s → IsErasing (spelling commands)
     → IsRightlyErased mac commands past s.before
 
--- an accepted deploy of the machine with this image, as it was recorded then, by the operator who was its owner just before
+-- a deploy of the machine with this image, as it was recorded then
 pub record IsDeploy (id : ℕ) (name : List ℕ) (image : BootImage) (s : Step) : Type 0 where
-  pub operator : List ℕ
-  pub key : List ℕ
-  pub version : Option ℕ
-  pub content : Content
-  pub accepted : IsAccepted operator key (OnMachine id version (on.Deploy name)) content s
-  pub machine : Machine
-  pub found : at s.before.machines id ≡ Some machine
-  pub owner : machine.owner ≡ Some operator
+  pub by_owner : IsByOwner id (on.Deploy name) s
   pub recorded : at s.before.images name ≡ Some image
 
 -- the machine is in Deploying, its last entry was such a deploy, and the script boots the image that this deploy named

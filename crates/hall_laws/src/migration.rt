@@ -110,6 +110,7 @@ pub fn laws_hold_from_origins()
 
 /// What the first schema answers is what it answers of machines that keep no kind of erasing: a script of work is that for such a machine, if
 /// no argument of the image begins `hall.`, and lists show no kind.
+#[tactic(auto, using(crate::proofs::Plain::plain_work, crate::proofs::Plain::plain_list, crate::proofs::Plain::plain_machine))]
 pub fn first_answers_name_no_kind()
     ensures scripts { (host : List ℕ) (purpose : Purpose) (kind : Option Erase) (boot : Boot) (image : BootImage)
         → has_hall_word image.args ≡ false → plain (work_script host purpose kind boot image) ≡ work_script host purpose None boot image }

@@ -7,6 +7,7 @@ ghost use Rattle.hall_laws.specs.{Decision.decision_of, Refusing.IsRefusal, Step
 
 /// Every refusal of a request, and every silence to a frame, writes no row, and the step of a refusal leaves the hall as
 /// it was.
+#[tactic(auto, using(crate::proofs::AnswerLemmas::keeps, crate::proofs::AnswerLemmas::keeps_silence, crate::proofs::AnswerLemmas::keeps_hall))]
 pub fn refusals_change_nothing()
     ensures rows { (site : Site) (h : Hall) (event : Event) (moment : ℕ) (fresh : List ℕ)
         → IsRefusal (decision_of site h event moment fresh).content → (decision_of site h event moment fresh).rows ≡ [] }

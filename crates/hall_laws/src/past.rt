@@ -128,6 +128,7 @@ pub fn machines_stay()
 }
 
 /// What is refused changes nothing, nor does a client's frame that isn't answered.
+#[tactic(auto, using(crate::proofs::AnswerLemmas::all_leave))]
 pub fn refusals_leave_the_hall()
     ensures { (h end : Hall) (steps : List Step) → IsRun h steps end → AtEachStep RefusesWithoutChange steps }
 {

@@ -1,12 +1,12 @@
 -- The counts of all pools and statuses make up the number of machines.
-use Rattle.sql_schema.specs.Words.{nat_cmp_total, tied_itself, nat_list_cmp_total, AllByRecursion, sum_by, bytes_eq, cond_both, not-true, Decides-and, Decides-eqb, Decides-like, sum_by-cons, bytes_eq-Decides, how_many-split, none_pass, Hall, at-rows_where, how_many-gone, same_rows, where_found, Rows, numbers, at, how_many, passes, rows_where, size, status_number, Machine, Status, same_status}
+use Rattle.sql_schema.specs.Words.{nat_cmp_total, tied_itself, nat_list_cmp_total, AllByRecursion, sum_by, bytes_eq, cond_both, not-true, Decides-and, Decides-eqb, Decides-like, sum_by-cons, bytes_eq-Decides, how_many-split, none_pass, Hall, at-rows_where, how_many-gone, same_rows, where_found, Rows, numbers, at, how_many, passes, rows_where, size, status_number, Machine, Status, same_kind, status_by_number}
 use Rattle.std.{proofs.Common.{◌≡◌, ◌==◌, ◌&&◌, ℕ, List, [], ◌∷◌, Option, Some, None, Bool, true, false, Decides, not, if◌then◌else◌, Less, refl, sym, ap, arith, ◌∙◌}, specs.List.Sorted.IsStrictlySortedBy}
 use Rattle.hall_store.specs.{Counts.{AreCounts, count_cmp, counted, is_about, is_in}, declared.count.Count.Count}
 
 -- a machine or an entry is about a pool and a status if these are its own
 own-Decides : (own pool : List ℕ) (its status : Status) → Decides (bytes_eq own pool && (status_number its == status_number status)) ((own ≡ pool) × (its ≡ status))
 own-Decides own pool its status =
-    Decides-like _ (λ is. (is.0, same_status its status is.1)) (λ is. (is.0, ap status_number is.1)) (Decides-and _ _ (bytes_eq-Decides own pool) (Decides-eqb (status_number its) (status_number status)))
+    Decides-like _ (λ is. (is.0, same_kind status_by_number its status is.1)) (λ is. (is.0, ap status_number is.1)) (Decides-and _ _ (bytes_eq-Decides own pool) (Decides-eqb (status_number its) (status_number status)))
 
 -- an entry that comes later is about another pool or status
 none_about : (c : Count) (cs : List Count) → AllByRecursion (λ d. count_cmp c d ≡ Less) cs → counted c.pool c.status cs ≡ 0

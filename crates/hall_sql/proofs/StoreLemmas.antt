@@ -1,21 +1,16 @@
 -- From a call of the connection to one of the store.
-use Rattle.sql_schema.specs.Words.{Error, Database, Held, state, HasCleanDisk, Hall, applied, next_expired, if_due, RowWrite, Machine, IsHeld, Leaves, IsTableRead, back_held, leaves_more, leaves_on, SpellHall, AllByRecursion}
-use Rattle.std.proofs.Common.{◌≡◌, inl, ◌≤◌, ◌<◌, None, Option, List, [], ◌∷◌, false, Bool, true, not, ℕ, Ok, Err, Result, IsTrue, refl, sym, ap, subst, ◌∙◌, arith}
+use Rattle.sql_schema.specs.Words.{Error, Held, state, HasCleanDisk, Hall, applied, next_expired, if_due, RowWrite, Machine, IsHeld, IsTableRead, back_held, leaves_more, leaves_on, AllByRecursion, settles}
+use Rattle.std.proofs.Common.{◌≡◌, ◌≤◌, ◌<◌, None, Option, List, ◌∷◌, false, Bool, true, not, ℕ, Ok, Err, Result, IsTrue, refl, sym, ap, subst, ◌∙◌, arith}
 use Rattle.sqlite_trees.specs.declared.store.Store as trees
-use Rattle.hall_store.specs.{Store.{IsWrite, ReadsBy}, StoreLaws.{none_asked, read_failed, read_refused}, declared.store.Unavailable.Unavailable}
+use Rattle.hall_store.specs.{Expiry.IsEarliest, ExpiryLaws.{first_due, lower_earliest, none_due}, Store.{IsWrite, ReadsBy}, declared.store.Unavailable.Unavailable}
 use Rattle.sql_writes.specs.Applying.{IsTold}
-use Rattle.hall_sql.{specs.{Expiring.{IsEarliest, PutsNoEarlier, earliest_of}, Store.{HasHall, LeavesCommitted, Passes, StopLeaves}, declared.store.SqlStore.SqlStore}, proofs.ExpiryLemmas.{applied_earliest, applied_schema, first_due, first_earliest, lower_earliest, none_due}}
+use Rattle.hall_sql.{specs.{Expiring.{PutsNoEarlier, earliest_of}, Store.{HasHall, LeavesCommitted, Passes, StopLeaves}, declared.store.SqlStore.SqlStore}, proofs.ExpiryLemmas.{applied_earliest, applied_schema, first_earliest, machines_under}}
 
 pub is_true : (b : Bool) → not b ≡ false → IsTrue b
 is_true true e = refl
 is_true false e = cc
 
 module _ {S : Type 0} (g : trees.Ghosts S) where
-  -- what a hall that is held is left as by a stop
-  pub settles : (c : Held S) (h : Hall) → LeavesCommitted (state g c) → IsHeld (state g c) h → Leaves (state g c) (h ∷ [])
-  settles c h settled held db may =
-      (h, inl refl, subst (λ d. SpellHall d h) (sym (settled db held.running may ∙ ap (λ (d : Database). d.trees) held.kept)) held.spelt)
-
   -- a call that is refused leaves the store the hall, if the connection has it or had it at its last commit
   kept : (Y : Type 0) (mid new : SqlStore S) (e : Error) (u : Unavailable) → Passes g {Y = Y} mid new (Err e) (Err u) → (old : SqlStore S) → mid.earliest ≤ old.earliest → (h : Hall)
       → (IsHeld (state g old.conn) h → IsTrue (state g mid.conn).is_open → IsHeld (state g mid.conn) h) → old.stopped ≡ false → HasHall g old h → HasHall g new h
@@ -23,7 +18,7 @@ module _ {S : Type 0} (g : trees.Ghosts S) where
     schema = has.schema;
     running = passed.1;
     held = back_held (state g mid.conn) (state g new.conn) h passed.2 (back (has.held (has.running up)));
-    earliest = subst (λ n. IsEarliest n h.machines) (sym passed.4) (lower_earliest mid.earliest old.earliest h.machines lower has.earliest);
+    earliest = subst (λ n. IsEarliest n h.machines) (sym passed.4) (lower_earliest old.earliest h.machines has.earliest mid.earliest lower);
   }
 
   -- ---- reads
@@ -41,7 +36,7 @@ module _ {S : Type 0} (g : trees.Ghosts S) where
           answer = λ h has. a.answer h (has.held (has.running up));
           same = λ h has. let held = a.same h (has.held (has.running up)) in record { schema = has.schema; running = λ _. held.running; held = λ _. held; earliest = has.earliest };
           crash = λ h has hs left. a.crash h (has.held (has.running up)) hs left;
-          settled = λ h has. settles mid h (rw it.1 at settled) (a.same h (has.held (has.running up)));
+          settled = λ h has. settles (state g mid) h (rw it.1 at settled) (a.same h (has.held (has.running up)));
         }),
       )
   asks mid (Err e) (Ok y) up was_clean read mid_clean passed settled clean = let it = (passed clean).0 in absurd cc
@@ -67,10 +62,10 @@ module _ {S : Type 0} (g : trees.Ghosts S) where
   none_known s seconds moment is up settled early clean = (
     clean,
     record {
-      answer = λ h has. none_due (state g s.conn) h s.earliest moment (has.held (has.running up)) has.earliest (rw is at early);
+      answer = λ h has. none_due h s.earliest moment (machines_under (state g s.conn) h (has.held (has.running up))) has.earliest (rw is at early);
       same = λ h has. has;
       crash = λ h has hs left. left;
-      settled = λ h has. settles s.conn h settled (has.held (has.running up));
+      settled = λ h has. settles (state g s.conn) h settled (has.held (has.running up));
     },
   )
 
@@ -89,14 +84,13 @@ module _ {S : Type 0} (g : trees.Ghosts S) where
 
   -- a read that was refused is refused at any moment
   pub none_found : (old new : SqlStore S) (u : Unavailable) (moment late : ℕ) → FindsNext old new (Err u) late → FindsNext old new (Err u) moment
-  none_found old new u moment late read clean = ((read clean).0, read_failed (HasHall g) (StopLeaves g) old new u u _ _ (read clean).1)
+  none_found old new u moment late read clean = let r = (read clean).1 in ((read clean).0, record { answer = tt; same = r.same; crash = r.crash; settled = tt })
 
   -- ---- writes
 
   -- a refusal that writes nothing
   pub none_written : {Y : Type 0} (s : SqlStore S) (e : Unavailable) (writes : List RowWrite) → IsWrite (HasHall g) (StopLeaves g) s s {Y = Y} (Err e) (λ _. writes)
-  none_written {Y = Y} s e writes =
-      read_refused (HasHall g) (StopLeaves g) (λ store h hs. leaves_more (state g store.conn) h hs) s s e e _ (λ _. writes) (none_asked (HasHall g) (StopLeaves g) s e (λ (h : Hall) (y : Y). Y))
+  none_written s e writes = record { made = tt; versions = tt; same = λ h has. has; crash = λ h has keep hs left. leaves_more (state g s.conn) (applied writes h) hs left; settled = tt }
 
   module _ (old : SqlStore S) (earliest : ℕ) (mid : Held S) (up : old.stopped ≡ false) {Y : Type 0} (writes : List RowWrite) (lower : earliest ≤ old.earliest) (put : AllByRecursion (PutsNoEarlier earliest) writes) where
     -- what is passed on of a write is the write's answer
@@ -107,12 +101,12 @@ module _ {S : Type 0} (g : trees.Ghosts S) where
         schema = applied_schema writes h ∙ has.schema;
         running = λ _. held.running;
         held = λ _. held;
-        earliest = applied_earliest earliest writes h (lower_earliest earliest old.earliest h.machines lower has.earliest) put;
+        earliest = applied_earliest earliest writes h (lower_earliest old.earliest h.machines has.earliest earliest lower) put;
       };
       versions = λ h has keep. a.versions h (has.held (has.running up)) keep;
       same = tt;
       crash = λ h has keep hs left. a.crash h (has.held (has.running up)) keep hs left;
-      settled = λ h has keep. settles mid (applied writes h) (rw passed.1 at settled) (a.made h (has.held (has.running up)) keep);
+      settled = λ h has keep. settles (state g mid) (applied writes h) (rw passed.1 at settled) (a.made h (has.held (has.running up)) keep);
     })
     write_by (Err e) new (Ok y) a passed clean settled = absurd cc
     write_by (Err e) new (Err u) a passed clean settled = record {

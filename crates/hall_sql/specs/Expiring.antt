@@ -1,14 +1,7 @@
--- The moment before which no machine expires.
-use Rattle.sql_schema.specs.Words.{Rows, numbers, at, RowWrite, PutMachine, Machine}
-use Rattle.std.specs.Prelude.{◌≡◌, ◌≤◌, ◌+◌, ℕ, ⊤, Option, None, Some, unwrap_or}
-
--- the machine has no earlier deadline
-abbrev pub HasNoEarlier : ℕ → Machine → Type 0
-HasNoEarlier earliest m = (deadline : ℕ) → m.deadline ≡ Some deadline → earliest ≤ deadline
-
--- no machine has an earlier deadline
-abbrev pub IsEarliest : ℕ → Rows numbers Machine → Type 0
-IsEarliest earliest machines = (id : ℕ) (m : Machine) → at machines id ≡ Some m → HasNoEarlier earliest m
+-- The moment before which no machine expires, as rows are put and machines are looked for.
+use Rattle.sql_schema.specs.Words.{RowWrite, PutMachine, Machine}
+use Rattle.std.specs.Prelude.{◌+◌, ℕ, ⊤, Option, None, Some, unwrap_or}
+use Rattle.hall_store.specs.Expiry.{HasNoEarlier}
 
 -- no machine is put with an earlier deadline
 abbrev pub PutsNoEarlier : ℕ → RowWrite → Type 0

@@ -2,8 +2,8 @@
 use Rattle.sql_schema.specs.Words.{Error, Held, state, State, Survives, Trees, Hall, second, Holds, Leaves, IsBack}
 use Rattle.std.specs.Prelude.{◌≡◌, false, IsTrue, List, Result, Ok, Err, IsErr}
 use Rattle.sqlite_trees.specs.declared.store.Store as trees
-use Rattle.hall_store.specs.declared.store.Unavailable.{Unavailable}
-use Rattle.hall_sql.specs.{Expiring.IsEarliest, declared.store.SqlStore.SqlStore}
+use Rattle.hall_store.specs.{Expiry.IsEarliest, declared.store.Unavailable.Unavailable}
+use Rattle.hall_sql.specs.declared.store.SqlStore.{SqlStore}
 
 -- while the connection is open, a stop leaves what was committed
 abbrev pub LeavesCommitted : State → Type 0

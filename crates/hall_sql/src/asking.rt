@@ -6,8 +6,9 @@ ghost use Rattle.hall_sql.specs.Store.{LeavesCommitted, Passes};
 use crate::store::SqlStore;
 use hall_store::Unavailable;
 use hall_types::{MacAddress, Name, Number};
-use sql_items::{find_interface, has_machine_with_image, is_live};
-use sql_schema::is_running;
+use sql_items::{Interfaces, has_machine_with_image, is_live};
+use sql_schema::creating::FIND_INTERFACE;
+use sql_schema::{ask_one, is_running, octets_value};
 use sqlite::{Alter, Connection, Error};
 
 impl<S: Alter> SqlStore<S> {
@@ -36,7 +37,8 @@ pub(crate) fn machine_at<S: Alter>(
     ensures clean { HasCleanDisk (state S.Store conn.new) → HasCleanDisk (state S.Store conn.old) }
     ensures asked { HasCleanDisk (state S.Store conn.new) → IsTableRead (state S.Store conn.old) (state S.Store conn.new) result (λ h answer. answer ≡ option_map (λ i. i.machine) (at h.interfaces mac)) }
 {
-    match find_interface(conn, mac) {
+    let octets = mac.octets();
+    match ask_one::<Interfaces, S>(conn, FIND_INTERFACE, &[octets_value(&octets)]) {
         Ok(found) => Ok(found.map(|interface| interface.machine)),
         Err(error) => Err(error),
     }

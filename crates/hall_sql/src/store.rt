@@ -9,13 +9,19 @@ use crate::expiring::earliest_after;
 use hall_store::{Count, HallStore, Unavailable};
 use hall_types::{
     Boot, Change, Digest, Image, Interface, Live, MacAddress, Machine, MachineUuid, Member, Moment,
-    Name, Number, Numbers, Operator, Order, Pool, Receipt, RequestKey,
+    Name, Number, Numbers, Operator, Order, Pool, Receipt, RequestKey, arch_number,
 };
 use pxe_vendor::Arch;
 use sql_items::{
-    find_boot, find_image, find_live, find_machine, find_member, find_numbers, find_operator,
-    find_operator_with_digest, find_order, find_pool, find_receipt, find_uuid, interfaces_of,
-    list_counts, list_interfaces, list_machines, waiting_orders,
+    Boots, FIND_DIGEST, FIND_INTERFACES, Interfaces, LIST_INTERFACES, LIST_WAITING_ORDERS, Lives,
+    Members, Operators, Orders, Pools, Receipts, find_image, find_machine, find_numbers, find_uuid,
+    list_counts, list_machines,
+};
+use sql_schema::creating::{
+    FIND_BOOT, FIND_LIVE, FIND_MEMBER, FIND_OPERATOR, FIND_ORDER, FIND_POOL, FIND_RECEIPT,
+};
+use sql_schema::{
+    ask_all, ask_first, ask_one, name_value, number_value, octets_value, small_value,
 };
 use sql_writes::write_rows;
 use sqlite::{Alter, Connection};
@@ -30,6 +36,13 @@ macro_rules! ask {
         let answer = $read;
         $store.pass(answer)
     }};
+}
+
+// The row of a table with a key.
+macro_rules! find {
+    ($store:ident, $table:ty, $sql:expr, $($key:expr),+) => {
+        ask!($store, ask_one::<$table, S>(&mut $store.conn, $sql, &[$($key),+]))
+    };
 }
 
 /// A hall in the tables of a database.
@@ -98,27 +111,37 @@ impl<S: Alter> HallStore for SqlStore<S> {
     }
 
     fn boot(&mut self, number: Number) -> Result<Option<Boot>, Unavailable> {
-        ask!(self, find_boot(&mut self.conn, number))
+        find!(self, Boots, FIND_BOOT, number_value(number.get()))
     }
 
     fn order(&mut self, number: Number) -> Result<Option<Order>, Unavailable> {
-        ask!(self, find_order(&mut self.conn, number))
+        find!(self, Orders, FIND_ORDER, number_value(number.get()))
     }
 
     fn operator(&mut self, name: &Name) -> Result<Option<Operator>, Unavailable> {
-        ask!(self, find_operator(&mut self.conn, name))
+        find!(self, Operators, FIND_OPERATOR, name_value(name))
     }
 
     fn operator_by_digest(&mut self, digest: &Digest) -> Result<Option<Operator>, Unavailable> {
-        ask!(self, find_operator_with_digest(&mut self.conn, digest))
+        let octets = digest.octets();
+        ask!(
+            self,
+            ask_first::<Operators, S>(&mut self.conn, FIND_DIGEST, &[octets_value(&octets)])
+        )
     }
 
     fn pool(&mut self, name: &Name) -> Result<Option<Pool>, Unavailable> {
-        ask!(self, find_pool(&mut self.conn, name))
+        find!(self, Pools, FIND_POOL, name_value(name))
     }
 
     fn member(&mut self, pool: &Name, operator: &Name) -> Result<Option<Member>, Unavailable> {
-        ask!(self, find_member(&mut self.conn, pool, operator))
+        find!(
+            self,
+            Members,
+            FIND_MEMBER,
+            name_value(pool),
+            name_value(operator)
+        )
     }
 
     fn image(&mut self, alloc: Global, name: &Name) -> Result<Option<Image>, Unavailable> {
@@ -130,7 +153,7 @@ impl<S: Alter> HallStore for SqlStore<S> {
     }
 
     fn live(&mut self, arch: Arch) -> Result<Option<Live>, Unavailable> {
-        ask!(self, find_live(&mut self.conn, arch))
+        find!(self, Lives, FIND_LIVE, small_value(arch_number(arch)))
     }
 
     fn receipt(
@@ -139,7 +162,14 @@ impl<S: Alter> HallStore for SqlStore<S> {
         operator: &Name,
         key: RequestKey,
     ) -> Result<Option<Receipt>, Unavailable> {
-        ask!(self, find_receipt(&mut self.conn, operator, key))
+        let octets = key.octets();
+        find!(
+            self,
+            Receipts,
+            FIND_RECEIPT,
+            name_value(operator),
+            octets_value(&octets)
+        )
     }
 
     fn numbers(&mut self) -> Result<Numbers, Unavailable> {
@@ -155,11 +185,18 @@ impl<S: Alter> HallStore for SqlStore<S> {
     }
 
     fn interfaces_of(&mut self, alloc: Global, id: Number) -> Result<Vec<Interface>, Unavailable> {
-        ask!(self, interfaces_of(&mut self.conn, alloc, id))
+        let machine = [number_value(id.get())];
+        ask!(
+            self,
+            ask_all::<Interfaces, S>(&mut self.conn, alloc, FIND_INTERFACES, &machine)
+        )
     }
 
     fn interfaces(&mut self, alloc: Global) -> Result<Vec<Interface>, Unavailable> {
-        ask!(self, list_interfaces(&mut self.conn, alloc))
+        ask!(
+            self,
+            ask_all::<Interfaces, S>(&mut self.conn, alloc, LIST_INTERFACES, &[])
+        )
     }
 
     fn machines(&mut self, alloc: Global) -> Result<Vec<Machine>, Unavailable> {
@@ -167,7 +204,10 @@ impl<S: Alter> HallStore for SqlStore<S> {
     }
 
     fn waiting_orders(&mut self, alloc: Global) -> Result<Vec<Order>, Unavailable> {
-        ask!(self, waiting_orders(&mut self.conn, alloc))
+        ask!(
+            self,
+            ask_all::<Orders, S>(&mut self.conn, alloc, LIST_WAITING_ORDERS, &[])
+        )
     }
 
     fn counts(&mut self, alloc: Global) -> Result<Vec<Count>, Unavailable> {

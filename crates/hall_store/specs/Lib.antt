@@ -1,9 +1,10 @@
 pub mod Counts
+pub mod Expiry
+pub mod ExpiryLaws
 pub mod Probe
 pub mod Rules
 pub mod Reading
 pub mod Store
-pub mod StoreLaws
 pub mod Versions
 pub mod Known
 pub mod Lists

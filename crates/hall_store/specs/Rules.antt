@@ -1,6 +1,6 @@
 -- The tables' rules: when a row may be written.
 use Rattle.std.specs.Prelude.{◌≡◌, ℕ, false, ⊤, List, [], ◌∷◌, Some, None}
-use Rattle.hall_types.specs.{Hall.{Hall, pair, written}, Lookup.{HasRow, HasRowIf, is_image_used}, Rows.{Keys, Rows, at}, declared.{boot.Boot.Boot, change.RowWrite.{RowWrite, TheVariants.{PutOperator, PutPool, PutMember, PutImage, ImageGone, PutLive, PutMachine, MachineGone, PutInterface, InterfaceGone, PutBoot, PutOrder, PutReceipt, PutNumbers}}, machine.{Interface.Interface, Machine.Machine}, operator.{Member.Member, Operator.Operator}, order.Order.Order, receipt.Receipt.Receipt}}
+use Rattle.hall_types.specs.{Hall.{Hall, pair, written}, Lookup.{HasRow, HasRowIf, is_image_used}, Rows.{Keys, Rows, at}, declared.{boot.Boot.Boot, change.RowWrite.{RowWrite, TheVariants.{PutOperator, PutPool, PutMember, PutImage, ImageGone, PutLive, PutMachine, PutInterface, PutBoot, PutOrder, PutReceipt}}, machine.{Interface.Interface, Machine.Machine}, operator.{Member.Member, Operator.Operator}, order.Order.Order, receipt.Receipt.Receipt}}
 
 -- no row has this key
 abbrev pub IsFree : {K X : Type 0} {keys : Keys K} → Rows keys X → K → Type 0
@@ -53,13 +53,11 @@ Keeps (PutImage i) h = IsFree h.images i.name
 Keeps (ImageGone name) h = is_image_used h name ≡ false
 Keeps (PutLive l) h = HasRow h.images l.image
 Keeps (PutMachine m was) h = KeepsMachines m h
-Keeps (MachineGone id) h = ⊤
 Keeps (PutInterface i) h = KeepsInterfaces i h
-Keeps (InterfaceGone mac) h = ⊤
 Keeps (PutBoot b) h = KeepsBoots b h
 Keeps (PutOrder o) h = KeepsOrders o h
 Keeps (PutReceipt r) h = KeepsReceipts r h
-Keeps (PutNumbers n) h = ⊤
+Keeps w h = ⊤
 
 -- each row write keeps the rules in the hall that those before it left
 abbrev pub AllKeep : List RowWrite → Hall → Type 0

@@ -29,21 +29,21 @@ module _ {K : Type 0} where
     λ is. ap (λ number. with_number number_of number kinds) (sym is) ∙ again kind,
   )
 
-role_word : (k : Role) → role_of_text (role_text k) ≡ Some k
-unfolding role_text
-role_word Admin = refl
-role_word k = refl
+role_again : (k : Role) → (role_of_text (role_text k) ≡ Some k) × (with_number role_number (role_number k) roles ≡ Some k)
+unfolding role_text role_number
+role_again Admin = (refl, refl)
+role_again k = (refl, refl)
 
 pub role_by_text : (text : List ℕ) (k : Role) → (role_of_text text ≡ Some k) ↔ (role_text k ≡ text)
-role_by_text = exact_text role_text roles role_word
+role_by_text = exact_text role_text roles (λ k. (role_again k).0)
 
-erase_word : (k : Erase) → erase_of_text (erase_text k) ≡ Some k
-unfolding erase_text
-erase_word Quick = refl
-erase_word k = refl
+erase_again : (k : Erase) → (erase_of_text (erase_text k) ≡ Some k) × (with_number erase_number (erase_number k) erases ≡ Some k)
+unfolding erase_text erase_number
+erase_again Quick = (refl, refl)
+erase_again k = (refl, refl)
 
 pub erase_by_text : (text : List ℕ) (k : Erase) → (erase_of_text text ≡ Some k) ↔ (erase_text k ≡ text)
-erase_by_text = exact_text erase_text erases erase_word
+erase_by_text = exact_text erase_text erases (λ k. (erase_again k).0)
 
 act_word : (k : Act) → act_of_text (act_text k) ≡ Some k
 unfolding act_text
@@ -77,13 +77,8 @@ arch_found k = refl
 pub arch_by_number : (number : ℕ) (k : Arch) → (with_number arch_number number archs ≡ Some k) ↔ (arch_number k ≡ number)
 arch_by_number = exact_number arch_number archs arch_found
 
-role_found : (k : Role) → with_number role_number (role_number k) roles ≡ Some k
-unfolding role_number
-role_found Admin = refl
-role_found k = refl
-
 pub role_by_number : (number : ℕ) (k : Role) → (with_number role_number number roles ≡ Some k) ↔ (role_number k ≡ number)
-role_by_number = exact_number role_number roles role_found
+role_by_number = exact_number role_number roles (λ k. (role_again k).1)
 
 purpose_found : (k : Purpose) → with_number purpose_number (purpose_number k) purposes ≡ Some k
 unfolding purpose_number
@@ -117,13 +112,8 @@ order_stage_found k = refl
 pub order_stage_by_number : (number : ℕ) (k : OrderStage) → (with_number order_stage_number number order_stages ≡ Some k) ↔ (order_stage_number k ≡ number)
 order_stage_by_number = exact_number order_stage_number order_stages order_stage_found
 
-erase_found : (k : Erase) → with_number erase_number (erase_number k) erases ≡ Some k
-unfolding erase_number
-erase_found Quick = refl
-erase_found k = refl
-
 pub erase_by_number : (number : ℕ) (k : Erase) → (with_number erase_number number erases ≡ Some k) ↔ (erase_number k ≡ number)
-erase_by_number = exact_number erase_number erases erase_found
+erase_by_number = exact_number erase_number erases (λ k. (erase_again k).1)
 
 status_found : (k : Status) → with_number status_number (status_number k) statuses ≡ Some k
 unfolding status_number

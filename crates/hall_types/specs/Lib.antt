@@ -4,6 +4,7 @@ pub mod CountLaws
 pub mod Hall
 pub mod Image
 pub mod Keyed
+pub mod KeyedLaws
 pub mod ListLaws
 pub mod Lookup
 pub mod LookupLaws

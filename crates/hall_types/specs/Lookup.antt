@@ -1,6 +1,6 @@
 -- Rows of a hall looked up by what is not their key.
 use Rattle.std.specs.{Prelude.{ℕ, ◌==◌, nat_lt, nat_le, Bool, true, false, ◌||◌, List, [], ◌∷◌, Option, Some, None, IsSome, ◌≡◌, filter, find, if◌then◌else◌}, List.list_any, Str.bytes_eq}
-use Rattle.hall_types.specs.{Rows.{Keys, Rows, at, listed}, Hall.Hall, declared.{kinds.OrderStage.{OrderStage, TheVariants.{Waiting, Done, Failed, Withdrawn}}, machine.{Interface.Interface, Machine.Machine}, operator.Operator.Operator, order.Order.Order}}
+use Rattle.hall_types.specs.{Rows.{Keys, Rows, at, listed}, Hall.Hall, declared.{kinds.OrderStage.{OrderStage, TheVariants.Waiting}, machine.{Interface.Interface, Machine.Machine}, operator.Operator.Operator, order.Order.Order}}
 
 -- there is a row with this key
 abbrev pub HasRow : {K X : Type 0} {keys : Keys K} → Rows keys X → K → Type 0
@@ -76,9 +76,7 @@ is_image_used h name =
 
 abbrev pub waits : OrderStage → Bool
 waits Waiting = true
-waits Done = false
-waits Failed = false
-waits Withdrawn = false
+waits other = false
 
 -- the orders that wait, by number
 abbrev pub waiting : Hall → List Order

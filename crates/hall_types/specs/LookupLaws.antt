@@ -1,6 +1,6 @@
 -- What is found by what is not its key, and which machine expires next.
-use Rattle.std.{specs.{Prelude.{◌≡◌, ◌≤◌, ◌<◌, ℕ, Bool, true, false, List, [], ◌∷◌, Option, Some, None, map, filter, find, if◌then◌else◌}, List.{AllByRecursion, Sorted.IsStrictlySortedBy}, Ordering.nat_cmp, declared.cmp.Ordering.TheVariants.Less}, proofs.{Common.{refl, arith, ◌∙◌, ap, sym, subst}, lemmas.{Bool.{both_ways, Decides.nat_tests}, List.Elements.{All-contains, All-from_recursion}}}}
-use Rattle.hall_types.specs.{Rows.{Keys, numbers, Rows, at, listed}, Hall.Hall, Keyed.StandUnder, ListLaws.{AllByRecursion-listed, Contains-listed, IsStrictlySortedBy-listed}, Lookup.{is_before, is_due, next_expired, sooner, soonest}, declared.machine.Machine.Machine}
+use Rattle.std.{specs.{Prelude.{◌≡◌, ◌≢◌, ◌≤◌, ◌<◌, ℕ, Bool, true, false, List, [], ◌∷◌, Option, Some, None, map, filter, find, if◌then◌else◌}, List.{AllByRecursion, Sorted.IsStrictlySortedBy, list_any}, Ordering.nat_cmp, Str.bytes_eq, declared.cmp.Ordering.TheVariants.Less}, proofs.{Common.{refl, arith, ◌∙◌, ap, sym, subst}, lemmas.{Bool.{both_ways, or_parts, Decides.nat_tests}, List.Elements.{All-contains, All-from_recursion}, Slice.Eq.bytes_eq-Decides}}}
+use Rattle.hall_types.specs.{Rows.{Keys, numbers, Rows, at, listed}, Hall.Hall, Keyed.StandUnder, ListLaws.{AllByRecursion-listed, Contains-listed, IsStrictlySortedBy-listed}, Lookup.{is_before, is_due, is_image_used, is_named, next_expired, sooner, soonest}, declared.{image.Live.Live, machine.Machine.Machine}}
 
 -- ---- what is found
 
@@ -24,7 +24,27 @@ module _ {X : Type 0} (p : X → Bool) where
       by true t e rest = cc
       by false t e rest = (t, rest e)
 
+-- where none in a list passes, each fails
+all_fail : {X : Type 0} (p : X → Bool) (xs : List X) → list_any p xs ≡ false → AllByRecursion (λ x. p x ≡ false) xs
+all_fail p [] is = tt
+all_fail p (x ∷ xs) is = let parts = or_parts (p x) (list_any p xs) is in (parts.0, all_fail p xs parts.1)
+
 module _ {K X : Type 0} {keys : Keys K} where
+  -- what holds where there is no row with a key, and of each row under its own key, holds of the row with it
+  pub row_cases : (key_of : X → K) (rows : Rows keys X) → StandUnder key_of rows → (key : K) (P : Option X → Type 0)
+      → P None → ((x : X) → key_of x ≡ key → at rows (key_of x) ≡ Some x → P (Some x)) → P (at rows key)
+  row_cases key_of rows under key P none some = by (at rows key) refl
+    where
+      by : (o : Option X) → at rows key ≡ o → P o
+      by None is = none
+      by (Some x) is = let own = under key x is in some x own (ap (at rows) own ∙ is)
+
+  -- where none of all rows passes, no row does
+  pub none_any : (rows : Rows keys X) (p : X → Bool) (key : K) (x : X) → list_any p (listed rows) ≡ false → at rows key ≡ Some x → p x ≡ false
+  none_any rows p key x none is =
+      All-contains (λ (y : X). p y ≡ false) (listed rows) x
+      (All-from_recursion (λ (y : X). p y ≡ false) (listed rows) (all_fail p (listed rows) none)) (Contains-listed rows key x is)
+
   -- a row that is found stands under its key, and passes
   pub found_listed : (key_of : X → K) (rows : Rows keys X) → StandUnder key_of rows → (p : X → Bool) (x : X)
       → find p (listed rows) ≡ Some x → (at rows (key_of x) ≡ Some x) × (p x ≡ true)
@@ -37,6 +57,16 @@ module _ {K X : Type 0} {keys : Keys K} where
       All-contains (λ (y : X). p y ≡ false) (listed rows) x
       (All-from_recursion (λ (y : X). p y ≡ false) (listed rows) (none_found p (listed rows) none))
       (Contains-listed rows key x is)
+
+-- an image that isn't used is no live image, and no machine's
+pub image_unused : (h : Hall) (name : List ℕ) → is_image_used h name ≡ false
+    → ((arch : ℕ) (l : Live) → at h.lives arch ≡ Some l → l.image ≢ name) × ((id : ℕ) (m : Machine) → at h.machines id ≡ Some m → m.image ≢ Some name)
+image_unused h name unused =
+    let parts = or_parts (list_any (λ (l : Live). bytes_eq l.image name) (listed h.lives)) (list_any (λ (m : Machine). is_named m.image name) (listed h.machines)) unused in (
+      λ arch l is same. both_ways (bytes_eq l.image name) (none_any h.lives (λ (x : Live). bytes_eq x.image name) arch l parts.0 is) ((bytes_eq-Decides l.image name).1 same),
+      λ id m is same. both_ways (is_named m.image name) (none_any h.machines (λ (x : Machine). is_named x.image name) id m parts.1 is)
+          (ap (λ o. is_named o name) same ∙ (bytes_eq-Decides name name).1 refl),
+    )
 
 -- ---- deadlines
 

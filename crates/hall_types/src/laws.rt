@@ -64,7 +64,6 @@ pub fn new_hall_is_bare()
 {}
 
 /// Every row stands under its own key, in a new hall and after every row write.
-#[tactic(auto, using(crate::proofs::WriteLemmas::keyed))]
 pub fn rows_stand_under_their_keys()
     ensures new { (schema : Schema) (admin digest : List ℕ) → IsKeyed (new_hall schema admin digest) }
     ensures written { (w : RowWrite) (h : Hall) → IsKeyed h → IsKeyed (written w h) }

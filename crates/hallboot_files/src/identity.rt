@@ -1,5 +1,5 @@
 //! Which file a path leads to.
-use std::alloc::Global;
+use std::fs::Metadata;
 use std::os::unix::fs::MetadataExt;
 use std::path::{Path, PathBuf};
 use std::{fs, io};
@@ -9,9 +9,18 @@ const MAX_LINKS: usize = 40;
 
 /// A file's device, and its number there.
 #[derive(Clone, Copy, PartialEq, Eq)]
-struct Node {
+pub(crate) struct Node {
     device: u64,
     inode: u64,
+}
+
+impl Node {
+    pub(crate) fn of(found: &Metadata) -> Node {
+        Node {
+            device: found.dev(),
+            inode: found.ino(),
+        }
+    }
 }
 
 /// Which file a path leads to: by the path without links, and where there is a file also by its number, which all its names share.
@@ -19,17 +28,6 @@ struct Node {
 pub struct FileIdentity {
     path: String,
     node: Option<Node>,
-}
-
-// The node of the file at a path, if there is one.
-fn node_at(rt: &HostRuntime, path: &str) -> Option<Node> {
-    match fs::metadata(rt, path) {
-        Ok(found) => Some(Node {
-            device: found.dev(),
-            inode: found.ino(),
-        }),
-        Err(_) => None,
-    }
 }
 
 // The path to which links at the last part lead, where nothing is at their end.
@@ -47,8 +45,8 @@ fn end_of_links(rt: &HostRuntime, path: &str) -> io::Result<PathBuf> {
     Ok(at)
 }
 
-// The folder of a path.
-fn folder_of<'a>(path: Path<'a>) -> Path<'a> {
+/// The folder of a path.
+pub(crate) fn folder_of<'a>(path: Path<'a>) -> Path<'a> {
     match path.parent() {
         Some(folder) if !folder.as_str().is_empty() => folder,
         _ => Path::new("."),
@@ -82,7 +80,7 @@ impl FileIdentity {
     pub fn at(rt: &HostRuntime, path: &str) -> io::Result<FileIdentity> {
         Ok(FileIdentity {
             path: without_links(rt, path)?,
-            node: node_at(rt, path),
+            node: fs::metadata(rt, path).ok().map(|found| Node::of(&found)),
         })
     }
 

@@ -5,18 +5,16 @@ use std::io::ErrorKind;
 use std::time::{SystemTime, UNIX_EPOCH};
 use std::{fs, io};
 
+fn time_of(moment: SystemTime) -> Option<Timestamp> {
+    let since = moment.duration_since(UNIX_EPOCH).ok()?;
+    let seconds = i64::try_from(since.as_secs()).ok()?;
+    Timestamp::from_second(seconds).ok()
+}
+
 // A moment in UTC, as `2026-09-21T14:13:20Z` (RFC 3339 section 5.6).
 fn text_of(alloc: Global, moment: SystemTime) -> io::Result<String> {
-    let Ok(since) = moment.duration_since(UNIX_EPOCH) else {
-        return Err(io::Error::from(ErrorKind::InvalidData));
-    };
-    let Ok(seconds) = i64::try_from(since.as_secs()) else {
-        return Err(io::Error::from(ErrorKind::InvalidData));
-    };
-    match Timestamp::from_second(seconds) {
-        Ok(time) => Ok(time.to_string(alloc)?),
-        Err(_) => Err(io::Error::from(ErrorKind::InvalidData)),
-    }
+    let time = time_of(moment).ok_or(io::Error::from(ErrorKind::InvalidData))?;
+    Ok(time.to_string(alloc)?)
 }
 
 /// When a file was last written, in UTC.

@@ -1,4 +1,5 @@
 //! Files are made, removed and made to last in their folder.
+use crate::identity::folder_of;
 use crate::names::{BESIDE, with_end};
 use std::fs::{self, File, OpenOptions};
 use std::io;
@@ -20,11 +21,7 @@ pub fn new_file(rt: &HostRuntime, path: &str) -> io::Result<File> {
 
 /// Syncs the folder of a path: what was made, renamed or removed there lasts.
 pub fn sync_folder(rt: &HostRuntime, path: &str) -> io::Result<()> {
-    let folder = match Path::new(path).parent() {
-        Some(folder) if !folder.as_str().is_empty() => folder,
-        _ => Path::new("."),
-    };
-    File::open(rt, folder)?.sync_all()
+    File::open(rt, folder_of(Path::new(path)))?.sync_all()
 }
 
 // Removes a file, if it is there.

@@ -1,31 +1,22 @@
 //! Whether the file of a hall is still the one that was opened.
-use crate::identity::FileIdentity;
+use crate::identity::{FileIdentity, Node};
 use crate::names::{LOG, with_end};
 use std::io::ErrorKind;
-use std::os::unix::fs::MetadataExt;
 use std::{fs, io};
 
-/// A file by its device and its number there, and how many octets it has.
+/// A file, and how many octets it has.
 #[derive(Clone, Copy)]
 struct Seen {
-    device: u64,
-    inode: u64,
+    node: Node,
     len: u64,
 }
 
 fn seen_at(rt: &HostRuntime, path: &str) -> io::Result<Seen> {
     let found = fs::metadata(rt, path)?;
     Ok(Seen {
-        device: found.dev(),
-        inode: found.ino(),
+        node: Node::of(&found),
         len: found.len(),
     })
-}
-
-impl Seen {
-    fn is_same(&self, other: &Seen) -> bool {
-        self.device == other.device && self.inode == other.inode
-    }
 }
 
 // What is at a path now. None where the system can't say.
@@ -60,13 +51,13 @@ impl ServedFile {
 
     /// Whether another one is the same file.
     pub fn is_same(&self, other: &ServedFile) -> bool {
-        self.file.is_same(&other.file)
+        self.file.node == other.file.node
     }
 
     // Whether the log isn't there any more, or another one, or was cut to nothing.
     fn has_lost_log(&self, rt: &HostRuntime) -> bool {
         match look_at(rt, self.log_path.as_str()) {
-            Some(Some(found)) => !found.is_same(&self.log) || found.len == 0,
+            Some(Some(found)) => found.node != self.log.node || found.len == 0,
             Some(None) => true,
             None => false,
         }
@@ -76,7 +67,7 @@ impl ServedFile {
     /// nothing. Where the system can't say, it counts as there.
     pub fn is_gone(&mut self, rt: &HostRuntime, path: &str) -> bool {
         match look_at(rt, path) {
-            Some(Some(found)) if found.is_same(&self.file) && found.len >= self.file.len => {
+            Some(Some(found)) if found.node == self.file.node && found.len >= self.file.len => {
                 self.file = found;
                 self.has_lost_log(rt)
             }

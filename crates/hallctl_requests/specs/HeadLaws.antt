@@ -1,11 +1,11 @@
 -- Laws of the head that a client sends: it is a head of at most 8,192 octets with at most 64 fields.
-use Rattle.std.{proofs.{Common.{◌≡◌, ◌+◌, ◌-◌, ◌<◌, ◌≤◌, ◌^◌, ℕ, suc, true, List, [], ◌∷◌, ◌++◌, length, refl, ap, ◌∙◌, arith, length-append, lit<, lit≤}, lemmas.{Bool.{and_parts, leb-true, lt-ltb, false_from_ne_true, eqb-true}, Fmt.{length-decimal-le, IsAscii-decimal}, List.{Elements.All-from_recursion, Sums.AllPass-from_list_all}, Str.{IsUtf8-from_ascii, IsUtf8-append}}, Math.Seq.{take-append-add, drop-append_seam}}, specs.{Prelude.{codes, decimal, take, nat_le, ◌==◌, flat_map, All, IsUtf8}, List.list_all}}
+use Rattle.std.{proofs.{Common.{◌≡◌, ◌+◌, ◌-◌, ◌<◌, ◌≤◌, ◌^◌, ℕ, suc, true, List, [], ◌∷◌, ◌++◌, length, refl, ap, ◌∙◌, arith, length-append, lit<, lit≤}, lemmas.{Bool.{and_parts, leb-true, lt-ltb, false_from_ne_true, eqb-true}, Fmt.{length-decimal-le, IsAscii-decimal}, List.{Elements.All-from_recursion, Sums.AllPass-from_list_all}, Str.{IsUtf8-from_ascii, IsUtf8-append}}, Math.Seq.{take-append-add, drop-append_seam}}, specs.{Prelude.{codes, decimal, take, nat_le, ◌==◌, flat_map, All, IsUtf8}, List.{AllByRecursion, list_all}}}
 use Rattle.json.proofs.Printed.Utf8.{IsUtf8-are_ascii}
-use Rattle.httparse.specs.Grammar.{Field, RequestHead, IsField, IsRequestHead, ReadsRequest, IsToken, crlf, print_request, print_field, is_token_byte, is_uri_byte, is_value_byte}
+use Rattle.httparse.specs.Grammar.{Field, IsField, IsRequestHead, ReadsRequest, IsToken, print_request, print_field, is_token_byte, is_uri_byte, is_value_byte}
 use Rattle.hall_types.specs.Number.{IsNumber}
 use Rattle.hall_events.specs.Command.{request_text}
 use Rattle.hall_http.specs.{SizeLaws.short-request_text, Request.{front, after_head}, Fields.is_visible}
-use Rattle.hallctl_requests.specs.{FieldLaws.{visible_text, visible_is_value, visible-decimal, list_all_so}, Request.{Question, machines, machine, orders, command, IsAuthority, IsBearerToken, field, fields_of, method_of, target_of, head_of, body_of, request_of}, Sendable.IsSendable}
+use Rattle.hallctl_requests.specs.{FieldLaws.{visible_text, visible_is_value, visible-decimal, list_all_so}, Request.{Question, machines, machine, orders, command, IsAuthority, IsBearerToken, field, body_fields, fields_of, method_of, target_of, head_of, body_of, request_of}, Sendable.IsSendable}
 
 -- ---- the parts of the head
 
@@ -46,34 +46,30 @@ length_is : (n : ℕ) → n < 2 ^ 64 → IsField (field (codes "Content-Length")
 unfolding is_token_byte
 length_is n h = field_is (codes "Content-Length") (decimal n) (lit< tt) refl (value_passes (decimal n) (visible-decimal n h))
 
+body_fields_are : (question : Question) → IsSendable question → AllByRecursion IsField (body_fields question)
+body_fields_are (command key c) h =
+    let size = length (request_text key c) in
+    (type_is, (length_is size (omega (arith, short-request_text key c h.whole h.parts)), tt))
+body_fields_are other h = tt
+
 fields_are : (authority token : List ℕ) (question : Question) → IsAuthority authority → IsBearerToken token → IsSendable question
     → All IsField (fields_of authority token question)
-fields_are authority token machines a t h = All-from_recursion IsField (fields_of authority token machines) (host_is authority a, (bearer_field_is token t, (close_is, tt)))
-fields_are authority token (machine id) a t h = All-from_recursion IsField (fields_of authority token machines) (host_is authority a, (bearer_field_is token t, (close_is, tt)))
-fields_are authority token orders a t h = All-from_recursion IsField (fields_of authority token machines) (host_is authority a, (bearer_field_is token t, (close_is, tt)))
-fields_are authority token (command key c) a t h =
-    All-from_recursion IsField (fields_of authority token (command key c))
-    (host_is authority a, (bearer_field_is token t, (close_is, (type_is, (length_is (length (request_text key c)) (fits (length (request_text key c)) (short-request_text key c h.whole h.parts)), tt)))))
-  where
-    fits : (n : ℕ) → n ≤ 16384 → n < 2 ^ 64
-    fits n h = omega arith
+fields_are authority token question a t h =
+    All-from_recursion IsField (fields_of authority token question)
+    (host_is authority a, (bearer_field_is token t, (close_is, body_fields_are question h)))
 
 method_is : (question : Question) → IsToken (method_of question)
 unfolding is_token_byte
-method_is machines = (lit< tt, AllPass-from_list_all is_token_byte (codes "GET") refl)
-method_is (machine id) = (lit< tt, AllPass-from_list_all is_token_byte (codes "GET") refl)
-method_is orders = (lit< tt, AllPass-from_list_all is_token_byte (codes "GET") refl)
 method_is (command key c) = (lit< tt, AllPass-from_list_all is_token_byte (codes "POST") refl)
+method_is other = (lit< tt, AllPass-from_list_all is_token_byte (codes "GET") refl)
 
 number_fits : (n : ℕ) → IsNumber n → n < 2 ^ 64
 number_fits n h = omega arith
 
 -- a target's characters
 target_passes : (question : Question) → IsSendable question → list_all is_uri_byte (target_of question) ≡ true
-target_passes machines h = refl
 target_passes (machine id) h = list_all_so is_visible is_uri_byte visible_is_uri (decimal id) (visible-decimal id (number_fits id h))
-target_passes orders h = refl
-target_passes (command key c) h = refl
+target_passes other h = refl
 
 target_text : (question : Question) → IsSendable question → IsUtf8 (target_of question)
 target_text machines h = IsUtf8-are_ascii (codes "/machines") refl
@@ -84,10 +80,8 @@ target_text orders h = IsUtf8-are_ascii (codes "/orders") refl
 target_text (command key c) h = IsUtf8-are_ascii (codes "/commands") refl
 
 target_some : (question : Question) → 0 < length (target_of question)
-target_some machines = lit< tt
 target_some (machine id) = omega arith
-target_some orders = lit< tt
-target_some (command key c) = lit< tt
+target_some other = lit< tt
 
 head_is : (authority token : List ℕ) (question : Question) → IsAuthority authority → IsBearerToken token → IsSendable question
     → IsRequestHead (head_of authority token question)
@@ -112,32 +106,21 @@ length-field name value =
 pub length-fields : (f : Field) (fs : List Field) → length (flat_map print_field (f ∷ fs)) ≡ length (print_field f) + length (flat_map print_field fs)
 length-fields f fs = length-append (print_field f) (flat_map print_field fs)
 
--- the head of these parts
-abbrev head_with : List ℕ → List ℕ → List Field → RequestHead
-head_with method target fields = record {
-  blank = [];
-  method = method;
-  target = target;
-  minor = 1;
-  line_end = crlf;
-  fields = fields;
-  last = crlf;
-}
-
-length-head : (method target : List ℕ) (fields : List Field)
-    → length (print_request (head_with method target fields)) ≡ length method + length target + length (flat_map print_field fields) + 14
-unfolding print_request
-length-head method target fields =
-    let one = method ++ (32 ∷ target) in
-    let two = one ++ (32 ∷ codes "HTTP/1.1") in
+-- a line of three words, the fields, and an empty line
+pub length-head : (first second third fields : List ℕ)
+    → length ((((first ++ (32 ∷ second)) ++ (32 ∷ third)) ++ (13 ∷ 10 ∷ [])) ++ (fields ++ (13 ∷ 10 ∷ [])))
+    ≡ length first + length second + length third + length fields + 6
+length-head first second third fields =
+    let one = first ++ (32 ∷ second) in
+    let two = one ++ (32 ∷ third) in
     let three = two ++ (13 ∷ 10 ∷ []) in
-    let section = flat_map print_field fields ++ (13 ∷ 10 ∷ []) in
+    let section = fields ++ (13 ∷ 10 ∷ []) in
     length-append three section
-    ∙ counted (length method) (length target) (length (flat_map print_field fields)) (length one) (length two) (length three) (length section)
-    (length-append method (32 ∷ target)) (length-append one (32 ∷ codes "HTTP/1.1")) (length-append two (13 ∷ 10 ∷ [])) (length-append (flat_map print_field fields) (13 ∷ 10 ∷ []))
+    ∙ counted (length first) (length second) (length third) (length fields) (length one) (length two) (length three) (length section)
+    (length-append first (32 ∷ second)) (length-append one (32 ∷ third)) (length-append two (13 ∷ 10 ∷ [])) (length-append fields (13 ∷ 10 ∷ []))
   where
-    counted : (m t f one two three section : ℕ) → one ≡ m + suc t → two ≡ one + 9 → three ≡ two + 2 → section ≡ f + 2 → three + section ≡ m + t + f + 14
-    counted m t f one two three section a b c d = omega arith
+    counted : (a b c f one two three section : ℕ) → one ≡ a + suc b → two ≡ one + suc c → three ≡ two + 2 → section ≡ f + 2 → three + section ≡ a + b + c + f + 6
+    counted a b c f one two three section h i j k = omega arith
 
 -- what the fields of each request take
 common_fields : (authority token : List ℕ) (more : List Field) → length authority ≤ 255 → length token ≤ 128 → length (flat_map print_field more) ≤ 200
@@ -159,8 +142,10 @@ common_fields authority token more a t m =
       length-field (codes "Connection") (codes "close"),
     )
 
-body_fields_fit : (n : ℕ) → n ≤ 16384 → length (flat_map print_field (field (codes "Content-Type") (codes "application/json") ∷ field (codes "Content-Length") (decimal n) ∷ [])) ≤ 200
-body_fields_fit n h =
+body_fields_fit : (question : Question) → IsSendable question → length (flat_map print_field (body_fields question)) ≤ 200
+body_fields_fit (command key c) h =
+    let n = length (request_text key c) in
+    let few = short-request_text key c h.whole h.parts in
     let kind = field (codes "Content-Type") (codes "application/json") in
     let size = field (codes "Content-Length") (decimal n) in
     omega (
@@ -169,46 +154,38 @@ body_fields_fit n h =
       length-fields size [],
       length-field (codes "Content-Type") (codes "application/json"),
       length-field (codes "Content-Length") (decimal n),
-      length-decimal-le 5 n (omega arith) (omega arith) (omega arith),
+      length-decimal-le 5 n (omega arith) (omega (arith, few)) (omega (arith, few)),
     )
+body_fields_fit other h = lit≤ tt
 
 fields_fit : (authority token : List ℕ) (question : Question) → IsAuthority authority → IsBearerToken token → IsSendable question
     → length (flat_map print_field (fields_of authority token question)) ≤ 1000
-fields_fit authority token machines a t h = common_fields authority token [] (visible_text 255 authority a).few (visible_text 128 token t).few (lit≤ tt)
-fields_fit authority token (machine id) a t h = common_fields authority token [] (visible_text 255 authority a).few (visible_text 128 token t).few (lit≤ tt)
-fields_fit authority token orders a t h = common_fields authority token [] (visible_text 255 authority a).few (visible_text 128 token t).few (lit≤ tt)
-fields_fit authority token (command key c) a t h =
-    common_fields authority token (field (codes "Content-Type") (codes "application/json") ∷ field (codes "Content-Length") (decimal (length (request_text key c))) ∷ [])
-    (visible_text 255 authority a).few (visible_text 128 token t).few (body_fields_fit (length (request_text key c)) (short-request_text key c h.whole h.parts))
+fields_fit authority token question a t h =
+    common_fields authority token (body_fields question) (visible_text 255 authority a).few (visible_text 128 token t).few (body_fields_fit question h)
 
 method_fits : (question : Question) → length (method_of question) ≤ 4
-method_fits machines = lit≤ tt
-method_fits (machine id) = lit≤ tt
-method_fits orders = lit≤ tt
 method_fits (command key c) = lit≤ tt
+method_fits other = lit≤ tt
 
 target_fits : (question : Question) → IsSendable question → length (target_of question) ≤ 26
-target_fits machines h = lit≤ tt
 target_fits (machine id) h = omega (arith, length-decimal-le 16 id (omega arith) (omega arith) (number_fits id h))
-target_fits orders h = lit≤ tt
-target_fits (command key c) h = lit≤ tt
+target_fits other h = lit≤ tt
 
 head_fits : (authority token : List ℕ) (question : Question) → IsAuthority authority → IsBearerToken token → IsSendable question
     → length (print_request (head_of authority token question)) ≤ 8192
+unfolding print_request
 head_fits authority token question a t h =
     omega (
       arith,
-      length-head (method_of question) (target_of question) (fields_of authority token question),
+      length-head (method_of question) (target_of question) (codes "HTTP/1.1") (flat_map print_field (fields_of authority token question)),
       method_fits question,
       target_fits question h,
       fields_fit authority token question a t h,
     )
 
 pub few_fields : (authority token : List ℕ) (question : Question) → length (fields_of authority token question) ≤ 64
-few_fields authority token machines = lit≤ tt
-few_fields authority token (machine id) = lit≤ tt
-few_fields authority token orders = lit≤ tt
 few_fields authority token (command key c) = lit≤ tt
+few_fields authority token other = lit≤ tt
 
 -- ---- what the desk finds
 

@@ -50,10 +50,8 @@ question_in other = machines
 
 question_in-event_of : (token : List ℕ) (question : Question) → question_in (event_of token question) ≡ question
 unfolding question_in
-question_in-event_of token machines = refl
-question_in-event_of token (machine id) = refl
-question_in-event_of token orders = refl
 question_in-event_of token (command key c) = refl
+question_in-event_of token other = refl
 
 -- equal requests ask the same
 pub one_question : (authority token : List ℕ) (one other : Question) → IsAuthority authority → IsBearerToken token → IsSendable one → IsSendable other

@@ -1,9 +1,9 @@
 -- Laws of responses: a client reads what the desk writes as its status and its body.
-use Rattle.std.{proofs.{Common.{◌≡◌, ◌+◌, ◌-◌, ◌<◌, ◌≤◌, ◌^◌, ℕ, suc, Bool, true, false, List, [], ◌∷◌, ◌++◌, Some, map, length, refl, ap, subst, ◌∙◌, arith, append_assoc, append-nil, length-append, lit≤, lit<}, lemmas.{Bool.{and_parts, le-leb, leb-true, eqb-true, false_from_ne_true, ltb-true}, Fmt.{decimal_nonempty, decimal_is_IsNumeral, length-decimal-le}, List.{Elements.All-from_recursion, Sums.AllPass-from_list_all}}, Math.Seq.drop-append_seam}, specs.{Prelude.{codes, decimal, drop, take, flat_map, nat_le, nat_lt, ◌&&◌, ◌||◌, ◌==◌, All, Result, Ok}, Fmt.digits, List.{list_all, list_any}, Char.is_ascii_digit}}
+use Rattle.std.{proofs.{Common.{◌≡◌, ◌-◌, ◌<◌, ◌≤◌, ◌^◌, ℕ, Bool, true, false, List, [], ◌∷◌, ◌++◌, Some, map, length, refl, ap, subst, ◌∙◌, arith, append_assoc, append-nil, lit≤, lit<}, lemmas.{Bool.{and_parts, le-leb, leb-true, eqb-true, false_from_ne_true, ltb-true}, Fmt.{decimal_nonempty, decimal_is_IsNumeral, length-decimal-le}, List.{Elements.All-from_recursion, Sums.AllPass-from_list_all}}, Math.Seq.drop-append_seam}, specs.{Prelude.{codes, decimal, drop, take, flat_map, nat_le, nat_lt, ◌&&◌, ◌||◌, ◌==◌, All, Result, Ok}, Fmt.digits, List.{list_all, list_any}, Char.is_ascii_digit}}
 use Rattle.httparse.specs.{Grammar.{Field, ResponseHead, IsField, IsResponseHead, ReadsResponse, crlf, print_response, print_field, status_code, is_token_byte, is_value_byte}, Spans.name_and_value}
 use Rattle.hall_events.specs.declared.reply.BodyKind.{BodyKind, TheVariants.{Text, Json}}
 use Rattle.hall_http.specs.{Response.{IsStatus, statuses, phrase_of, kind_text, status_line, type_line, length_line, last_lines, response}, DecimalLaws.{digits-decimal, decimal_value-decimal}, Request.front}
-use Rattle.hallctl_requests.specs.{FieldLaws.{trims_decimal, visible-decimal}, HeadLaws.{field_is, value_passes, front_of, length-field, length-fields}, Request.field, Response.{IsReading, answer_of, size_of, sized}, declared.response.ResponseFault.ResponseFault}
+use Rattle.hallctl_requests.specs.{FieldLaws.{trims_decimal, visible-decimal}, HeadLaws.{field_is, value_passes, front_of, length-field, length-fields, length-head}, Request.field, Response.{IsReading, answer_of, size_of, sized}, declared.response.ResponseFault.ResponseFault}
 
 -- ---- the statuses
 
@@ -87,29 +87,10 @@ fields_are kind body h =
 head_is : (status : ℕ) (kind : BodyKind) (body : List ℕ) → IsGood status → length body < 2 ^ 64 → IsResponseHead (head_of status kind body)
 head_is status kind body good h = record {
   minor = lit≤ tt;
-  digits = (good.three, AllPass-from_list_all is_ascii_digit (decimal status) (digits-decimal status (fits status good.small)));
+  digits = (good.three, AllPass-from_list_all is_ascii_digit (decimal status) (digits-decimal status (omega (arith, good.small))));
   reason = AllPass-from_list_all is_value_byte (phrase_of status) good.phrase;
   fields = fields_are kind body h;
 }
-  where
-    fits : (n : ℕ) → n < 1000 → n < 2 ^ 64
-    fits n h = omega arith
-
-length-head : (digits phrase : List ℕ) (fields : List Field)
-    → length (print_response (record { blank = []; minor = 1; digits = digits; reason = Some phrase; line_end = crlf; fields = fields; last = crlf }))
-    ≡ length digits + length phrase + length (flat_map print_field fields) + 14
-unfolding print_response
-length-head digits phrase fields =
-    let one = codes "HTTP/1.1" ++ (32 ∷ digits) in
-    let two = one ++ (32 ∷ phrase) in
-    let three = two ++ (13 ∷ 10 ∷ []) in
-    let section = flat_map print_field fields ++ (13 ∷ 10 ∷ []) in
-    length-append three section
-    ∙ counted (length digits) (length phrase) (length (flat_map print_field fields)) (length one) (length two) (length three) (length section)
-    (length-append (codes "HTTP/1.1") (32 ∷ digits)) (length-append one (32 ∷ phrase)) (length-append two (13 ∷ 10 ∷ [])) (length-append (flat_map print_field fields) (13 ∷ 10 ∷ []))
-  where
-    counted : (d p f one two three section : ℕ) → one ≡ 8 + suc d → two ≡ one + suc p → three ≡ two + 2 → section ≡ f + 2 → three + section ≡ d + p + f + 14
-    counted d p f one two three section a b c e = omega arith
 
 fields_fit : (kind : BodyKind) (body : List ℕ) → length body < 10 ^ 15 → length (flat_map print_field (fields_of kind body)) ≤ 200
 fields_fit kind body h =
@@ -129,8 +110,9 @@ fields_fit kind body h =
     )
 
 head_fits : (status : ℕ) (kind : BodyKind) (body : List ℕ) → IsGood status → length body < 10 ^ 15 → length (print_response (head_of status kind body)) ≤ 8192
+unfolding print_response
 head_fits status kind body good h =
-    omega (arith, length-head (decimal status) (phrase_of status) (fields_of kind body), good.three, good.few, fields_fit kind body h)
+    omega (arith, length-head (codes "HTTP/1.1") (decimal status) (phrase_of status) (flat_map print_field (fields_of kind body)), good.three, good.few, fields_fit kind body h)
 
 grouped : (version digits space phrase end type size close body : List ℕ)
     → (((((((version ++ digits) ++ space) ++ phrase) ++ end) ++ type) ++ size) ++ (close ++ end)) ++ body
@@ -162,16 +144,10 @@ exactly status body = rw (false_from_ne_true (nat_lt (length body) (length body)
 answer_is : (status : ℕ) (kind : BodyKind) (body : List ℕ) → IsGood status → length body < 10 ^ 15
     → answer_of (status_code (head_of status kind body)) (map name_and_value (fields_of kind body)) body ≡ Ok (status, body)
 answer_is status kind body good h =
-    ap (λ (n : ℕ). answer_of n (map name_and_value (fields_of kind body)) body) (decimal_is_IsNumeral status (wide status good.small)).1
-    ∙ ap (λ (text : List ℕ). sized status (size_of (Some text)) body) (trims_decimal (length body) (fits (length body) h))
+    ap (λ (n : ℕ). answer_of n (map name_and_value (fields_of kind body)) body) (decimal_is_IsNumeral status (omega (arith, good.small))).1
+    ∙ ap (λ (text : List ℕ). sized status (size_of (Some text)) body) (trims_decimal (length body) (omega (arith, h)))
     ∙ ap (λ size. sized status size body) (size_is (length body) h)
     ∙ exactly status body
-  where
-    wide : (n : ℕ) → n < 1000 → n < 2 ^ 64
-    wide n h = omega arith
-
-    fits : (n : ℕ) → n < 10 ^ 15 → n < 2 ^ 64
-    fits n h = omega arith
 
 -- the response of the desk is read as its status and its body
 pub response_is_read : (octets : List ℕ) (result : Result (ℕ × List ℕ) ResponseFault) → IsReading octets result
@@ -181,11 +157,8 @@ response_is_read octets result is status kind body s h e =
     let head = head_of status kind body in
     let split : octets ≡ print_response head ++ body = e ∙ whole status kind body in
     let reads : ReadsResponse (front octets) head (take (8192 - length (print_response head)) body) =
-    (head_is status kind body good (fits (length body) h), ap (λ (xs : List ℕ). take 8192 xs) split ∙ front_of 8192 (print_response head) body (head_fits status kind body good h)) in
+    (head_is status kind body good (omega (arith, h)), ap (λ (xs : List ℕ). take 8192 xs) split ∙ front_of 8192 (print_response head) body (head_fits status kind body good h)) in
     is.head head (take (8192 - length (print_response head)) body) reads (lit≤ tt)
     ∙ ap (λ (after : List ℕ). answer_of (status_code head) (map name_and_value (fields_of kind body)) after)
     (ap (λ (xs : List ℕ). drop (length (print_response head)) xs) split ∙ drop-append_seam (print_response head) body)
     ∙ answer_is status kind body good h
-  where
-    fits : (n : ℕ) → n < 10 ^ 15 → n < 2 ^ 64
-    fits n h = omega arith

@@ -75,13 +75,6 @@ fn push_common(octets: &mut Vec<u8>, authority: &str, token: &str) -> Result<(),
     push_field(octets, "Connection", "close")
 }
 
-fn push_length(octets: &mut Vec<u8>, size: usize) -> Result<(), AllocError>
-    ensures { OnOk result (octets.new.items ≡ octets.old.items ++ field_line (codes "Content-Length") (decimal size)) }
-{
-    let mut buffer = Buffer::new();
-    push_field(octets, "Content-Length", buffer.format(size))
-}
-
 // A request without a body.
 fn get(
     alloc: Global,
@@ -124,8 +117,9 @@ fn get_machine(
 fn push_body(octets: &mut Vec<u8>, body: &str) -> Result<(), AllocError>
     ensures { OnOk result (octets.new.items ≡ octets.old.items ++ body_part body.now) }
 {
+    let mut size = Buffer::new();
     push_field(octets, "Content-Type", "application/json")?;
-    push_length(octets, body.len())?;
+    push_field(octets, "Content-Length", size.format(body.len()))?;
     octets.extend_from_slice(b"\r\n")?;
     octets.extend_from_slice(body.as_bytes())?;
     Ok(())

@@ -46,22 +46,9 @@ fn size_of(text: Option<&[u8]>) -> Option<u64>
     ensures { result ≡ size_of (option_copied text.entry) }
 {
     match text {
-        None => None,
-        Some(text) => {
-            if is_size(text) {
-                Some(decimal(text))
-            } else {
-                None
-            }
-        }
+        Some(text) if is_size(text) => Some(decimal(text)),
+        _ => None,
     }
-}
-
-fn has_one_size(front: &[u8], headers: &[HeaderSpan]) -> bool
-    requires { All (IsHeaderWithin (length front.now)) headers.now }
-    ensures { result ≡ has_one_size (map (header_bytes front.now) headers.now) }
-{
-    count(front, headers, "transfer-encoding") == 0 && count(front, headers, "content-length") == 1
 }
 
 // How many octets the body is said to have.
@@ -69,7 +56,8 @@ fn said_size(front: &[u8], headers: &[HeaderSpan]) -> Option<u64>
     requires { All (IsHeaderWithin (length front.now)) headers.now }
     ensures { result ≡ said_size (map (header_bytes front.now) headers.now) }
 {
-    if has_one_size(front, headers) {
+    let of_chunks = count(front, headers, "transfer-encoding");
+    if of_chunks == 0 && count(front, headers, "content-length") == 1 {
         size_of(first_value(front, headers, "content-length"))
     } else {
         None

@@ -1,7 +1,7 @@
 -- What the desk answers to what it was asked (the contents of its answers and their texts are those of hall_events).
 use Rattle.std.specs.Prelude.{◌≡◌, ◌⊎◌, ℕ, List}
 use Rattle.hall_types.specs.{Hall.second, declared.{order.Order.Order, refusal.Refusal.Refusal}}
-use Rattle.hall_events.specs.{Reply.{Content, ListedMachine, refused, machine_is, machine_gone, done, waiting_orders, machine_list, one_machine, reply_of}, declared.{command.{HallCommand.{HallCommand, TheVariants.{AddMachine, OnMachine}}, MachineCommand.{MachineCommand, TheVariants.Delete}}, reply.{Reply.TheVariants.Http, BodyKind.TheVariants.Json}}}
+use Rattle.hall_events.specs.{Reply.{Content, ListedMachine, refused, machine_is, machine_gone, done, waiting_orders, machine_list, one_machine, reply_of}, declared.{command.{HallCommand.{HallCommand, TheVariants.{AddMachine, OnMachine}}, MachineCommand.{MachineCommand, TheVariants.Delete}}, reply.{Reply.{Reply, TheVariants.Http}, BodyKind.TheVariants.Json}}}
 use Rattle.hallctl_texts.specs.declared.{answers.{DeskAnswer.DeskAnswer, MachineState.MachineState, Question.Question}, due.Due.Due}
 use Rattle.hallctl_texts.specs.declared.answers.DeskAnswer.TheVariants as says
 use Rattle.hallctl_texts.specs.declared.answers.Question.TheVariants as asks
@@ -46,8 +46,12 @@ Refuses answer content = (refusal : Refusal) × (answer ≡ says.Refused refusal
 abbrev pub Answers : Question → DeskAnswer → Content → Type 0
 Answers question answer content = Gives question answer content ⊎ Refuses answer content
 
--- this status and these octets are the text of a content that is so
-pub record IsTextOf (IsSo : Content → Type 0) (status : ℕ) (body : List ℕ) : Type 0 where
+-- the reply is that of a content that is so
+pub record IsReplyOf (IsSo : Content → Type 0) (reply : Reply) : Type 0 where
   pub content : Content
   pub so : IsSo content
-  pub text : reply_of second content ≡ Http status Json body
+  pub text : reply_of second content ≡ reply
+
+-- this status and these octets are the text of a content that is so
+abbrev pub IsTextOf : (Content → Type 0) → ℕ → List ℕ → Type 0
+IsTextOf IsSo status body = IsReplyOf IsSo (Http status Json body)

@@ -1,5 +1,5 @@
 -- What the members of an object say (RFC 8259 section 4).
-use Rattle.std.specs.Prelude.{ℕ, List, [], ◌∷◌, ◌&&◌, nat_le, Option, Some, None, option_and_then, option_map, codes, if◌then◌else◌}
+use Rattle.std.specs.Prelude.{ℕ, List, Option, option_and_then, option_map, codes}
 use Rattle.serde_json.specs.{Data.Data, Find.{get, as_number, as_str, as_u64}}
 use Rattle.hall_types.specs.{Number.number_in, Refusal.refusal_of_text, declared.{refusal.Refusal.Refusal, status.Status.Status}, Status.status_of_text}
 use Rattle.hallctl_texts.specs.declared.answers.MachineState.{MachineState}

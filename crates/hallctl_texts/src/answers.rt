@@ -1,15 +1,16 @@
 //! An answer is the desk's only if its octets are what the desk writes to what it was asked.
-ghost use Rattle.std.specs.Prelude.{◌≡◌, IfOk, IfSome, IsTrue};
-ghost use Rattle.hallctl_texts.specs.DeskAnswer.{Answers, Gives, IsDue, IsTextOf, Refuses};
+ghost use Rattle.std.specs.Prelude.{◌≡◌, ◌↔◌, IfOk, IfSome, IsTrue, string_bytes};
+ghost use Rattle.hall_events.specs.Reply.{status_data};
+ghost use Rattle.serde_json.specs.{Written.{compact_text, has_float}, View.view};
+ghost use Rattle.hallctl_texts.specs.DeskAnswer.{Answers, Gives, IsDue, IsReplyOf, IsStateOf, IsTextOf, Refuses};
 
 use crate::due::{Due, due_to};
 use crate::json::value_in;
-use crate::listed_replies::{is_machine_list, is_one_machine, is_order_list};
+use crate::listed_replies::listed_reply;
 use crate::members::{refusal_at, state_at};
-use crate::replies::{is_done, is_gone, is_refused, is_state};
-use hall_events::HallCommand;
-use hall_types::{Number, Refusal, Status, Version};
-use serde_json::Value;
+use hall_events::{BodyKind, HallCommand, Reply};
+use hall_types::{Number, Refusal, Status, Text, Version};
+use serde_json::{Value, json};
 use std::alloc::{AllocError, Global};
 
 /// What the desk is asked.
@@ -48,151 +49,117 @@ pub enum DeskAnswer {
     Refused(Refusal),
 }
 
-fn done(alloc: Global, status: u16, body: &str) -> Result<Option<DeskAnswer>, AllocError>
-    ensures { IfOk result (λ said. IfSome said (λ answer. IsTextOf (IsDue Due.Nothing answer) status body.now)) }
+/// An answer, and the reply by which the desk gives it.
+type Said = (DeskAnswer, Reply);
+
+// The status of an answer to what was carried out.
+const OK: u16 = 200;
+
+fn state_value(alloc: Global, state: &MachineState) -> Result<Value, AllocError>
+    ensures { IfOk result (λ value. view value ≡ status_data state.now.id state.now.status state.now.version) }
 {
-    if is_done(alloc, status, body)? {
-        return Ok(Some(DeskAnswer::Done));
-    }
-    Ok(None)
+    json!(in alloc; {"id": state.id.get(), "status": state.status.text(), "version": state.version.get()})
 }
 
-fn gone(
-    alloc: Global,
-    machine: Number,
-    status: u16,
-    body: &str,
-) -> Result<Option<DeskAnswer>, AllocError>
-    ensures { IfOk result (λ said. IfSome said (λ answer. IsTextOf (IsDue (Due.Gone machine) answer) status body.now)) }
+fn state_text(alloc: Global, state: &MachineState) -> Result<String, AllocError>
+    ensures { IfOk result (λ text. string_bytes text ≡ compact_text (status_data state.now.id state.now.status state.now.version)) }
 {
-    if is_gone(alloc, machine, status, body)? {
-        return Ok(Some(DeskAnswer::Deleted(machine)));
-    }
-    Ok(None)
+    state_value(alloc, state)?.to_string(alloc)
 }
 
-// A machine's state, where the answer says it.
-fn new_machine(
-    alloc: Global,
-    status: u16,
-    body: &str,
-    value: &Value,
-) -> Result<Option<DeskAnswer>, AllocError>
-    ensures { IfOk result (λ said. IfSome said (λ answer. IsTextOf (IsDue Due.NewMachine answer) status body.now)) }
+// That a machine is so.
+#[tactic(auto, unfolding(hall_events::specs::Reply::reply_of))]
+fn machine_said(alloc: Global, state: &MachineState) -> Result<Said, AllocError>
+    ensures { IfOk result (λ said. IsReplyOf (IsStateOf state.now said.0) said.1) }
 {
-    let Some(state) = state_at(value) else {
-        return Ok(None);
+    let reply = Reply::Http {
+        status: OK,
+        kind: BodyKind::Json,
+        body: Text::from(state_text(alloc, state)?),
     };
-    if is_state(alloc, &state, status, body)? {
-        return Ok(Some(DeskAnswer::Machine(state)));
-    }
-    Ok(None)
+    Ok((DeskAnswer::Machine(*state), reply))
 }
 
-// The state of this machine, where the answer says it.
-fn machine_after(
-    alloc: Global,
-    machine: Number,
-    status: u16,
-    body: &str,
-    value: &Value,
-) -> Result<Option<DeskAnswer>, AllocError>
-    ensures { IfOk result (λ said. IfSome said (λ answer. IsTextOf (IsDue (Due.Machine machine) answer) status body.now)) }
+// The state of this machine, where a value says it.
+fn this_machine(alloc: Global, machine: Number, value: &Value) -> Result<Option<Said>, AllocError>
+    ensures { IfOk result (λ said. IfSome said (λ said. IsReplyOf (IsDue (Due.Machine machine) said.0) said.1)) }
 {
-    let Some(state) = state_at(value) else {
-        return Ok(None);
-    };
-    if state.id == machine && is_state(alloc, &state, status, body)? {
-        return Ok(Some(DeskAnswer::Machine(state)));
+    match state_at(value) {
+        Some(state) if state.id == machine => Ok(Some(machine_said(alloc, &state)?)),
+        _ => Ok(None),
     }
-    Ok(None)
 }
 
-// What a command is answered that was carried out, where the answer is so.
-fn carried_out(
-    alloc: Global,
-    due: Due,
-    status: u16,
-    body: &str,
-    value: &Value,
-) -> Result<Option<DeskAnswer>, AllocError>
-    ensures { IfOk result (λ said. IfSome said (λ answer. IsTextOf (IsDue due answer) status body.now)) }
+// A machine's state, where a value says it.
+fn new_machine(alloc: Global, value: &Value) -> Result<Option<Said>, AllocError>
+    ensures { IfOk result (λ said. IfSome said (λ said. IsReplyOf (IsDue Due.NewMachine said.0) said.1)) }
+{
+    match state_at(value) {
+        Some(state) => Ok(Some(machine_said(alloc, &state)?)),
+        None => Ok(None),
+    }
+}
+
+// What a command is answered that was carried out, as far as a value says it.
+fn carried_out(alloc: Global, due: Due, value: &Value) -> Result<Option<Said>, AllocError>
+    ensures { IfOk result (λ said. IfSome said (λ said. IsReplyOf (IsDue due said.0) said.1)) }
 {
     match due {
-        Due::Nothing => done(alloc, status, body),
-        Due::Gone(machine) => gone(alloc, machine, status, body),
-        Due::Machine(machine) => machine_after(alloc, machine, status, body, value),
-        Due::NewMachine => new_machine(alloc, status, body, value),
+        Due::Nothing => Ok(Some((DeskAnswer::Done, Reply::done(alloc)?))),
+        Due::Gone(machine) => {
+            let reply = Reply::gone(alloc, machine)?;
+            Ok(Some((DeskAnswer::Deleted(machine), reply)))
+        }
+        Due::Machine(machine) => this_machine(alloc, machine, value),
+        Due::NewMachine => new_machine(alloc, value),
     }
 }
 
-// Whether the answer is the list or the machine that is asked for.
-fn is_listed(
-    alloc: Global,
-    question: &Question<'_>,
-    status: u16,
-    body: &str,
-    value: &Value,
-) -> Result<bool, AllocError>
-    ensures { IfOk result (λ same. IsTrue same → IsTextOf (Gives question.now DeskAnswer.Listed) status body.now) }
-{
-    match question {
-        Question::Machines => is_machine_list(alloc, status, body, value),
-        Question::Machine(id) => is_one_machine(alloc, *id, status, body, value),
-        Question::Orders => is_order_list(alloc, status, body, value),
-        Question::Command(_) => Ok(false),
-    }
-}
-
-// What is asked for, where the answer gives it.
-fn given(
-    alloc: Global,
-    question: &Question<'_>,
-    status: u16,
-    body: &str,
-    value: &Value,
-) -> Result<Option<DeskAnswer>, AllocError>
-    ensures { IfOk result (λ said. IfSome said (λ answer. IsTextOf (Gives question.now answer) status body.now)) }
+// What is asked for, as far as a value gives it.
+fn given(alloc: Global, question: &Question<'_>, value: &Value) -> Result<Option<Said>, AllocError>
+    ensures { IfOk result (λ said. IfSome said (λ said. IsReplyOf (Gives question.now said.0) said.1)) }
 {
     if let Question::Command(command) = question {
-        return carried_out(alloc, due_to(command), status, body, value);
+        return carried_out(alloc, due_to(command), value);
     }
-    if is_listed(alloc, question, status, body, value)? {
-        return Ok(Some(DeskAnswer::Listed));
+    match listed_reply(alloc, question, value)? {
+        Some(reply) => Ok(Some((DeskAnswer::Listed, reply))),
+        None => Ok(None),
     }
-    Ok(None)
 }
 
-// The refusal, where the answer is one.
-fn refused(
-    alloc: Global,
-    status: u16,
-    body: &str,
-    value: &Value,
-) -> Result<Option<DeskAnswer>, AllocError>
-    ensures { IfOk result (λ said. IfSome said (λ answer. IsTextOf (Refuses answer) status body.now)) }
+fn refused(alloc: Global, refusal: Refusal) -> Result<Said, AllocError>
+    ensures { IfOk result (λ said. IsReplyOf (Refuses said.0) said.1) }
 {
-    let Some(refusal) = refusal_at(value) else {
-        return Ok(None);
-    };
-    if is_refused(alloc, refusal, status, body)? {
-        return Ok(Some(DeskAnswer::Refused(refusal)));
-    }
-    Ok(None)
+    let reply = Reply::refused(alloc, refusal)?;
+    Ok((DeskAnswer::Refused(refusal), reply))
 }
 
+// The one answer to what was asked that a value can be of.
 fn answer_in(
     alloc: Global,
     question: &Question<'_>,
-    status: u16,
-    body: &str,
     value: &Value,
-) -> Result<Option<DeskAnswer>, AllocError>
-    ensures { IfOk result (λ said. IfSome said (λ answer. IsTextOf (Answers question.now answer) status body.now)) }
+) -> Result<Option<Said>, AllocError>
+    ensures { IfOk result (λ said. IfSome said (λ said. IsReplyOf (Answers question.now said.0) said.1)) }
 {
-    match refused(alloc, status, body, value)? {
-        Some(answer) => Ok(Some(answer)),
-        None => given(alloc, question, status, body, value),
+    match refusal_at(value) {
+        Some(refusal) => Ok(Some(refused(alloc, refusal)?)),
+        None => given(alloc, question, value),
+    }
+}
+
+// Whether an answer of JSON with this status and this body is the reply.
+fn is_reply(reply: &Reply, status: u16, body: &str) -> bool
+    ensures { IsTrue result ↔ (reply.now ≡ Reply.Http status BodyKind.Json body.now) }
+{
+    match reply {
+        Reply::Http {
+            status: own,
+            kind: BodyKind::Json,
+            body: text,
+        } => *own == status && text.as_str() == body,
+        _ => false,
     }
 }
 
@@ -206,8 +173,11 @@ pub fn desk_answer(
 ) -> Result<Option<DeskAnswer>, AllocError>
     ensures { IfOk result (λ said. IfSome said (λ answer. IsTextOf (Answers question.now answer) status body.now)) }
 {
-    match value_in(alloc, body)? {
-        Some(value) => answer_in(alloc, question, status, body, &value),
-        None => Ok(None),
-    }
+    let Some(value) = value_in(alloc, body)? else {
+        return Ok(None);
+    };
+    let Some((answer, reply)) = answer_in(alloc, question, &value)? else {
+        return Ok(None);
+    };
+    Ok(is_reply(&reply, status, body).then_some(answer))
 }

@@ -20,10 +20,7 @@ fn is_dangerous_on(command: &MachineCommand) -> bool
 pub fn is_dangerous(command: &HallCommand) -> bool
     ensures { result ≡ is_dangerous command.now }
 {
-    match command {
-        HallCommand::OnMachine { command, .. } => is_dangerous_on(command),
-        _ => false,
-    }
+    matches!(command, HallCommand::OnMachine { command, .. } if is_dangerous_on(command))
 }
 
 /// The version that a command says.

@@ -1,6 +1,6 @@
 //! What a command is answered that was carried out.
 ghost use Rattle.std.specs.Prelude.{◌≡◌};
-ghost use Rattle.hallctl_texts.specs.DeskAnswer.{due_on, due_to};
+ghost use Rattle.hallctl_texts.specs.DeskAnswer.{due_to};
 
 use hall_events::{HallCommand, MachineCommand};
 use hall_types::Number;
@@ -18,15 +18,6 @@ pub(crate) enum Due {
     NewMachine,
 }
 
-fn due_on(machine: Number, command: &MachineCommand) -> Due
-    ensures { result ≡ due_on machine command.now }
-{
-    match command {
-        MachineCommand::Delete => Due::Gone(machine),
-        _ => Due::Machine(machine),
-    }
-}
-
 /// What a command is answered that was carried out.
 pub(crate) fn due_to(command: &HallCommand) -> Due
     ensures { result ≡ due_to command.now }
@@ -34,9 +25,10 @@ pub(crate) fn due_to(command: &HallCommand) -> Due
     match command {
         HallCommand::OnMachine {
             machine,
-            command,
+            command: MachineCommand::Delete,
             ..
-        } => due_on(*machine, command),
+        } => Due::Gone(*machine),
+        HallCommand::OnMachine { machine, .. } => Due::Machine(*machine),
         HallCommand::AddMachine { .. } => Due::NewMachine,
         _ => Due::Nothing,
     }

@@ -14,7 +14,6 @@ mod machine_texts;
 mod machine_value;
 mod member_texts;
 mod members;
-mod replies;
 mod table;
 
 pub use answer_fault::AnswerFault;

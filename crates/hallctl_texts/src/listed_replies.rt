@@ -1,14 +1,13 @@
-//! Lists and machines are compared with what the desk writes.
-ghost use Rattle.std.specs.Prelude.{◌≡◌, ◌↔◌, List, Some, IfOk, IfSome, IsTrue};
+//! Lists and machines, as the desk writes them.
+ghost use Rattle.std.specs.Prelude.{◌≡◌, List, IfOk, IfSome, IsTrue};
 ghost use Rattle.hall_types.specs.{Hall.second, declared.order.Order.Order};
 ghost use Rattle.hall_events.specs.Reply.{ListedMachine, machine_list, one_machine, reply_of, waiting_orders, with_machine};
-ghost use Rattle.hallctl_texts.specs.DeskAnswer.{Gives, IsTextOf};
+ghost use Rattle.hallctl_texts.specs.DeskAnswer.{Gives, IsReplyOf};
 
 use crate::answers::{DeskAnswer, Question};
 use crate::machine_value::{machine_in, order_in, push_interfaces};
-use crate::replies::is_reply;
-use hall_events::{BodyKind, MachineList, Reply};
-use hall_types::{Interface, Machine, Number, Order};
+use hall_events::{MachineList, Reply};
+use hall_types::{Interface, Machine, Order};
 use serde_json::Value;
 use std::alloc::{AllocError, Global};
 
@@ -92,66 +91,28 @@ fn orders_reply(alloc: Global, objects: &[Value]) -> Result<Option<Reply>, Alloc
     Ok(Some(reply))
 }
 
-fn is_some_reply(reply: &Option<Reply>, status: u16, body: &str) -> bool
-    ensures { IsTrue result ↔ (reply.now ≡ Some (Reply.Http status BodyKind.Json body.now)) }
-{
-    match reply {
-        Some(reply) => is_reply(reply, status, body),
-        None => false,
+fn items_of<'j>(value: &'j Value, name: &str) -> &'j [Value] {
+    match value.get(name).and_then(Value::as_array) {
+        Some(items) => items.as_slice(),
+        None => &[],
     }
 }
 
-fn items_of<'j>(value: &'j Value, name: &str) -> Option<&'j Vec<Value>> {
-    value.get(name).and_then(Value::as_array)
-}
-
-/// Whether the answer is a list of machines. Its value is the body's.
-pub(crate) fn is_machine_list(
+/// The list or the machine that is asked for, as a value has it, if it has that. A list that isn't there is written as an empty one.
+pub(crate) fn listed_reply(
     alloc: Global,
-    status: u16,
-    body: &str,
+    question: &Question<'_>,
     value: &Value,
-) -> Result<bool, AllocError>
-    ensures { IfOk result (λ same. IsTrue same → IsTextOf (Gives Question.Machines DeskAnswer.Listed) status body.now) }
+) -> Result<Option<Reply>, AllocError>
+    ensures { IfOk result (λ reply. IfSome reply (IsReplyOf (Gives question.now DeskAnswer.Listed))) }
 {
-    let Some(objects) = items_of(value, "machines") else {
-        return Ok(false);
-    };
-    let reply = machines_reply(alloc, objects.as_slice())?;
-    Ok(is_some_reply(&reply, status, body))
-}
-
-/// Whether the answer is the list of the orders that wait.
-pub(crate) fn is_order_list(
-    alloc: Global,
-    status: u16,
-    body: &str,
-    value: &Value,
-) -> Result<bool, AllocError>
-    ensures { IfOk result (λ same. IsTrue same → IsTextOf (Gives Question.Orders DeskAnswer.Listed) status body.now) }
-{
-    let Some(objects) = items_of(value, "orders") else {
-        return Ok(false);
-    };
-    let reply = orders_reply(alloc, objects.as_slice())?;
-    Ok(is_some_reply(&reply, status, body))
-}
-
-/// Whether the answer is the machine with this number.
-pub(crate) fn is_one_machine(
-    alloc: Global,
-    id: Number,
-    status: u16,
-    body: &str,
-    value: &Value,
-) -> Result<bool, AllocError>
-    ensures { IfOk result (λ same. IsTrue same → IsTextOf (Gives (Question.Machine id) DeskAnswer.Listed) status body.now) }
-{
-    match machine_in(value) {
-        Some(machine) if machine.id == id => {
-            let reply = machine_reply(alloc, &machine, value)?;
-            Ok(is_some_reply(&reply, status, body))
-        }
-        _ => Ok(false),
+    match question {
+        Question::Machines => machines_reply(alloc, items_of(value, "machines")),
+        Question::Orders => orders_reply(alloc, items_of(value, "orders")),
+        Question::Machine(id) => match machine_in(value) {
+            Some(machine) if machine.id == *id => machine_reply(alloc, &machine, value),
+            _ => Ok(None),
+        },
+        Question::Command(_) => Ok(None),
     }
 }

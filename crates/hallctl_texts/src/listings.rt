@@ -3,7 +3,7 @@ ghost use Rattle.std.specs.Prelude.{◌↔◌, IsTrue};
 ghost use Rattle.hallctl_texts.specs.Listings.{Agrees, LetsThrough, Owns};
 
 use crate::answer_fault::AnswerFault;
-use crate::members::{name_at, name_or_null, number_at, status_at, version_at};
+use crate::members::{name_at, number_at, status_at, text_or_null, version_at};
 use hall_types::{MacAddress, Name, Number, Status, Version};
 use serde_json::Value;
 
@@ -27,19 +27,13 @@ pub struct Filter {
 }
 
 fn listed_at(object: &Value) -> Option<ListedMachine> {
-    let id = number_at(object, "id")?;
-    let status = status_at(object)?;
-    let version = version_at(object, "version")?;
-    let pool = name_at(object, "pool")?;
-    let owner = name_or_null(object, "owner")?;
-    let image = name_or_null(object, "image")?;
     Some(ListedMachine {
-        id,
-        status,
-        version,
-        pool,
-        owner,
-        image,
+        id: number_at(object, "id")?,
+        status: status_at(object)?,
+        version: version_at(object, "version")?,
+        pool: name_at(object, "pool")?,
+        owner: text_or_null(object, "owner")?,
+        image: text_or_null(object, "image")?,
     })
 }
 
@@ -60,16 +54,11 @@ pub(crate) fn is_listed(object: &Value) -> bool {
     listed_at(object).is_some()
 }
 
-fn list_at<'a>(answer: &'a Value, name: &str) -> Option<&'a Vec<Value>> {
-    answer.get(name)?.as_array()
-}
-
 /// The objects of a list, of which the answer has this one.
 pub(crate) fn objects<'a>(answer: &'a Value, name: &str) -> Result<&'a [Value], AnswerFault> {
-    match list_at(answer, name) {
-        Some(list) => Ok(list.as_slice()),
-        None => Err(AnswerFault::NotTheDesk),
-    }
+    let list = answer.get(name).and_then(Value::as_array);
+    list.map(|list| list.as_slice())
+        .ok_or(AnswerFault::NotTheDesk)
 }
 
 /// The hardware addresses of a machine.

@@ -3,8 +3,9 @@ use crate::answer_fault::AnswerFault;
 use crate::listings::{
     Filter, ListedMachine, address_in, addresses, lets_through, listed, objects,
 };
+use crate::member_texts::push_item;
 use crate::table::Table;
-use hall_types::{MacAddress, Name};
+use hall_types::{MacAddress, Name, Number};
 use serde_json::Value;
 use std::alloc::{AllocError, Global};
 
@@ -25,27 +26,16 @@ const NONE: &str = "-";
 const MACHINES: &str = "machines";
 
 fn name_cell(alloc: Global, name: Option<Name>) -> Result<String, AllocError> {
-    match name {
-        Some(name) => String::from_str(alloc, name.text()),
-        None => String::from_str(alloc, NONE),
-    }
-}
-
-fn push_address(alloc: Global, text: &mut String, address: MacAddress) -> Result<(), AllocError> {
-    if !text.is_empty() {
-        text.push(',')?;
-    }
-    text.push_str(pxe_vendor::print_mac(alloc, &address.octets())?.as_str())
+    String::from_str(alloc, name.as_ref().map_or(NONE, |name| name.text()))
 }
 
 // The addresses of a machine, a comma between each two.
 fn addresses_cell(alloc: Global, object: &Value) -> Result<String, AnswerFault> {
     let mut text = String::new(alloc);
     for value in addresses(object)? {
-        match address_in(value) {
-            Some(address) => push_address(alloc, &mut text, address)?,
-            None => return Err(AnswerFault::NotTheDesk),
-        }
+        let address = address_in(value).ok_or(AnswerFault::NotTheDesk)?;
+        let address = pxe_vendor::print_mac(alloc, &address.octets())?;
+        push_item(&mut text, address.as_str())?;
     }
     Ok(text)
 }
@@ -74,30 +64,10 @@ fn push_row(
     Ok(())
 }
 
-fn push_wanted(
-    alloc: Global,
-    table: &mut Table,
-    filter: &Filter,
-    machine: &ListedMachine,
-    object: &Value,
-) -> Result<(), AnswerFault> {
-    if lets_through(filter, machine) {
-        push_row(alloc, table, machine, object)?;
-    }
-    Ok(())
-}
-
-// Adds the row of a machine that the filter lets through.
-fn push_if(
-    alloc: Global,
-    table: &mut Table,
-    filter: &Filter,
-    object: &Value,
-) -> Result<(), AnswerFault> {
-    match listed(object) {
-        Ok(machine) => push_wanted(alloc, table, filter, &machine, object),
-        Err(fault) => Err(fault),
-    }
+// The machine of an object, if the filter lets it through.
+fn wanted(filter: &Filter, object: &Value) -> Result<Option<ListedMachine>, AnswerFault> {
+    let machine = listed(object)?;
+    Ok(lets_through(filter, &machine).then_some(machine))
 }
 
 /// The machines of a list (the answer to `GET /machines`) that a filter lets through, as a table under a heading.
@@ -113,24 +83,18 @@ pub fn machine_table(
     let objects = objects(answer, MACHINES)?;
     let mut table = Table::new(alloc, &HEADING)?;
     for object in objects {
-        push_if(alloc, &mut table, filter, object)?;
+        match wanted(filter, object) {
+            Ok(Some(machine)) => push_row(alloc, &mut table, &machine, object)?,
+            Ok(None) => {}
+            Err(fault) => return Err(fault),
+        }
     }
     Ok(table.text(alloc)?)
 }
 
-// The number of a machine that the filter lets through.
-fn wanted_id(filter: &Filter, object: &Value) -> Result<Option<u64>, AnswerFault> {
-    match listed(object) {
-        Ok(machine) if lets_through(filter, &machine) => Ok(Some(machine.id.get())),
-        Ok(_) => Ok(None),
-        Err(fault) => Err(fault),
-    }
-}
-
-fn push_id(alloc: Global, text: &mut String, id: u64) -> Result<(), AllocError> {
-    text.push_str(id.to_string(alloc)?.as_str())?;
-    text.push('\n')?;
-    Ok(())
+fn push_id(alloc: Global, text: &mut String, id: Number) -> Result<(), AllocError> {
+    text.push_str(id.get().to_string(alloc)?.as_str())?;
+    text.push('\n')
 }
 
 /// The numbers of the machines of a list that a filter lets through, one a line.
@@ -141,40 +105,30 @@ fn push_id(alloc: Global, text: &mut String, id: u64) -> Result<(), AllocError> 
 pub fn machine_ids(alloc: Global, answer: &Value, filter: &Filter) -> Result<String, AnswerFault> {
     let mut text = String::new(alloc);
     for object in objects(answer, MACHINES)? {
-        if let Some(id) = wanted_id(filter, object)? {
-            push_id(alloc, &mut text, id)?;
+        match wanted(filter, object) {
+            Ok(Some(machine)) => push_id(alloc, &mut text, machine.id)?,
+            Ok(None) => {}
+            Err(fault) => return Err(fault),
         }
     }
     Ok(text)
 }
 
-// One more object, with a comma before it if it's a later one.
-fn push_object(
+// The objects of the machines that the filter lets through, a comma between each two.
+fn wanted_objects(
     alloc: Global,
-    text: &mut String,
-    later: bool,
-    object: &Value,
-) -> Result<(), AllocError> {
-    if later {
-        text.push(',')?;
-    }
-    text.push_str(object.to_string(alloc)?.as_str())
-}
-
-fn push_objects(
-    alloc: Global,
-    text: &mut String,
     filter: &Filter,
     objects: &[Value],
-) -> Result<(), AnswerFault> {
-    let mut later = false;
+) -> Result<String, AnswerFault> {
+    let mut text = String::new(alloc);
     for object in objects {
-        if wanted_id(filter, object)?.is_some() {
-            push_object(alloc, text, later, object)?;
-            later = true;
+        match wanted(filter, object) {
+            Ok(Some(_)) => push_item(&mut text, object.to_string(alloc)?.as_str())?,
+            Ok(None) => {}
+            Err(fault) => return Err(fault),
         }
     }
-    Ok(())
+    Ok(text)
 }
 
 /// The list of those machines that a filter lets through, as JSON like the desk's: without a filter it is the answer itself.
@@ -183,19 +137,8 @@ fn push_objects(
 ///
 /// `NotTheDesk` where the answer is no such list, and `Memory`.
 pub fn machine_json(alloc: Global, answer: &Value, filter: &Filter) -> Result<String, AnswerFault> {
-    let objects = objects(answer, MACHINES)?;
-    let mut text = String::from_str(alloc, "{\"machines\":[")?;
-    push_objects(alloc, &mut text, filter, objects)?;
-    text.push_str("]}")?;
-    Ok(text)
-}
-
-fn has_address(object: &Value, address: MacAddress) -> Result<bool, AnswerFault> {
-    Ok(
-        addresses(object)?
-            .iter()
-            .any(|value| address_in(value) == Some(address)),
-    )
+    let objects = wanted_objects(alloc, filter, objects(answer, MACHINES)?)?;
+    Ok(format!(in alloc; "{{\"machines\":[{objects}]}}")?)
 }
 
 /// The machine of a list that has a hardware address, if one has it.
@@ -205,7 +148,8 @@ fn has_address(object: &Value, address: MacAddress) -> Result<bool, AnswerFault>
 /// `NotTheDesk` alone, where the answer is no such list.
 pub fn machine_with(answer: &Value, address: MacAddress) -> Result<Option<&Value>, AnswerFault> {
     for object in objects(answer, MACHINES)? {
-        if has_address(object, address)? {
+        let mut addresses = addresses(object)?.iter();
+        if addresses.any(|value| address_in(value) == Some(address)) {
             return Ok(Some(object));
         }
     }

@@ -1,33 +1,15 @@
 //! A machine or an order as a list has it.
-use crate::members::{
-    count_or_null, name_at, name_or_null, number_at, number_or_null, state_at, text_at,
-};
+use crate::members::{count_at, name_at, number_at, or_null, state_at, text_at, text_or_null};
 use hall_types::{
-    BootCount, Erase, Interface, Machine, MachineUuid, Number, Order, OrderKind, OrderStage,
+    BootCount, Interface, Machine, MachineUuid, Number, Order, OrderKind, OrderStage,
 };
-use pxe_vendor::Arch;
 use serde_json::Value;
 use std::alloc::{AllocError, Global};
 use uuid::Uuid;
 
-fn arch_at(object: &Value) -> Option<Arch> {
-    text_at(object, "arch")?.parse().ok()
-}
-
-fn erase_at(object: &Value) -> Option<Option<Erase>> {
-    if object.get("erase")?.is_null() {
-        return Some(None);
-    }
-    let erase = text_at(object, "erase")?.parse().ok()?;
-    Some(Some(erase))
-}
-
-fn uuid_at(object: &Value) -> Option<Option<MachineUuid>> {
-    if object.get("uuid")?.is_null() {
-        return Some(None);
-    }
-    let uuid = Uuid::parse_str(text_at(object, "uuid")?).ok()?;
-    Some(Some(MachineUuid::from(uuid.into_bytes())))
+fn uuid_at(object: &Value, name: &str) -> Option<MachineUuid> {
+    let uuid = Uuid::parse_str(text_at(object, name)?).ok()?;
+    Some(MachineUuid::from(uuid.into_bytes()))
 }
 
 /// The machine that an object of a list is. What a list doesn't say of a machine is as in a new one.
@@ -35,41 +17,27 @@ pub(crate) fn machine_in(object: &Value) -> Option<Machine> {
     let state = state_at(object)?;
     Some(Machine {
         id: state.id,
-        arch: arch_at(object)?,
-        uuid: uuid_at(object)?,
+        arch: text_at(object, "arch")?.parse().ok()?,
+        uuid: or_null(object, "uuid", |object, name| uuid_at(object, name))?,
         pool: name_at(object, "pool")?,
         status: state.status,
-        owner: name_or_null(object, "owner")?,
-        image: name_or_null(object, "image")?,
+        owner: text_or_null(object, "owner")?,
+        image: text_or_null(object, "image")?,
         tests: false,
         back: None,
-        erase: erase_at(object)?,
+        erase: text_or_null(object, "erase")?,
         locked: object.get("locked")?.as_bool()?,
         version: state.version,
-        deadline: count_or_null(object, "deadline")?,
-        boot: number_or_null(object, "boot")?,
+        deadline: or_null(object, "deadline", |object, name| count_at(object, name))?,
+        boot: or_null(object, "boot", |object, name| number_at(object, name))?,
         boots: BootCount::NONE,
-        waiting: number_or_null(object, "order")?,
+        waiting: or_null(object, "order", |object, name| number_at(object, name))?,
     })
 }
 
 fn interface_in(value: &Value, machine: Number) -> Option<Interface> {
     let mac = value.as_str()?.parse().ok()?;
     Some(Interface { mac, machine })
-}
-
-fn push_interface(
-    interfaces: &mut Vec<Interface>,
-    value: &Value,
-    machine: Number,
-) -> Result<bool, AllocError> {
-    match interface_in(value, machine) {
-        Some(interface) => {
-            interfaces.push(interface)?;
-            Ok(true)
-        }
-        None => Ok(false),
-    }
 }
 
 /// Adds the interfaces of the machine that an object of a list is, and says whether all of them could be read.
@@ -82,8 +50,9 @@ pub(crate) fn push_interfaces(
         return Ok(false);
     };
     for value in values.as_slice() {
-        if !push_interface(interfaces, value, machine)? {
-            return Ok(false);
+        match interface_in(value, machine) {
+            Some(interface) => interfaces.push(interface)?,
+            None => return Ok(false),
         }
     }
     Ok(true)

@@ -18,7 +18,8 @@ fn plain(value: &Value) -> Result<&str, AnswerFault> {
     }
 }
 
-fn push_item(text: &mut String, item: &str) -> Result<(), AllocError> {
+/// Adds one more item, with a comma before it if it's a later one.
+pub(crate) fn push_item(text: &mut String, item: &str) -> Result<(), AllocError> {
     if !text.is_empty() {
         text.push(',')?;
     }
@@ -72,9 +73,7 @@ pub fn machine_lines(alloc: Global, object: &Value) -> Result<String, AnswerFaul
     if !is_listed(object) {
         return Err(AnswerFault::NotTheDesk);
     }
-    let Some(members) = object.as_object() else {
-        return Err(AnswerFault::NotTheDesk);
-    };
+    let members = object.as_object().ok_or(AnswerFault::NotTheDesk)?;
     let mut text = String::new(alloc);
     for (name, value) in members.iter() {
         push_line(alloc, &mut text, name.as_str(), value)?;
@@ -85,17 +84,12 @@ pub fn machine_lines(alloc: Global, object: &Value) -> Result<String, AnswerFaul
 const HEADING: [&str; 3] = ["NUMBER", "KIND", "MACHINE"];
 
 fn kind_at(order: &Value) -> Result<&str, AnswerFault> {
-    match order.get("kind") {
-        Some(kind) => plain(kind),
-        None => Err(AnswerFault::NotTheDesk),
-    }
+    plain(order.get("kind").ok_or(AnswerFault::NotTheDesk)?)
 }
 
 fn number_text(alloc: Global, order: &Value, name: &str) -> Result<String, AnswerFault> {
-    match number_at(order, name) {
-        Some(number) => Ok(number.get().to_string(alloc)?),
-        None => Err(AnswerFault::NotTheDesk),
-    }
+    let number = number_at(order, name).ok_or(AnswerFault::NotTheDesk)?;
+    Ok(number.get().to_string(alloc)?)
 }
 
 fn push_order(alloc: Global, table: &mut Table, order: &Value) -> Result<(), AnswerFault> {

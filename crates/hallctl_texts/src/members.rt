@@ -6,6 +6,7 @@ ghost use Rattle.hallctl_texts.specs.Members.{count_at, number_at, refusal_at, s
 use crate::answers::MachineState;
 use hall_types::{Name, Number, Refusal, Status, Version};
 use serde_json::Value;
+use std::str::FromStr;
 
 /// A number from 0 up.
 pub(crate) fn count_at(object: &Value, name: &str) -> Option<u64>
@@ -17,15 +18,13 @@ pub(crate) fn count_at(object: &Value, name: &str) -> Option<u64>
 pub(crate) fn number_at(object: &Value, name: &str) -> Option<Number>
     ensures { result ≡ number_at name.now (view object.now) }
 {
-    let number = count_at(object, name)?;
-    Number::new(number).ok()
+    Number::new(count_at(object, name)?).ok()
 }
 
 pub(crate) fn version_at(object: &Value, name: &str) -> Option<Version>
     ensures { result ≡ number_at name.now (view object.now) }
 {
-    let number = count_at(object, name)?;
-    Version::new(number).ok()
+    Version::new(count_at(object, name)?).ok()
 }
 
 pub(crate) fn text_at<'j>(object: &'j Value, name: &str) -> Option<&'j str>
@@ -53,13 +52,10 @@ pub(crate) fn refusal_at(object: &Value) -> Option<Refusal>
 pub(crate) fn state_at(object: &Value) -> Option<MachineState>
     ensures { result ≡ state_at (view object.now) }
 {
-    let id = number_at(object, "id")?;
-    let status = status_at(object)?;
-    let version = version_at(object, "version")?;
     Some(MachineState {
-        id,
-        status,
-        version,
+        id: number_at(object, "id")?,
+        status: status_at(object)?,
+        version: version_at(object, "version")?,
     })
 }
 
@@ -67,27 +63,28 @@ pub(crate) fn name_at(object: &Value, name: &str) -> Option<Name> {
     text_at(object, name)?.parse().ok()
 }
 
-/// What a member says that isn't null, or that it is null; `None` where it is missing or says nothing.
-pub(crate) fn name_or_null(object: &Value, name: &str) -> Option<Option<Name>> {
+/// What a reader finds in a member that isn't null, or that it is null; `None` where it is missing, or nothing is found.
+pub(crate) fn or_null<T: Drop, F: FnOnce(&Value, &str) -> Option<T>>(
+    object: &Value,
+    name: &str,
+    reader: F,
+) -> Option<Option<T>>
+    requires { F.IsAlwaysCallable reader }
+{
     if object.get(name)?.is_null() {
         return Some(None);
     }
-    let name = name_at(object, name)?;
-    Some(Some(name))
+    Some(Some(reader(object, name)?))
 }
 
-pub(crate) fn number_or_null(object: &Value, name: &str) -> Option<Option<Number>> {
-    if object.get(name)?.is_null() {
-        return Some(None);
-    }
-    let number = number_at(object, name)?;
-    Some(Some(number))
-}
-
-pub(crate) fn count_or_null(object: &Value, name: &str) -> Option<Option<u64>> {
-    if object.get(name)?.is_null() {
-        return Some(None);
-    }
-    let count = count_at(object, name)?;
-    Some(Some(count))
+/// What the text of a member that isn't null is parsed as.
+pub(crate) fn text_or_null<T: FromStr + Drop>(object: &Value, name: &str) -> Option<Option<T>>
+where
+    T::Err: Drop,
+{
+    or_null(
+        object,
+        name,
+        |object, name| text_at(object, name)?.parse::<T>().ok(),
+    )
 }

@@ -39,14 +39,12 @@ fn push_wide(text: &mut String, cell: &str, width: usize) -> Result<(), AllocErr
     for _ in cell.len()..width {
         text.push(' ')?;
     }
-    text.push_str(GAP)?;
-    Ok(())
+    text.push_str(GAP)
 }
 
 fn push_last(text: &mut String, cell: &str) -> Result<(), AllocError> {
     text.push_str(cell)?;
-    text.push('\n')?;
-    Ok(())
+    text.push('\n')
 }
 
 impl Table {

@@ -1,44 +1,12 @@
 -- Reading a script, a step at a time.
-use Rattle.std.{proofs.{Common.{◌≡◌, ℕ, ◌<◌, ◌≤◌, ◌+◌, List, [], ◌∷◌, ◌++◌, length, get_or, drop, map, Result, Ok, Err, Bor, refl, sym, ap, ◌∙◌, inl, inr, ◌⊎◌, true, arith, add-one, drop-cons, append_assoc, length-append}, lemmas.{Bool.{eq-eqb, ne_eqb}, List.{map_push, drop_all, append-nil, Splits.length-slice_split}}}, specs.Prelude.{if◌then◌else◌, count_by, ◌==◌}}
-use Rattle.ipxe_script.specs.{declared.{command.Command.{Command, TheVariants.Sanboot}, fault.ScriptFault.{ScriptFault, TheVariants.{BadWord, NoFinalNewline, Memory}}}, Text.{space, words_in}, Understood.{◌>>=◌, are_sanboot_words, sanboot_of, command_of, commands_of, ended_pieces}}
-
--- three words, read by their places
-pub sanboot_of-three : (words : List (Bor (List ℕ))) (d : Bor (List ℕ)) → 3 ≤ length words → length words < 4
-    → sanboot_of (map (λ word. word.now) words) ≡ (if are_sanboot_words (get_or words 0 d).now (get_or words 1 d).now (get_or words 2 d).now then Ok Sanboot else Err BadWord)
-unfolding sanboot_of
-sanboot_of-three [] d low high = absurd (omega arith)
-sanboot_of-three (a ∷ []) d low high = absurd (omega arith)
-sanboot_of-three (a ∷ b ∷ []) d low high = absurd (omega arith)
-sanboot_of-three (a ∷ b ∷ e ∷ []) d low high = refl
-sanboot_of-three (a ∷ b ∷ e ∷ f ∷ words) d low high = absurd (omega arith)
-
-pub sanboot_of-yes : (words : List (Bor (List ℕ))) (d : Bor (List ℕ)) → 3 ≤ length words → length words < 4
-    → true ≡ are_sanboot_words (get_or words 0 d).now (get_or words 1 d).now (get_or words 2 d).now → Ok Sanboot ≡ sanboot_of (map (λ word. word.now) words)
-sanboot_of-yes words d low high passed = sym (rw (sanboot_of-three words d low high, ← passed) refl)
-
--- another number of words
-pub sanboot_of-fewer : (words : List (Bor (List ℕ))) → length words < 3 → sanboot_of (map (λ word. word.now) words) ≡ Err BadWord
-unfolding sanboot_of
-sanboot_of-fewer [] h = refl
-sanboot_of-fewer (a ∷ []) h = refl
-sanboot_of-fewer (a ∷ b ∷ []) h = refl
-sanboot_of-fewer (a ∷ b ∷ e ∷ words) h = absurd (omega arith)
-
-pub sanboot_of-more : (words : List (Bor (List ℕ))) → 4 ≤ length words → sanboot_of (map (λ word. word.now) words) ≡ Err BadWord
-unfolding sanboot_of
-sanboot_of-more [] h = absurd (omega arith)
-sanboot_of-more (a ∷ []) h = absurd (omega arith)
-sanboot_of-more (a ∷ b ∷ []) h = absurd (omega arith)
-sanboot_of-more (a ∷ b ∷ e ∷ []) h = absurd (omega arith)
-sanboot_of-more (a ∷ b ∷ e ∷ f ∷ words) h = refl
+use Rattle.std.{proofs.{Common.{◌≡◌, ℕ, ◌<◌, ◌≤◌, ◌+◌, List, [], ◌∷◌, ◌++◌, length, get_or, drop, map, Result, Ok, Err, Bor, refl, sym, ap, ◌∙◌, inl, inr, ◌⊎◌, arith, add-one, drop-cons, append_assoc, length-append}, lemmas.{Bool.{eq-eqb, ne_eqb}, List.{map_push, drop_all, append-nil, Splits.length-slice_split}}}, specs.Prelude.{count_by, ◌==◌}}
+use Rattle.ipxe_script.specs.{declared.{command.Command.{Command}, fault.ScriptFault.{ScriptFault, TheVariants.{NoFinalNewline, Memory}}}, Text.{space, words_in}, Understood.{◌>>=◌, command_of, commands_of, ended_pieces}}
 
 -- a line has one word more than spaces
 pub length-words_in : (line : List ℕ) → length (words_in line) ≡ count_by (λ octet. octet == space) line + 1
 length-words_in line = length-slice_split (λ octet. octet == space) line
 
 pub ruleset space_steps = (length-words_in)
-
-pub ruleset sanboot_steps = (sanboot_of-three, sanboot_of-fewer, sanboot_of-more)
 
 -- ---- lines
 
@@ -123,3 +91,5 @@ commands_of-done front lines i total le so_far =
     let one : with_front front (commands_of (map (λ line. line.now) (drop i lines))) ≡ Ok front =
     ap (λ (x : List (Bor (List ℕ))). with_front front (commands_of (map (λ line. line.now) x))) nothing ∙ ap (λ (x : List Command). Ok x) (append-nil front) in
     sym so_far ∙ one
+
+pub ruleset command_steps = (commands_of-more, commands_of-done)

@@ -1,17 +1,14 @@
 -- What is spelled is understood.
 use Rattle.std.{proofs.{Common.{◌≡◌, ℕ, ◌≤◌, false, List, [], ◌∷◌, ◌++◌, length, map, Ok, refl, arith}, lemmas.{List.{length-map, Elements.recursion_from_All}, Bool.{le-ltb, or_from}}}, specs.{Prelude.codes, List.{AllByRecursion, list_any, flat_map}}}
-use Rattle.ipxe_script.{specs.{Script.{words_of, line_of, spelling, IsWhole, IsLine, IsScript}, Understood.{lone_command, kernel_of, initrd_of, sanboot_of, echo_of, command_of, commands_of, is_long_line, are_too_many, lines_of, body_of, understood}, declared.command.{TheConstants.{MAX_COMMANDS, MAX_WORDS}, Command.{Command, TheVariants.{Kernel, Initrd, Boot, Exit, Sanboot, Echo, Poweroff}}}, LineLaws.{text_of, words_in-text_of, slice_split-lines}}, proofs.{WordLemmas.list_all-from_IsWord, ReadingLemmas.ended_pieces-whole}}
+use Rattle.ipxe_script.{specs.{Script.{words_of, line_of, spelling, IsWhole, IsLine, IsScript}, Understood.{lone_command, kernel_of, initrd_of, sanboot_of, echo_of, command_of, commands_of, is_long_line, are_too_many, lines_of, body_of, understood}, declared.command.{TheConstants.{MAX_COMMANDS, MAX_WORDS}, Command.{Command, TheVariants.{Kernel, Initrd, Echo}}}, LineLaws.{text_of, words_in-text_of, slice_split-lines}}, proofs.{WordLemmas.list_all-from_IsWord, ReadingLemmas.ended_pieces-whole}}
 
 pub command_of-words_of : (command : Command) → IsWhole command → command_of (words_of command) ≡ Ok command
 unfolding command_of lone_command kernel_of initrd_of sanboot_of echo_of
 command_of-words_of (Kernel uri args) h = rw (h.0, list_all-from_IsWord args h.1) refl
 command_of-words_of (Initrd uri) h = rw h refl
-command_of-words_of Boot h = refl
-command_of-words_of Exit h = refl
-command_of-words_of Sanboot h = refl
 command_of-words_of (Echo []) h = absurd (omega (arith, h.1))
 command_of-words_of (Echo (word ∷ words)) h = rw (list_all-from_IsWord (word ∷ words) h.0) refl
-command_of-words_of Poweroff h = refl
+command_of-words_of other h = refl
 
 -- ---- the lines
 

@@ -49,13 +49,12 @@ kernel_of-ok (uri ∷ args) command e =
 
 initrd_of-ok : (words : List (List ℕ)) (command : Command) → initrd_of words ≡ Ok command → IsCommand (codes "initrd" ∷ words) command
 unfolding initrd_of
-initrd_of-ok [] command e = absurd cc
 initrd_of-ok (uri ∷ []) command e =
     let a = bind_ok (uri_of uri) (λ x. Ok (Initrd x)) command e in
     let p = passed (is_uri uri) BadWord uri a.0 a.1 in
     let made : Initrd uri ≡ command = ap (λ (x : List ℕ). Initrd x) p.1 ∙ same_ok (Initrd a.0) command a.2 in
     subst (λ (x : Command). IsCommand (codes "initrd" ∷ uri ∷ []) x) made (record { spelt = refl; whole = p.0 })
-initrd_of-ok (uri ∷ word ∷ words) command e = absurd cc
+initrd_of-ok other command e = absurd cc
 
 same_text : (xs ys : List ℕ) → bytes_eq xs ys ≡ true → xs ≡ ys
 same_text xs ys e = (bytes_eq-Decides xs ys).0 e
@@ -65,16 +64,13 @@ three_same a b c x y z p q r = cc
 
 sanboot_of-ok : (words : List (List ℕ)) (command : Command) → sanboot_of words ≡ Ok command → IsCommand (codes "sanboot" ∷ words) command
 unfolding sanboot_of
-sanboot_of-ok [] command e = absurd cc
-sanboot_of-ok (a ∷ []) command e = absurd cc
-sanboot_of-ok (a ∷ b ∷ []) command e = absurd cc
 sanboot_of-ok (a ∷ b ∷ c ∷ []) command e =
     let p = passed (are_sanboot_words a b c) BadWord Sanboot command e in
     let q = and_parts (bytes_eq a (codes "--no-describe") && bytes_eq b (codes "--drive")) (bytes_eq c (codes "0x80")) p.0 in
     let r = and_parts (bytes_eq a (codes "--no-describe")) (bytes_eq b (codes "--drive")) q.0 in
     let spelt = three_same a b c (codes "--no-describe") (codes "--drive") (codes "0x80") (same_text a _ r.0) (same_text b _ r.1) (same_text c _ q.1) in
     subst (λ (x : Command). IsCommand (codes "sanboot" ∷ a ∷ b ∷ c ∷ []) x) p.1 (record { spelt = spelt; whole = tt })
-sanboot_of-ok (a ∷ b ∷ c ∷ d ∷ words) command e = absurd cc
+sanboot_of-ok other command e = absurd cc
 
 echo_of-ok : (words : List (List ℕ)) (command : Command) → echo_of words ≡ Ok command → IsCommand (codes "echo" ∷ words) command
 unfolding echo_of
@@ -85,36 +81,28 @@ echo_of-ok (word ∷ words) command e =
     let made : Echo (word ∷ words) ≡ command = ap (λ (x : List (List ℕ)). Echo x) p.1 ∙ same_ok (Echo a.0) command a.2 in
     subst (λ (x : Command). IsCommand (codes "echo" ∷ word ∷ words) x) made (record { spelt = refl; whole = (IsWord-from_list_all (word ∷ words) p.0, omega arith) })
 
--- the name is that of the command
-named : (name other : List ℕ) (words : List (List ℕ)) (command : Command) → bytes_eq name other ≡ true → IsCommand (other ∷ words) command → IsCommand (name ∷ words) command
-named name other words command e h = subst (λ (x : List ℕ). IsCommand (x ∷ words) command) (sym (same_text name other e)) h
+-- the name is that of one command, or of another
+by_name : (name : List ℕ) (words : List (List ℕ)) (command : Command) (own : List ℕ) {here there : Result Command ScriptFault}
+    → cond (bytes_eq name own) here there ≡ Ok command → (here ≡ Ok command → IsCommand (own ∷ words) command) → (there ≡ Ok command → IsCommand (name ∷ words) command)
+    → IsCommand (name ∷ words) command
+by_name name words command own {here} {there} e one other =
+    elim (chosen (bytes_eq name own) here there (Ok command) e) [
+      | inl h ↦ subst (λ (x : List ℕ). IsCommand (x ∷ words) command) (sym (same_text name own h.0)) (one h.1)
+      | inr h ↦ other h.1
+    ]
 
 command_of-ok : (words : List (List ℕ)) (command : Command) → command_of words ≡ Ok command → IsCommand words command
 unfolding command_of
 command_of-ok [] command e = absurd cc
 command_of-ok (name ∷ words) command e =
-    elim (chosen (bytes_eq name (codes "kernel")) _ _ (Ok command) e) [
-      | inl h ↦ named name (codes "kernel") words command h.0 (kernel_of-ok words command h.1)
-      | inr h ↦ elim (chosen (bytes_eq name (codes "initrd")) _ _ (Ok command) h.1) [
-        | inl h ↦ named name (codes "initrd") words command h.0 (initrd_of-ok words command h.1)
-        | inr h ↦ elim (chosen (bytes_eq name (codes "boot")) _ _ (Ok command) h.1) [
-          | inl h ↦ named name (codes "boot") words command h.0 (lone_command-ok (codes "boot") words Boot command refl tt h.1)
-          | inr h ↦ elim (chosen (bytes_eq name (codes "exit")) _ _ (Ok command) h.1) [
-            | inl h ↦ named name (codes "exit") words command h.0 (lone_command-ok (codes "exit") words Exit command refl tt h.1)
-            | inr h ↦ elim (chosen (bytes_eq name (codes "sanboot")) _ _ (Ok command) h.1) [
-              | inl h ↦ named name (codes "sanboot") words command h.0 (sanboot_of-ok words command h.1)
-              | inr h ↦ elim (chosen (bytes_eq name (codes "echo")) _ _ (Ok command) h.1) [
-                | inl h ↦ named name (codes "echo") words command h.0 (echo_of-ok words command h.1)
-                | inr h ↦ elim (chosen (bytes_eq name (codes "poweroff")) _ _ (Ok command) h.1) [
-                  | inl h ↦ named name (codes "poweroff") words command h.0 (lone_command-ok (codes "poweroff") words Poweroff command refl tt h.1)
-                  | inr h ↦ absurd (let e : ◌≡◌ {A = Result Command ScriptFault} (Err UnknownCommand) (Ok command) = h.1 in cc)
-                ]
-              ]
-            ]
-          ]
-        ]
-      ]
-    ]
+    by_name name words command (codes "kernel") e (kernel_of-ok words command) (λ e.
+    by_name name words command (codes "initrd") e (initrd_of-ok words command) (λ e.
+    by_name name words command (codes "boot") e (lone_command-ok (codes "boot") words Boot command refl tt) (λ e.
+    by_name name words command (codes "exit") e (lone_command-ok (codes "exit") words Exit command refl tt) (λ e.
+    by_name name words command (codes "sanboot") e (sanboot_of-ok words command) (λ e.
+    by_name name words command (codes "echo") e (echo_of-ok words command) (λ e.
+    by_name name words command (codes "poweroff") e (lone_command-ok (codes "poweroff") words Poweroff command refl tt) (λ e.
+    absurd (let no : ◌≡◌ {A = Result Command ScriptFault} (Err UnknownCommand) (Ok command) = e in cc))))))))
 
 -- ---- lines
 

@@ -1,6 +1,6 @@
 -- Laws of lines, for the proofs of callers: the words of a printed line and the lines of a printed script are found again.
 use Rattle.std.{proofs.{Common.{◌≡◌, ℕ, ◌<◌, true, false, List, [], ◌∷◌, ◌++◌, length, map, All, refl, sym, ap, ◌∙◌, arith, append_assoc}, lemmas.{Bool.{both_ways, and_parts, ne_eqb, eq-eqb}, List.{Elements.{All-nil, All-cons, All-append, recursion_from_All}, Splits.{slice_split_none, slice_split_at}}}}, specs.{Prelude.{◌==◌, codes}, List.{AllByRecursion, list_all, flat_map, join_with_byte, slice_split}}}
-use Rattle.ipxe_script.specs.{Word.{is_first_octet, is_word_octet, is_word, IsWord}, WordLaws.{IsWord-from_IsUri, AreWordOctets-from_IsWord}, Text.{line_feed, space, lines_in, words_in}, Script.{words_of, line_of, spelling, IsWhole, IsLine}, declared.command.Command.{Command, TheVariants.{Kernel, Initrd, Boot, Exit, Sanboot, Echo, Poweroff}}}
+use Rattle.ipxe_script.specs.{Word.{is_first_octet, is_word_octet, is_word, IsWord}, WordLaws.{IsWord-from_IsUri, AreWordOctets-from_IsWord}, Text.{line_feed, space, lines_in, words_in}, Script.{words_of, line_of, spelling, IsWhole, IsLine}, declared.command.Command.{Command, TheVariants.{Kernel, Initrd, Sanboot, Echo}}}
 
 -- no octet of the text is c
 abbrev pub IsApart : ℕ → List ℕ → Type 0
@@ -36,11 +36,9 @@ pub words_are_words : (command : Command) → IsWhole command → AllByRecursion
 unfolding is_word is_word_octet is_first_octet
 words_are_words (Kernel uri args) h = (refl, (IsWord-from_IsUri uri h.0, recursion_from_All IsWord args h.1))
 words_are_words (Initrd uri) h = (refl, (IsWord-from_IsUri uri h, tt))
-words_are_words Boot h = (refl, tt)
-words_are_words Exit h = (refl, tt)
 words_are_words Sanboot h = (refl, (refl, (refl, (refl, tt))))
 words_are_words (Echo words) h = (refl, recursion_from_All IsWord words h.0)
-words_are_words Poweroff h = (refl, tt)
+words_are_words other h = (refl, tt)
 
 -- ---- joined and cut again
 
@@ -76,12 +74,7 @@ no_line_feed (first ∷ words) h some = let apart = each_apart line_feed line_fe
 
 words_nonempty : (command : Command) → 0 < length (words_of command)
 words_nonempty (Kernel uri args) = omega arith
-words_nonempty (Initrd uri) = omega arith
-words_nonempty Boot = omega arith
-words_nonempty Exit = omega arith
-words_nonempty Sanboot = omega arith
-words_nonempty (Echo words) = omega arith
-words_nonempty Poweroff = omega arith
+words_nonempty other = omega arith
 
 pub words_in-text_of : (command : Command) → IsWhole command → words_in (text_of command) ≡ words_of command
 words_in-text_of command h = joined (words_of command) (words_are_words command h) (words_nonempty command)

@@ -1,6 +1,6 @@
 -- Laws of kernel lines, for the proofs of callers: which words the kernel lines of a printed script have.
 use Rattle.std.{proofs.{Common.{◌≡◌, ℕ, zero, suc, ◌⊎◌, true, false, List, [], ◌∷◌, ◌++◌, map, refl, sym, ap, subst, ◌∙◌, inl, inr, arith}, lemmas.{Bool.{false≢true, and_right, or_parts, both_ways}, List.Elements.recursion_from_All}}, specs.{Prelude.{◌↔◌, Any, Contains, bytes_eq, codes}, List.{AllByRecursion, list_any}}}
-use Rattle.ipxe_script.specs.{Word.{is_uri, is_word}, Script.{spelling, IsWhole, IsLine, IsScript}, LineLaws.{text_of, words_in-text_of, lines_in-spelling}, Purpose.{IsKernelLine, HasKernelWord, IsArgument, is_kernel, IsKernelWith}, declared.command.Command.{Command, TheVariants.{Kernel, Initrd, Boot, Exit, Sanboot, Echo, Poweroff}}}
+use Rattle.ipxe_script.specs.{Word.{is_uri, is_word}, Script.{spelling, IsWhole, IsLine, IsScript}, LineLaws.{text_of, words_in-text_of, lines_in-spelling}, Purpose.{IsKernelLine, HasKernelWord, IsArgument, is_kernel, IsKernelWith}, declared.command.Command.{Command, TheVariants.{Kernel, Initrd, Boot, Echo}}}
 
 -- ---- some element of a list
 
@@ -36,12 +36,7 @@ no_kernel word (command ∷ commands) none h =
   where
     other : (command : Command) → is_kernel command ≡ false → IsKernelWith word command → ⊥
     other (Kernel uri args) none h = false≢true (sym none)
-    other (Initrd uri) none h = h
-    other Boot none h = h
-    other Exit none h = h
-    other Sanboot none h = h
-    other (Echo words) none h = h
-    other Poweroff none h = h
+    other rest none h = h
 
 -- ---- kernel lines
 
@@ -58,23 +53,13 @@ argument word uri args is ok h =
 -- a line of another command begins otherwise
 kernel_line : (word : List ℕ) (command : Command) → IsArgument word → IsWhole command → IsKernelLine word (text_of command) → IsKernelWith word command
 kernel_line word (Kernel uri args) is whole h = argument word uri args is whole.0 (subst (λ (x : List (List ℕ)). Contains x word) (words_in-text_of (Kernel uri args) whole) h.1)
-kernel_line word (Initrd uri) is whole h = absurd (false≢true h.0)
-kernel_line word Boot is whole h = absurd (false≢true h.0)
-kernel_line word Exit is whole h = absurd (false≢true h.0)
-kernel_line word Sanboot is whole h = absurd (false≢true h.0)
-kernel_line word (Echo []) is whole h = absurd (false≢true h.0)
 kernel_line word (Echo (first ∷ words)) is whole h = absurd (false≢true h.0)
-kernel_line word Poweroff is whole h = absurd (false≢true h.0)
+kernel_line word other is whole h = absurd (false≢true h.0)
 
 line_of-kernel : (word : List ℕ) (command : Command) → IsWhole command → IsKernelWith word command → IsKernelLine word (text_of command)
 line_of-kernel word (Kernel uri args) whole h =
     (refl, subst (λ (x : List (List ℕ)). Contains x word) (sym (words_in-text_of (Kernel uri args) whole)) (Contains-there (codes "kernel") (uri ∷ args) word (Contains-there uri args word h)))
-line_of-kernel word (Initrd uri) whole h = absurd h
-line_of-kernel word Boot whole h = absurd h
-line_of-kernel word Exit whole h = absurd h
-line_of-kernel word Sanboot whole h = absurd h
-line_of-kernel word (Echo words) whole h = absurd h
-line_of-kernel word Poweroff whole h = absurd h
+line_of-kernel word other whole h = absurd h
 
 -- nothing follows the last line feed
 kernel_lines : (word : List ℕ) (commands : List Command) → IsArgument word → AllByRecursion IsLine commands → Any (IsKernelLine word) (map text_of commands ++ [] ∷ []) → Any (IsKernelWith word) commands

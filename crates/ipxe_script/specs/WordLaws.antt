@@ -1,5 +1,5 @@
 -- Laws of words, for the proofs of callers: which texts are words.
-use Rattle.std.{specs.{Prelude.{◌≡◌, ℕ, ◌+◌, ◌^◌, ◌<◌, ◌≤◌, ◌==◌, ◌&&◌, ◌||◌, not, Bool, true, false, List, [], ◌∷◌, ◌++◌, length, nat_lt, nat_le, decimal}, List.list_all, Int.{IsInRange, is_in_range}, Char.{is_ascii_hexdigit, is_ascii_alphanumeric}, Str.Parse.AllDigits}, proofs.{Common.{refl, ◌∙◌, inl, inr, arith, length-append}, lemmas.{Bool.{false≢true, and_parts, and_from, and_right, or_left, or_from, lt-ltb, lt-leb, le-leb, ne_eqb, cases_lt, agree_below_at}, List.Folds.list_all-append, Fmt.{decimal_is_IsNumeral, length-decimal-le}, Str.Parse.digit_from_value}}}
+use Rattle.std.{specs.{Prelude.{◌≡◌, ℕ, ◌+◌, ◌^◌, ◌<◌, ◌≤◌, ◌==◌, ◌&&◌, ◌||◌, Bool, true, List, [], ◌∷◌, ◌++◌, length, nat_lt, nat_le, decimal}, List.list_all, Int.{IsInRange, is_in_range}, Char.{is_ascii_alphanumeric}, Str.Parse.AllDigits}, proofs.{Common.{refl, sym, subst, ◌∙◌, inl, inr, arith, length-append}, lemmas.{Bool.{false≢true, and_parts, and_from, or_left, or_cases, eqb-true, lt-ltb, le-leb}, List.Folds.list_all-append, Fmt.{decimal_is_IsNumeral, length-decimal-le}, Str.Parse.digit_from_value}}}
 use Rattle.ipxe_script.specs.{Word.{is_first_octet, is_word_octet, is_word, is_uri, IsWord, IsUri, AreWordOctets}, declared.word.TheConstants.MAX_WORD_LEN}
 
 -- a URI is a word
@@ -9,61 +9,31 @@ IsWord-from_IsUri text h = (and_parts (is_word text) _ h).0
 
 -- ---- octets that are characters of words
 
-kept : (a b : Bool) → (a && not b) ≡ false → a ≡ true → b ≡ true
-kept a true h is = refl
-kept true false h is = absurd cc
-kept false false h is = absurd cc
-
--- a test that no octet passes from 123 on, and that only characters of words pass below
-by_test : (test : ℕ → Bool) → ((octet : ℕ) → 123 ≤ octet → test octet ≡ false) → ((octet : ℕ) → octet < 123 → (test octet && not (is_word_octet octet)) ≡ false) → (octet : ℕ) → test octet ≡ true → is_word_octet octet ≡ true
-by_test test high low octet is =
-    elim (cases_lt octet 123) [
-      | inl under ↦ kept (test octet) (is_word_octet octet) (low octet under) is
-      | inr over ↦ absurd (let no = high octet over in cc)
-    ]
-
-above : (low high octet : ℕ) → high < octet → is_in_range low high octet ≡ false
-above low high octet over = and_right (nat_le low octet) (nat_le octet high) (lt-leb octet high over)
-
-above_letters : (octet : ℕ) → 123 ≤ octet → is_ascii_alphanumeric octet ≡ false
-above_letters octet over =
-    or_from (is_in_range 48 57 octet || is_in_range 65 90 octet) (is_in_range 97 122 octet)
-    (or_from (is_in_range 48 57 octet) (is_in_range 65 90 octet) (above 48 57 octet (omega arith)) (above 65 90 octet (omega arith)))
-    (above 97 122 octet (omega arith))
-
-above_hexdigits : (octet : ℕ) → 123 ≤ octet → is_ascii_hexdigit octet ≡ false
-above_hexdigits octet over =
-    or_from (is_in_range 48 57 octet || is_in_range 65 70 octet) (is_in_range 97 102 octet)
-    (or_from (is_in_range 48 57 octet) (is_in_range 65 70 octet) (above 48 57 octet (omega arith)) (above 65 70 octet (omega arith)))
-    (above 97 102 octet (omega arith))
-
-hexdigit : (octet : ℕ) → is_ascii_hexdigit octet ≡ true → is_word_octet octet ≡ true
+letter_or_digit : (octet : ℕ) → is_ascii_alphanumeric octet ≡ true → is_word_octet octet ≡ true
 unfolding is_word_octet is_first_octet
-hexdigit = by_test is_ascii_hexdigit above_hexdigits (λ octet under. agree_below_at (λ (o : ℕ). is_ascii_hexdigit o && not (is_word_octet o)) (λ (o : ℕ). false) 123 octet refl under)
+letter_or_digit octet h = or_left (is_first_octet octet) _ (or_left (is_ascii_alphanumeric octet) _ h)
 
 digit : (octet : ℕ) → IsInRange 48 57 octet → is_word_octet octet ≡ true
 digit octet h =
-    hexdigit octet (or_left (is_in_range 48 57 octet || is_in_range 65 70 octet) (is_in_range 97 102 octet)
-    (or_left (is_in_range 48 57 octet) (is_in_range 65 70 octet) (and_from (nat_le 48 octet) (nat_le octet 57) (le-leb 48 octet h.0) (le-leb octet 57 h.1))))
-
-is_host_octet : ℕ → Bool
-is_host_octet octet = is_ascii_alphanumeric octet || (octet == 45) || (octet == 46) || (octet == 58)
-
-not_equal : (octet other : ℕ) → other < octet → (octet == other) ≡ false
-not_equal octet other over = ne_eqb octet other (λ e. omega (arith, e))
-
-above_host : (octet : ℕ) → 123 ≤ octet → is_host_octet octet ≡ false
-unfolding is_host_octet
-above_host octet over =
-    or_from (is_ascii_alphanumeric octet || (octet == 45) || (octet == 46)) (octet == 58)
-    (or_from (is_ascii_alphanumeric octet || (octet == 45)) (octet == 46)
-    (or_from (is_ascii_alphanumeric octet) (octet == 45) (above_letters octet over) (not_equal octet 45 (omega arith)))
-    (not_equal octet 46 (omega arith)))
-    (not_equal octet 58 (omega arith))
+    letter_or_digit octet (or_left (is_in_range 48 57 octet || is_in_range 65 90 octet) (is_in_range 97 122 octet)
+    (or_left (is_in_range 48 57 octet) (is_in_range 65 90 octet) (and_from (nat_le 48 octet) (nat_le octet 57) (le-leb 48 octet h.0) (le-leb octet 57 h.1))))
 
 host_octet : (octet : ℕ) → (is_ascii_alphanumeric octet || (octet == 45) || (octet == 46) || (octet == 58)) ≡ true → is_word_octet octet ≡ true
-unfolding is_word_octet is_first_octet is_host_octet
-host_octet = by_test is_host_octet above_host (λ octet under. agree_below_at (λ (o : ℕ). is_host_octet o && not (is_word_octet o)) (λ (o : ℕ). false) 123 octet refl under)
+unfolding is_word_octet is_first_octet
+host_octet octet h =
+    elim (or_cases (is_ascii_alphanumeric octet || (octet == 45) || (octet == 46)) (octet == 58) h) [
+      | inl h ↦ elim (or_cases (is_ascii_alphanumeric octet || (octet == 45)) (octet == 46) h) [
+        | inl h ↦ elim (or_cases (is_ascii_alphanumeric octet) (octet == 45) h) [
+          | inl h ↦ letter_or_digit octet h
+          | inr is ↦ same 45 refl is
+        ]
+        | inr is ↦ same 46 refl is
+      ]
+      | inr is ↦ same 58 refl is
+    ]
+  where
+    same : (other : ℕ) → is_word_octet other ≡ true → (octet == other) ≡ true → is_word_octet octet ≡ true
+    same other passes is = subst (λ (n : ℕ). is_word_octet n ≡ true) (sym (eqb-true octet other is)) passes
 
 -- ---- characters of words
 
@@ -86,15 +56,6 @@ AreWordOctets-from_test test each [] h = refl
 AreWordOctets-from_test test each (octet ∷ text) h =
     let parts = and_parts (test octet) (list_all test text) h in
     and_from (is_word_octet octet) (list_all is_word_octet text) (each octet parts.0) (AreWordOctets-from_test test each text parts.1)
-
--- letters and digits
-pub AreWordOctets-alphanumeric : (text : List ℕ) → list_all is_ascii_alphanumeric text ≡ true → AreWordOctets text
-unfolding is_first_octet is_word_octet
-AreWordOctets-alphanumeric = AreWordOctets-from_test is_ascii_alphanumeric (λ octet h. or_left (is_first_octet octet) _ (or_left (is_ascii_alphanumeric octet) _ h))
-
--- hexadecimal digits
-pub AreWordOctets-hexdigit : (text : List ℕ) → list_all is_ascii_hexdigit text ≡ true → AreWordOctets text
-AreWordOctets-hexdigit = AreWordOctets-from_test is_ascii_hexdigit hexdigit
 
 -- letters, digits, `-`, `.` and `:`, as in a host with a port
 pub AreWordOctets-host : (text : List ℕ) → list_all (λ octet. is_ascii_alphanumeric octet || (octet == 45) || (octet == 46) || (octet == 58)) text ≡ true → AreWordOctets text

@@ -66,13 +66,17 @@ fn are_sanboot_words(first: &str, second: &str, third: &str) -> bool
     first == "--no-describe" && second == "--drive" && third == "0x80"
 }
 
-#[tactic(auto, using(crate::proofs::ReadingLemmas::sanboot_steps))]
+#[tactic(auto, unfolding(crate::specs::Understood::sanboot_of))]
 fn sanboot_of(words: &[&str]) -> Result<Command, ScriptFault>
     ensures { result ≡ sanboot_of (map (λ word. word.now) words.now) }
 {
-    match words {
-        [first, second, third] if are_sanboot_words(first, second, third) => Ok(Command::Sanboot),
-        _ => Err(ScriptFault::BadWord),
+    let [first, second, third] = words else {
+        return Err(ScriptFault::BadWord);
+    };
+    if are_sanboot_words(first, second, third) {
+        Ok(Command::Sanboot)
+    } else {
+        Err(ScriptFault::BadWord)
     }
 }
 
@@ -122,6 +126,7 @@ fn command_in(alloc: Global, line: &str) -> Result<Command, ScriptFault>
     command_of(alloc, words.as_slice())
 }
 
+#[tactic(auto, using(crate::proofs::ReadingLemmas::command_steps))]
 fn commands_of(alloc: Global, lines: &[&str]) -> Result<Vec<Command>, ScriptFault>
     ensures { Gives (λ commands. commands.items) result
         (commands_of (map (λ line. line.now) lines.now)) }

@@ -32,24 +32,14 @@ impl Model for Script {
 fn are_whole(commands: &[Command]) -> bool
     ensures { MatchBool result (All IsWhole commands.now) (Any IsBareEcho commands.now) }
 {
-    for command in commands {
-        if !command.is_whole() {
-            return false;
-        }
-    }
-    true
+    commands.iter().all(|command| command.is_whole())
 }
 
 fn has_long_line(commands: &[Command]) -> bool
     ensures { MatchBool result (Any HasTooManyWords commands.now)
         (All (λ c. length (words_of c) ≤ MAX_WORDS) commands.now) }
 {
-    for command in commands {
-        if command.has_too_many_words() {
-            return true;
-        }
-    }
-    false
+    commands.iter().any(|command| command.has_too_many_words())
 }
 
 impl Script {

@@ -1,17 +1,7 @@
--- What the proofs of the laws cite: the laws whose names have a dash, and the one on single lines of the table.
+-- One line of the table leads from a status at a signal, at most.
 use Rattle.std.{proofs.{Common.{◌≡◌, ◌≤◌, ◌&&◌, Bool, true, false, length, refl}, lemmas.Bool.{and_parts, leb-true}}, specs.{Prelude.nat_le, List.{list_all, filter}}}
 use Rattle.hall_types.specs.{Status.{status_number, statuses}, declared.status.Status.Status}
-use Rattle.life_cycle.specs.{declared.signal.Signal.Signal, Table.{transitions, leads}, TableLaws.{signals, each_status, each_signal}, StepLaws.{is_some-limit_of, is_some-expired, is_some-fourth_boot}, EnteringLaws.is_some-deadline}
-
-pub ruleset limits = (is_some-limit_of)
-
-pub ruleset deadlines = (is_some-deadline)
-
-pub ruleset expires = (is_some-expired)
-
-pub ruleset fourth_boots = (is_some-fourth_boot)
-
--- ---- one line of the table at most
+use Rattle.life_cycle.specs.{declared.signal.Signal.Signal, Table.{transitions, leads}, TableLaws.{signals, each_status, each_signal}}
 
 abbrev is_one : Status → Signal → Bool
 is_one status signal =

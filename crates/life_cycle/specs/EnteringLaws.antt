@@ -121,8 +121,8 @@ is_some-option_map f None = refl
 is_some-option_map f (Some x) = refl
 
 -- a machine has a deadline exactly if its new status has a limit
-pub is_some-deadline : (m : Machine) (step : Step) (moment : ℕ) (numbers : Numbers) (e : Entered) → entered m step moment numbers ≡ Some e → is_some e.machine.deadline ≡ is_some (limit_of e.machine.status)
-is_some-deadline m step moment numbers e is =
+pub limits_enter : (m : Machine) (step : Step) (moment : ℕ) (numbers : Numbers) (e : Entered) → entered m step moment numbers ≡ Some e → is_some e.machine.deadline ≡ is_some (limit_of e.machine.status)
+limits_enter m step moment numbers e is =
     ap (λ o. is_some o) (entered-deadline m step moment numbers e is)
     ∙ is_some-option_map (λ limit. moment + limit) (limit_of step.status)
     ∙ ap (λ s. is_some (limit_of s)) (sym (entered-status m step moment numbers e is))

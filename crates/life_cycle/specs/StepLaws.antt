@@ -166,8 +166,8 @@ unfolding status_number limit_of
 all_limits_fit = refl
 
 -- seven statuses have a limit
-pub is_some-limit_of : (status : Status) → is_some (limit_of status) ≡ is_among limited status
-is_some-limit_of status =
+pub limits_of : (status : Status) → is_some (limit_of status) ≡ is_among limited status
+limits_of status =
     same_test (is_some (limit_of status)) (is_among limited status) (each_status limit_fits all_limits_fit status)
 
 abbrev expiry_fits : Machine → Status → Bool
@@ -178,8 +178,8 @@ unfolding step_of status_number limit_of
 all_expire m = refl
 
 -- a status is left when its deadline has come exactly if it has a limit
-pub is_some-expired : (m : Machine) → is_some (step_of m Expired) ≡ is_some (limit_of m.status)
-is_some-expired m =
+pub limits_expire : (m : Machine) → is_some (step_of m Expired) ≡ is_some (limit_of m.status)
+limits_expire m =
     same_test (is_some (step_of m Expired)) (is_some (limit_of m.status)) (each_status (expiry_fits m) (all_expire m) m.status)
 
 abbrev fourth_boot_fits : Machine → Status → Bool
@@ -190,8 +190,8 @@ unfolding step_of status_number
 all_fourth_boots m = refl
 
 -- a fourth boot leads to another status exactly in the statuses in which a machine boots for work that ends
-pub is_some-fourth_boot : (m : Machine) → is_some (step_of m FourthBoot) ≡ is_among working m.status
-is_some-fourth_boot m =
+pub fourth_boots : (m : Machine) → is_some (step_of m FourthBoot) ≡ is_among working m.status
+fourth_boots m =
     same_test (is_some (step_of m FourthBoot)) (is_among working m.status) (each_status (fourth_boot_fits m) (all_fourth_boots m) m.status)
 
 -- ---- orders

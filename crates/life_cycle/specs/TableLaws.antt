@@ -46,9 +46,6 @@ same_signal a b e =
 pub is_status-same : (a b : Status) → a ≡ b → is_status a b ≡ true
 is_status-same a b e = eq-eqb (status_number a) (status_number b) (ap status_number e)
 
-pub is_signal-same : (a b : Signal) → a ≡ b → is_signal a b ≡ true
-is_signal-same a b e = eq-eqb (signal_number a) (signal_number b) (ap signal_number e)
-
 -- ---- tests of all statuses and signals
 
 all_at : {X : Type 0} (p : X → Bool) (d : X) (xs : List X) (n : ℕ) → p d ≡ true → list_all p xs ≡ true → p (get_or xs n d) ≡ true

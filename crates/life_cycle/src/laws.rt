@@ -70,7 +70,7 @@ pub fn ways_to_failed_disk_erasing()
 
 /// Seven statuses have a limit. A machine has a deadline exactly in these, and exactly these are left when
 /// the deadline comes.
-#[tactic(auto, using(crate::proofs::LawLemmas::limits, crate::proofs::LawLemmas::deadlines, crate::proofs::LawLemmas::expires))]
+#[tactic(auto, using(crate::specs::StepLaws::limits_of, crate::specs::EnteringLaws::limits_enter, crate::specs::StepLaws::limits_expire))]
 pub fn limits_expire()
     ensures limited { (status : Status) → is_some (limit_of status) ≡ is_among limited status }
     ensures deadline { (m : Machine) (step : Step) (moment : ℕ) (numbers : Numbers) (e : Entered)
@@ -80,7 +80,7 @@ pub fn limits_expire()
 
 /// A fourth boot leads to another status exactly from Commissioning, Testing, Deploying, Disk erasing and
 /// Entering rescue.
-#[tactic(auto, using(crate::proofs::LawLemmas::fourth_boots))]
+#[tactic(auto, using(crate::specs::StepLaws::fourth_boots))]
 pub fn fourth_boots()
     ensures { (m : Machine) → is_some (step_of m FourthBoot) ≡ is_among working m.status }
 {}

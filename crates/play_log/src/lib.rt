@@ -28,7 +28,7 @@ mod responses;
 mod values;
 
 pub use arrivals::{admin, arrival, is_arrival};
-pub use responses::push_answer;
+pub use responses::{push_answer, push_response};
 pub use values::{
     arch, digest, first, halves, issued, key, last, mac, moment, name, number, numbers, place,
     port, status, token, uuid, version,

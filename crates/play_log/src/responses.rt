@@ -43,7 +43,8 @@ fn push_known(out: &mut Out, given: &str, body: &str) -> Result<bool, AllocError
     Ok(false)
 }
 
-fn push_response(out: &mut Out, octets: &[u8]) -> Result<(), AllocError> {
+/// Prints a response by HTTP.
+pub fn push_response(out: &mut Out, octets: &[u8]) -> Result<(), AllocError> {
     if let Ok(text) = std::str::from_utf8(octets)
         && let Some((head, body)) = text.split_once("\r\n\r\n")
         && push_known(out, head, body)?
@@ -58,10 +59,12 @@ fn push_response(out: &mut Out, octets: &[u8]) -> Result<(), AllocError> {
 /// Prints the answer to what came.
 pub fn push_answer(out: &mut Out, input: &Input, answer: &Answer) -> Result<(), CaseFault> {
     match (answer, input) {
-        (Answer::Octets(octets), Input::Datagram { octets: frame, .. }) => {
+        (Answer::Frame(octets), Input::Datagram { octets: frame, .. }) => {
             push_offer(out, frame.as_slice(), octets.as_slice())?;
         }
-        (Answer::Octets(octets), _) => push_response(out, octets.as_slice())?,
+        (Answer::Frame(octets) | Answer::Response { octets, .. }, _) => {
+            push_response(out, octets.as_slice())?;
+        }
         (Answer::Unavailable, _) => out.push("unavailable"),
         (Answer::Silence, _) => out.push("silence"),
     }

@@ -5,7 +5,7 @@ use cases::{CaseFault, Out, Played, text_of};
 use hall_desk::{Answer, Input};
 use hall_store::HallStore;
 use hall_types::Port;
-use play_log::{first, moment, number, push_answer};
+use play_log::{first, moment, number, push_answer, push_response};
 use pxe_vendor::Octets;
 use std::io::ErrorKind;
 
@@ -30,7 +30,7 @@ fn push_state(out: &mut Out, state: &str, octets: Vec<u8>) -> Played {
         out.show(format_args!(" {count} octets, sum {sum:016x}"));
     } else if count > 0 {
         out.push(" ");
-        push_answer(out, &Input::Quiet, &Answer::Octets(Octets::from(octets)))?;
+        push_response(out, octets.as_slice())?;
     }
     Ok(())
 }
@@ -129,7 +129,7 @@ impl<'a, S: HallStore + Drop> Stage<'a, S> {
         let answer = match self.asker.recv_from(&mut buffer) {
             Ok((count, _)) => {
                 let octets = Vec::from_slice(self.rt.alloc(), &buffer[..count])?;
-                Answer::Octets(Octets::from(octets))
+                Answer::Frame(Octets::from(octets))
             }
             Err(error) if error.kind() == ErrorKind::WouldBlock => Answer::Silence,
             Err(_) => return Err(CaseFault::Io),

@@ -4,12 +4,11 @@ use crate::hall::Hall;
 use crate::reports::push_end;
 use cases::{CaseFault, Out, Played, Short, Slow};
 use desk_operations::request;
-use hall_desk::{Answer, Arrival, Input};
+use hall_desk::{Arrival, Input};
 use hall_http::Noted;
 use hall_report::Fault;
 use hall_store::HallStore;
-use play_log::{arrival, first, number, push_answer};
-use pxe_vendor::Octets;
+use play_log::{arrival, first, number, push_response};
 
 // An answer has fewer octets.
 const MAX_PLACES: usize = 10_000;
@@ -19,8 +18,8 @@ type Reads = (usize, Option<u64>);
 
 const ALL: Reads = (usize::MAX, None);
 
-/// How a request was served, and what was written for it.
-type Ended = Result<(Result<(), Fault>, Answer), CaseFault>;
+/// How a request was served, and the octets that were written for it.
+type Ended = Result<(Result<(), Fault>, Vec<u8>), CaseFault>;
 
 // The arrival of a request.
 fn request_of(words: &str, out: &Out) -> Result<Arrival, CaseFault> {
@@ -41,15 +40,15 @@ impl<S: HallStore + Drop> Hall<S> {
         let (alloc, moment, fresh) = (out.alloc(), arrival.moment, arrival.fresh);
         let end = request(alloc, &mut desk, &mut reader, &mut writer, moment, fresh);
         self.put_back(desk.into_store());
-        Ok((end, Answer::Octets(Octets::from(writer.into_inner().taken))))
+        Ok((end, writer.into_inner().taken))
     }
 
     // Serves a request, and prints its response, or the fault's name.
     fn serve_with(&mut self, words: &str, reads: Reads, room: usize, out: &mut Out) -> Played {
         let arrival = request_of(words, out)?;
-        let (end, answer) = self.served(&arrival, reads, room, out)?;
+        let (end, octets) = self.served(&arrival, reads, room, out)?;
         if end.is_ok() {
-            push_answer(out, &arrival.input, &answer)?;
+            push_response(out, octets.as_slice())?;
         }
         push_end(out, end)
     }
@@ -84,8 +83,8 @@ impl<S: HallStore + Drop> Hall<S> {
         let arrival = request_of(words, out)?;
         let mut failed = 0u64;
         for read in 1..=octets_of(&arrival.input).len() as u64 {
-            let (end, answer) = self.served(&arrival, (1, Some(read)), usize::MAX, out)?;
-            if end == Err(Fault::Io) && answer.octets().is_empty() {
+            let (end, octets) = self.served(&arrival, (1, Some(read)), usize::MAX, out)?;
+            if end == Err(Fault::Io) && octets.is_empty() {
                 failed = failed.saturating_add(1);
             } else {
                 out.show(format_args!("not at {read}, "));
@@ -99,18 +98,18 @@ impl<S: HallStore + Drop> Hall<S> {
     /// the answer; and where a writer that failed had taken other octets than those of the answer.
     pub(crate) fn fail_writes(&mut self, words: &str, out: &mut Out) -> Played {
         let arrival = request_of(words, out)?;
-        let mut front = Answer::Silence;
+        let mut front = Vec::new(out.alloc());
         for room in 0..MAX_PLACES {
-            let (end, answer) = self.served(&arrival, ALL, room, out)?;
-            if !answer.octets().starts_with(front.octets()) {
+            let (end, octets) = self.served(&arrival, ALL, room, out)?;
+            if !octets.starts_with(front.as_slice()) {
                 out.show(format_args!("other octets before {room}, "));
             }
-            if end == Err(Fault::Io) && answer.octets().len() == room {
-                front = answer;
+            if end == Err(Fault::Io) && octets.len() == room {
+                front = octets;
                 continue;
             }
             out.show(format_args!("{room} failed, then "));
-            push_answer(out, &arrival.input, &answer)?;
+            push_response(out, octets.as_slice())?;
             return push_end(out, end);
         }
         Err(CaseFault::Form)

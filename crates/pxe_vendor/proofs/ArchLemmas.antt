@@ -26,10 +26,8 @@ first_known-short (high ∷ low ∷ octets) h = absurd (omega arith)
 
 -- the first pair of octets, and the other ones
 pair_split : (octets pair rest : List ℕ) → octets ≡ pair ++ rest → length pair ≡ 2 → octets ≡ slice_index pair 0 ∷ slice_index pair 1 ∷ rest
-pair_split octets [] rest is two = absurd (omega arith)
-pair_split octets (high ∷ []) rest is two = absurd (omega arith)
 pair_split octets (high ∷ low ∷ []) rest is two = is
-pair_split octets (high ∷ low ∷ more ∷ others) rest is two = absurd (omega arith)
+pair_split octets other rest is two = absurd (omega arith)
 
 first_known-pair : (octets pair rest : List ℕ) → octets ≡ pair ++ rest → length pair ≡ 2 → first_known (numbers_of octets) ≡ option_or (arch_of_dhcp_number (256 * slice_index pair 0 + slice_index pair 1)) (first_known (numbers_of rest))
 unfolding first_known

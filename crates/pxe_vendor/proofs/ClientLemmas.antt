@@ -1,20 +1,7 @@
 -- The program `client_of` identifies the client that sent a message.
-use Rattle.std.{proofs.{Common.{◌≡◌, ℕ, Bool, true, false, List, [], ◌∷◌, ◌++◌, length, take, drop, Option, Some, None, Result, Ok, Err, refl, sym, ap, subst, ◌∙◌, inl, inr, arith}, lemmas.{Bool.{cases_eq, eq-eqb, ne_eqb, Decides.nat_tests}, List.take-append-drop}}, specs.{Prelude.{IfOk, ◌⊎◌, nat_eq, codes, ok_or, unwrap_or, if◌then◌else◌}, Option.option_map, Cmp.Lexicographic.pointwise}}
+use Rattle.std.{proofs.{Common.{◌≡◌, ℕ, Bool, true, false, List, [], ◌∷◌, ◌++◌, take, drop, Option, Some, None, Result, Ok, Err, refl, sym, ap, subst, ◌∙◌, inl, inr, arith}, lemmas.{Bool.Decides.{Decides-eqb, nat_tests}, Slice.Eq.starts_is}}, specs.{Prelude.{IfOk, ◌⊎◌, nat_eq, codes, ok_or, unwrap_or, if◌then◌else◌}, List.starts_with, Option.option_map}}
 use Rattle.dhcp_frame.specs.{Area.{Entry, reading, value_of}, Message.Message, AreaLaws.{reading-from_Reads, Reads-from_reading}}
 use Rattle.pxe_vendor.{specs.{Arch.{numbers_of, class_numbers, first_known}, Client.{IsClient, HasItem, message_type, uuid_of, is_ipxe, boot_item}, Served.{◌>>=◌, kind_of, class_of, item_of, decided, client_of, Answers}, Values.values_of, declared.{values.Values.Values, arch.Arch.Arch, clients.{Kind.{Kind, TheVariants.{Discover, Request}}, Client.Client}, serve.NotServed.{NotServed, TheVariants.{NotPxe, NoArch, BadVendor, Memory}}}}, proofs.ArchLemmas.{FirstKnown-from_first_known, first_known-from_FirstKnown}}
-
--- ---- the boot item, one tag at a time
-
-pub boot_item-here : (tag : ℕ) (value : List ℕ) (tags : List Entry) → tag ≡ 71 → length value ≡ 4 → boot_item ((tag, value) ∷ tags) ≡ Some value
-boot_item-here tag value tags a b = rw (eq-eqb tag 71 a, eq-eqb (length value) 4 b) refl
-
-pub boot_item-other_tag : (tag : ℕ) (value : List ℕ) (tags : List Entry) → (tag ≡ 71 → ⊥) → boot_item ((tag, value) ∷ tags) ≡ boot_item tags
-boot_item-other_tag tag value tags a = rw (ne_eqb tag 71 a) refl
-
-pub boot_item-other_length : (tag : ℕ) (value : List ℕ) (tags : List Entry) → tag ≡ 71 → (length value ≡ 4 → ⊥) → boot_item ((tag, value) ∷ tags) ≡ boot_item tags
-boot_item-other_length tag value tags a b = rw (eq-eqb tag 71 a, ne_eqb (length value) 4 b) refl
-
-pub ruleset item_steps = (boot_item-here, boot_item-other_tag, boot_item-other_length)
 
 -- ---- one step and the rest
 
@@ -40,23 +27,8 @@ kind_number n Request e = grind (arith, nat_tests)
 
 message_type-from_kind_of : (value : Option (List ℕ)) (kind : Kind) → kind_of value ≡ Ok kind → value ≡ Some (message_type kind ∷ [])
 unfolding kind_of
-message_type-from_kind_of None kind e = absurd cc
-message_type-from_kind_of (Some []) kind e = absurd cc
 message_type-from_kind_of (Some (n ∷ [])) kind e = ap (λ (x : ℕ). Some (x ∷ [])) (kind_number n kind e)
-message_type-from_kind_of (Some (n ∷ m ∷ ns)) kind e = absurd cc
-
-pointwise-same : (xs ys : List ℕ) → pointwise nat_eq xs ys ≡ true → xs ≡ ys
-pointwise-same [] [] e = refl
-pointwise-same [] (y ∷ ys) e = absurd cc
-pointwise-same (x ∷ xs) [] e = absurd cc
-pointwise-same (x ∷ xs) (y ∷ ys) e =
-    elim (cases_eq x y) [
-      | inl is ↦
-          let rest : pointwise nat_eq xs ys ≡ true = rw (eq-eqb x y is) at e in
-          let same = pointwise-same xs ys rest in
-          rw (is, same) refl
-      | inr ne ↦ absurd (let gone = rw (ne_eqb x y ne) at e in cc)
-    ]
+message_type-from_kind_of other kind e = absurd cc
 
 class_of-pxe : (more : List ℕ) → class_of (Some (codes "PXEClient" ++ more)) ≡ Ok (codes "PXEClient" ++ more)
 unfolding class_of
@@ -70,9 +42,8 @@ pxe-from_class_of : (value : Option (List ℕ)) (class : List ℕ) → class_of 
 unfolding class_of
 pxe-from_class_of None class e = absurd cc
 pxe-from_class_of (Some octets) class e =
-    let front = pointwise-same (codes "PXEClient") (take 9 octets) (class_test _ octets class e) in
-    let whole : codes "PXEClient" ++ drop 9 octets ≡ octets = ap (λ (x : List ℕ). x ++ drop 9 octets) front ∙ take-append-drop 9 octets in
-    (drop 9 octets, ap (λ (x : List ℕ). Some x) (sym whole))
+    let begins = starts_is Decides-eqb octets (codes "PXEClient") (starts_with nat_eq octets (codes "PXEClient")) refl in
+    (drop 9 octets, ap (λ (x : List ℕ). Some x) (begins.0 (class_test _ octets class e)))
 
 value-from_class_of : (value : Option (List ℕ)) (class : List ℕ) → class_of value ≡ Ok class → unwrap_or value [] ≡ class
 unfolding class_of

@@ -24,9 +24,7 @@ IsNamed-loader_file Arm64 = IsNamed-from_test (λ (o : ℕ). not (o == 0)) (code
 pub length-loader_file : (arch : Arch) → length (loader_file arch) ≤ 127
 unfolding loader_file
 length-loader_file Bios = omega arith
-length-loader_file Uefi32 = omega arith
-length-loader_file Uefi64 = omega arith
-length-loader_file Arm64 = omega arith
+length-loader_file other = omega arith
 
 -- ---- scripts
 

@@ -1,19 +1,13 @@
 -- Reading an address from the left, and printing one.
 use Rattle.std.{proofs.{Common.{◌≡◌, ℕ, ◌+◌, ◌-◌, ◌*◌, ◌<◌, ◌≤◌, List, [], ◌∷◌, ◌++◌, length, take, drop, map, ◌/◌, ◌%◌, slice_index, slice_set, Option, Some, None, refl, sym, ap, ◌∙◌, arith}, lemmas.{Bool.{agree_below_at, ltb-true}, List.{append-nil, append_assoc, length-drop, length-take-le, map-append, take_all, take_more, take_more_set, drop_all, drop_more}}}, specs.{Prelude.{option_map, IfSome, nat_lt, true}, List.join_with_byte}}
 use Rattle.hex.specs.Hex.{encode_lower, encode_with}
-use Rattle.pxe_vendor.specs.{MacText.{IsMacText, digit, mac_text, mac_of, more_octets, octet_of, octet_then}, MacLaws.{more_octets-pair, more_octets-other, mac_of-pair, mac_of-other, IsMacText-from_mac_of}}
+use Rattle.pxe_vendor.specs.{MacText.{IsMacText, digit, mac_text, mac_of, more_octets, octet_of, octet_then}, MacLaws.{more_octets-pair, more_octets-other, mac_of-long, mac_of-other, IsMacText-from_mac_of}}
 
 -- ---- reading from the left
 
 -- the octets read so far, and then the octets after them
 abbrev pub read_then : List ℕ → Option (List ℕ) → Option (List ℕ)
 read_then octets others = option_map (λ more. octets ++ more) others
-
-pub mac_of-length : (text : List ℕ) → (length text ≡ 17 → ⊥) → mac_of text ≡ None
-unfolding mac_of
-mac_of-length [] h = refl
-mac_of-length (a ∷ []) h = refl
-mac_of-length (a ∷ b ∷ text) h = mac_of-other a b text (λ long. h (omega arith))
 
 -- the first two characters of a text, and the other ones
 two_first : (text : List ℕ) → length text ≡ 17 → text ≡ slice_index text 0 ∷ slice_index text 1 ∷ drop 2 text
@@ -22,7 +16,7 @@ two_first (a ∷ []) h = absurd (omega arith)
 two_first (a ∷ b ∷ text) h = refl
 
 mac_of-start : (text : List ℕ) → length text ≡ 17 → mac_of text ≡ octet_then (octet_of (slice_index text 0) (slice_index text 1)) (more_octets (drop 2 text))
-mac_of-start text h = ap mac_of (two_first text h) ∙ mac_of-pair _ _ (drop 2 text) (omega (arith, length-drop 2 text))
+mac_of-start text h = mac_of-long text h ∙ ap (λ (xs : List ℕ). more_octets (58 ∷ xs)) (two_first text h) ∙ more_octets-pair 58 _ _ (drop 2 text) refl
 
 octet_then-ok : (octet : ℕ) (others : Option (List ℕ)) → octet_then (Some octet) others ≡ read_then (octet ∷ []) others
 octet_then-ok octet None = refl
@@ -74,7 +68,7 @@ mac_of-all text address i long six high e =
     ∙ ap (λ (rest : List ℕ). read_then (take i address) (more_octets rest)) (drop_all (3 * i - 1) text (omega arith))
     ∙ ap (λ (xs : List ℕ). Some xs) (append-nil (take i address) ∙ take_all i address (omega arith))
 
-pub ruleset mac_steps = (mac_of-length, mac_of-no_start, mac_of-first, mac_of-no_colon, mac_of-no_octet, mac_of-more, mac_of-all)
+pub ruleset mac_steps = (mac_of-other, mac_of-no_start, mac_of-first, mac_of-no_colon, mac_of-no_octet, mac_of-more, mac_of-all)
 
 -- ---- printing
 

@@ -1,40 +1,15 @@
 -- Joining the values of several codes in one pass.
-use Rattle.std.{proofs.{Common.{◌≡◌, ℕ, List, [], ◌∷◌, ◌++◌, Option, Some, None, refl, inl, inr}, lemmas.Bool.{cases_eq, eq-eqb, ne_eqb}}, specs.Prelude.{unwrap_or, ◌==◌}}
+use Rattle.std.{proofs.{Common.{◌≡◌, ℕ, List, [], ◌∷◌, Option, None, refl, inl, inr}, lemmas.Bool.{cases_eq, eq-eqb, ne_eqb}}, specs.Prelude.{◌==◌}}
 use Rattle.dhcp_frame.specs.{Area.{Entry, value_of}, ValueLaws.{joined_then, joined_then-nothing, joined_then-more}}
 use Rattle.pxe_vendor.specs.{Values.{values_of, push_if, pushed}, declared.values.Values.Values}
 
--- ---- one more value
-
-pub pushed-message_type : (v : Values) (code : ℕ) (value : List ℕ) → code ≡ 53 → pushed v code value ≡ record v { message_type = Some (unwrap_or v.message_type [] ++ value) }
-unfolding pushed push_if
-pushed-message_type v code value is = rw is refl
-
-pub pushed-class : (v : Values) (code : ℕ) (value : List ℕ) → code ≡ 60 → pushed v code value ≡ record v { class = Some (unwrap_or v.class [] ++ value) }
-unfolding pushed push_if
-pushed-class v code value is = rw is refl
-
-pub pushed-architectures : (v : Values) (code : ℕ) (value : List ℕ) → code ≡ 93 → pushed v code value ≡ record v { architectures = Some (unwrap_or v.architectures [] ++ value) }
-unfolding pushed push_if
-pushed-architectures v code value is = rw is refl
-
-pub pushed-vendor : (v : Values) (code : ℕ) (value : List ℕ) → code ≡ 43 → pushed v code value ≡ record v { vendor = Some (unwrap_or v.vendor [] ++ value) }
-unfolding pushed push_if
-pushed-vendor v code value is = rw is refl
-
-pub pushed-identifier : (v : Values) (code : ℕ) (value : List ℕ) → code ≡ 97 → pushed v code value ≡ record v { identifier = Some (unwrap_or v.identifier [] ++ value) }
-unfolding pushed push_if
-pushed-identifier v code value is = rw is refl
-
-pub pushed-user_class : (v : Values) (code : ℕ) (value : List ℕ) → code ≡ 77 → pushed v code value ≡ record v { user_class = Some (unwrap_or v.user_class [] ++ value) }
-unfolding pushed push_if
-pushed-user_class v code value is = rw is refl
-
+-- no value of a client
 pub pushed-other : (v : Values) (code : ℕ) (value : List ℕ) → (code ≡ 53 → ⊥) → (code ≡ 60 → ⊥) → (code ≡ 93 → ⊥) → (code ≡ 43 → ⊥) → (code ≡ 97 → ⊥) → (code ≡ 77 → ⊥) → pushed v code value ≡ v
 unfolding pushed push_if
 pushed-other v code value a b c d e f =
     rw (ne_eqb code 53 a, ne_eqb code 60 b, ne_eqb code 93 c, ne_eqb code 43 d, ne_eqb code 97 e, ne_eqb code 77 f) refl
 
-pub ruleset push_steps = (pushed-message_type, pushed-class, pushed-architectures, pushed-vendor, pushed-identifier, pushed-user_class, pushed-other)
+pub ruleset push_steps = (pushed-other)
 
 -- ---- the pass
 

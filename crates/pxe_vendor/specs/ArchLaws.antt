@@ -6,9 +6,7 @@ use Rattle.pxe_vendor.specs.{Arch.{arch_text, arch_in}, declared.arch.Arch.{Arch
 pub arch_in-arch_text : (arch : Arch) → arch_in (arch_text arch) ≡ Some arch
 unfolding arch_in arch_text
 arch_in-arch_text Bios = refl
-arch_in-arch_text Uefi32 = refl
-arch_in-arch_text Uefi64 = refl
-arch_in-arch_text Arm64 = refl
+arch_in-arch_text other = refl
 
 -- one test of a word, and then the others
 arch_at : (text : List ℕ) (here arch : Arch) (others : Option Arch) → (others ≡ Some arch → text ≡ arch_text arch) → (if pointwise nat_eq text (arch_text here) then Some here else others) ≡ Some arch → text ≡ arch_text arch

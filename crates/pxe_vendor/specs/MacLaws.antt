@@ -1,5 +1,5 @@
 -- Laws of hardware addresses as text: `mac_of` finds the octets of each address, and of no other text.
-use Rattle.std.{proofs.{Common.{lit<, inl, inr, ◌≡◌, ℕ, zero, suc, ◌+◌, ◌*◌, ◌/◌, ◌%◌, ◌<◌, ◌≤◌, ◌==◌, true, List, [], ◌∷◌, length, Option, Some, None, refl, sym, ap, ◌∙◌, arith}, lemmas.{Bool.{cases_eq, eq-eqb, ne_eqb, agree_below_at, eqb-true, Decides.nat_tests}, List.{length-map, Elements.{All-nil, All-cons}}, Option.same_Some}}, specs.{Prelude.All, Char.to_ascii_lowercase, Str.str_to_ascii_lowercase}}
+use Rattle.std.{proofs.{Common.{lit<, inl, inr, ◌≡◌, ℕ, zero, suc, ◌+◌, ◌*◌, ◌/◌, ◌%◌, ◌<◌, ◌≤◌, ◌==◌, true, List, [], ◌∷◌, length, Option, Some, None, refl, sym, ap, ◌∙◌, arith}, lemmas.{Bool.{cases_eq, eq-eqb, ne_eqb, agree_below_at, eqb-true, Decides.nat_tests}, List.{length-map, Elements.{All-nil, All-cons, All-tail}}, Option.same_Some}}, specs.{Prelude.All, Char.to_ascii_lowercase, Str.str_to_ascii_lowercase}}
 use Rattle.hex.specs.Hex.{IsBytes, encode_with}
 use Rattle.pxe_vendor.specs.{MacText.{IsMacText, digit, mac_text, more_text, mac_of, more_octets, octet_of, octet_then}, DigitLaws.{AreDigitsOf, octet_of-from_digits, AreDigitsOf-from_octet_of, octet_of-high}}
 
@@ -32,9 +32,6 @@ IsBytes-tail octet octets h i = h (suc i)
 three_same : (a b c p q r : ℕ) (xs ys : List ℕ) → a ∷ b ∷ c ∷ xs ≡ p ∷ q ∷ r ∷ ys → (a ≡ p) × (b ≡ q) × (c ≡ r) × (xs ≡ ys)
 three_same a b c p q r xs ys e = (cc, cc, cc, cc)
 
-two_same : (a b p q : ℕ) (xs ys : List ℕ) → a ∷ b ∷ xs ≡ p ∷ q ∷ ys → (a ≡ p) × (b ≡ q) × (xs ≡ ys)
-two_same a b p q xs ys e = (cc, cc, cc)
-
 -- an octet and the octets after it, where both are found
 octet_then-some : (octet : Option ℕ) (others : Option (List ℕ)) (octets : List ℕ) → octet_then octet others ≡ Some octets → (first : ℕ) × (rest : List ℕ) × (octet ≡ Some first) × (others ≡ Some rest) × (first ∷ rest ≡ octets)
 octet_then-some None others octets e = absurd cc
@@ -52,14 +49,13 @@ more_octets-other colon high low rest e = rw (ne_eqb colon 58 e) refl
 more_octets-from_text : (text octets : List ℕ) → IsBytes octets → str_to_ascii_lowercase text ≡ more_text octets → more_octets text ≡ Some octets
 unfolding more_octets
 more_octets-from_text [] [] h e = refl
-more_octets-from_text [] (octet ∷ octets) h e = absurd cc
-more_octets-from_text (a ∷ text) [] h e = absurd cc
 more_octets-from_text (a ∷ []) (octet ∷ octets) h e = absurd cc
 more_octets-from_text (a ∷ b ∷ []) (octet ∷ octets) h e = absurd cc
 more_octets-from_text (a ∷ b ∷ c ∷ text) (octet ∷ octets) h e =
     let (colon, high, low, rest) = three_same _ _ _ _ _ _ _ _ e in
     let first = octet_of-from_digits octet b c (record { small = h 0; first = high; second = low }) in
     more_octets-pair a b c text (colon-from_lower a colon) ∙ rw (first, more_octets-from_text text octets (IsBytes-tail octet octets h) rest) refl
+more_octets-from_text text octets h e = absurd cc
 
 -- what is known of octets after colons
 record IsMoreText (text octets : List ℕ) : Type 0 where
@@ -96,48 +92,44 @@ IsMoreText-from_more_octets (a ∷ b ∷ c ∷ text) octets e =
 
 -- ---- the whole address
 
-pub mac_of-pair : (high low : ℕ) (rest : List ℕ) → length rest ≡ 15 → mac_of (high ∷ low ∷ rest) ≡ octet_then (octet_of high low) (more_octets rest)
-unfolding mac_of
-mac_of-pair high low rest e = rw (eq-eqb (length rest + 2) 17 (omega (arith, e))) refl
+-- with a colon before it, the text of some octets is that of octets after colons
+colon_first : (octets : List ℕ) → 0 < length octets → 58 ∷ mac_text octets ≡ more_text octets
+colon_first [] some = absurd (omega arith)
+colon_first (octet ∷ octets) some = ap (λ (text : List ℕ). 58 ∷ text) (mac_text-first octet octets)
 
-pub mac_of-other : (high low : ℕ) (rest : List ℕ) → (length rest ≡ 15 → ⊥) → mac_of (high ∷ low ∷ rest) ≡ None
-unfolding mac_of
-mac_of-other high low rest e = rw (ne_eqb (length rest + 2) 17 (λ long. e (omega (arith, long)))) refl
+length-mac_text : (octets : List ℕ) → 0 < length octets → length (mac_text octets) + 1 ≡ 3 * length octets
+length-mac_text octets some = omega (arith, ap length (colon_first octets some), length-more_text octets)
 
-mac_of-from_written : (text octets : List ℕ) → length octets ≡ 6 → IsBytes octets → str_to_ascii_lowercase text ≡ mac_text octets → mac_of text ≡ Some octets
-mac_of-from_written text [] six small e = absurd (omega arith)
-mac_of-from_written [] (octet ∷ octets) six small e = absurd (let gone = e ∙ mac_text-first octet octets in cc)
-mac_of-from_written (a ∷ []) (octet ∷ octets) six small e = absurd (let gone = e ∙ mac_text-first octet octets in cc)
-mac_of-from_written (a ∷ b ∷ text) (octet ∷ octets) six small e =
-    let (high, low, rest) = two_same _ _ _ _ _ _ (e ∙ mac_text-first octet octets) in
-    let first = octet_of-from_digits octet a b (record { small = small 0; first = high; second = low }) in
-    let long : length text ≡ 15 = omega (arith, length-map text to_ascii_lowercase, ap length rest, length-more_text octets) in
-    mac_of-pair a b text long ∙ rw (first, more_octets-from_text text octets (IsBytes-tail octet octets small) rest) refl
+pub length-IsMacText : (text octets : List ℕ) → IsMacText text octets → length text ≡ 17
+length-IsMacText text octets is =
+    let six = is.six in
+    omega (arith, ap length is.written, length-map text to_ascii_lowercase, length-mac_text octets (omega arith))
+
+pub mac_of-long : (text : List ℕ) → length text ≡ 17 → mac_of text ≡ more_octets (58 ∷ text)
+unfolding mac_of
+mac_of-long text long = rw (eq-eqb (length text) 17 long) refl
+
+pub mac_of-other : (text : List ℕ) → (length text ≡ 17 → ⊥) → mac_of text ≡ None
+unfolding mac_of
+mac_of-other text other = rw (ne_eqb (length text) 17 other) refl
 
 pub mac_of-from_IsMacText : (text octets : List ℕ) → IsMacText text octets → mac_of text ≡ Some octets
-mac_of-from_IsMacText text octets is = mac_of-from_written text octets is.six is.small is.written
+mac_of-from_IsMacText text octets is =
+    let some : 0 < length octets = omega (arith, is.six) in
+    mac_of-long text (length-IsMacText text octets is)
+    ∙ more_octets-from_text (58 ∷ text) octets is.small (ap (λ (xs : List ℕ). 58 ∷ xs) is.written ∙ colon_first octets some)
 
--- the first octet and the octets after it
-IsMacText-first : (a b octet : ℕ) (text rest octets : List ℕ) → length text ≡ 15 → AreDigitsOf octet a b → IsMoreText text rest → octet ∷ rest ≡ octets → IsMacText (a ∷ b ∷ text) octets
-IsMacText-first a b octet text rest octets long are more same =
-    let three : length text ≡ 3 * length rest = more.long in
-    let whole : IsMacText (a ∷ b ∷ text) (octet ∷ rest) = record {
-      six = omega arith;
-      small = IsBytes-cons octet rest are.small more.small;
-      written = rw (are.first, are.second, more.written, mac_text-first octet rest) refl;
-    } in
-    rw (← same) whole
+without_colon : (text octets : List ℕ) → length text ≡ 17 → IsMoreText (58 ∷ text) octets → IsMacText text octets
+without_colon text octets long more =
+    let six : length octets ≡ 6 = omega (arith, more.long, long) in
+    let same : 58 ∷ str_to_ascii_lowercase text ≡ 58 ∷ mac_text octets = more.written ∙ sym (colon_first octets (omega (arith, six))) in
+    record { six = six; small = more.small; written = cc }
 
 pub IsMacText-from_mac_of : (text octets : List ℕ) → mac_of text ≡ Some octets → IsMacText text octets
-unfolding mac_of
-IsMacText-from_mac_of [] octets e = absurd cc
-IsMacText-from_mac_of (a ∷ []) octets e = absurd cc
-IsMacText-from_mac_of (a ∷ b ∷ text) octets e =
-    elim (cases_eq (length text) 15) [
-      | inl long ↦
-          let (octet, rest, first, more, same) = octet_then-some _ _ octets (sym (mac_of-pair a b text long) ∙ e) in
-          IsMacText-first a b octet text rest octets long (AreDigitsOf-from_octet_of octet a b first) (IsMoreText-from_more_octets text rest more) same
-      | inr other ↦ absurd (let gone = sym (mac_of-other a b text other) ∙ e in cc)
+IsMacText-from_mac_of text octets e =
+    elim (cases_eq (length text) 17) [
+      | inl long ↦ without_colon text octets long (IsMoreText-from_more_octets (58 ∷ text) octets (sym (mac_of-long text long) ∙ e))
+      | inr other ↦ absurd (let gone = sym (mac_of-other text other) ∙ e in cc)
     ]
 
 -- ---- no character of an address is below 48, so none is a line feed
@@ -160,21 +152,10 @@ more_octets-high (a ∷ b ∷ c ∷ text) octets e =
       | inr other ↦ absurd (let gone = sym (more_octets-other a b c text other) ∙ e in cc)
     ]
 
-mac_of-high : (text octets : List ℕ) → mac_of text ≡ Some octets → All IsHigh text
-unfolding mac_of
-mac_of-high [] octets e = absurd cc
-mac_of-high (a ∷ []) octets e = absurd cc
-mac_of-high (a ∷ b ∷ text) octets e =
-    elim (cases_eq (length text) 15) [
-      | inl long ↦
-          let (octet, rest, first, more, same) = octet_then-some _ _ octets (sym (mac_of-pair a b text long) ∙ e) in
-          let (high, low) = octet_of-high octet a b first in
-          All-cons IsHigh a (b ∷ text) high (All-cons IsHigh b text low (more_octets-high text rest more))
-      | inr other ↦ absurd (let gone = sym (mac_of-other a b text other) ∙ e in cc)
-    ]
-
 pub IsMacText-high : (text octets : List ℕ) → IsMacText text octets → All (λ c. 48 ≤ c) text
-IsMacText-high text octets is = mac_of-high text octets (mac_of-from_IsMacText text octets is)
+IsMacText-high text octets is =
+    let read = sym (mac_of-long text (length-IsMacText text octets is)) ∙ mac_of-from_IsMacText text octets is in
+    All-tail IsHigh 58 text (more_octets-high (58 ∷ text) octets read)
 
 -- ---- what is printed is read again
 
@@ -190,22 +171,12 @@ more_text-lower (octet ∷ octets) small =
     let others = more_text-lower octets (IsBytes-tail octet octets small) in
     rw (high, low, others) refl
 
-mac_text-lower : (octets : List ℕ) → IsBytes octets → str_to_ascii_lowercase (mac_text octets) ≡ mac_text octets
-mac_text-lower [] small = refl
-mac_text-lower (octet ∷ octets) small =
-    let high = digit-lower (octet / 16) (let s : octet < 256 = small 0 in omega arith) in
-    let low = digit-lower (octet % 16) (let s : octet < 256 = small 0 in omega arith) in
-    let others = more_text-lower octets (IsBytes-tail octet octets small) in
-    rw (mac_text-first octet octets, high, low, others) refl
+mac_text-lower : (octets : List ℕ) → 0 < length octets → IsBytes octets → str_to_ascii_lowercase (mac_text octets) ≡ mac_text octets
+mac_text-lower octets some small =
+    let first = colon_first octets some in
+    let same : 58 ∷ str_to_ascii_lowercase (mac_text octets) ≡ 58 ∷ mac_text octets =
+    ap (λ (text : List ℕ). str_to_ascii_lowercase text) first ∙ more_text-lower octets small ∙ sym first in
+    cc
 
 pub IsMacText-mac_text : (octets : List ℕ) → length octets ≡ 6 → IsBytes octets → IsMacText (mac_text octets) octets
-IsMacText-mac_text octets six small = record { six = six; small = small; written = mac_text-lower octets small }
-
-length-mac_text : (octets : List ℕ) → 0 < length octets → length (mac_text octets) + 1 ≡ 3 * length octets
-length-mac_text [] h = absurd (omega arith)
-length-mac_text (octet ∷ octets) h = omega (arith, ap length (mac_text-first octet octets), length-more_text octets)
-
-pub length-IsMacText : (text octets : List ℕ) → IsMacText text octets → length text ≡ 17
-length-IsMacText text octets is =
-    let six = is.six in
-    omega (arith, ap length is.written, length-map text to_ascii_lowercase, length-mac_text octets (omega arith))
+IsMacText-mac_text octets six small = record { six = six; small = small; written = mac_text-lower octets (omega (arith, six)) small }

@@ -40,8 +40,6 @@ more_octets (colon ∷ high ∷ low ∷ rest) =
     if colon == COLON then octet_then (octet_of high low) (more_octets rest) else None
 more_octets _ = None
 
--- the octets of an address
+-- the octets of an address: with a colon before it, it is such pairs
 unfoldable pub mac_of : List ℕ → Option (List ℕ)
-mac_of (high ∷ low ∷ rest) =
-    if length rest + 2 == TEXT_LEN then octet_then (octet_of high low) (more_octets rest) else None
-mac_of _ = None
+mac_of text = if length text == TEXT_LEN then more_octets (COLON ∷ text) else None

@@ -79,10 +79,7 @@ fn arch_in(list: Option<&[u8]>, class: &[u8]) -> Result<Arch, NotServed>
         Some(list) => arch::in_list(list),
         None => None,
     };
-    match listed.or(arch::in_class(class)) {
-        Some(arch) => Ok(arch),
-        None => Err(NotServed::NoArch),
-    }
+    listed.or(arch::in_class(class)).ok_or(NotServed::NoArch)
 }
 
 fn exactly<const N: usize>(octets: &[u8]) -> Option<[u8; N]>
@@ -124,7 +121,6 @@ fn item_in(kind: Kind, area: Option<&[u8]>) -> Result<Option<[u8; BOOT_ITEM_LEN]
     Ok(first_item(tags))
 }
 
-#[tactic(auto, using(crate::proofs::ClientLemmas::item_steps))]
 fn first_item(tags: OptionIter<'_>) -> Option<[u8; BOOT_ITEM_LEN]>
     ensures { result ≡ boot_item tags.entry }
 {

@@ -22,7 +22,7 @@ pub(crate) struct Values<'a> {
 impl<'a> Values<'a> {
     ghost use Rattle.pxe_vendor.specs.Values.{pushed, values_of};
 
-    #[tactic(auto, using(crate::proofs::ValuesLemmas::push_steps))]
+    #[tactic(auto, using(crate::proofs::ValuesLemmas::push_steps), unfolding(crate::specs::Values::pushed, crate::specs::Values::push_if))]
     fn push(&mut self, alloc: Global, code: u8, value: &'a [u8]) -> Result<(), AllocError>
         ensures { OnOk result (self.new ≡ pushed self.old code value.now) }
     {

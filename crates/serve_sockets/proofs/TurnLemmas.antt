@@ -113,12 +113,11 @@ is_told (Said.Frame len) = false
 is_told (Said.Response status len) = false
 
 -- an answer of which that is said is Unavailable
-pub told_unavailable : (k : Kind) (a : Answer) → said_of k a ≡ Said.Unavailable → is_unavailable a ≡ true
-told_unavailable (Kind.Datagram port) (Answer.Octets octets) same = ap is_told same
-told_unavailable Kind.Request (Answer.Octets octets) same = ap is_told same
-told_unavailable Kind.Quiet (Answer.Octets octets) same = ap is_told same
-told_unavailable k Answer.Unavailable same = refl
-told_unavailable k Answer.Silence same = ap is_told same
+pub told_unavailable : (a : Answer) → said_of a ≡ Said.Unavailable → is_unavailable a ≡ true
+told_unavailable Answer.Unavailable same = refl
+told_unavailable (Answer.Frame octets) same = ap is_told same
+told_unavailable (Answer.Response status octets) same = ap is_told same
+told_unavailable Answer.Silence same = ap is_told same
 
 still_by : (is moved : Bool) → is && (moved || true) ≡ is
 still_by true true = refl

@@ -2,12 +2,15 @@
 use Rattle.std.specs.{Prelude.{◌≡◌, ◌⊎◌, ℕ, ◌-◌, List, [], ◌++◌, Bool, false, Option, None, Some, drop, is_some, nat_lt, not, ◌&&◌, if◌then◌else◌}, Io.KnownBytes.{Consumes, IsAtEnd, Keeps}}
 use Rattle.hall_http.specs.Decided.{IsDecided}
 use Rattle.hall_desk.specs.Octets.{octets_of}
-use Rattle.serve_sockets.specs.{Group.group_of, declared.connection.{Connection.Connection, Put.Put, Sending.Sending, Taken.Taken}}
+use Rattle.serve_sockets.specs.{Group.group_of, declared.{connection.{Connection.Connection, Sending.Sending}, reading.Taken.Taken, writing.Put.Put}}
 
 -- the octets of an answer that are to be written yet
+abbrev pub unwritten : Sending → List ℕ
+unwritten sending = drop sending.written (octets_of sending.answer)
+
 abbrev pub rest_of : Option Sending → List ℕ
 rest_of None = []
-rest_of (Some sending) = drop sending.written (octets_of sending.answer)
+rest_of (Some sending) = unwritten sending
 
 -- whether something was longer than a minute ago, if it was
 abbrev pub is_long_ago : ℕ → Option ℕ → Bool
@@ -59,12 +62,12 @@ module _ {T : Type 0} where
   abbrev pub left_of : Connection T → List ℕ
   left_of connection = rest_of connection.sending
 
-  -- no octets are left of the answer, or the client took some and has its time anew, or its time goes on
-  abbrev pub IsPut : ℕ → Put → Connection T → Connection T → Type 0
-  IsPut now Put.Waits old new = since_of new ≡ since_of old
-  IsPut now Put.More old new = since_of new ≡ now
-  IsPut now Put.Done old new = left_of new ≡ []
-  IsPut now Put.Failed old new = Unit {0}
+-- no octets are left of the answer, or the client took some and has its time anew, or its time goes on
+abbrev pub IsPut : ℕ → Put → ℕ → ℕ → List ℕ → Type 0
+IsPut now Put.Waits since since' left = since' ≡ since
+IsPut now Put.More since since' left = since' ≡ now
+IsPut now Put.Done since since' left = left ≡ []
+IsPut now Put.Failed since since' left = Unit {0}
 
 -- octets left the stream, and stand at the end of the input in order
 pub record Moves (old new : Option (List ℕ)) (before after : List ℕ) : Type 0 where

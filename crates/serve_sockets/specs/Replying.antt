@@ -7,9 +7,8 @@ use Rattle.hall_store.specs.declared.store.HallStore.{Ghosts}
 
 -- the octets of a reply were sent that way, once, and nothing for another answer; `sends` says what one call sends
 abbrev pub IsSent : {P : Type 0} → (P → Way → List ℕ → P → Type 0) → P → Way → Answer → P → Type 0
-IsSent sends sender way (Answer.Octets octets) sender' = sends sender way octets sender'
-IsSent sends sender way Answer.Unavailable sender' = sender' ≡ sender
-IsSent sends sender way Answer.Silence sender' = sender' ≡ sender
+IsSent sends sender way (Answer.Frame octets) sender' = sends sender way octets sender'
+IsSent sends sender way other sender' = sender' ≡ sender
 
 -- a datagram was handed to the desk, and its own answer was sent the way that it came
 pub record IsReplied {S P : Type 0} (g : Ghosts S) (sends : P → Way → List ℕ → P → Type 0)

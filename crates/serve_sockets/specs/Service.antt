@@ -6,7 +6,7 @@ use Rattle.serve_sockets.specs.{Turn.{IsQuiet, IsUnavailable}, declared.{service
 module _ {S : Type 0} where
   -- the desk to which what comes is handed
   abbrev pub desk_of : Service S → Desk S
-  desk_of service = service.desk
+  desk_of service = service.server.desk
 
   -- the sockets at which it is reached
   abbrev pub sockets_of : Service S → Sockets

@@ -1,5 +1,5 @@
 -- What a turn did, and what a log says of it.
-use Rattle.std.specs.Prelude.{◌≡◌, ◌≤◌, ◌+◌, ◌-◌, ◌*◌, ℕ, Bool, true, false, List, [], ◌++◌, length, slice_index, Option}
+use Rattle.std.specs.Prelude.{◌≡◌, ◌≤◌, ℕ, Bool, true, false, List, [], ◌++◌, length, Option}
 use Rattle.pxe_vendor.specs.Place.{Site}
 use Rattle.hall_types.specs.Hall.{Hall}
 use Rattle.boot_desk.specs.Sound.{IsSound}
@@ -21,31 +21,17 @@ octets_in (Input.Datagram port octets) = octets
 octets_in (Input.Request octets) = octets
 octets_in Input.Quiet = []
 
--- the number of a digit's octet
-abbrev pub digit_at : List ℕ → ℕ → ℕ
-digit_at octets at = slice_index octets at - 48
-
--- the status code of a response, the three digits after `HTTP/1.1 ` (RFC 9112 section 4)
-abbrev pub status_in : List ℕ → ℕ
-status_in octets = 100 * digit_at octets 9 + 10 * digit_at octets 10 + digit_at octets 11
-
--- what is said of the octets of an answer
-abbrev pub said_in : Kind → List ℕ → Said
-said_in (Kind.Datagram port) octets = Said.Frame (length octets)
-said_in Kind.Request octets = Said.Response (status_in octets) (length octets)
-said_in Kind.Quiet octets = Said.Frame (length octets)
-
 -- what is said of an answer
-abbrev pub said_of : Kind → Answer → Said
-said_of what (Answer.Octets octets) = said_in what octets
-said_of what Answer.Unavailable = Said.Unavailable
-said_of what Answer.Silence = Said.Silence
+abbrev pub said_of : Answer → Said
+said_of (Answer.Frame octets) = Said.Frame (length octets)
+said_of (Answer.Response status octets) = Said.Response status (length octets)
+said_of Answer.Unavailable = Said.Unavailable
+said_of Answer.Silence = Said.Silence
 
 -- whether an arrival counts as not having come
 abbrev pub is_unavailable : Answer → Bool
-is_unavailable (Answer.Octets octets) = false
 is_unavailable Answer.Unavailable = true
-is_unavailable Answer.Silence = false
+is_unavailable other = false
 
 -- what comes at the moment of a stamp, with its fresh octets
 abbrev pub arrival_of : Stamp → Input → Arrival
@@ -55,7 +41,7 @@ arrival_of stamp input = record { moment = stamp.moment; fresh = stamp.fresh; in
 pub record Tells (handover : Handover) (what : Input) (a : Answer) : Type 0 where
   pub kind : handover.kind ≡ kind_of what
   pub size : handover.len ≡ length (octets_in what)
-  pub said : handover.said ≡ said_of (kind_of what) a
+  pub said : handover.said ≡ said_of a
 
 -- ---- turns
 

@@ -3,16 +3,15 @@ ghost use Rattle.std.specs.{Prelude.{◌≡◌, ◌≤◌, ◌-◌, ◌<◌, [],
 ghost use Rattle.hall_desk.specs.Octets.{octets_of};
 
 use crate::group::group;
+use crate::reading::{Taken, read};
+use crate::writing::{Put, write};
 use hall_desk::Answer;
 use hall_http::is_decided;
 use pxe_vendor::Octets;
 use std::alloc::{AllocError, Global};
-use std::io::{ErrorKind, Read, Write};
+use std::io::{Read, Write};
 use std::mem;
 use std::net::SocketAddr;
-
-/// The maximum of a request's octets: a head of 8,192 and a body of 16,384. So many always decide a request.
-const MAX_INPUT: usize = 8_192 + 16_384;
 
 /// How long, in milliseconds of served time, a connection may be undecided, and its answer stand still.
 const PATIENCE: u64 = 2_000;
@@ -20,11 +19,11 @@ const PATIENCE: u64 = 2_000;
 /// For how long, in milliseconds of served time, a list may be open while others wait.
 const LIST_PATIENCE: u64 = 60_000;
 
-// An answer, and how many of its octets are written.
+/// An answer, and how many of its octets are written.
 #[derive(Drop)]
-struct Sending {
-    answer: Answer,
-    written: usize,
+pub(crate) struct Sending {
+    pub(crate) answer: Answer,
+    pub(crate) written: usize,
     ghost within: { written ≤ length (octets_of answer) },
 }
 
@@ -43,31 +42,6 @@ pub(crate) struct Connection<T> {
     // When its request for a list, which had waited, was called, in served time.
     called: Option<u64>,
     ghost bounded: { vec_len input ≤ 24576 },
-}
-
-/// What a read of a connection came to.
-#[derive(Clone, Copy)]
-pub(crate) enum Taken {
-    /// Nothing is there now.
-    Waits,
-    /// Octets came, and the request isn't decided.
-    More,
-    /// The request is decided, or the client has sent all.
-    Whole,
-    NoMemory,
-    Failed,
-}
-
-/// What a write of a connection came to.
-#[derive(Clone, Copy)]
-pub(crate) enum Put {
-    /// The client takes nothing now.
-    Waits,
-    /// The client took octets, and some are left.
-    More,
-    /// No octets are left.
-    Done,
-    Failed,
 }
 
 impl<T> Connection<T> {
@@ -213,80 +187,36 @@ impl<T> Connection<T> {
 impl<T: Read> Connection<T> {
     ghost use Rattle.serve_sockets.specs.Connection.{IsTaken, input_of, number_of, since_of, stream_of};
 
-    /// Reads once. A request that has waited is looked at first, so that nothing is read if it's decided.
+    /// Reads once. A request that has waited is looked at first, so that nothing is read if it's decided. The time that the connection
+    /// has isn't prolonged.
     pub(crate) fn take(&mut self, alloc: Global, buffer: &mut [u8]) -> Taken
         ensures taken { IsTaken result (T.remaining (stream_of self.old)) (T.remaining (stream_of self.new)) (input_of self.old) (input_of self.new) }
         ensures since { since_of self.new ≡ since_of self.old }
         ensures number { number_of self.new ≡ number_of self.old }
     {
-        if self.called.is_none() {
-            return self.read(alloc, buffer);
+        if self.called.is_some() {
+            match is_decided(alloc, self.input.as_slice()) {
+                Ok(true) => return Taken::Whole,
+                Ok(false) => (),
+                Err(AllocError) => return Taken::NoMemory,
+            }
         }
-        match is_decided(alloc, self.input.as_slice()) {
-            Ok(true) => Taken::Whole,
-            Ok(false) => self.read(alloc, buffer),
-            Err(AllocError) => Taken::NoMemory,
-        }
-    }
-
-    // Reads once, into a buffer that isn't empty. The time that the connection has isn't prolonged.
-    fn read(&mut self, alloc: Global, buffer: &mut [u8]) -> Taken
-        ensures taken { IsTaken result (T.remaining (stream_of self.old)) (T.remaining (stream_of self.new)) (input_of self.old) (input_of self.new) }
-        ensures since { since_of self.new ≡ since_of self.old }
-        ensures number { number_of self.new ≡ number_of self.old }
-    {
-        let size = (MAX_INPUT - self.input.len()).min(buffer.len());
-        if size == 0 {
-            return Taken::Failed;
-        }
-        let count = match self.stream.read(&mut buffer[..size]) {
-            Ok(count) => count,
-            Err(error) if error.kind() == ErrorKind::WouldBlock => return Taken::Waits,
-            Err(_) => return Taken::Failed,
-        };
-        if count == 0 {
-            return Taken::Whole;
-        }
-        if self.input.extend_from_slice(&buffer[..count]).is_err() {
-            return Taken::NoMemory;
-        }
-        match is_decided(alloc, self.input.as_slice()) {
-            Ok(true) => Taken::Whole,
-            Ok(false) => Taken::More,
-            Err(AllocError) => Taken::NoMemory,
-        }
+        read(&mut self.stream, alloc, &mut self.input, buffer)
     }
 }
 
 impl<T: Write> Connection<T> {
-    ghost use Rattle.serve_sockets.specs.Connection.{IsPut, left_of, number_of, stream_of};
+    ghost use Rattle.serve_sockets.specs.Connection.{IsPut, left_of, number_of, since_of, stream_of};
 
     /// Writes once. What the client takes of the answer prolongs the connection's time.
     pub(crate) fn put(&mut self, now: u64) -> Put
         ensures octets { Keeps (append_known (T.contents (stream_of self.old)) (left_of self.old)) (append_known (T.contents (stream_of self.new)) (left_of self.new)) }
-        ensures put { IsPut now result self.old self.new }
+        ensures put { IsPut now result (since_of self.old) (since_of self.new) (left_of self.new) }
         ensures number { number_of self.new ≡ number_of self.old }
     {
-        let Some(sending) = &mut self.sending else {
-            return Put::Waits;
-        };
-        let octets = sending.answer.octets();
-        let len = octets.len();
-        if sending.written < len {
-            match self.stream.write(&octets[sending.written..]) {
-                Ok(0) => return Put::Failed,
-                Ok(count) => {
-                    sending.written += count;
-                    self.since = now;
-                }
-                Err(error) if error.kind() == ErrorKind::WouldBlock => return Put::Waits,
-                Err(_) => return Put::Failed,
-            }
-        }
-        if sending.written < len {
-            Put::More
-        } else {
-            Put::Done
+        match &mut self.sending {
+            Some(sending) => write(&mut self.stream, sending, &mut self.since, now),
+            None => Put::Waits,
         }
     }
 }

@@ -1,45 +1,22 @@
 //! What a log is told of an arrival and of its answer.
-ghost use Rattle.std.specs.Prelude.{◌≡◌, ◌≤◌};
-ghost use Rattle.serve_sockets.specs.Turn.{digit_at, is_unavailable, said_in, said_of, status_in};
+ghost use Rattle.std.specs.Prelude.{◌≡◌};
+ghost use Rattle.serve_sockets.specs.Turn.{is_unavailable, said_of};
 
 use crate::turn::{Handover, Kind, Said};
 use hall_desk::Answer;
 use std::net::SocketAddr;
 
-// The number of a digit's octet, and 0 if there is none.
-fn digit_at(octets: &[u8], at: usize) -> u16
-    ensures value { result ≡ digit_at octets.now at }
-    ensures range { result ≤ 207 }
-{
-    let octet = octets.get(at).copied().unwrap_or(0);
-    u16::from(octet.saturating_sub(b'0'))
-}
-
-// The status code of a response.
-fn status_in(octets: &[u8]) -> u16
-    ensures { result ≡ status_in octets.now }
-{
-    100 * digit_at(octets, 9) + 10 * digit_at(octets, 10) + digit_at(octets, 11)
-}
-
-fn said_in(kind: Kind, octets: &[u8]) -> Said
-    ensures { result ≡ said_in kind octets.now }
-{
-    let len = octets.len();
-    match kind {
-        Kind::Datagram(_) | Kind::Quiet => Said::Frame { len },
-        Kind::Request => Said::Response {
-            status: status_in(octets),
-            len,
-        },
-    }
-}
-
-fn said(kind: Kind, answer: &Answer) -> Said
-    ensures { result ≡ said_of kind answer.now }
+fn said(answer: &Answer) -> Said
+    ensures { result ≡ said_of answer.now }
 {
     match answer {
-        Answer::Octets(octets) => said_in(kind, octets.as_slice()),
+        Answer::Frame(octets) => Said::Frame {
+            len: octets.as_slice().len(),
+        },
+        Answer::Response { status, octets } => Said::Response {
+            status: *status,
+            len: octets.as_slice().len(),
+        },
         Answer::Unavailable => Said::Unavailable,
         Answer::Silence => Said::Silence,
     }
@@ -62,12 +39,12 @@ pub(crate) fn handover(
     ensures kind { result.kind ≡ kind }
     ensures from { result.from ≡ from }
     ensures len { result.len ≡ len }
-    ensures said { result.said ≡ said_of kind answer.now }
+    ensures said { result.said ≡ said_of answer.now }
 {
     Handover {
         kind,
         from,
         len,
-        said: said(kind, answer),
+        said: said(answer),
     }
 }

@@ -10,6 +10,7 @@ mod lists;
 mod next_ready;
 mod number;
 mod ports;
+mod reading;
 mod replying;
 mod ring;
 mod room;
@@ -19,6 +20,7 @@ mod serving;
 mod sockets;
 mod table;
 mod turn;
+mod writing;
 mod yielding;
 
 pub use ports::{Addresses, BindFault};

@@ -3,13 +3,12 @@ ghost use Rattle.std.specs.Prelude.{◌≡◌, false};
 ghost use Rattle.hall_desk.specs.{Attempt.IsOnlyRead, Desk.{enlists_of, site_of, store_of}};
 ghost use Rattle.serve_sockets.specs.Replying.{IsReplied, IsSent};
 
-use crate::handing::hand_datagram;
+use crate::handing::Server;
 use crate::handover::handover;
 use crate::turn::{Handover, Kind, Stamp, TurnLog};
-use hall_desk::{Answer, Desk};
+use hall_desk::Answer;
 use hall_store::HallStore;
 use hall_types::Port;
-use std::alloc::Global;
 use std::net::SocketAddr;
 
 /// At which port a datagram came, and from where. Its reply goes the same way back.
@@ -17,6 +16,13 @@ use std::net::SocketAddr;
 pub(crate) struct Way {
     pub(crate) port: Port,
     pub(crate) client: SocketAddr,
+}
+
+/// A datagram that came.
+#[derive(Clone, Copy)]
+pub(crate) struct Datagram<'a> {
+    pub(crate) way: Way,
+    pub(crate) octets: &'a [u8],
 }
 
 /// What sends replies.
@@ -37,30 +43,29 @@ fn send<P: SendReply>(sender: &mut P, way: Way, answer: &Answer) -> bool
     ensures { IsSent P.SendReply.may_send sender.old way answer.now sender.new }
 {
     match answer {
-        Answer::Octets(octets) => sender.send_reply(way, octets.as_slice()),
-        Answer::Unavailable | Answer::Silence => true,
+        Answer::Frame(octets) => sender.send_reply(way, octets.as_slice()),
+        _ => true,
     }
 }
 
 /// Hands a datagram over, and sends its own answer, if it is a reply, once, the way that the datagram came: what is told of it, and
 /// whether the reply could be sent.
 pub(crate) fn reply<S: HallStore, L: TurnLog, P: SendReply>(
-    alloc: Global,
-    desk: &mut Desk<S>,
+    server: &mut Server<S>,
     log: &mut L,
     stamp: Stamp,
-    way: Way,
-    octets: &[u8],
+    datagram: Datagram<'_>,
     sender: &mut P,
 ) -> (Handover, bool)
-    ensures site { site_of desk.new ≡ site_of desk.old }
-    ensures enlists { enlists_of desk.new ≡ enlists_of desk.old }
-    ensures replied { IsReplied S.HallStore P.SendReply.may_send (store_of desk.old) (store_of desk.new)
-        sender.old sender.new (site_of desk.old) stamp.moment stamp.fresh way octets.now result.0 }
-    ensures unlisted { enlists_of desk.old ≡ false → S.HallStore.is_clean (store_of desk.new)
-        → IsOnlyRead S.HallStore (store_of desk.old) (store_of desk.new) }
+    ensures site { site_of server.new.desk ≡ site_of server.old.desk }
+    ensures enlists { enlists_of server.new.desk ≡ enlists_of server.old.desk }
+    ensures replied { IsReplied S.HallStore P.SendReply.may_send (store_of server.old.desk) (store_of server.new.desk)
+        sender.old sender.new (site_of server.old.desk) stamp.moment stamp.fresh datagram.entry.way datagram.entry.octets.now result.0 }
+    ensures unlisted { enlists_of server.old.desk ≡ false → S.HallStore.is_clean (store_of server.new.desk)
+        → IsOnlyRead S.HallStore (store_of server.old.desk) (store_of server.new.desk) }
 {
-    let answer = hand_datagram(alloc, desk, log, stamp, way.port, octets);
+    let Datagram { way, octets } = datagram;
+    let answer = server.hand_datagram(log, stamp, way.port, octets);
     let kind = Kind::Datagram(way.port);
     let handover = handover(kind, Some(way.client), octets.len(), &answer);
     let is_sent = send(sender, way, &answer);

@@ -2,14 +2,14 @@
 ghost use Rattle.std.specs.Prelude.{◌≡◌, ◌<◌, ◌&&◌, ◌||◌};
 ghost use Rattle.serve_sockets.specs.Turn.{is_unavailable};
 
-use crate::handing::hand_quiet;
+use crate::handing::Server;
 use crate::handover::{handover, is_unavailable};
-use crate::replying::{Way, reply};
+use crate::replying::{Datagram, Way, reply};
 use crate::ring::Origin;
-use crate::serving::advance;
+use crate::serving::{Now, advance};
 use crate::sockets::{SHORT_PAUSE, Sockets};
 use crate::turn::{Handover, Kind, Said, Source, Stamp, Turn, TurnLog};
-use hall_desk::{Answer, Desk, histories_keep_the_laws};
+use hall_desk::{Answer, Desk, Input, histories_keep_the_laws};
 use hall_store::HallStore;
 use hall_types::Port;
 use std::alloc::Global;
@@ -18,8 +18,7 @@ use std::alloc::Global;
 /// eighth one.
 #[derive(Drop)]
 pub struct Service<S> {
-    alloc: Global,
-    desk: Desk<S>,
+    server: Server<S>,
     sockets: Sockets,
     turns: u8,
     // No quiet moment since the desk's file was opened has left each machine as it was.
@@ -50,8 +49,7 @@ impl<S: HallStore> Service<S> {
         ensures opening { is_opening_of result ≡ true }
     {
         Service {
-            alloc,
-            desk,
+            server: Server { alloc, desk },
             sockets,
             turns: 0,
             is_opening: true,
@@ -70,7 +68,7 @@ impl<S: HallStore> Service<S> {
         ensures desk { result.0 ≡ desk_of self }
         ensures sockets { result.1 ≡ sockets_of self }
     {
-        (self.desk, self.sockets)
+        (self.server.desk, self.sockets)
     }
 
     /// Waits for something to come, if nothing is known to be there: for the source's pause at most, and not at all where machines may be
@@ -113,7 +111,7 @@ impl<S: HallStore> Service<S> {
         match self.sockets.pick() {
             None => Turn::Handed(self.quiet(stamp, log)),
             Some(Origin::Port(port)) => self.datagram(port, stamp, log),
-            Some(Origin::Listener) => self.sockets.accept(self.alloc),
+            Some(Origin::Listener) => self.sockets.accept(self.server.alloc),
             Some(Origin::Connection(slot)) => self.connection(slot, stamp, log),
         }
     }
@@ -135,7 +133,7 @@ impl<S: HallStore> Service<S> {
         ensures shut { result.said ≡ Said.Unavailable → is_opening_of self.new ≡ is_opening_of self.old }
     {
         self.sockets.retry();
-        let (answer, moved) = hand_quiet(self.alloc, &mut self.desk, log, stamp);
+        let (answer, moved) = self.server.hand(log, stamp, Input::Quiet);
         self.may_be_due = moved;
         self.is_opening = is_still_opening(self.is_opening, moved, &answer);
         handover(Kind::Quiet, None, 0, &answer)
@@ -151,10 +149,12 @@ impl<S: HallStore> Service<S> {
             Ok(received) => received,
             Err(turn) => return turn,
         };
-        let way = Way { port, client };
-        let octets = &self.sockets.buffer.as_slice()[..len];
+        let datagram = Datagram {
+            way: Way { port, client },
+            octets: &self.sockets.buffer.as_slice()[..len],
+        };
         let ports = &mut self.sockets.ports;
-        let (handover, is_sent) = reply(self.alloc, &mut self.desk, log, stamp, way, octets, ports);
+        let (handover, is_sent) = reply(&mut self.server, log, stamp, datagram, ports);
         if is_sent {
             Turn::Handed(handover)
         } else {
@@ -173,17 +173,12 @@ impl<S: HallStore> Service<S> {
             self.sockets.rest(Origin::Connection(slot));
             return Turn::Nothing;
         };
-        let now = self.sockets.now();
-        let buffer = self.sockets.buffer.as_mut_slice();
-        let step = advance(
-            &mut connection,
-            self.alloc,
-            &mut self.desk,
-            log,
+        let now = Now {
             stamp,
-            now,
-            buffer,
-        );
+            served: self.sockets.now(),
+        };
+        let buffer = self.sockets.buffer.as_mut_slice();
+        let step = advance(&mut connection, &mut self.server, log, now, buffer);
         self.sockets.settle(slot, connection, step)
     }
 

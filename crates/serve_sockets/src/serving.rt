@@ -3,16 +3,25 @@ ghost use Rattle.std.specs.Prelude.{◌≡◌};
 ghost use Rattle.hall_desk.specs.{Attempt.IsOnlyRead, Desk.{site_of, store_of}, Octets.octets_of, declared.arrival.{Answer.TheVariants.Unavailable, Input.TheVariants.Request}};
 ghost use Rattle.serve_sockets.specs.{Connection.{input_of, left_of, stream_of}, Serving.{IsOnlyMoved, IsRequest, IsStep, IsWaiting}, Turn.{KeepsDesk, Tells}};
 
-use crate::connection::{Connection, Put, Taken};
-use crate::handing::hand;
+use crate::connection::Connection;
+use crate::handing::Server;
 use crate::handover::handover;
 use crate::listing::bearer_of_list;
+use crate::reading::Taken;
 use crate::turn::{Handover, Kind, Stamp, TurnLog};
+use crate::writing::Put;
 use hall_desk::{Answer, Desk, Input};
 use hall_store::HallStore;
 use hall_types::Digest;
 use std::alloc::Global;
 use std::io::{Read, Write};
+
+/// The stamp of a turn, and the served time at it.
+#[derive(Clone, Copy)]
+pub(crate) struct Now {
+    pub(crate) stamp: Stamp,
+    pub(crate) served: u64,
+}
 
 /// What a step of a connection came to.
 pub(crate) enum Step {
@@ -32,22 +41,20 @@ pub(crate) enum Step {
 // Hands the request over. Its answer waits then.
 fn hand_request<T, S: HallStore, L: TurnLog>(
     connection: &mut Connection<T>,
-    alloc: Global,
-    desk: &mut Desk<S>,
+    server: &mut Server<S>,
     log: &mut L,
-    stamp: Stamp,
-    now: u64,
+    now: Now,
 ) -> Handover
-    ensures kept { KeepsDesk S.HallStore desk.old desk.new }
-    ensures waits { S.HallStore.is_clean (store_of desk.new) → IsWaiting S.HallStore (store_of desk.old) (store_of desk.new) (site_of desk.old)
-        stamp.moment stamp.fresh (input_of connection.old) (left_of connection.new) result }
+    ensures kept { KeepsDesk S.HallStore server.old.desk server.new.desk }
+    ensures waits { S.HallStore.is_clean (store_of server.new.desk) → IsWaiting S.HallStore (store_of server.old.desk) (store_of server.new.desk) (site_of server.old.desk)
+        now.stamp.moment now.stamp.fresh (input_of connection.old) (left_of connection.new) result }
 {
     let from = connection.from();
-    let octets = connection.request(alloc);
+    let octets = connection.request(server.alloc);
     let len = octets.as_slice().len();
-    let answer = hand(alloc, desk, log, stamp, Input::Request(octets));
+    let (answer, _) = server.hand(log, now.stamp, Input::Request(octets));
     let handover = handover(Kind::Request, Some(from), len, &answer);
-    connection.answer(answer, now);
+    connection.answer(answer, now.served);
     handover
 }
 
@@ -77,15 +84,15 @@ fn is_known<S: HallStore>(desk: &mut Desk<S>, digest: Digest) -> bool
 }
 
 // Whether a request asks for a list, with the token of an operator who is enabled, and hasn't waited yet. The hall is only read.
-fn may_wait<T, S: HallStore>(connection: &Connection<T>, alloc: Global, desk: &mut Desk<S>) -> bool
-    ensures kept { KeepsDesk S.HallStore desk.old desk.new }
-    ensures read { S.HallStore.is_clean (store_of desk.new) → IsOnlyRead S.HallStore (store_of desk.old) (store_of desk.new) }
+fn may_wait<T, S: HallStore>(connection: &Connection<T>, server: &mut Server<S>) -> bool
+    ensures kept { KeepsDesk S.HallStore server.old.desk server.new.desk }
+    ensures read { S.HallStore.is_clean (store_of server.new.desk) → IsOnlyRead S.HallStore (store_of server.old.desk) (store_of server.new.desk) }
 {
     if connection.is_called() {
         return false;
     }
-    match bearer_of_list(alloc, connection.input()) {
-        Some(digest) => is_known(desk, digest),
+    match bearer_of_list(server.alloc, connection.input()) {
+        Some(digest) => is_known(&mut server.desk, digest),
         None => false,
     }
 }
@@ -93,40 +100,36 @@ fn may_wait<T, S: HallStore>(connection: &Connection<T>, alloc: Global, desk: &m
 // Hands a whole request over, or puts it off if it asks for a list and hasn't waited yet.
 fn decide<T, S: HallStore, L: TurnLog>(
     connection: &mut Connection<T>,
-    alloc: Global,
-    desk: &mut Desk<S>,
+    server: &mut Server<S>,
     log: &mut L,
-    stamp: Stamp,
-    now: u64,
+    now: Now,
 ) -> Step
-    ensures { IsStep S.HallStore desk.old desk.new (IsWaiting S.HallStore (store_of desk.old) (store_of desk.new) (site_of desk.old)
-        stamp.moment stamp.fresh (input_of connection.old) (left_of connection.new)) result }
+    ensures { IsStep S.HallStore server.old.desk server.new.desk (IsWaiting S.HallStore (store_of server.old.desk) (store_of server.new.desk) (site_of server.old.desk)
+        now.stamp.moment now.stamp.fresh (input_of connection.old) (left_of connection.new)) result }
 {
-    if may_wait(connection, alloc, desk) {
+    if may_wait(connection, server) {
         connection.put_off();
         return Step::PutOff;
     }
-    Step::Handed(hand_request(connection, alloc, desk, log, stamp, now))
+    Step::Handed(hand_request(connection, server, log, now))
 }
 
 // Reads once, and hands the request over once it is decided, or puts it off if it asks for a list and hasn't waited yet.
 fn take<T: Read, S: HallStore, L: TurnLog>(
     connection: &mut Connection<T>,
-    alloc: Global,
-    desk: &mut Desk<S>,
+    server: &mut Server<S>,
     log: &mut L,
-    stamp: Stamp,
-    now: u64,
+    now: Now,
     buffer: &mut [u8],
 ) -> Step
-    ensures { IsStep S.HallStore desk.old desk.new (IsRequest S.HallStore (store_of desk.old) (store_of desk.new) (site_of desk.old)
-        stamp.moment stamp.fresh (input_of connection.old) (T.remaining (stream_of connection.old)) (left_of connection.new)) result }
+    ensures { IsStep S.HallStore server.old.desk server.new.desk (IsRequest S.HallStore (store_of server.old.desk) (store_of server.new.desk) (site_of server.old.desk)
+        now.stamp.moment now.stamp.fresh (input_of connection.old) (T.remaining (stream_of connection.old)) (left_of connection.new)) result }
 {
-    match connection.take(alloc, buffer) {
+    match connection.take(server.alloc, buffer) {
         Taken::Waits => Step::Waits,
         Taken::More => Step::Moved,
-        Taken::Whole => decide(connection, alloc, desk, log, stamp, now),
-        Taken::NoMemory => Step::Handed(refuse(connection, alloc, now)),
+        Taken::Whole => decide(connection, server, log, now),
+        Taken::NoMemory => Step::Handed(refuse(connection, server.alloc, now.served)),
         Taken::Failed => Step::Failed,
     }
 }
@@ -147,21 +150,19 @@ fn put<T: Write>(connection: &mut Connection<T>, now: u64) -> Step
 /// it; one that asks for a list waits first until the connection is called. The connection's time goes by the served time.
 pub(crate) fn advance<T: Read + Write, S: HallStore, L: TurnLog>(
     connection: &mut Connection<T>,
-    alloc: Global,
-    desk: &mut Desk<S>,
+    server: &mut Server<S>,
     log: &mut L,
-    stamp: Stamp,
-    now: u64,
+    now: Now,
     buffer: &mut [u8],
 ) -> Step
-    ensures { IsStep S.HallStore desk.old desk.new (IsRequest S.HallStore (store_of desk.old) (store_of desk.new) (site_of desk.old)
-        stamp.moment stamp.fresh (input_of connection.old) (T.remaining (stream_of connection.old)) (left_of connection.new)) result }
+    ensures { IsStep S.HallStore server.old.desk server.new.desk (IsRequest S.HallStore (store_of server.old.desk) (store_of server.new.desk) (site_of server.old.desk)
+        now.stamp.moment now.stamp.fresh (input_of connection.old) (T.remaining (stream_of connection.old)) (left_of connection.new)) result }
 {
     if connection.is_answered() {
-        put(connection, now)
+        put(connection, now.served)
     } else if connection.is_put_off() {
         Step::Waits
     } else {
-        take(connection, alloc, desk, log, stamp, now, buffer)
+        take(connection, server, log, now, buffer)
     }
 }

@@ -1,6 +1,6 @@
 -- Counts as rows by pool and status, and what the statements on them answer and write.
-use Rattle.sql_schema.specs.{Words.{finds_kept, lists_kept, adds_kept, changes_kept, removes_kept, number_order, equal_numbers, count_key, of_counts, in_rows, SpellHall, Spells, is_in, next_rowid, AllByRecursion, option_to_list, bytes_eq, Row, column, map-map, filter-map, filter_same, filter_all, all_of, all_weaker, all_unmap, map_back, Hall, StandUnder, AllByRecursion-listed, key-same, at-put, at-gone, Rows, at, listed, same_key, how_many, CountRow, count_columns, number, and_true, AreRising, AreRising-listed, listed_with_key, same_pair, Entry, item_of, rowid_of, Counts, HallRows, nat_tests, Error, Null, Text, Int, lit, binary, is_true, Binary, Compare, Eq, State, Shown, HasCleanDisk, Survives, FailsToQuery, CommitsShowing, Database, never_follows, counts_go_alone, IsWithin, IsTableRead, within, asked, parameter, equals, cell, rising, IsBefore, shown_answer, sets, shown_same, hall_schema, counts_table, nat_cmp, ordering_then, slice_cmp, Value, Output, value_cmp-Int, value_cmp-Text, status_number, Status, list_counts_is, list_counts_query}, Writing.Makes, declared.creating.TheConstants.LIST_COUNTS}
-use Rattle.sql_items.specs.{CountStatements.{find_count_is, add_count_is, set_count_is, remove_count_is}, Counts.{counting, with_count, text_from, count_values}, declared.counts.TheConstants.{ADD_COUNT, FIND_COUNT, REMOVE_COUNT, SET_COUNT}}
+use Rattle.sql_schema.specs.{Words.{finds_kept, lists_kept, adds_kept, changes_kept, removes_kept, number_order, equal_numbers, count_key, of_counts, in_rows, SpellHall, Spells, is_in, next_rowid, AllByRecursion, option_to_list, bytes_eq, Row, column, map-map, filter-map, filter_same, filter_all, all_of, all_weaker, all_unmap, map_back, Hall, StandUnder, AllByRecursion-listed, key-same, at-put, at-gone, Rows, at, listed, same_key, how_many, CountRow, count_columns, number, and_true, AreRising, AreRising-listed, listed_with_key, same_pair, Entry, item_of, rowid_of, Counts, HallRows, nat_tests, Error, Null, Text, Int, lit, binary, is_true, Binary, Compare, Eq, State, Shown, HasCleanDisk, Survives, FailsToQuery, CommitsShowing, Database, never_follows, goes_alone, IsWithin, IsTableRead, within, asked, parameter, equals, cell, rising, IsBefore, shown_answer, sets, shown_same, hall_schema, counts_table, nat_cmp, ordering_then, slice_cmp, Value, Output, value_cmp-Int, value_cmp-Text, status_number, Status, list_counts_query, add_is, find_is}, Writing.Makes, declared.creating.TheConstants.{LIST_COUNTS, ADD_COUNT}}
+use Rattle.sql_items.specs.{CountStatements.{find_count_is, set_count_is, remove_count_is}, Counts.{counting, with_count, text_from, count_values}, declared.counts.TheConstants.{FIND_COUNT, REMOVE_COUNT, SET_COUNT}}
 use Rattle.std.{proofs.Common.{◌≡◌, ◌&&◌, ◌==◌, ◌≤◌, ℕ, zero, suc, Bool, true, false, cond, if◌then◌else◌, List, [], ◌∷◌, map, filter, Option, Some, None, refl, sym, ap, subst, ◌∙◌, arith, ◌<◌, pos, ap₂, Ordering, Less, Equal, Greater, Result, IfOk, IfErr}, specs.List.Sorted.IsStrictlySortedBy}
 use Rattle.hall_types.specs.Rows.{pairs, numbers}
 use Rattle.sql_schema.specs.ValueLaws as value
@@ -97,7 +97,7 @@ module _ (pool : List ℕ) (status : ℕ) where
         let params = Text pool ∷ number status ∷ number n ∷ [] in
         let are = held.spelt.tables.each of_counts in
         let it = adds_kept pairs rowid_of item_of key_of count_columns (old.now.trees 19) are.rows are.table hall_schema 11 counts_table refl old new held.spelt.schema refl ADD_COUNT.now params count ran.0
-        (lit Null ∷ parameter 0 ∷ parameter 1 ∷ parameter 2 ∷ []) 4 add_count_is (record { rowid = next_rowid (old.now.trees 19); item = row_with n }) (λ _. no_row _ (are.counted pool status ∙ ap in_rows none)) (Null ∷ params) refl
+        (lit Null ∷ parameter 0 ∷ parameter 1 ∷ parameter 2 ∷ []) 4 (add_is of_counts) (record { rowid = next_rowid (old.now.trees 19); item = row_with n }) (λ _. no_row _ (are.counted pool status ∙ ap in_rows none)) (Null ∷ params) refl
         (rw (value.cast-Null, value.cast-Int, value.cast-Int) refl) in
         within ADD_COUNT.now params old new before c _ count held ran (sets of_counts old.now new.now c held.spelt it.0.0 _ it.0.1
         (record { rows = _; table = it.0.2; counted = recount are.rows _ c.counts are.counted pool status n (Some (row_with n)) (one_row n high) (at-put are.rows (count_key pool status) (row_with n)) }))
@@ -122,7 +122,7 @@ module _ (pool : List ℕ) (status : ℕ) where
         let params = Text pool ∷ number status ∷ [] in
         let are = held.spelt.tables.each of_counts in
         let it = removes_kept pairs rowid_of item_of key_of count_columns (old.now.trees 19) are.rows are.table hall_schema 11 counts_table refl old new held.spelt.schema refl REMOVE_COUNT.now params
-        (equals 1 0 ∷ equals 2 1 ∷ []) refl remove_count_is count ran.0 counts_go_alone (count_key pool status) finds in
+        (equals 1 0 ∷ equals 2 1 ∷ []) refl remove_count_is count ran.0 (goes_alone of_counts (λ is. cc)) (count_key pool status) finds in
         within REMOVE_COUNT.now params old new before c _ count held ran (sets of_counts old.now new.now c held.spelt it.0 _ it.1
         (record { rows = _; table = it.2; counted = recount are.rows _ c.counts are.counted pool status 0 None refl (at-gone are.rows (count_key pool status)) }))
 
@@ -157,7 +157,7 @@ Lists h rows = (table : CountRows) × StandUnder key_of table × Have table (λ 
 pub lists_counts : (old new : State) → HasCleanDisk new → Survives old new (CommitsShowing LIST_COUNTS.now [] old) → (r : Result (List Row) Error) → IfOk r (Shown LIST_COUNTS.now [] old new) → IfErr r (FailsToQuery LIST_COUNTS.now [] old new)
     → IsTableRead old new r Lists
 lists_counts old new clean survives r ok err =
-    asked LIST_COUNTS.now [] list_counts_is old new (λ rows. rows) Lists r ok err survives clean (λ h rows got spells.
+    asked LIST_COUNTS.now [] (find_is of_counts) old new (λ rows. rows) Lists r ok err survives clean (λ h rows got spells.
     let are = spells.tables.each of_counts in (
       are.rows,
       are.table.under,

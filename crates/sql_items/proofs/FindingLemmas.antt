@@ -1,5 +1,5 @@
 -- What the queries of machines ask.
-use Rattle.sql_schema.specs.{Words.{equal_keys, rises, finds_kept, lists_kept, machines, of_machines, SpellHall, list_any, option_to_list, nat_tests, take-map, slice_get-map, Text, Blob, Binary, binary, is_true, Trees, IsAscending, Compare, Eq, all_of, ascending_weaker, filter_all, map-map, slice_get-filter, Rows, at, listed, StandUnder, has_uuid, is_named, machine_with_uuid, Hall, Machine, number, or_null, machine_columns, machine_values, and_true, AreRising-listed, list_machines_is, equals, cell, rising, find_machine_is}, Asking.Asks, AskingLaws.asks_by, declared.{creating.TheConstants.FIND_MACHINE, opening.TheConstants.LIST_MACHINES}}
+use Rattle.sql_schema.specs.{Words.{equal_keys, rises, finds_kept, lists_kept, machines, of_machines, SpellHall, list_any, option_to_list, nat_tests, take-map, slice_get-map, Text, Blob, Binary, binary, is_true, Trees, IsAscending, Compare, Eq, all_of, ascending_weaker, filter_all, map-map, slice_get-filter, Rows, at, listed, StandUnder, has_uuid, is_named, machine_with_uuid, Hall, Machine, number, or_null, machine_columns, machine_values, and_true, AreRising-listed, list_machines_is, equals, cell, rising, find_is}, Asking.Asks, AskingLaws.asks_by, declared.creating.TheConstants.{FIND_MACHINE, LIST_MACHINES}}
 use Rattle.sql_items.specs.{MachineStatements.{find_machine_with_image_is, find_uuid_is}, MachineRows.{AsksMachine, number_values, in_row, row_values}, declared.finding.TheConstants.{FIND_MACHINE_WITH_IMAGE, FIND_UUID}}
 use Rattle.std.proofs.Common.{◌≡◌, ◌||◌, ◌<◌, ℕ, cond, List, [], ◌∷◌, map, filter, take, slice_get, Bool, true, false, Option, Some, None, option_map, Less, refl, sym, ap, subst, ◌∙◌, arith, is_some}
 use Rattle.hall_types.specs.Rows.{numbers}
@@ -25,7 +25,7 @@ shown_as values f (Some x) = refl
 
 pub finds_machine : (id : ℕ) → AsksMachine FIND_MACHINE.now (number id ∷ []) (λ h. at h.machines id)
 finds_machine id = record {
-  asks = asks_by find_machine_is (λ db h spells rows a.
+  asks = asks_by (find_is of_machines) (λ db h spells rows a.
       finds_kept numbers machines.rowid machines.item machines.key_of machine_columns (db 11) spells.hall_rows.hall.machines (spells.tables.each of_machines) _ 11 (equals 0 0 ∷ []) machines.shown [] (number id ∷ []) db refl refl rows a id
       (λ m. equal_keys m.id id) machine_values (λ m. refl)
       ∙ shown_as row_values in_row (at spells.hall_rows.hall.machines id) ∙ ap (λ (x : Hall). map row_values (option_to_list (option_map in_row (at x.machines id)))) spells.agrees.hall);

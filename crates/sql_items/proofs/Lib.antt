@@ -5,6 +5,5 @@ pub mod ImageLemmas
 pub mod JoinLemmas
 pub mod ListLemmas
 pub mod MachineLemmas
-pub mod StepLemmas
 pub mod WipeLemmas
 pub mod WordLemmas

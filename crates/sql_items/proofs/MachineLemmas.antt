@@ -1,6 +1,6 @@
 -- What the statements on machines write: a row that still has its version, with RETURNING, and a row that goes after its children.
-use Rattle.sql_schema.specs.Words.{number_key, number_is_free, equal_keys, adds_kept, sets_kept_if, removes_alone, IsKept, TableOf, kept_row, parameters_from, machines, interfaces, boots, orders, wipes, HallRows, cell, equals, lit, Null, Text, Keys, Rows, numbers, at, listed, same_key, of_boots, of_interfaces, of_machines, of_orders, of_wipes, list_any, take-map, Value, Row, cast, cast_row, row_at, with_rowid, Chosen, bound, bound_value, State, ExecutesInside, Shown, ValueRef, all_from, Has, filter_same, any_from_none, key-same, same_number, arch_number, status_number, Hall, Machine, no_row_points, any_along, uncounted, hall_schema, machines_table, interfaces_table, boots_table, orders_table, wipes_table, belongs_to_machine, never_follows, machines_go_alone, number, truth_number, or_null, machine_columns, machine_values, sets, IsWithin, within, shown_within}
-use Rattle.sql_items.specs.{MachineStatements.{add_machine_is, set_machine_is, remove_machine_is}, Machines.{with_machine, without_row, checked_values, HasNoChild, HasVersion}, declared.machines.TheConstants.{ADD_MACHINE, REMOVE_MACHINE, SET_MACHINE}}
+use Rattle.sql_schema.specs.{Words.{number_key, number_is_free, equal_keys, adds_kept, sets_kept_if, removes_alone, IsKept, TableOf, kept_row, parameters_from, machines, interfaces, boots, orders, wipes, HallRows, cell, equals, lit, Null, Text, Keys, Rows, numbers, at, listed, same_key, of_boots, of_interfaces, of_machines, of_orders, of_wipes, list_any, take-map, Value, Row, cast, cast_row, row_at, with_rowid, Chosen, bound, bound_value, State, ExecutesInside, Shown, ValueRef, all_from, Has, filter_same, any_from_none, key-same, same_number, arch_number, status_number, Hall, Machine, no_row_points, any_along, uncounted, hall_schema, machines_table, interfaces_table, boots_table, orders_table, wipes_table, belongs_to_machine, never_follows, machines_go_alone, number, truth_number, or_null, machine_columns, machine_values, sets, IsWithin, within, shown_within, add_is}, declared.creating.TheConstants.ADD_MACHINE, TableStatements.{with_item, without_item}}
+use Rattle.sql_items.specs.{MachineStatements.{set_machine_is, remove_machine_is}, Machines.{checked_values, HasNoChild, HasVersion}, declared.machines.TheConstants.{REMOVE_MACHINE, SET_MACHINE}}
 use Rattle.std.proofs.Common.{◌≡◌, ◌&&◌, ◌||◌, ◌==◌, inl, inr, ℕ, pos, List, [], ◌∷◌, map, length, take, Bool, false, Option, Some, None, Ok, refl, sym, ap, ap₂, subst, ◌∙◌, int_eq, IsPermutation, arith}
 use Rattle.sqlite_schema.specs.declared.schema.Kind.{Kind}
 use Rattle.sqlite.specs.Kind.TheVariants as kind
@@ -26,16 +26,16 @@ cast_machine m =
 -- ---- a new row, and a row that still has its version
 
 pub adds_machine : (old new : State) (before : Hall) (c : HallRows) → IsWithin old before c → (m : Machine) (count : ℕ) → ExecutesInside 0 ADD_MACHINE.now (machine_values m) old new (Ok count)
-    → IsWithin new before (with_machine c m) × (at c.hall.machines m.id ≡ None)
+    → IsWithin new before (with_item machines c m) × (at c.hall.machines m.id ≡ None)
 adds_machine old new before c held m count ran =
     let free = number_is_free machines.key_of machine_columns (old.now.trees 11) c.hall.machines (held.spelt.tables.each of_machines) m.id in
     let it = adds_kept numbers machines.rowid machines.item machines.key_of machine_columns (old.now.trees 11) c.hall.machines (held.spelt.tables.each of_machines) hall_schema 6 machines_table refl old new held.spelt.schema refl
-    ADD_MACHINE.now (machine_values m) count ran.0 machines.given 16 add_machine_is m free (machines.source m) refl (ap (with_rowid Chosen (old.now.trees 11)) (cast_machine m)) in
+    ADD_MACHINE.now (machine_values m) count ran.0 machines.given 16 (add_is of_machines) m free (machines.source m) refl (ap (with_rowid Chosen (old.now.trees 11)) (cast_machine m)) in
     (within ADD_MACHINE.now (machine_values m) old new before c _ count held ran (sets of_machines old.now new.now c held.spelt it.0.0 _ it.0.1 it.0.2), free it.1)
 
 -- where one row is shown, the row had the version, and was changed
 pub sets_machine : (old new : State) (before : Hall) (c : HallRows) → IsWithin old before c → (m : Machine) (was : ℕ) (rows : List Row) → Shown SET_MACHINE.now (checked_values m was) old new rows
-    → length rows ≡ 1 → IsWithin new before (with_machine c m) × HasVersion c m.id was
+    → length rows ≡ 1 → IsWithin new before (with_item machines c m) × HasVersion c m.id was
 sets_machine old new before c held m was rows shown single =
     let it = sets_kept_if numbers machines.rowid machines.item machines.key_of machine_columns (old.now.trees 11) c.hall.machines (held.spelt.tables.each of_machines) hall_schema 6 machines_table refl old new held.spelt.schema refl
     SET_MACHINE.now (checked_values m was) (equals 0 0 ∷ equals 11 15 ∷ []) refl (cell 0 ∷ lit Null ∷ parameters_from 1 14) never_follows m (λ y. same_key numbers y.version was)
@@ -63,7 +63,7 @@ none_kept : {K X E : Type 0} {keys : Keys K} (t : TableOf keys X E) (stored : Li
 none_kept t stored rows is machine_of id none =
     sym (mapped_any (λ x. int_eq (pos (machine_of x)) (pos id)) t.item is.entries) ∙ sym (any_along _ _ _ is.same) ∙ none_in machine_of id (listed rows) none
 
-pub removes_machine : (old new : State) (before : Hall) (c : HallRows) → IsWithin old before c → (id : ℕ) → HasNoChild c id → (count : ℕ) → ExecutesInside 0 REMOVE_MACHINE.now (number id ∷ []) old new (Ok count) → IsWithin new before (without_row c id)
+pub removes_machine : (old new : State) (before : Hall) (c : HallRows) → IsWithin old before c → (id : ℕ) → HasNoChild c id → (count : ℕ) → ExecutesInside 0 REMOVE_MACHINE.now (number id ∷ []) old new (Ok count) → IsWithin new before (without_item machines c id)
 removes_machine old new before c held id alone count ran =
     let each = held.spelt.tables.each in
     let entries = (each of_machines).entries in

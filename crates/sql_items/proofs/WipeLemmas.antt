@@ -1,5 +1,5 @@
 -- What the statements on kinds of erasing ask and write.
-use Rattle.sql_schema.specs.{Words.{equal_keys, rises, number_is_free, finds_kept, lists_kept, adds_kept, removes_kept, wipes, HallRows, of_wipes, wipe_of, filter_map, option_to_list, State, all_of, filter_all, map-map, all_has, Has, Rows, at, numbers, listed, StandUnder, erase_number, AllByRecursion-listed, Hall, Erase, Machine, wipes_go_alone, Wipe, number, wipe_columns, within, AreRising-listed, same_lists, listed_at, at_listed, add_wipe_is, equals, cell, rising, sets, hall_schema, wipes_table, find_wipe_is}, Asking.Asks, Writing.Makes, AskingLaws.asks_by, declared.{creating.TheConstants.FIND_WIPE, opening.TheConstants.ADD_WIPE}}
+use Rattle.sql_schema.specs.{Words.{equal_keys, rises, number_is_free, finds_kept, lists_kept, adds_kept, removes_kept, wipes, HallRows, of_wipes, wipe_of, filter_map, option_to_list, State, all_of, filter_all, map-map, all_has, Has, Rows, at, numbers, listed, StandUnder, erase_number, AllByRecursion-listed, Hall, Erase, Machine, goes_alone, Wipe, number, wipe_columns, within, AreRising-listed, same_lists, listed_at, at_listed, equals, cell, rising, sets, hall_schema, wipes_table, add_is, find_is}, Asking.Asks, Writing.Makes, AskingLaws.asks_by, declared.creating.TheConstants.{FIND_WIPE, ADD_WIPE}}
 use Rattle.sql_items.{specs.{MachineStatements.{list_wipes_is, remove_wipe_is}, declared.wipes.{Erasing.Erasing, TheConstants.{LIST_WIPES, REMOVE_WIPE}}, Wipes.{with_wipe, erasing, erasing_values, erasings}}, proofs.{ListLemmas.{all_mapped, ascending_mapped, mapped_has}, FindingLemmas.{machines_stand, shown_as}}}
 use Rattle.std.{proofs.Common.{◌≡◌, ℕ, [], ◌∷◌, map, true, Option, Some, None, Less, refl, sym, ap, subst₂, ◌∙◌, option_map}, specs.Prelude.option_and_then}
 use Rattle.sql_schema.specs.ValueLaws as value
@@ -30,7 +30,7 @@ listed_wipes kinds machines under stand agree =
 -- ---- reads
 
 pub finds_wipe : (id : ℕ) → Asks erasing_values FIND_WIPE.now (number id ∷ []) (λ h. option_to_list (option_map erasing (option_and_then wipe_of (at h.machines id))))
-finds_wipe id = asks_by find_wipe_is (λ db h spells rows a.
+finds_wipe id = asks_by (find_is of_wipes) (λ db h spells rows a.
     finds_kept numbers wipes.rowid wipes.item wipes.key_of wipe_columns (db 24) spells.hall_rows.wipes (spells.tables.each of_wipes) _ 24 (equals 0 0 ∷ []) (cell 0 ∷ cell 2 ∷ []) [] (number id ∷ []) db refl refl rows a id
     (λ w. equal_keys w.machine id) wipes.values_of (λ w. refl)
     ∙ shown_as erasing_values erasing (at spells.hall_rows.wipes id) ∙ ap (λ o. map erasing_values (option_to_list (option_map erasing o))) (spells.agrees.wipes id))
@@ -58,7 +58,7 @@ module _ {C : Type 0} (state_of : C → State) (id : ℕ) where
       let w : Wipe = record { machine = id; erase = erase } in
       let is = held.spelt.tables.each of_wipes in
       let it = adds_kept numbers wipes.rowid wipes.item wipes.key_of wipe_columns (old.now.trees 24) c.wipes is hall_schema 12 wipes_table refl old new held.spelt.schema refl ADD_WIPE.now (wipes.values_of w) count ran.0
-      wipes.given 3 add_wipe_is w (number_is_free wipes.key_of wipe_columns (old.now.trees 24) c.wipes is id) (wipes.source w) refl (rw (value.cast-Int, value.cast-Null, value.cast-Int) refl) in
+      wipes.given 3 (add_is of_wipes) w (number_is_free wipes.key_of wipe_columns (old.now.trees 24) c.wipes is id) (wipes.source w) refl (rw (value.cast-Int, value.cast-Null, value.cast-Int) refl) in
       within ADD_WIPE.now (wipes.values_of w) old new before c _ count held ran (sets of_wipes old.now new.now c held.spelt it.0.0 _ it.0.1 it.0.2)
 
   pub removes_wipe : (before : Hall) (c : HallRows) → Makes state_of REMOVE_WIPE.now (number id ∷ []) before c (with_wipe c id None)
@@ -66,5 +66,5 @@ module _ {C : Type 0} (state_of : C → State) (id : ℕ) where
       let old = state_of one in
       let new = state_of other in
       let it = removes_kept numbers wipes.rowid wipes.item wipes.key_of wipe_columns (old.now.trees 24) c.wipes (held.spelt.tables.each of_wipes) hall_schema 12 wipes_table refl old new held.spelt.schema refl REMOVE_WIPE.now (number id ∷ [])
-      (equals 0 0 ∷ []) refl remove_wipe_is count ran.0 wipes_go_alone id (λ w. equal_keys w.machine id) in
+      (equals 0 0 ∷ []) refl remove_wipe_is count ran.0 (goes_alone of_wipes (λ is. cc)) id (λ w. equal_keys w.machine id) in
       within REMOVE_WIPE.now (number id ∷ []) old new before c _ count held ran (sets of_wipes old.now new.now c held.spelt it.0 _ it.1 it.2)

@@ -1,14 +1,9 @@
 -- Statements on how many machines there are of each pool and status: each text, and what it is over the tables of a hall. RETURNING reads the parameters, NULL, and then the stored row with its rowid.
 use Rattle.sqlite.specs.Listing.{understood}
 use Rattle.sqlite_tied.specs.Compute.{everything}
-use Rattle.sql_schema.specs.Words.{Null, lit, Insert, Update, Delete, Values, parameter, cell, equals, rising, from_one, only, IsQueryText, IsCommandText, hall_schema}
+use Rattle.sql_schema.specs.Words.{Update, Delete, parameter, cell, equals, rising, from_one, only, IsQueryText, IsCommandText, hall_schema}
 use Rattle.std.proofs.Common.{refl, [], ◌∷◌}
-use Rattle.sql_items.specs.declared.counts.TheConstants.{ADD_COUNT, FIND_COUNT, SET_COUNT, REMOVE_COUNT}
-
--- the count of a pool and a status that had none
-pub add_count_is : IsCommandText hall_schema ADD_COUNT.now (Insert 11 (Values (lit Null ∷ parameter 0 ∷ parameter 1 ∷ parameter 2 ∷ []) 4))
-unfolding understood everything
-add_count_is = record { is = refl; plain = (refl, refl) }
+use Rattle.sql_items.specs.declared.counts.TheConstants.{FIND_COUNT, SET_COUNT, REMOVE_COUNT}
 
 -- the count of a pool and a status
 pub find_count_is : IsQueryText hall_schema FIND_COUNT.now (from_one 19 (equals 1 0 ∷ equals 2 1 ∷ []) (cell 3 ∷ []) (rising 1 ∷ rising 2 ∷ []))

@@ -1,8 +1,8 @@
 -- Counts of machines, changed and listed.
-use Rattle.sql_schema.specs.Words.{bytes_eq, Text, Row, status_number, number, Counts, HallRows}
+use Rattle.sql_schema.specs.{Words.{bytes_eq, Text, Row, status_number, number, Counts, HallRows}, declared.creating.TheConstants.ADD_COUNT}
 use Rattle.std.specs.Prelude.{ℕ, ◌==◌, ◌&&◌, List, [], ◌∷◌, if◌then◌else◌}
 use Rattle.hall_store.specs.declared.count.Count.{Count}
-use Rattle.sql_items.specs.declared.counts.TheConstants.{ADD_COUNT, SET_COUNT}
+use Rattle.sql_items.specs.declared.counts.TheConstants.{SET_COUNT}
 
 -- so many machines in this pool and status, and in each other as before
 abbrev pub counting : Counts → List ℕ → ℕ → ℕ → Counts

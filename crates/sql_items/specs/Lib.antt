@@ -1,9 +1,6 @@
-pub mod Boots
-pub mod Changes
 pub mod ChildLaws
 pub mod CountStatements
 pub mod Counts
-pub mod Interfaces
 pub mod Joining
 pub mod LiveLaws
 pub mod MachineRowLaws
@@ -11,7 +8,7 @@ pub mod MachineRows
 pub mod MachineStatements
 pub mod Machines
 pub mod NumberLaws
-pub mod Orders
+pub mod Numbers
 pub mod TableLaws
 pub mod WipeLaws
 pub mod Wipes

@@ -1,15 +1,10 @@
 -- Laws of the table of live images: what its statements ask and write.
 use Rattle.sqlite.specs.Listing.{understood}
 use Rattle.sqlite_tied.specs.Compute.{everything}
-use Rattle.sql_schema.specs.{Queries.first_from, Words.{lives, parameters_from, equal_keys, rises, lists_kept, sets, list_any, option_to_list, bytes_eq, Null, Int, Text, lit, Error, Row, State, HasCleanDisk, Survives, Shown, FailsToQuery, CommitsShowing, Hall, arch_number, key-same, at, listed, numbers, Live, same_arch, number, live_columns, live_values, IsTableRead, asked, and_true, parameter, equals, cell, rising, of_lives, Values, IsQueryText, IsCommandText, IsReturningText, hall_schema, find_live_is}, TableStatements.{IsTable, add_command, set_command}, TableStatementLaws.{finds, puts}, Asking.Asks, Writing.Puts, declared.creating.TheConstants.FIND_LIVE}
+use Rattle.sql_schema.specs.{Queries.first_from, Words.{lives, parameters_from, equal_keys, rises, lists_kept, sets, list_any, option_to_list, bytes_eq, Null, Int, Text, lit, Error, Row, State, HasCleanDisk, Survives, Shown, FailsToQuery, CommitsShowing, Hall, arch_number, key-same, at, listed, numbers, Live, number, live_columns, live_values, IsTableRead, asked, and_true, parameter, equals, cell, rising, of_lives, Values, IsQueryText, IsReturningText, hall_schema, add_is, find_is, arch_by_number, same_kind}, TableStatements.{IsTable, set_command, with_item}, TableStatementLaws.{finds, puts}, Asking.Asks, Writing.Puts, declared.creating.TheConstants.{FIND_LIVE, ADD_LIVE}}
 use Rattle.std.proofs.Common.{◌≡◌, ◌||◌, ◌==◌, not, ℕ, pos, Bool, true, false, cond, List, [], ◌∷◌, map, filter, take, length, Result, IfOk, IfErr, refl, ap, ◌∙◌, drop, codes}
 use Rattle.sql_schema.specs.ValueLaws as value
-use Rattle.sql_items.specs.{Changes.with_live, declared.lives.TheConstants.{ADD_LIVE, FIND_LIVE_WITH_IMAGE, SET_LIVE}}
-
--- the live image of an architecture that had none
-add_live_is : IsCommandText hall_schema ADD_LIVE.now (add_command lives)
-unfolding understood everything
-add_live_is = record { is = refl; plain = (refl, refl) }
+use Rattle.sql_items.specs.declared.lives.TheConstants.{FIND_LIVE_WITH_IMAGE, SET_LIVE}
 
 -- the first architecture that has a live image
 find_live_with_image_is : IsQueryText hall_schema FIND_LIVE_WITH_IMAGE.now (first_from 10 (equals 2 0 ∷ []) (cell 0 ∷ []) (rising 0 ∷ []))
@@ -35,7 +30,7 @@ is = record {
 }
 
 pub finds_live : (n : ℕ) → Asks live_values FIND_LIVE.now (number n ∷ []) (λ h. option_to_list (at h.lives n))
-finds_live = finds lives is (λ h. h.lives) (λ c. refl) FIND_LIVE.now find_live_is
+finds_live = finds lives is (λ h. h.lives) (λ c. refl) FIND_LIVE.now (find_is of_lives)
 
 -- ---- whether an image is live
 
@@ -65,8 +60,8 @@ finds_with_image image old new clean survives r ok err =
 
 -- ---- writes
 
-pub puts_live : {C : Type 0} (state_of : C → State) (l : Live) → Puts state_of SET_LIVE.now ADD_LIVE.now (live_values l) (λ c. with_live c l)
+pub puts_live : {C : Type 0} (state_of : C → State) (l : Live) → Puts state_of SET_LIVE.now ADD_LIVE.now (live_values l) (λ c. with_item lives c l)
 puts_live state_of l =
-    puts lives is state_of SET_LIVE.now ADD_LIVE.now (cell 0 ∷ lit Null ∷ parameter 1 ∷ []) _ _ 1 refl set_live_is add_live_is l (drop 1 (live_columns l)) refl
-    (λ was. record l { arch = was.arch }) (λ was. refl) (λ was same. ap (λ a. record l { arch = a }) (same_arch was.arch l.arch (key-same numbers (arch_number was.arch) (arch_number l.arch) same)))
+    puts lives is state_of SET_LIVE.now ADD_LIVE.now (cell 0 ∷ lit Null ∷ parameter 1 ∷ []) _ _ 1 refl set_live_is (add_is of_lives) l (drop 1 (live_columns l)) refl
+    (λ was. record l { arch = was.arch }) (λ was. refl) (λ was same. ap (λ a. record l { arch = a }) (same_kind arch_by_number was.arch l.arch (key-same numbers (arch_number was.arch) (arch_number l.arch) same)))
     (λ was. rw (value.cast-Int, value.cast-Null) refl)

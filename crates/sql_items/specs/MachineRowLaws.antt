@@ -1,5 +1,5 @@
 -- Laws of rows of machines: what their columns make of them, and that a row is that of one machine, but for how its disks are erased.
-use Rattle.sql_schema.specs.Words.{option_to_list, Value, Null, Text, Blob, Row, column, Hall, erase_number, at, status_number, Machine, number, or_null, same_arch, same_erase, same_status, same_truth}
+use Rattle.sql_schema.specs.Words.{option_to_list, Value, Null, Text, Blob, Row, column, Hall, erase_number, at, status_number, Machine, number, or_null, same_truth, arch_by_number, erase_by_number, same_kind, status_by_number}
 use Rattle.std.{proofs.Common.{◌≡◌, ℕ, zero, suc, [], ◌∷◌, drop, length, map, Option, Some, None, option_map, refl, sym, ap, ap₂, ◌∙◌}, specs.Prelude.option_and_then}
 use Rattle.sql_items.specs.MachineRows.{found_whole, in_row, number_values, row_values}
 
@@ -49,14 +49,14 @@ same_row a b e =
     let but_erase : in_row a ≡ in_row b =
     rw (
       same_value a.id b.id (ap (λ row. column row 0) e),
-      same_arch a.arch b.arch (same_value _ _ (ap (λ row. column row 1) e)),
+      same_kind arch_by_number a.arch b.arch (same_value _ _ (ap (λ row. column row 1) e)),
       same_optional Blob (λ x y k. cc) (λ x k. cc) a.uuid b.uuid (ap (λ row. column row 2) e),
       pool,
-      same_status a.status b.status (same_value _ _ (ap (λ row. column row 4) e)),
+      same_kind status_by_number a.status b.status (same_value _ _ (ap (λ row. column row 4) e)),
       same_optional Text (λ x y k. cc) (λ x k. cc) a.owner b.owner (ap (λ row. column row 5) e),
       same_optional Text (λ x y k. cc) (λ x k. cc) a.image b.image (ap (λ row. column row 6) e),
       same_truth a.tests b.tests (same_value _ _ (ap (λ row. column row 7) e)),
-      same_optional (λ s. number (status_number s)) (λ x y k. same_status x y (same_value _ _ k)) (λ x k. cc) a.back b.back (ap (λ row. column row 8) e),
+      same_optional (λ s. number (status_number s)) (λ x y k. same_kind status_by_number x y (same_value _ _ k)) (λ x k. cc) a.back b.back (ap (λ row. column row 8) e),
       same_truth a.locked b.locked (same_value _ _ (ap (λ row. column row 9) e)),
       same_value a.version b.version (ap (λ row. column row 10) e),
       same_optional number same_value (λ x k. cc) a.deadline b.deadline (ap (λ row. column row 11) e),
@@ -64,7 +64,7 @@ same_row a b e =
       same_value a.boots b.boots (ap (λ row. column row 13) e),
       same_optional number same_value (λ x k. cc) a.waiting b.waiting (ap (λ row. column row 14) e),
     ) refl in
-    ap₂ (λ (m : Machine) erase. record m { erase = erase }) but_erase (same_list (λ x. number (erase_number x)) (λ x y k. same_erase x y (same_value _ _ k)) a.erase b.erase (ap (drop 15) e))
+    ap₂ (λ (m : Machine) erase. record m { erase = erase }) but_erase (same_list (λ x. number (erase_number x)) (λ x y k. same_kind erase_by_number x y (same_value _ _ k)) a.erase b.erase (ap (drop 15) e))
 
 -- the machine that a hall records, once its row is joined with how its disks are erased
 pub whole_again : (h : Hall) (o : Option Machine) → ((m : Machine) → o ≡ Some m → at h.machines m.id ≡ Some m) → found_whole h (option_map in_row o) ≡ o

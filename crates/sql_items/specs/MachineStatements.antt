@@ -1,14 +1,9 @@
 -- Statements on machines and kinds of erasing: each text, and what it is over the tables of a hall. RETURNING reads the parameters, NULL, and then the stored row with its rowid.
 use Rattle.sqlite.specs.Listing.{understood}
 use Rattle.sqlite_tied.specs.Compute.{everything}
-use Rattle.sql_schema.specs.{TableStatements.{shows_query, add_command, remove_command}, Queries.first_from, Words.{machines, wipes, Null, lit, Query, Update, Values, parameter, cell, equals, at_most, rising, from_one, only, IsQueryText, IsCommandText, IsReturningText, hall_schema}}
+use Rattle.sql_schema.specs.{TableStatements.{shows_query, remove_command}, Queries.first_from, Words.{machines, wipes, Null, lit, Query, Update, Values, parameter, cell, equals, at_most, rising, from_one, only, IsQueryText, IsCommandText, IsReturningText, hall_schema}}
 use Rattle.std.proofs.Common.{refl, [], ◌∷◌, codes}
-use Rattle.sql_items.specs.declared.{finding.TheConstants.{FIND_UUID, FIND_MACHINE_WITH_IMAGE, FIND_EXPIRED}, machines.TheConstants.{ADD_MACHINE, SET_MACHINE, REMOVE_MACHINE}, wipes.TheConstants.{LIST_WIPES, REMOVE_WIPE}}
-
--- a new machine
-pub add_machine_is : IsCommandText hall_schema ADD_MACHINE.now (add_command machines)
-unfolding understood everything
-add_machine_is = record { is = refl; plain = (refl, refl) }
+use Rattle.sql_items.specs.declared.{finding.TheConstants.{FIND_UUID, FIND_MACHINE_WITH_IMAGE, FIND_EXPIRED}, machines.TheConstants.{SET_MACHINE, REMOVE_MACHINE}, wipes.TheConstants.{LIST_WIPES, REMOVE_WIPE}}
 
 -- the machines with a UUID
 pub find_uuid_is : IsQueryText hall_schema FIND_UUID.now (from_one 11 (equals 3 0 ∷ []) (cell 0 ∷ []) (rising 0 ∷ []))

@@ -1,14 +1,6 @@
--- Machines of a hall, changed.
-use Rattle.sql_schema.specs.Words.{Row, Has, Keys, Rows, at, put, gone, listed, Machine, Interface, Boot, Order, Wipe, number, machine_values, HallRows}
+-- Machines of a hall: what a change of them is given, and what it may ask.
+use Rattle.sql_schema.specs.Words.{Row, Has, Keys, Rows, at, listed, Machine, Interface, Boot, Order, Wipe, number, machine_values, HallRows}
 use Rattle.std.specs.Prelude.{◌≡◌, ◌==◌, ℕ, false, [], ◌∷◌, ◌++◌, Some}
-
--- with this row of a machine
-abbrev pub with_machine : HallRows → Machine → HallRows
-with_machine c m = record c { hall = record c.hall { machines = put m.id m c.hall.machines } }
-
--- without the row of the machine with this number
-abbrev pub without_row : HallRows → ℕ → HallRows
-without_row c id = record c { hall = record c.hall { machines = gone id c.hall.machines } }
 
 -- the values of a machine, and the version that its row is to have before
 abbrev pub checked_values : Machine → ℕ → Row

@@ -1,10 +1,10 @@
 -- Laws of the table of the last numbers: what its statements ask and write.
 use Rattle.sqlite.specs.Listing.{understood}
 use Rattle.sqlite_tied.specs.Compute.{everything}
-use Rattle.sql_schema.specs.{Words.{of_last, Error, Null, Int, Binary, Row, lit, op2, State, HasCleanDisk, Survives, Shown, FailsToQuery, CommitsShowing, Compare, Eq, Hall, Numbers, never_follows, IsTableRead, asked, within, and_true, find_numbers_is, parameter, cell, items_in_order, HallRows, sets, changes, hall_schema, hall_table, Update, from_one, only, IsCommandText}, Writing.Makes, declared.creating.TheConstants.FIND_NUMBERS}
+use Rattle.sql_schema.specs.{Words.{of_last, Error, Null, Int, Binary, Row, lit, op2, State, HasCleanDisk, Survives, Shown, FailsToQuery, CommitsShowing, Compare, Eq, Hall, Numbers, never_follows, IsTableRead, asked, within, and_true, parameter, cell, items_in_order, HallRows, sets, changes, hall_schema, hall_table, Update, from_one, only, IsCommandText, find_is}, Writing.Makes, declared.creating.TheConstants.FIND_NUMBERS}
 use Rattle.std.proofs.Common.{◌≡◌, pos, List, [], ◌∷◌, true, Result, IfOk, IfErr, refl, ap, ◌∙◌, arith}
 use Rattle.sql_schema.specs.ValueLaws as value
-use Rattle.sql_items.specs.{Changes.{last_values, schema_values, with_numbers}, declared.numbers.TheConstants.SET_NUMBERS}
+use Rattle.sql_items.specs.{Numbers.{last_values, schema_values, with_numbers}, declared.numbers.TheConstants.SET_NUMBERS}
 
 -- the last numbers, changed
 set_numbers_is : IsCommandText hall_schema SET_NUMBERS.now (Update 0 (only (from_one 0 (op2 (Compare Eq Binary) (cell 0) (lit (Int (pos 1))) ∷ []) (cell 0 ∷ cell 0 ∷ lit Null ∷ cell 2 ∷ parameter 0 ∷ parameter 1 ∷ parameter 2 ∷ []) [])))
@@ -19,7 +19,7 @@ columns last = Null ∷ schema_values last
 pub reads_numbers : (old new : State) (r : Result (List Row) Error) → IfOk r (Shown FIND_NUMBERS.now [] old new) → IfErr r (FailsToQuery FIND_NUMBERS.now [] old new)
     → Survives old new (CommitsShowing FIND_NUMBERS.now [] old) → HasCleanDisk new → IsTableRead old new r (λ h rows. rows ≡ schema_values h.last ∷ [])
 reads_numbers old new r ok err survives clean =
-    asked FIND_NUMBERS.now [] find_numbers_is old new (λ rows. rows) (λ h rows. rows ≡ schema_values h.last ∷ []) r ok err survives clean
+    asked FIND_NUMBERS.now [] (find_is of_last) old new (λ rows. rows) (λ h rows. rows ≡ schema_values h.last ∷ []) r ok err survives clean
     (λ h rows a spells.
     items_in_order (λ (last : Numbers). pos 1) columns [] [] (λ last. true) (λ last. refl) _ 0 (cell 2 ∷ cell 3 ∷ cell 4 ∷ cell 5 ∷ []) [] (spells.hall_rows.hall.last ∷ [])
     old.now.trees (spells.tables.each of_last) refl rows a (tt, tt)

@@ -1,11 +1,11 @@
 -- Laws of the tables of operators, pools, members and receipts: what their statements ask and write.
 use Rattle.sqlite.specs.Listing.{understood}
 use Rattle.sqlite_tied.specs.Compute.{everything}
-use Rattle.sql_schema.specs.{Words.{parameters_from, operators, pools, members, receipts, HallRows, pair_tests, sets, option_to_list, bytes_eq, Int, Text, Blob, State, slice_get-filter, value_cmp-Text, at, put, listed, same_text, key-same, Hall, pair, operator_with_digest, Operator, Pool, Member, Receipt, operator_columns, pool_columns, member_columns, receipt_columns, and_true, add_operator_is, add_pool_is, cell, equals, parameter, of_operators, of_pools, of_members, of_receipts, Values, IsQueryText, IsCommandText, IsReturningText, hall_schema, find_operator_is, find_pool_is, find_member_is, find_receipt_is}, TableStatements.{IsTable, shows_query, add_command, set_command}, TableStatementLaws.{finds, lists, adds, puts}, Asking.Asks, Writing.{Makes, Puts}, declared.{creating.TheConstants.{FIND_MEMBER, FIND_OPERATOR, FIND_POOL, FIND_RECEIPT}, opening.TheConstants.{ADD_OPERATOR, ADD_POOL}}}
+use Rattle.sql_schema.specs.{Words.{parameters_from, operators, pools, members, receipts, HallRows, pair_tests, sets, option_to_list, bytes_eq, Int, Text, Blob, State, slice_get-filter, value_cmp-Text, at, listed, same_text, key-same, Hall, pair, operator_with_digest, Operator, Pool, Member, Receipt, operator_columns, pool_columns, member_columns, receipt_columns, and_true, cell, equals, parameter, of_operators, of_pools, of_members, of_receipts, Values, IsQueryText, IsReturningText, hall_schema, add_is, find_is}, TableStatements.{IsTable, shows_query, set_command, with_item}, TableStatementLaws.{finds, lists, adds, puts}, Asking.Asks, Writing.{Makes, Puts}, declared.creating.TheConstants.{FIND_MEMBER, FIND_OPERATOR, FIND_POOL, FIND_RECEIPT, ADD_MEMBER, ADD_OPERATOR, ADD_POOL, ADD_RECEIPT}}
 use Rattle.std.proofs.Common.{◌≡◌, ℕ, List, [], ◌∷◌, filter, drop, slice_get, None, refl, sym, ap, ◌∙◌, codes}
 use Rattle.hall_types.specs.Rows.{texts}
 use Rattle.sql_schema.specs.ValueLaws as value
-use Rattle.sql_items.specs.{Changes.{with_member, with_operator, with_receipt}, declared.{operators.TheConstants.{FIND_DIGEST, SET_OPERATOR}, pools.TheConstants.ADD_MEMBER, receipts.TheConstants.ADD_RECEIPT}}
+use Rattle.sql_items.specs.declared.operators.TheConstants.{FIND_DIGEST, SET_OPERATOR}
 
 -- ---- operators
 
@@ -33,7 +33,7 @@ are_operators = record {
 }
 
 pub finds_operator : (name : List ℕ) → Asks operator_columns FIND_OPERATOR.now (Text name ∷ []) (λ h. option_to_list (at h.operators name))
-finds_operator = finds operators are_operators (λ h. h.operators) (λ c. refl) FIND_OPERATOR.now find_operator_is
+finds_operator = finds operators are_operators (λ h. h.operators) (λ c. refl) FIND_OPERATOR.now (find_is of_operators)
 
 -- the operators with a digest, by name
 abbrev pub with_digest : List ℕ → Hall → List Operator
@@ -48,9 +48,9 @@ lists_digest digest =
 pub first_with_digest : (digest : List ℕ) (h : Hall) → slice_get (with_digest digest h) 0 ≡ operator_with_digest h digest
 first_with_digest digest h = slice_get-filter (λ o. bytes_eq o.digest digest) (listed h.operators)
 
-pub puts_operator : {C : Type 0} (state_of : C → State) (o : Operator) → Puts state_of SET_OPERATOR.now ADD_OPERATOR.now (operator_columns o) (λ c. with_operator c o)
+pub puts_operator : {C : Type 0} (state_of : C → State) (o : Operator) → Puts state_of SET_OPERATOR.now ADD_OPERATOR.now (operator_columns o) (λ c. with_item operators c o)
 puts_operator state_of o =
-    puts operators are_operators state_of SET_OPERATOR.now ADD_OPERATOR.now (cell 0 ∷ cell 1 ∷ parameter 1 ∷ parameter 2 ∷ parameter 3 ∷ []) _ _ 1 refl set_operator_is add_operator_is o
+    puts operators are_operators state_of SET_OPERATOR.now ADD_OPERATOR.now (cell 0 ∷ cell 1 ∷ parameter 1 ∷ parameter 2 ∷ parameter 3 ∷ []) _ _ 1 refl set_operator_is (add_is of_operators) o
     (drop 1 (operator_columns o)) refl (λ e. record e { item = record o { name = e.item.name } }) (λ e. refl) (λ e same. ap (λ n. record o { name = n }) (key-same texts e.item.name o.name same))
     (λ e. rw (value.cast-Int, value.cast-Int, value.cast-Int) refl)
 
@@ -70,18 +70,13 @@ are_pools = record {
 }
 
 pub finds_pool : (name : List ℕ) → Asks pool_columns FIND_POOL.now (Text name ∷ []) (λ h. option_to_list (at h.pools name))
-finds_pool = finds pools are_pools (λ h. h.pools) (λ c. refl) FIND_POOL.now find_pool_is
+finds_pool = finds pools are_pools (λ h. h.pools) (λ c. refl) FIND_POOL.now (find_is of_pools)
 
 pub adds_pool : {C : Type 0} (state_of : C → State) (p : Pool) (before : Hall) (c : HallRows) → at c.hall.pools p.name ≡ None
-    → Makes state_of ADD_POOL.now (pool_columns p) before c (record c { hall = record c.hall { pools = put p.name p c.hall.pools } })
-adds_pool state_of = adds pools are_pools state_of ADD_POOL.now add_pool_is
+    → Makes state_of ADD_POOL.now (pool_columns p) before c (with_item pools c p)
+adds_pool state_of = adds pools are_pools state_of ADD_POOL.now (add_is of_pools)
 
 -- ---- members
-
--- a new member
-add_member_is : IsCommandText hall_schema ADD_MEMBER.now (add_command members)
-unfolding understood everything
-add_member_is = record { is = refl; plain = (refl, refl) }
 
 are_members : IsTable members
 are_members = record {
@@ -97,18 +92,13 @@ are_members = record {
 }
 
 pub finds_member : (pool operator : List ℕ) → Asks member_columns FIND_MEMBER.now (Text pool ∷ Text operator ∷ []) (λ h. option_to_list (at h.members (pair pool operator)))
-finds_member pool operator = finds members are_members (λ h. h.members) (λ c. refl) FIND_MEMBER.now find_member_is (pair pool operator)
+finds_member pool operator = finds members are_members (λ h. h.members) (λ c. refl) FIND_MEMBER.now (find_is of_members) (pair pool operator)
 
 pub adds_member : {C : Type 0} (state_of : C → State) (m : Member) (before : Hall) (c : HallRows) → at c.hall.members (pair m.pool m.operator) ≡ None
-    → Makes state_of ADD_MEMBER.now (member_columns m) before c (with_member c m)
-adds_member state_of = adds members are_members state_of ADD_MEMBER.now add_member_is
+    → Makes state_of ADD_MEMBER.now (member_columns m) before c (with_item members c m)
+adds_member state_of = adds members are_members state_of ADD_MEMBER.now (add_is of_members)
 
 -- ---- receipts
-
--- a new receipt
-add_receipt_is : IsCommandText hall_schema ADD_RECEIPT.now (add_command receipts)
-unfolding understood everything
-add_receipt_is = record { is = refl; plain = (refl, refl) }
 
 are_receipts : IsTable receipts
 are_receipts = record {
@@ -124,8 +114,8 @@ are_receipts = record {
 }
 
 pub finds_receipt : (operator key : List ℕ) → Asks receipt_columns FIND_RECEIPT.now (Text operator ∷ Blob key ∷ []) (λ h. option_to_list (at h.receipts (pair operator key)))
-finds_receipt operator key = finds receipts are_receipts (λ h. h.receipts) (λ c. refl) FIND_RECEIPT.now find_receipt_is (pair operator key)
+finds_receipt operator key = finds receipts are_receipts (λ h. h.receipts) (λ c. refl) FIND_RECEIPT.now (find_is of_receipts) (pair operator key)
 
 pub adds_receipt : {C : Type 0} (state_of : C → State) (r : Receipt) (before : Hall) (c : HallRows) → at c.hall.receipts (pair r.operator r.key) ≡ None
-    → Makes state_of ADD_RECEIPT.now (receipt_columns r) before c (with_receipt c r)
-adds_receipt state_of = adds receipts are_receipts state_of ADD_RECEIPT.now add_receipt_is
+    → Makes state_of ADD_RECEIPT.now (receipt_columns r) before c (with_item receipts c r)
+adds_receipt state_of = adds receipts are_receipts state_of ADD_RECEIPT.now (add_is of_receipts)

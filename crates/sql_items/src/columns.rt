@@ -3,7 +3,7 @@ ghost use Rattle.sql_schema.specs.Words.{Null, Text, Blob, column, status_number
 ghost use Rattle.std.specs.Prelude.{◌≡◌, IfOk, IsTrue};
 
 use hall_types::{BootCount, MachineUuid, Name, Number, Status, Version};
-use sql_schema::{kind_in, name_in, number_in, small_in, uuid_in};
+use sql_schema::{kind_in, name_in, number_in, octets_in, small_in};
 use sqlite::types::ValueRef;
 use sqlite::{Error, Row};
 
@@ -21,7 +21,7 @@ pub(crate) fn optional_uuid_in(row: &Row, at: usize) -> Result<Option<MachineUui
 {
     match row.get_ref(at)? {
         ValueRef::Null => Ok(None),
-        _ => Ok(Some(uuid_in(row, at)?)),
+        _ => Ok(Some(MachineUuid::from(octets_in(row, at)?))),
     }
 }
 

@@ -6,13 +6,10 @@ ghost use Rattle.sql_items.specs.Counts.{count_values, text_from, with_count};
 
 use hall_store::Count;
 use hall_types::{Name, Status};
-use sql_schema::creating::LIST_COUNTS;
+use sql_schema::creating::{ADD_COUNT, LIST_COUNTS};
 use sql_schema::{kind_in, name_in, name_value, number_value, small_value, write};
 use sqlite::{Alter, Connection, Error, Row, Transaction, params};
 use std::alloc::Global;
-
-// The count of a pool and a status that had none.
-const ADD_COUNT: &str = "INSERT INTO counts (pool, status, machines) VALUES (?1, ?2, ?3)";
 
 // The count of a pool and a status.
 const FIND_COUNT: &str =

@@ -1,20 +1,15 @@
 //! The table of images.
-ghost use Rattle.sql_schema.specs.{Words.{option_to_list, Text, state, column, HasCleanDisk, Survives, BootImage, arch_number, at, number, image_columns, words_in, HasWords, IsTableRead}, Steps.{IsWritten, always}};
+ghost use Rattle.sql_schema.specs.{Words.{option_to_list, Text, state, column, HasCleanDisk, Survives, BootImage, arch_number, at, number, image_columns, words_in, HasWords, IsTableRead, images}, Steps.{IsWritten, always}, TableStatements.{with_item, without_item}};
 ghost use Rattle.std.specs.Prelude.{◌≡◌, IfOk, List, ℕ, map, Option, None, Some};
-ghost use Rattle.sql_items.specs.Changes.{with_image, without_image};
 
 use crate::words::{joined_words, words_of};
 use hall_types::{Image, Name, arch_number};
 use ipxe_script::{Uri, Word, WordFault};
-use sql_schema::creating::FIND_IMAGE;
+use sql_schema::creating::{ADD_IMAGE, FIND_IMAGE};
 use sql_schema::{kind_in, name_in, name_value, small_value, text_value, write};
 use sqlite::types::Type;
 use sqlite::{Alter, Connection, Error, ErrorCode, Row, Transaction};
 use std::alloc::Global;
-
-// A new image.
-const ADD_IMAGE: &str =
-    "INSERT INTO images (name, arch, kernel, initrd, args) VALUES (?1, ?2, ?3, ?4, ?5)";
 
 // The image with a name goes.
 const REMOVE_IMAGE: &str = "DELETE FROM images WHERE name = ?1";
@@ -95,7 +90,7 @@ pub fn add_image<S: Alter>(
     image: &Image,
 ) -> Result<(), Error>
     ensures same_reference { tx.new.conn.ghost_name ≡ tx.old.conn.ghost_name }
-    ensures written { HasCleanDisk (state S.Store tx.new.conn.now) → IsWritten (state S.Store tx.old.conn.now) (state S.Store tx.new.conn.now) result (λ c. at c.hall.images image.now.name ≡ None) (λ c. with_image c image.now) }
+    ensures written { HasCleanDisk (state S.Store tx.new.conn.now) → IsWritten (state S.Store tx.old.conn.now) (state S.Store tx.new.conn.now) result (λ c. at c.hall.images image.now.name ≡ None) (λ c. with_item images c image.now) }
     ensures survives { Survives (state S.Store tx.old.conn.now) (state S.Store tx.new.conn.now) (λ _. ⊥) }
 {
     image.is_image();
@@ -118,7 +113,7 @@ pub fn add_image<S: Alter>(
 /// The image with this name goes. It has to be nobody's: a table that refers to it refuses.
 pub fn remove_image<S: Alter>(tx: &mut Transaction<'_, S>, name: &Name) -> Result<(), Error>
     ensures same_reference { tx.new.conn.ghost_name ≡ tx.old.conn.ghost_name }
-    ensures written { HasCleanDisk (state S.Store tx.new.conn.now) → IsWritten (state S.Store tx.old.conn.now) (state S.Store tx.new.conn.now) result always (λ c. without_image c name.now) }
+    ensures written { HasCleanDisk (state S.Store tx.new.conn.now) → IsWritten (state S.Store tx.old.conn.now) (state S.Store tx.new.conn.now) result always (λ c. without_item images c name.now) }
     ensures survives { Survives (state S.Store tx.old.conn.now) (state S.Store tx.new.conn.now) (λ _. ⊥) }
 {
     write(tx, REMOVE_IMAGE, &[name_value(name)])

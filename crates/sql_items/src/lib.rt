@@ -20,20 +20,20 @@ mod rows;
 mod wipes;
 mod words;
 
-pub use boots::{Boots, find_boot, put_boot, remove_boots};
+pub use boots::{Boots, REMOVE_BOOTS, put_boot};
 pub use counts::{count_down, count_up, list_counts};
 pub use finding::{find_machine, find_uuid, has_machine_with_image, next_expired};
 pub use images::{add_image, find_image, remove_image};
 pub use interfaces::{
-    Interfaces, add_interface, find_interface, interfaces_of, list_interfaces, remove_interface,
-    remove_interfaces,
+    FIND_INTERFACES, Interfaces, LIST_INTERFACES, REMOVE_INTERFACES, add_interface,
+    remove_interface,
 };
 pub use listing::list_machines;
-pub use lives::{find_live, is_live, put_live};
+pub use lives::{Lives, is_live, put_live};
 pub use machines::{add_machine, remove_row, set_machine};
 pub use numbers::{find_numbers, set_numbers};
-pub use operators::{Operators, find_operator, find_operator_with_digest, put_operator};
-pub use orders::{Orders, find_order, put_order, remove_orders, waiting_orders};
-pub use pools::{Members, Pools, add_member, add_pool, find_member, find_pool};
-pub use receipts::{Receipts, add_receipt, find_receipt};
+pub use operators::{FIND_DIGEST, Operators, put_operator};
+pub use orders::{LIST_WAITING_ORDERS, Orders, REMOVE_ORDERS, put_order};
+pub use pools::{Members, Pools, add_member, add_pool};
+pub use receipts::{Receipts, add_receipt};
 pub use wipes::{Erasing, Wipes, find_wipe, list_wipes, put_wipe};

@@ -7,7 +7,7 @@ use crate::rows::MachineRows;
 use crate::wipes::{Erasing, list_wipes};
 use hall_types::{Erase, Machine, Number};
 use sql_schema::ask_all;
-use sql_schema::opening::LIST_MACHINES;
+use sql_schema::creating::LIST_MACHINES;
 use sqlite::{Alter, Connection, Error};
 use std::alloc::Global;
 

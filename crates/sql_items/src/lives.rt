@@ -1,16 +1,11 @@
 //! The table of live images.
-ghost use Rattle.sql_schema.specs.{Words.{list_any, bytes_eq, state, HasCleanDisk, Survives, arch_number, at, listed, live_values, same_arch, IsTableRead}, Steps.{IsWritten, always}};
+ghost use Rattle.sql_schema.specs.{Words.{list_any, bytes_eq, state, HasCleanDisk, Survives, arch_number, listed, live_values, IsTableRead, lives, arch_by_number, same_kind}, Steps.{IsWritten, always}, TableStatements.with_item};
 ghost use Rattle.std.{specs.Prelude.◌≡◌, proofs.Common.rules};
-ghost use Rattle.sql_items.specs.Changes.{with_live};
 
 use hall_types::{Live, Name, arch_number};
-use pxe_vendor::Arch;
-use sql_schema::creating::FIND_LIVE;
-use sql_schema::{Table, ask_one, kind_in, name_in, name_value, put, small_value};
+use sql_schema::creating::ADD_LIVE;
+use sql_schema::{Table, kind_in, name_in, name_value, put, small_value};
 use sqlite::{Alter, Connection, Error, Row, Transaction};
-
-// The live image of an architecture that had none.
-const ADD_LIVE: &str = "INSERT INTO lives (arch, image) VALUES (?1, ?2)";
 
 // The first architecture that has a live image.
 const FIND_LIVE_WITH_IMAGE: &str = "SELECT arch FROM lives WHERE image = ?1 ORDER BY arch LIMIT 1";
@@ -18,8 +13,8 @@ const FIND_LIVE_WITH_IMAGE: &str = "SELECT arch FROM lives WHERE image = ?1 ORDE
 // The live image of an architecture, changed if it has one.
 const SET_LIVE: &str = "UPDATE lives SET image = ?2 WHERE arch = ?1 RETURNING arch";
 
-// The table of live images, by what it stores.
-struct Lives;
+/// The table of live images, by what it stores.
+pub struct Lives;
 
 impl Table for Lives {
     type Item = Live;
@@ -35,15 +30,7 @@ impl Table for Lives {
         Ok(Live { arch, image })
     }
 
-    ghost single = { Prim.search (rules, same_arch) };
-}
-
-/// The live image of an architecture, if it has one.
-pub fn find_live<S: Alter>(conn: &mut Connection<S>, arch: Arch) -> Result<Option<Live>, Error>
-    ensures clean { HasCleanDisk (state S.Store conn.new) → HasCleanDisk (state S.Store conn.old) }
-    ensures asked { HasCleanDisk (state S.Store conn.new) → IsTableRead (state S.Store conn.old) (state S.Store conn.new) result (λ h live. live ≡ at h.lives (arch_number arch)) }
-{
-    ask_one::<Lives, S>(conn, FIND_LIVE, &[small_value(arch_number(arch))])
+    ghost single = { Prim.search (rules, same_kind arch_by_number) };
 }
 
 /// Whether an image is some architecture's live image.
@@ -60,7 +47,7 @@ pub fn is_live<S: Alter>(conn: &mut Connection<S>, image: &Name) -> Result<bool,
 /// A live image's row, new or in place of the one that has its key.
 pub fn put_live<S: Alter>(tx: &mut Transaction<'_, S>, live: &Live) -> Result<(), Error>
     ensures same_reference { tx.new.conn.ghost_name ≡ tx.old.conn.ghost_name }
-    ensures written { HasCleanDisk (state S.Store tx.new.conn.now) → IsWritten (state S.Store tx.old.conn.now) (state S.Store tx.new.conn.now) result always (λ c. with_live c live.now) }
+    ensures written { HasCleanDisk (state S.Store tx.new.conn.now) → IsWritten (state S.Store tx.old.conn.now) (state S.Store tx.new.conn.now) result always (λ c. with_item lives c live.now) }
     ensures survives { Survives (state S.Store tx.old.conn.now) (state S.Store tx.new.conn.now) (λ _. ⊥) }
 {
     put(

@@ -1,16 +1,13 @@
 //! The table of machines: a new row, a row that changes while it still has its version, and a row that goes after its children.
-ghost use Rattle.sql_schema.specs.{Words.{Blob, Text, state, HasCleanDisk, ExecutesInside, Survives, Shown, FailsToQuery, IsTooLate, bound, owned, Hall, at, status_number, machine_values, number, or_null, IsWithin, HallRows}, Steps.{IsStep, IsWritten}};
+ghost use Rattle.sql_schema.specs.{Words.{Blob, Text, state, HasCleanDisk, ExecutesInside, Survives, Shown, FailsToQuery, IsTooLate, bound, owned, Hall, at, status_number, machine_values, number, or_null, IsWithin, HallRows, machines}, Steps.{IsStep, IsWritten}, TableStatements.{with_item, without_item}};
 ghost use Rattle.std.specs.Prelude.{◌≡◌, ◌⊎◌, ◌<◌, ◌≤◌, ◌^◌, length, take, IfOk, IfErr, IfSome, IsTrue, None};
-ghost use Rattle.sql_items.specs.Machines.{HasNoChild, HasVersion, checked_values, with_machine, without_row};
+ghost use Rattle.sql_items.specs.Machines.{HasNoChild, HasVersion, checked_values};
 
 use hall_types::{Machine, MachineUuid, Name, Number, Status, Version, arch_number};
+use sql_schema::creating::ADD_MACHINE;
 use sql_schema::{name_value, number_value, octets_value, small_value, truth_value, write};
 use sqlite::types::ValueRef;
 use sqlite::{Alter, Error, Row, Transaction};
-
-// A new machine.
-const ADD_MACHINE: &str =
-    "INSERT INTO machines (id, arch, uuid, pool, status, owner, image, tests, back, locked, version, deadline, boot, boots, waiting) VALUES (?1, ?2, ?3, ?4, ?5, ?6, ?7, ?8, ?9, ?10, ?11, ?12, ?13, ?14, ?15)";
 
 // The machine with a number goes.
 const REMOVE_MACHINE: &str = "DELETE FROM machines WHERE id = ?1";
@@ -107,7 +104,7 @@ fn row_params<'b, 'a>(checked: &'b [ValueRef<'a>]) -> &'b [ValueRef<'a>]
 pub fn add_machine<S: Alter>(tx: &mut Transaction<'_, S>, machine: &Machine) -> Result<usize, Error>
     requires { IfSome machine.now.deadline (λ moment. moment < 2 ^ 63) }
     ensures same_reference { tx.new.conn.ghost_name ≡ tx.old.conn.ghost_name }
-    ensures written { HasCleanDisk (state S.Store tx.new.conn.now) → IsStep (state S.Store tx.old.conn.now) (state S.Store tx.new.conn.now) result (λ _. (before : Hall) (c : HallRows) → IsWithin (state S.Store tx.old.conn.now) before c → IsWithin (state S.Store tx.new.conn.now) before (with_machine c machine.now) × (at c.hall.machines machine.now.id ≡ None)) }
+    ensures written { HasCleanDisk (state S.Store tx.new.conn.now) → IsStep (state S.Store tx.old.conn.now) (state S.Store tx.new.conn.now) result (λ _. (before : Hall) (c : HallRows) → IsWithin (state S.Store tx.old.conn.now) before c → IsWithin (state S.Store tx.new.conn.now) before (with_item machines c machine.now) × (at c.hall.machines machine.now.id ≡ None)) }
     ensures survives { Survives (state S.Store tx.old.conn.now) (state S.Store tx.new.conn.now) (λ _. ⊥) }
 {
     let uuid = uuid_octets(machine.uuid);
@@ -124,7 +121,7 @@ pub fn set_machine<S: Alter>(
 ) -> Result<(), Error>
     requires { IfSome machine.now.deadline (λ moment. moment < 2 ^ 63) }
     ensures same_reference { tx.new.conn.ghost_name ≡ tx.old.conn.ghost_name }
-    ensures written { HasCleanDisk (state S.Store tx.new.conn.now) → IsStep (state S.Store tx.old.conn.now) (state S.Store tx.new.conn.now) result (λ _. (before : Hall) (c : HallRows) → IsWithin (state S.Store tx.old.conn.now) before c → IsWithin (state S.Store tx.new.conn.now) before (with_machine c machine.now) × HasVersion c machine.now.id was) }
+    ensures written { HasCleanDisk (state S.Store tx.new.conn.now) → IsStep (state S.Store tx.old.conn.now) (state S.Store tx.new.conn.now) result (λ _. (before : Hall) (c : HallRows) → IsWithin (state S.Store tx.old.conn.now) before c → IsWithin (state S.Store tx.new.conn.now) before (with_item machines c machine.now) × HasVersion c machine.now.id was) }
     ensures survives { Survives (state S.Store tx.old.conn.now) (state S.Store tx.new.conn.now) (λ _. ⊥) }
 {
     let uuid = uuid_octets(machine.uuid);
@@ -144,7 +141,7 @@ pub fn set_machine<S: Alter>(
 /// The row of the machine with this number goes, after its interfaces, boots, orders and kind of erasing went.
 pub fn remove_row<S: Alter>(tx: &mut Transaction<'_, S>, id: Number) -> Result<(), Error>
     ensures same_reference { tx.new.conn.ghost_name ≡ tx.old.conn.ghost_name }
-    ensures written { HasCleanDisk (state S.Store tx.new.conn.now) → IsWritten (state S.Store tx.old.conn.now) (state S.Store tx.new.conn.now) result (λ c. HasNoChild c id) (λ c. without_row c id) }
+    ensures written { HasCleanDisk (state S.Store tx.new.conn.now) → IsWritten (state S.Store tx.old.conn.now) (state S.Store tx.new.conn.now) result (λ c. HasNoChild c id) (λ c. without_item machines c id) }
     ensures survives { Survives (state S.Store tx.old.conn.now) (state S.Store tx.new.conn.now) (λ _. ⊥) }
 {
     write(tx, REMOVE_MACHINE, &[number_value(id.get())])

@@ -1,7 +1,7 @@
 //! The table of the last numbers, which has one row.
 ghost use Rattle.sql_schema.specs.{Words.{state, column, HasCleanDisk, Survives, number, IsTableRead}, Steps.{IsWritten, always}};
 ghost use Rattle.std.specs.Prelude.{◌≡◌, IfOk, OnOk, length, [], ◌∷◌};
-ghost use Rattle.sql_items.specs.Changes.{schema_values, with_numbers};
+ghost use Rattle.sql_items.specs.Numbers.{schema_values, with_numbers};
 
 use hall_types::{LastIssued, Numbers};
 use sql_schema::creating::FIND_NUMBERS;

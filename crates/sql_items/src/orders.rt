@@ -1,25 +1,18 @@
 //! The table of orders.
-ghost use Rattle.sql_schema.specs.{Words.{state, HasCleanDisk, Survives, at, waiting, order_values, same_order_kind, same_order_stage, IsTableRead}, Steps.{IsWritten, always}};
+ghost use Rattle.sql_schema.specs.{Words.{state, HasCleanDisk, Survives, order_values, orders, order_kind_by_number, order_stage_by_number, same_kind}, Steps.{IsWritten, always}, TableStatements.with_item};
 ghost use Rattle.std.{specs.Prelude.◌≡◌, proofs.Common.rules};
-ghost use Rattle.sql_items.specs.Orders.{with_order, without_orders};
 
-use hall_types::{Number, Order};
-use sql_schema::creating::FIND_ORDER;
-use sql_schema::{
-    Table, ask_all, ask_one, kind_in, number_in, number_value, put, small_value, write,
-};
-use sqlite::{Alter, Connection, Error, Row, Transaction};
-use std::alloc::Global;
+use hall_types::Order;
+use sql_schema::creating::ADD_ORDER;
+use sql_schema::{Table, kind_in, number_in, number_value, put, small_value};
+use sqlite::{Alter, Error, Row, Transaction};
 
-// A new order.
-const ADD_ORDER: &str = "INSERT INTO orders (number, machine, kind, stage) VALUES (?1, ?2, ?3, ?4)";
-
-// The orders that wait.
-const LIST_WAITING_ORDERS: &str =
+/// The orders that wait.
+pub const LIST_WAITING_ORDERS: &str =
     "SELECT number, machine, kind, stage FROM orders WHERE stage = 0 ORDER BY number";
 
-// The orders of a machine go.
-const REMOVE_ORDERS: &str = "DELETE FROM orders WHERE machine = ?1";
+/// The orders of a machine go.
+pub const REMOVE_ORDERS: &str = "DELETE FROM orders WHERE machine = ?1";
 
 // An order, changed if it is there.
 const SET_ORDER: &str =
@@ -45,32 +38,13 @@ impl Table for Orders {
         })
     }
 
-    ghost single = { Prim.search (rules, same_order_kind, same_order_stage) };
-}
-
-/// The order with this number, if there is one.
-pub fn find_order<S: Alter>(conn: &mut Connection<S>, id: Number) -> Result<Option<Order>, Error>
-    ensures clean { HasCleanDisk (state S.Store conn.new) → HasCleanDisk (state S.Store conn.old) }
-    ensures asked { HasCleanDisk (state S.Store conn.new) → IsTableRead (state S.Store conn.old) (state S.Store conn.new) result (λ h order. order ≡ at h.orders id) }
-{
-    ask_one::<Orders, S>(conn, FIND_ORDER, &[number_value(id.get())])
-}
-
-/// The orders that wait, by number. `alloc` is for the answer.
-pub fn waiting_orders<S: Alter>(
-    conn: &mut Connection<S>,
-    alloc: Global,
-) -> Result<Vec<Order>, Error>
-    ensures clean { HasCleanDisk (state S.Store conn.new) → HasCleanDisk (state S.Store conn.old) }
-    ensures asked { HasCleanDisk (state S.Store conn.new) → IsTableRead (state S.Store conn.old) (state S.Store conn.new) result (λ h orders. orders.items ≡ waiting h) }
-{
-    ask_all::<Orders, S>(conn, alloc, LIST_WAITING_ORDERS, &[])
+    ghost single = { Prim.search (rules, same_kind order_kind_by_number, same_kind order_stage_by_number) };
 }
 
 /// An order's row, new or in place of the one that has its key.
 pub fn put_order<S: Alter>(tx: &mut Transaction<'_, S>, order: &Order) -> Result<(), Error>
     ensures same_reference { tx.new.conn.ghost_name ≡ tx.old.conn.ghost_name }
-    ensures written { HasCleanDisk (state S.Store tx.new.conn.now) → IsWritten (state S.Store tx.old.conn.now) (state S.Store tx.new.conn.now) result always (λ c. with_order c order.now) }
+    ensures written { HasCleanDisk (state S.Store tx.new.conn.now) → IsWritten (state S.Store tx.old.conn.now) (state S.Store tx.new.conn.now) result always (λ c. with_item orders c order.now) }
     ensures survives { Survives (state S.Store tx.old.conn.now) (state S.Store tx.new.conn.now) (λ _. ⊥) }
 {
     put(
@@ -84,13 +58,4 @@ pub fn put_order<S: Alter>(tx: &mut Transaction<'_, S>, order: &Order) -> Result
             small_value(order.stage.number()),
         ],
     )
-}
-
-/// The orders of the machine with this number go.
-pub fn remove_orders<S: Alter>(tx: &mut Transaction<'_, S>, id: Number) -> Result<(), Error>
-    ensures same_reference { tx.new.conn.ghost_name ≡ tx.old.conn.ghost_name }
-    ensures written { HasCleanDisk (state S.Store tx.new.conn.now) → IsWritten (state S.Store tx.old.conn.now) (state S.Store tx.new.conn.now) result always (λ c. without_orders c id) }
-    ensures survives { Survives (state S.Store tx.old.conn.now) (state S.Store tx.new.conn.now) (λ _. ⊥) }
-{
-    write(tx, REMOVE_ORDERS, &[number_value(id.get())])
 }

@@ -1,11 +1,10 @@
 //! The table of kinds of erasing: how the disks of a machine are erased, while they are to be.
-ghost use Rattle.sql_schema.specs.{Words.{state, HasCleanDisk, Survives, same_erase, IsTableRead}, Steps.{IsWritten, always}};
+ghost use Rattle.sql_schema.specs.{Words.{state, HasCleanDisk, Survives, IsTableRead, erase_by_number, same_kind}, Steps.{IsWritten, always}};
 ghost use Rattle.std.{specs.Prelude.{◌≡◌, option_map}, proofs.Common.rules};
 ghost use Rattle.sql_items.specs.Wipes.{erase_of, erasing_values, erasings, with_wipe};
 
 use hall_types::{Erase, Number};
-use sql_schema::creating::FIND_WIPE;
-use sql_schema::opening::ADD_WIPE;
+use sql_schema::creating::{ADD_WIPE, FIND_WIPE};
 use sql_schema::{Table, ask_all, ask_one, kind_in, number_in, number_value, small_value, write};
 use sqlite::{Alter, Connection, Error, Row, Transaction};
 use std::alloc::Global;
@@ -40,7 +39,7 @@ impl Table for Wipes {
         Ok(Erasing { machine, erase })
     }
 
-    ghost single = { Prim.search (rules, same_erase) };
+    ghost single = { Prim.search (rules, same_kind erase_by_number) };
 }
 
 fn kind_found(found: Option<Erasing>) -> Option<Erase>

@@ -1,5 +1,5 @@
 -- Laws of what a write sets off, for the proofs of callers: a write that meets no child is its one step.
-use Rattle.sql_schema.specs.{Prelude.{list_any, AllByRecursion, filter_map, cons_option, Decides-eqb, Null, Int, Binary, Row, column, binary, is_true, Table, Schema, Trees, has_rowid, Edit, row_at, taken_by, Applies, Compare, Eq, plain, value_cmp-Int, agree, ParentKey, parent_key, Enforced, Reference, NoAction, Has, Work, works, work_for, work_by, deed_for, deed_of, loses, Leads, Writes, ActsOn, AreChildren, is_child_of, Deed, all_map, any_from_none, none_from_any, same_int}, Cascades.{IsIdle, cascade, NeverFollows}, Rows.row_of, StatementLaws.same_value, ListLaws.{any_along, all_passed, has_map, has_none}, ValueLaws.{same_number, number_null}}
+use Rattle.sql_schema.specs.{Prelude.{list_any, AllByRecursion, filter_map, cons_option, Decides-eqb, Null, Int, Binary, Row, column, binary, is_true, Table, Schema, Trees, has_rowid, Edit, row_at, taken_by, Applies, Compare, Eq, plain, value_cmp-Int, agree, ParentKey, parent_key, Enforced, Reference, NoAction, Has, Work, works, work_for, work_by, deed_for, deed_of, loses, Leads, Writes, ActsOn, AreChildren, is_child_of, Deed, all_map, any_from_none, none_from_any, same_int, all_of, all_weaker}, Cascades.{IsIdle, cascade, NeverFollows}, Rows.row_of, StatementLaws.same_value, ListLaws.{any_along, all_passed, has_map, has_none}, ValueLaws.{same_number, number_null}}
 use Rattle.std.proofs.Common.{◌≡◌, ◌⊎◌, ◌&&◌, ◌==◌, not, inl, inr, ℕ, zero, suc, ℤ, List, [], ◌∷◌, ◌++◌, length, map, filter, Bool, true, false, cond, Option, Some, None, IfSome, Ok, refl, sym, ap, subst, ◌∙◌, int_eq, is_eq, IsPermutation, true≢false, flat_map, arith}
 use Rattle.sqlite_value.specs.{declared.keys.Order.Order, Keys.first_key}
 use Rattle.sqlite_schema.specs.declared.schema.Keys.{Keys}
@@ -39,14 +39,6 @@ no_works : {A B : Type 0} (f : A → List B) (xs : List A) → AllByRecursion (�
 no_works f [] h = refl
 no_works f (x ∷ xs) h = ap (λ l. l ++ flat_map f xs) h.0 ∙ no_works f xs h.1
 
-each : {A : Type 0} (P : A → Type 0) → ((x : A) → P x) → (xs : List A) → AllByRecursion P xs
-each P all [] = tt
-each P all (x ∷ xs) = (all x, each P all xs)
-
-weaker : {A : Type 0} (P Q : A → Type 0) → ((x : A) → P x → Q x) → (xs : List A) → AllByRecursion P xs → AllByRecursion Q xs
-weaker P Q gives [] h = tt
-weaker P Q gives (x ∷ xs) h = (gives x h.0, weaker P Q gives xs h.1)
-
 never : (b : Bool) (w : Work) → cond (b && false) (Some w) None ≡ None
 never true w = refl
 never false w = refl
@@ -60,8 +52,8 @@ no_move depth tree child ref (Some deed) (Some key) = never (key.0 == tree) (rec
 pub insert_is_quiet : (schema : Schema) (keys : Keys) (depth tree : ℕ) (news : List Row) → works schema keys depth tree [] news ≡ []
 insert_is_quiet schema keys depth tree news =
     no_works (λ child. filter_map (work_for schema keys depth tree [] news child) child.references) schema.tables
-    (each _ (λ child. no_work (work_for schema keys depth tree [] news child) child.references
-    (each _ (λ ref. no_move depth tree child ref (deed_for keys (length news == 0) ref) (parent_key schema.tables ref)) child.references)) schema.tables)
+    (all_of _ (λ child. no_work (work_for schema keys depth tree [] news child) child.references
+    (all_of _ (λ ref. no_move depth tree child ref (deed_for keys (length news == 0) ref) (parent_key schema.tables ref)) child.references)) schema.tables)
 
 some_length : (n : Row) (news : List Row) → (length (n ∷ news) == 0) ≡ false
 some_length n news = go (length (n ∷ news) == 0) refl
@@ -76,7 +68,7 @@ update_is_quiet schema stays depth tree [] news same = insert_is_quiet schema En
 update_is_quiet schema stays depth tree (old ∷ olds) [] same = absurd (omega (arith, same))
 update_is_quiet schema stays depth tree (old ∷ olds) (n ∷ news) same =
     no_works (λ child. filter_map (work_for schema Enforced depth tree (old ∷ olds) (n ∷ news) child) child.references) schema.tables
-    (weaker _ _ (λ child h. no_work (work_for schema Enforced depth tree (old ∷ olds) (n ∷ news) child) child.references (weaker _ _ (λ ref e. none child ref e) child.references h)) schema.tables stays)
+    (all_weaker _ _ (λ child h. no_work (work_for schema Enforced depth tree (old ∷ olds) (n ∷ news) child) child.references (all_weaker _ _ (λ ref e. none child ref e) child.references h)) schema.tables stays)
   where
     none : (child : Table) (ref : Reference) → ref.on_update ≡ NoAction → work_for schema Enforced depth tree (old ∷ olds) (n ∷ news) child ref ≡ None
     none child ref e =

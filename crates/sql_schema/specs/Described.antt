@@ -1,6 +1,6 @@
 -- The tables of a hall, each described once: the columns of its rows after the rowid, what its statements say, and its place among all. The column of an INTEGER PRIMARY KEY is stored as NULL.
-use Rattle.sql_schema.specs.{Prelude.{option_to_list, Null, Text, Blob, Row, Trees, Rows, numbers, texts, pairs, at, pair, arch_number, role_number, purpose_number, stage_number, order_kind_number, order_stage_number, erase_number, status_number, BootImage, Operator, Pool, Member, Live, Machine, Interface, Boot, Order, Receipt, Numbers}, Columns.{number, truth_number, or_null, joined, HasWords}, HallRows.{Counts, HallRows, Wipe}, Rows.Entry, TableOf.{HallTable, IsNamed, TableOf, named, numbered, of_table, pair_values}, Tables.{hall_table, operators_table, pools_table, members_table, images_table, lives_table, machines_table, interfaces_table, boots_table, orders_table, receipts_table, counts_table, wipes_table}}
-use Rattle.std.specs.Prelude.{◌≡◌, ◌==◌, ℕ, zero, suc, List, [], ◌∷◌, map, drop, Some, cond}
+use Rattle.sql_schema.specs.{Prelude.{option_to_list, Null, Int, Text, Blob, lit, Query, Row, Trees, Rows, numbers, texts, pairs, at, pair, arch_number, role_number, purpose_number, stage_number, order_kind_number, order_stage_number, erase_number, status_number, BootImage, Operator, Pool, Member, Live, Machine, Interface, Boot, Order, Receipt, Numbers}, Columns.{number, truth_number, or_null, joined, HasWords}, HallRows.{Counts, HallRows, Wipe}, Rows.Entry, TableOf.{HallTable, IsNamed, TableOf, named, numbered, of_table, pair_values, parameters_from}, Queries.{cell, from_one, rising}, Tables.{hall_table, operators_table, pools_table, members_table, images_table, lives_table, machines_table, interfaces_table, boots_table, orders_table, receipts_table, counts_table, wipes_table}, declared.creating.TheConstants.{CREATE_BOOTS, CREATE_COUNTS, CREATE_HALL, CREATE_IMAGES, CREATE_INTERFACES, CREATE_LIVES, CREATE_MACHINES, CREATE_MEMBERS, CREATE_OPERATORS, CREATE_ORDERS, CREATE_POOLS, CREATE_RECEIPTS, CREATE_WIPES, ADD_BOOT, ADD_COUNT, ADD_IMAGE, ADD_INTERFACE, ADD_LIVE, ADD_MACHINE, ADD_MEMBER, ADD_OPERATOR, ADD_ORDER, ADD_POOL, ADD_RECEIPT, ADD_WIPE, FIND_BOOT, FIND_IMAGE, FIND_INTERFACE, FIND_LIVE, FIND_MACHINE, FIND_MEMBER, FIND_NUMBERS, FIND_OPERATOR, FIND_ORDER, FIND_POOL, FIND_RECEIPT, FIND_WIPE, FIRST_NUMBERS, LIST_COUNTS}}
+use Rattle.std.specs.Prelude.{◌≡◌, ◌==◌, ℕ, pos, zero, suc, List, [], ◌∷◌, map, drop, Some, cond}
 
 -- ---- the last numbers
 
@@ -161,6 +161,13 @@ pub data TableName : Type 0 where
   of_counts : TableName
   of_wipes : TableName
 
+-- the query of all last numbers, and that of all counts
+abbrev pub find_numbers_query : Query
+find_numbers_query = from_one 0 [] (cell 2 ∷ cell 3 ∷ cell 4 ∷ cell 5 ∷ []) []
+
+abbrev pub list_counts_query : Query
+list_counts_query = from_one 19 [] (cell 1 ∷ cell 2 ∷ cell 3 ∷ []) (rising 1 ∷ rising 2 ∷ [])
+
 -- all tables of a hall
 abbrev pub described : TableName → HallTable
 described of_last = record {
@@ -170,19 +177,36 @@ described of_last = record {
   held = λ c. c.hall.last;
   with_held = λ c x. record c { hall = record c.hall { last = x } };
   stores = λ rows x. rows ≡ numbers_row x ∷ [];
+  create = CREATE_HALL.now;
+  find = FIND_NUMBERS.now;
+  query = find_numbers_query;
+  add = FIRST_NUMBERS.now;
+  given = lit (Int (pos 1)) ∷ lit Null ∷ lit (Int (pos 2)) ∷ lit (Int (pos 0)) ∷ lit (Int (pos 0)) ∷ lit (Int (pos 0)) ∷ [];
 }
-described of_operators = of_table operators
-described of_pools = of_table pools
-described of_members = of_table members
-described of_images = record (of_table images) { stores = AreImages }
-described of_lives = of_table lives
-described of_machines = of_table machines
-described of_interfaces = of_table interfaces
-described of_boots = of_table boots
-described of_orders = of_table orders
-described of_receipts = of_table receipts
-described of_counts = record { table = counts_table; place = 11; Held = Counts; held = λ c. c.counts; with_held = λ c x. record c { counts = x }; stores = AreCounts }
-described of_wipes = of_table wipes
+described of_operators = of_table operators CREATE_OPERATORS.now FIND_OPERATOR.now ADD_OPERATOR.now
+described of_pools = of_table pools CREATE_POOLS.now FIND_POOL.now ADD_POOL.now
+described of_members = of_table members CREATE_MEMBERS.now FIND_MEMBER.now ADD_MEMBER.now
+described of_images = record (of_table images CREATE_IMAGES.now FIND_IMAGE.now ADD_IMAGE.now) { stores = AreImages }
+described of_lives = of_table lives CREATE_LIVES.now FIND_LIVE.now ADD_LIVE.now
+described of_machines = of_table machines CREATE_MACHINES.now FIND_MACHINE.now ADD_MACHINE.now
+described of_interfaces = of_table interfaces CREATE_INTERFACES.now FIND_INTERFACE.now ADD_INTERFACE.now
+described of_boots = of_table boots CREATE_BOOTS.now FIND_BOOT.now ADD_BOOT.now
+described of_orders = of_table orders CREATE_ORDERS.now FIND_ORDER.now ADD_ORDER.now
+described of_receipts = of_table receipts CREATE_RECEIPTS.now FIND_RECEIPT.now ADD_RECEIPT.now
+described of_counts = record {
+  table = counts_table;
+  place = 11;
+  Held = Counts;
+  held = λ c. c.counts;
+  with_held = λ c x. record c { counts = x };
+  stores = AreCounts;
+  create = CREATE_COUNTS.now;
+  find = LIST_COUNTS.now;
+  query = list_counts_query;
+  add = ADD_COUNT.now;
+  given = lit Null ∷ parameters_from 0 3;
+}
+described of_wipes = of_table wipes CREATE_WIPES.now FIND_WIPE.now ADD_WIPE.now
 
 -- the trees, with these rows in the place of those of one of them
 abbrev pub with_tree : ℕ → List Row → Trees → Trees

@@ -1,6 +1,6 @@
 -- Laws of connections that hold a hall, for the proofs of callers: what goes through a call.
-use Rattle.sql_schema.specs.{Prelude.{Error, Row, Query, IsAnswer, overlay, Database, State, HasCleanDisk, IsUnchanged, Survives, Shown, FailsToQuery, CommitsShowing, ExecutesInside, Hall, Command, Returning}, Statements.{IsBack, IsQueryText, IsReturningText}, WriteLaws.shown_wrote, StatementLaws.{query_refused, shown_same, query_survives}, QueryLaws.shown_answer, Tables.hall_schema, HallRows.HallRows, Spelling.{Spells, SpellHall}, Holding.{Holds, Leaves, IsWithin, IsTableRead}}
-use Rattle.std.proofs.Common.{◌≡◌, ◌⊎◌, inl, inr, ℕ, nat_eq, MatchBool, List, [], ◌∷◌, Ok, Err, Result, IfOk, IfErr, sym, ap, subst, ◌∙◌}
+use Rattle.sql_schema.specs.{Prelude.{Error, Row, Query, IsAnswer, overlay, Database, State, HasCleanDisk, IsUnchanged, Survives, Shown, FailsToQuery, CommitsShowing, ExecutesInside, Hall, Command, Returning, Trees, survives_then}, Statements.{IsBack, IsQueryText, IsReturningText}, WriteLaws.shown_wrote, StatementLaws.{query_refused, shown_same, query_survives}, QueryLaws.shown_answer, Tables.hall_schema, HallRows.HallRows, Spelling.{Spells, SpellHall}, Holding.{Holds, Leaves, IsWithin, IsTableRead, IsHeld}}
+use Rattle.std.proofs.Common.{◌≡◌, ◌⊎◌, inl, inr, ℕ, nat_eq, MatchBool, List, [], ◌∷◌, Ok, Err, Result, IfOk, IfErr, sym, ap, subst, ◌∙◌, IsTrue, refl, arith}
 
 pub same_held : (old new : State) (h : Hall) → IsUnchanged old new → Holds old h → Holds new h
 same_held old new h same held live =
@@ -30,6 +30,21 @@ back_held old new h (inr back) held live =
 -- a call that commits nothing adds no outcome of a crash
 pub leaves_on : (old new : State) (hs : List Hall) → Survives old new (λ _. ⊥) → HasCleanDisk new → Leaves old hs → Leaves new hs
 leaves_on old new hs s clean left db may = elim (s.crash clean db may) [ inl before ↦ left db before | inr none ↦ absurd none ]
+
+-- while it is open a stop leaves the last commit, which is what it shows between calls
+pub settles : (s : State) (h : Hall) → ((db : Trees) → IsTrue s.is_open → s.may_leave db → db ≡ s.committed.trees) → IsHeld s h → Leaves s (h ∷ [])
+settles s h settled held db may = (h, inl refl, subst (λ d. SpellHall d h) (sym (settled db held.running may ∙ ap (λ (d : Database). d.trees) held.kept)) held.spelt)
+
+-- a disk that is clean after a call was clean before it
+pub earlier : {old new : State} {Commits : Trees → Type 0} → Survives old new Commits → HasCleanDisk new → HasCleanDisk old
+earlier one clean = omega (arith, one.clean, clean)
+
+-- no call, and one call after another one
+pub survives_none : (a : State) → Survives a a (λ _. ⊥)
+survives_none a = record { clean = omega arith; shield = λ shield. shield; counts = omega arith; limit = refl; closes = λ clean live. inl live; crash = λ clean db may. inl may }
+
+pub survives_both : {a b c : State} → Survives a b (λ _. ⊥) → Survives b c (λ _. ⊥) → Survives a c (λ _. ⊥)
+survives_both {a = a} {b = b} {c = c} one two = survives_then a b c _ _ (λ _. ⊥) (λ _ db none. none) (λ _ db none. none) one two
 
 -- a crash that leaves one of some halls leaves one of these and one more
 pub leaves_more : (s : State) (h : Hall) (hs : List Hall) → Leaves s hs → Leaves s (h ∷ hs)

@@ -1,6 +1,6 @@
 -- Laws of tables that keep rows under rowids, for the proofs of callers: reads by key and of all rows, and writes.
-use Rattle.sql_schema.specs.{Prelude.{filter_none, all_of, list_all, AllByRecursion, option_to_list, length-map, length_permutation, IsPermutation-sym, IsPermutation-cons, IsPermutation-trans, Row, cast_row, Table, Schema, Term, col, holds, eval_all, Trees, IsAnswer, Output, Query, page, overlay, Values, Insert, Update, Delete, with_rowid, row_at, Chosen, value_rows, State, Executes, Shown, one_permutation, Key, works, Has, Enforced, insert_by, has_key, delete_where, update_where, map-map, filter-map, ascending-filter, ascending_weaker, IsPermutation-filter, along_permutation, IsKeyedBy-insert_by, IsKeyedBy-delete_where, IsKeyedBy-update_where, Keys, Rows, at, put, gone, rows_where, listed, same_key, key-same, StandUnder}, Cascades.{IsIdle, NeverFollows}, ListLaws.{any_order, and_true, IsPermutation-map, insert_by-permutes, map_has}, Queries.{over_table, output_of, IsBefore, from_one}, QueryLaws.{items_by, items_in_order}, Rows.{row_of, uncounted}, Statements.{IsCommandText, IsReturningText, SetsRows, only}, TableLaws.{inserts, deletes_alone, changes, changes_showing}, ListedLaws.{AreRising-listed, listed_at, listed_with_key, listed-put-new, listed-put-there, listed-gone, listed-where, StandUnder-put, StandUnder-gone, StandUnder-where}, TableOf.IsKept}
-use Rattle.std.proofs.Common.{◌≡◌, ◌⊎◌, ◌&&◌, inl, inr, ◌≤◌, ◌/◌, not, ℕ, ℤ, List, [], ◌∷◌, map, filter, length, slice_get, Bool, true, false, cond, Option, Some, None, Ok, Less, true≢false, refl, sym, ap, subst, ◌∙◌, arith, IsPermutation}
+use Rattle.sql_schema.specs.{Prelude.{filter_none, filter-filter, length-filter_both, all_of, list_all, AllByRecursion, option_to_list, length-map, length_permutation, IsPermutation-sym, IsPermutation-cons, IsPermutation-trans, Row, cast_row, Table, Schema, Term, col, holds, eval_all, Trees, IsAnswer, Output, Query, page, overlay, Values, Insert, Update, Delete, with_rowid, row_at, Chosen, value_rows, State, Executes, Shown, one_permutation, Key, works, Has, Enforced, insert_by, has_key, delete_where, update_where, map-map, filter-map, ascending-filter, ascending_weaker, IsPermutation-filter, along_permutation, IsKeyedBy-insert_by, IsKeyedBy-delete_where, IsKeyedBy-update_where, Keys, Rows, at, put, gone, rows_where, listed, same_key, key-same, StandUnder}, Cascades.{IsIdle, NeverFollows}, ListLaws.{any_order, and_true, IsPermutation-map, insert_by-permutes, map_has}, Queries.{over_table, output_of, IsBefore, from_one}, QueryLaws.{items_by, items_in_order}, Rows.{row_of, uncounted}, Statements.{IsCommandText, IsReturningText, SetsRows, only}, TableLaws.{inserts, deletes_alone, changes, changes_showing}, ListedLaws.{AreRising-listed, listed_at, listed_with_key, listed-put-new, listed-put-there, listed-gone, listed-where, StandUnder-put, StandUnder-gone, StandUnder-where}, TableOf.IsKept}
+use Rattle.std.proofs.Common.{◌≡◌, ◌⊎◌, ◌&&◌, inl, inr, ◌≤◌, ◌/◌, not, ℕ, ℤ, List, [], ◌∷◌, map, filter, length, slice_get, Bool, true, false, cond, Option, Some, None, Ok, Less, refl, sym, ap, subst, ◌∙◌, arith, IsPermutation}
 
 -- ---- lists
 
@@ -36,14 +36,7 @@ filter_same_on p q (x ∷ xs) same = rw (same x (inl refl), filter_same_on p q x
 
 -- where one test lets at most one item pass, so does a narrower one
 shorter : {X : Type 0} (p q : X → Bool) → ((x : X) → p x ≡ true → q x ≡ true) → (xs : List X) → length (filter p xs) ≤ length (filter q xs)
-shorter p q narrows [] = omega arith
-shorter p q narrows (x ∷ xs) = go (p x) (q x) refl refl (shorter p q narrows xs)
-  where
-    go : (b c : Bool) → p x ≡ b → q x ≡ c → length (filter p xs) ≤ length (filter q xs) → length (cond b (x ∷ filter p xs) (filter p xs)) ≤ length (cond c (x ∷ filter q xs) (filter q xs))
-    go true true e t less = omega (arith, less)
-    go true false e t less = absurd (true≢false (sym (narrows x e) ∙ t))
-    go false true e t less = omega (arith, less)
-    go false false e t less = less
+shorter p q narrows xs = omega (arith, ap length (filter-filter p q narrows xs), length-filter_both p (λ x. not (p x)) (λ x. refl) (filter q xs))
 
 -- where nothing passes, nothing is changed
 update_none : {X : Type 0} (p : X → Bool) (f : X → X) (xs : List X) → filter p xs ≡ [] → update_where p f xs ≡ xs

@@ -13,7 +13,6 @@ pub mod KeptLaws
 pub mod ListLaws
 pub mod ListedLaws
 pub mod NumberedLaws
-pub mod OpeningStatements
 pub mod PairLaws
 pub mod Prelude
 pub mod Queries

@@ -35,15 +35,6 @@ any_along p = along_permutation (λ xs ys. list_any p xs ≡ list_any p ys) (λ 
 
 -- ---- what passes a test
 
--- what is left passes the test no more
-pub none_left : {X : Type 0} (p : X → Bool) (xs : List X) → list_any p (delete_where p xs) ≡ false
-none_left p [] = refl
-none_left p (x ∷ xs) = go (p x) refl (none_left p xs)
-  where
-    go : (b : Bool) → p x ≡ b → list_any p (delete_where p xs) ≡ false → list_any p (cond (not b) (x ∷ delete_where p xs) (delete_where p xs)) ≡ false
-    go true e more = more
-    go false e more = rw e more
-
 pub all_passed : {X : Type 0} (P : X → Type 0) (p : X → Bool) → ((x : X) → p x ≡ true → P x) → (xs : List X) → AllByRecursion P (filter p xs)
 all_passed P p gives [] = tt
 all_passed P p gives (x ∷ xs) = go (p x) refl (all_passed P p gives xs)

@@ -1,6 +1,6 @@
 -- Laws of the list of all rows of a table, for the proofs of callers: what each change of rows makes of the list.
-use Rattle.sql_schema.specs.{Prelude.{all_has, has_contained, has_filtered, has_kept, AllByRecursion, IsStrictlySortedBy, option_to_list, match_ordering, ordering_reverse, sorted_head, sorted_tail, IsPermutation-refl, IsPermutation-cons, IsPermutation-trans, IsPermutation-middle, IsAscending, Has, all_unmap, ascending-filter, ascending-map, ascending_weaker, Keys, Rows, at, put, gone, rows_where, listed, same_key, StandUnder, key-same, same-key, other-key, at-put-same, at-put-other, put_cases, gone_found, at-gone-other, where_found, where_kept, Contains-listed, AllByRecursion-listed, IsStrictlySortedBy-listed}, ListLaws.{has_map, map_has}}
-use Rattle.std.proofs.Common.{◌≡◌, ◌≢◌, ◌⊎◌, not, inl, inr, List, [], ◌∷◌, map, filter, Bool, true, false, cond, Option, Some, None, Ordering, Less, Equal, Greater, refl, sym, ap, ap₂, subst, subst₂, ◌∙◌, true≢false, IsPermutation}
+use Rattle.sql_schema.specs.{Prelude.{all_has, has_contained, has_filtered, has_kept, AllByRecursion, IsStrictlySortedBy, option_to_list, match_ordering, ordering_reverse, sorted_head, sorted_tail, IsPermutation-refl, IsPermutation-cons, IsPermutation-trans, IsPermutation-middle, IsPermutation-filter_both, IsAscending, Has, all_unmap, ascending-filter, ascending-map, ascending_weaker, Keys, Rows, at, put, gone, rows_where, listed, same_key, StandUnder, key-same, same-key, other-key, at-put, at-put-same, at-gone, at-rows_where, same_rows, passes, put_cases, gone_found, where_found, where_kept, Contains-listed, AllByRecursion-listed, IsStrictlySortedBy-listed}, ListLaws.{has_map, map_has}}
+use Rattle.std.proofs.Common.{◌≡◌, ◌≢◌, ◌⊎◌, not, inl, inr, List, [], ◌∷◌, ◌++◌, map, filter, Bool, true, false, cond, if◌then◌else◌, Option, Some, None, Ordering, Less, Equal, Greater, refl, sym, ap, ap₂, subst, subst₂, ◌∙◌, IsPermutation}
 
 -- ---- lists in the order of their keys
 
@@ -74,60 +74,6 @@ module _ {K X : Type 0} (keys : Keys K) (key_of : X → K) where
           let below : keys.cmp (key_of new) (key_of x) ≡ Less = keys.total.antisymm (key_of new) (key_of x) ∙ ap ordering_reverse e in
           ((below, lower x new xs below up.0), up)
 
-  -- the new row is there
-  placed_new : (xs : List X) (new : X) → Has (put_in xs new) new
-  placed_new [] new = inl refl
-  placed_new (x ∷ xs) new = go (keys.cmp (key_of x) (key_of new)) (placed_new xs new)
-    where
-      go : (o : Ordering) → Has (put_in xs new) new → Has (match_ordering o (x ∷ put_in xs new) (new ∷ xs) (new ∷ x ∷ xs)) new
-      go Less more = inr more
-      go Equal more = inl refl
-      go Greater more = inl refl
-
-  -- so is each row with another key
-  placed_other : (xs : List X) (new z : X) → Has xs z → key_of z ≢ key_of new → Has (put_in xs new) z
-  placed_other [] new z h apart = absurd h
-  placed_other (x ∷ xs) new z h apart = go (keys.cmp (key_of x) (key_of new)) refl (λ found. placed_other xs new z found apart) h
-    where
-      go : (o : Ordering) → keys.cmp (key_of x) (key_of new) ≡ o → (Has xs z → Has (put_in xs new) z) → Has (x ∷ xs) z → Has (match_ordering o (x ∷ put_in xs new) (new ∷ xs) (new ∷ x ∷ xs)) z
-      go Less e more (inl same) = inl same
-      go Less e more (inr h) = inr (more h)
-      go Equal e more (inl same) = absurd (apart (ap key_of same ∙ keys.same (key_of x) (key_of new) e))
-      go Equal e more (inr h) = inr h
-      go Greater e more h = inr h
-
-  -- and no other row
-  placed_only : (xs : List X) (new z : X) → AreRising xs → Has (put_in xs new) z → (z ≡ new) ⊎ (Has xs z × (key_of z ≢ key_of new))
-  placed_only [] new z up (inl same) = inl same
-  placed_only [] new z up (inr h) = absurd h
-  placed_only (x ∷ xs) new z up h = go (keys.cmp (key_of x) (key_of new)) refl (placed_only xs new z up.1) h
-    where
-      apart_above : (y : X) → keys.cmp (key_of new) (key_of y) ≡ Less → key_of y ≢ key_of new
-      apart_above y low same = let e = subst (λ k. keys.cmp (key_of new) k ≡ Less) same low in absurd (not_both (key_of new) (key_of new) e e)
-
-      later : (z ≡ new) ⊎ (Has xs z × (key_of z ≢ key_of new)) → (z ≡ new) ⊎ (Has (x ∷ xs) z × (key_of z ≢ key_of new))
-      later (inl same) = inl same
-      later (inr it) = inr (inr it.0, it.1)
-
-      go : (o : Ordering) → keys.cmp (key_of x) (key_of new) ≡ o → (Has (put_in xs new) z → (z ≡ new) ⊎ (Has xs z × (key_of z ≢ key_of new)))
-          → Has (match_ordering o (x ∷ put_in xs new) (new ∷ xs) (new ∷ x ∷ xs)) z → (z ≡ new) ⊎ (Has (x ∷ xs) z × (key_of z ≢ key_of new))
-      go Less e more (inl same) =
-          inr (inl same, λ k. let low = subst (λ q. keys.cmp q (key_of new) ≡ Less) (sym (ap key_of same) ∙ k) e in absurd (not_both (key_of new) (key_of new) low low))
-      go Less e more (inr h) = later (more h)
-      go Equal e more (inl same) = inl same
-      go Equal e more (inr h) =
-          inr (inr h, apart_above z (subst (λ k. keys.cmp k (key_of z) ≡ Less) (keys.same (key_of x) (key_of new) e) (above x xs z up.0 h)))
-      go Greater e more (inl same) = inl same
-      go Greater e more (inr h) =
-          let below : keys.cmp (key_of new) (key_of x) ≡ Less = keys.total.antisymm (key_of new) (key_of x) ∙ ap ordering_reverse e in
-          inr (
-            h,
-            apart_above z (elim h [
-              | inl same ↦ subst (λ w. keys.cmp (key_of new) (key_of w) ≡ Less) (sym same) below
-              | inr found ↦ keys.total.trans (key_of new) (key_of x) (key_of z) below (above x xs z up.0 found)
-            ]),
-          )
-
   -- where the key is free, the list has one row more
   pub put_in-permutes : (new : X) (xs : List X) → ((z : X) → Has xs z → key_of z ≢ key_of new) → IsPermutation (put_in xs new) (new ∷ xs)
   put_in-permutes new [] free = IsPermutation-refl _
@@ -190,77 +136,75 @@ module _ {K X : Type 0} (keys : Keys K) (key_of : X → K) where
   -- ---- the list of all rows after a change
 
   module _ (rows : Rows keys X) (under : StandUnder key_of rows) where
-    pub listed-put : (x : X) → listed (put (key_of x) x rows) ≡ put_in (listed rows) x
-    listed-put x =
-        let after = put (key_of x) x rows in
-        let stands = StandUnder-put rows under x in
-        same_lists (listed after) (put_in (listed rows) x) (AreRising-listed after stands) (AreRising-put_in (listed rows) x (AreRising-listed rows under))
-        (λ z h. elim (put_cases rows (key_of x) x (key_of z) z (listed_at after stands z h)) [
-          | inl it ↦ subst (Has (put_in (listed rows) x)) (sym it.1) (placed_new (listed rows) x)
-          | inr it ↦ placed_other (listed rows) x z (at_listed rows under (key_of z) z it.1) it.0
-        ])
-        (λ z h. elim (placed_only (listed rows) x z (AreRising-listed rows under) h) [
-          | inl same ↦ subst (Has (listed after)) (sym same) (at_listed after stands (key_of x) x (at-put-same rows (key_of x) x))
-          | inr it ↦ at_listed after stands (key_of z) z (at-put-other rows (key_of x) x (key_of z) it.1 ∙ listed_at rows under z it.0)
-        ])
+    -- the list in order that has the rows, and no other
+    listed_is : (xs : List X) → AreRising xs → ((x : X) → Has xs x → at rows (key_of x) ≡ Some x) → ((x : X) → at rows (key_of x) ≡ Some x → Has xs x) → listed rows ≡ xs
+    listed_is xs up there all = same_lists (listed rows) xs (AreRising-listed rows under) up (λ x h. all x (listed_at rows under x h)) (λ x h. at_listed rows under (key_of x) x (there x h))
 
-    -- where the key was free, one row more
-    pub listed-put-new : (x : X) → at rows (key_of x) ≡ None → IsPermutation (listed (put (key_of x) x rows)) (x ∷ listed rows)
-    listed-put-new x free = subst (λ l. IsPermutation l (x ∷ listed rows)) (sym (listed-put x))
-        (put_in-permutes x (listed rows) (λ z h same. absurd (let e = sym (subst (λ k. at rows k ≡ Some z) same (listed_at rows under z h)) ∙ free in cc)))
-
-    pub listed-gone : (key : K) → listed (gone key rows) ≡ filter (λ x. not (same_key keys (key_of x) key)) (listed rows)
-    listed-gone key =
-        let after = gone key rows in
-        let stands = StandUnder-gone rows under key in
-        let other = λ (x : X). not (same_key keys (key_of x) key) in
-        same_lists (listed after) (filter other (listed rows)) (AreRising-listed after stands) (ascending-filter _ other (listed rows) (AreRising-listed rows under))
-        (λ z h. let it = gone_found rows key (key_of z) z (listed_at after stands z h) in
-        has_kept other (listed rows) z (at_listed rows under (key_of z) z it.1) (ap not (other-key keys (key_of z) key it.0)))
-        (λ z h. let it = has_filtered other (listed rows) z h in
-        at_listed after stands (key_of z) z (at-gone-other rows key (key_of z) (apart z it.1) ∙ listed_at rows under z it.0))
-      where
-        apart : (z : X) → not (same_key keys (key_of z) key) ≡ true → key_of z ≢ key
-        apart z t same = absurd (let e = ap not (subst (λ k. same_key keys (key_of z) k ≡ true) same (same-key keys (key_of z))) in true≢false (sym t ∙ e))
-
+  module _ (rows : Rows keys X) (under : StandUnder key_of rows) where
     pub listed-where : (p : X → Bool) → listed (rows_where p rows) ≡ filter p (listed rows)
     listed-where p =
-        let after = rows_where p rows in
-        let stands = StandUnder-where rows under p in
-        same_lists (listed after) (filter p (listed rows)) (AreRising-listed after stands) (ascending-filter _ p (listed rows) (AreRising-listed rows under))
-        (λ z h. let it = where_found p rows (key_of z) z (listed_at after stands z h) in has_kept p (listed rows) z (at_listed rows under (key_of z) z it.0) it.1)
-        (λ z h. let it = has_filtered p (listed rows) z h in at_listed after stands (key_of z) z (where_kept p rows (key_of z) z (listed_at rows under z it.0) it.1))
+        listed_is (rows_where p rows) (StandUnder-where rows under p) (filter p (listed rows)) (ascending-filter _ p (listed rows) (AreRising-listed rows under))
+        (λ x h. let it = has_filtered p (listed rows) x h in where_kept p rows (key_of x) x (listed_at rows under x it.0) it.1)
+        (λ x is. let it = where_found p rows (key_of x) x is in has_kept p (listed rows) x (at_listed rows under (key_of x) x it.0) it.1)
+
+    pub listed-gone : (key : K) → listed (gone key rows) ≡ filter (λ x. not (same_key keys (key_of x) key)) (listed rows)
+    listed-gone key = ap (λ (r : Rows keys X). listed r) (same_rows (gone key rows) (rows_where others rows) (λ k. at-gone rows key k ∙ by k (at rows k) (under k) ∙ sym (at-rows_where others rows k))) ∙ listed-where others
+      where
+        others : X → Bool
+        others x = not (same_key keys (key_of x) key)
+
+        by : (k : K) (o : Option X) → ((x : X) → o ≡ Some x → key_of x ≡ k) → (if same_key keys k key then None else o) ≡ (if passes others o then o else None)
+        by k None own = either (same_key keys k key)
+          where
+            either : (b : Bool) → ◌≡◌ {A = Option X} (if b then None else None) None
+            either true = refl
+            either false = refl
+        by k (Some x) own = ap (λ q. if same_key keys q key then None else Some x) (sym (own x refl)) ∙ turned (same_key keys (key_of x) key)
+          where
+            turned : (b : Bool) → (if b then None else Some x) ≡ (if not b then Some x else None)
+            turned true = refl
+            turned false = refl
 
     -- where the key had a row, the new one is in its place
     pub listed-put-there : (x old : X) → at rows (key_of x) ≡ Some old → listed (put (key_of x) x rows) ≡ map (λ y. cond (same_key keys (key_of y) (key_of x)) x y) (listed rows)
     listed-put-there x old there =
-        let after = put (key_of x) x rows in
-        let stands = StandUnder-put rows under x in
-        same_lists (listed after) (map (swap x) (listed rows)) (AreRising-listed after stands)
-        (ascending-map _ (swap x) (listed rows) (ascending_weaker _ _ (λ a b low. subst₂ (λ k q. keys.cmp k q ≡ Less) (sym (swap_key x a)) (sym (swap_key x b)) low) (listed rows) (AreRising-listed rows under)))
-        (λ z h. elim (put_cases rows (key_of x) x (key_of z) z (listed_at after stands z h)) [
-          | inl it ↦ subst (Has (map (swap x) (listed rows))) (ap (λ b. cond b x old) (subst (λ k. same_key keys k (key_of x) ≡ true) (sym (under (key_of x) old there)) (same-key keys (key_of x))) ∙ sym it.1)
-              (map_has (swap x) (listed rows) old (at_listed rows under (key_of x) old there))
-          | inr it ↦ subst (Has (map (swap x) (listed rows))) (ap (λ b. cond b x z) (other-key keys (key_of z) (key_of x) it.0))
-              (map_has (swap x) (listed rows) z (at_listed rows under (key_of z) z it.1))
+        listed_is (put (key_of x) x rows) (StandUnder-put rows under x) (map swap (listed rows))
+        (ascending-map _ swap (listed rows) (ascending_weaker _ _ (λ a b low. subst₂ (λ k q. keys.cmp k q ≡ Less) (sym (swap_key a)) (sym (swap_key b)) low) (listed rows) (AreRising-listed rows under)))
+        (λ z h. let it = has_map swap (listed rows) z h in subst (λ w. at (put (key_of x) x rows) (key_of w) ≡ Some w) (sym it.2) (found it.0 (listed_at rows under it.0 it.1)))
+        (λ z is. elim (put_cases rows (key_of x) x (key_of z) z is) [
+          | inl it ↦ subst (Has (map swap (listed rows))) (ap (λ b. cond b x old) (subst (λ k. same_key keys k (key_of x) ≡ true) (sym (under (key_of x) old there)) (same-key keys (key_of x))) ∙ sym it.1)
+              (map_has swap (listed rows) old (at_listed rows under (key_of x) old there))
+          | inr it ↦ subst (Has (map swap (listed rows))) (ap (λ b. cond b x z) (other-key keys (key_of z) (key_of x) it.0)) (map_has swap (listed rows) z (at_listed rows under (key_of z) z it.1))
         ])
-        (λ z h. let it = has_map (swap x) (listed rows) z h in back z it.0 it.1 it.2)
       where
-        swap : (x : X) → X → X
-        swap x y = cond (same_key keys (key_of y) (key_of x)) x y
+        swap : X → X
+        swap y = cond (same_key keys (key_of y) (key_of x)) x y
 
-        swap_key : (x y : X) → key_of (cond (same_key keys (key_of y) (key_of x)) x y) ≡ key_of y
-        swap_key x y = go (same_key keys (key_of y) (key_of x)) refl
+        swap_key : (y : X) → key_of (swap y) ≡ key_of y
+        swap_key y = by (same_key keys (key_of y) (key_of x)) refl
           where
-            go : (b : Bool) → same_key keys (key_of y) (key_of x) ≡ b → key_of (cond b x y) ≡ key_of y
-            go true e = sym (key-same keys (key_of y) (key_of x) e)
-            go false e = refl
+            by : (b : Bool) → same_key keys (key_of y) (key_of x) ≡ b → key_of (cond b x y) ≡ key_of y
+            by true e = sym (key-same keys (key_of y) (key_of x) e)
+            by false e = refl
 
-        back : (z y : X) → Has (listed rows) y → z ≡ cond (same_key keys (key_of y) (key_of x)) x y → Has (listed (put (key_of x) x rows)) z
-        back z y found = go (same_key keys (key_of y) (key_of x)) refl
+        found : (y : X) → at rows (key_of y) ≡ Some y → at (put (key_of x) x rows) (key_of (swap y)) ≡ Some (swap y)
+        found y is = ap (λ k. at (put (key_of x) x rows) k) (swap_key y) ∙ at-put rows (key_of x) x (key_of y) ∙ by (same_key keys (key_of y) (key_of x))
           where
-            go : (b : Bool) → same_key keys (key_of y) (key_of x) ≡ b → z ≡ cond b x y → Has (listed (put (key_of x) x rows)) z
-            go true e same = subst (Has (listed (put (key_of x) x rows))) (sym same) (at_listed (put (key_of x) x rows) (StandUnder-put rows under x) (key_of x) x (at-put-same rows (key_of x) x))
-            go false e same =
-                let apart : key_of y ≢ key_of x = λ k. absurd (true≢false (sym (same-key keys (key_of x)) ∙ subst (λ q. same_key keys q (key_of x) ≡ false) k e)) in
-                subst (Has (listed (put (key_of x) x rows))) (sym same) (at_listed (put (key_of x) x rows) (StandUnder-put rows under x) (key_of y) y (at-put-other rows (key_of x) x (key_of y) apart ∙ listed_at rows under y found))
+            by : (b : Bool) → (if b then Some x else at rows (key_of y)) ≡ Some (cond b x y)
+            by true = refl
+            by false = is
+
+  -- where the key was free, one row more
+  pub listed-put-new : (rows : Rows keys X) → StandUnder key_of rows → (x : X) → at rows (key_of x) ≡ None → IsPermutation (listed (put (key_of x) x rows)) (x ∷ listed rows)
+  listed-put-new rows under x free =
+      let after = put (key_of x) x rows in
+      let stands = StandUnder-put rows under x in
+      let own = listed_with_key after stands (key_of x) ∙ ap option_to_list (at-put-same rows (key_of x) x) in
+      let back = same_rows (gone (key_of x) after) rows (λ k. at-gone after (key_of x) k ∙ ap (λ o. if same_key keys k (key_of x) then None else o) (at-put rows (key_of x) x k) ∙ by k (same_key keys k (key_of x)) refl) in
+      let others = sym (listed-gone after stands (key_of x)) ∙ ap (λ (r : Rows keys X). listed r) back in
+      subst (IsPermutation (listed after)) (ap₂ ◌++◌ own others)
+      (IsPermutation-filter_both (λ y. same_key keys (key_of y) (key_of x)) (λ y. not (same_key keys (key_of y) (key_of x))) (λ y. refl) (listed after))
+    where
+      by : (k : K) (b : Bool) → same_key keys k (key_of x) ≡ b → (if b then None else if b then Some x else at rows k) ≡ at rows k
+      by k true e = sym (ap (at rows) (key-same keys k (key_of x) e) ∙ free)
+      by k false e = refl

@@ -7,7 +7,7 @@ pub use Rattle.hall_types.specs.KindLaws.{arch_by_number, erase_by_number, order
 pub use Rattle.hall_types.specs.Kinds.{arch_number, erase_number, order_kind_number, order_stage_number, purpose_number, role_number, stage_number}
 pub use Rattle.hall_types.specs.ListLaws.{AllByRecursion-listed, Contains-listed, IsStrictlySortedBy-listed, how_many-listed, length-listed}
 pub use Rattle.hall_types.specs.Lookup.{has_come, has_uuid, if_due, interfaces_of, is_due, is_image_used, is_named, machine_with_uuid, next_expired, operator_with_digest, sooner, soonest, waiting, waits}
-pub use Rattle.hall_types.specs.LookupLaws.{next_expired-is, next_expired-none}
+pub use Rattle.hall_types.specs.LookupLaws.{next_expired-is}
 pub use Rattle.hall_types.specs.RowLaws.{at-gone, at-gone-other, at-gone-same, at-no_rows, at-put, at-put-other, at-put-same, at-rows_where, gone_found, how_many-gone, how_many-put, key-same, other-key, put_cases, same-key, same_number, same_rows, same_text, where_found, where_kept}
 pub use Rattle.hall_types.specs.Rows.{Keys, Rows, at, gone, how_many, listed, no_rows, numbers, one_if, pairs, passes, put, rows_where, same_key, size, texts}
 pub use Rattle.hall_types.specs.Status.{status_number}
@@ -17,12 +17,9 @@ pub use Rattle.hall_types.specs.declared.change.RowWrite.TheVariants.{ImageGone,
 pub use Rattle.hall_types.specs.declared.image.Live.{Live}
 pub use Rattle.hall_types.specs.declared.kinds.Erase.{Erase}
 pub use Rattle.hall_types.specs.declared.kinds.Erase.TheVariants.{Full}
-pub use Rattle.hall_types.specs.declared.kinds.OrderKind.{OrderKind}
 pub use Rattle.hall_types.specs.declared.kinds.OrderStage.{OrderStage}
-pub use Rattle.hall_types.specs.declared.kinds.Purpose.{Purpose}
 pub use Rattle.hall_types.specs.declared.kinds.Role.{Role}
 pub use Rattle.hall_types.specs.declared.kinds.Role.TheVariants.{Admin}
-pub use Rattle.hall_types.specs.declared.kinds.Stage.{Stage}
 pub use Rattle.hall_types.specs.declared.machine.Interface.{Interface}
 pub use Rattle.hall_types.specs.declared.machine.Machine.{Machine}
 pub use Rattle.hall_types.specs.declared.number.Numbers.{Numbers}
@@ -71,7 +68,7 @@ pub use Rattle.sqlite.specs.declared.types.Value.TheVariants.{Blob, Int, Null, T
 pub use Rattle.sqlite_catalog.proofs.ReadLemmas.{lists_once}
 pub use Rattle.sqlite_catalog.specs.Listing.{IsSound, automatic}
 pub use Rattle.sqlite_keyed.proofs.KeyedLemmas.{IsKeyedBy-delete_where, IsKeyedBy-insert_by, IsKeyedBy-update_where, Less-from_lt, same_int}
-pub use Rattle.sqlite_keyed.proofs.ListLemmas.{IsPermutation-filter, IsPermutation-flat_map, all-filter, all-flat_map, all-slice_get, all_map, all_of, all_unmap, all_weaker, along_permutation, any_from_none, ascending-filter, ascending-map, ascending_weaker, filter-map, filter_all, filter_none, filter_same, map-map, map_back, map_same, none_from_any, slice_get-filter}
+pub use Rattle.sqlite_keyed.proofs.ListLemmas.{IsPermutation-filter, IsPermutation-flat_map, all-filter, all-flat_map, all-slice_get, all_map, all_of, all_unmap, all_weaker, along_permutation, any_from_none, ascending-filter, ascending-map, ascending_weaker, filter-filter, filter-map, filter_all, filter_none, filter_same, map-map, map_back, map_same, none_from_any, slice_get-filter}
 pub use Rattle.sqlite_keyed.proofs.SliceLemmas.{any_is_found}
 pub use Rattle.sqlite_keyed.proofs.SortLemmas.{sorted_unique}
 pub use Rattle.sqlite_keyed.proofs.WriteLemmas.{removes_delete}
@@ -105,7 +102,7 @@ pub use Rattle.sqlite_value.specs.Keys.{ascending, first_key, plain}
 pub use Rattle.sqlite_value.specs.Value.{owned}
 pub use Rattle.sqlite_value.specs.declared.keys.Key.{Key}
 pub use Rattle.sqlite_value.specs.declared.value.ValueRef.{ValueRef}
-pub use Rattle.std.proofs.lemmas.Bool.{both_ways, cases_Bool, cases_lt, cond_both, not-true}
+pub use Rattle.std.proofs.lemmas.Bool.{cases_Bool, cond_both, not-true}
 pub use Rattle.std.proofs.lemmas.Bool.Decides.{Decides-and, Decides-eqb, Decides-like, nat_tests, same_from_decides}
 pub use Rattle.std.proofs.lemmas.Grind.{common_steps}
 pub use Rattle.std.proofs.lemmas.Int.{ints}
@@ -114,7 +111,8 @@ pub use Rattle.std.proofs.lemmas.Iterator.Consumers.{YieldsList-at, YieldsList-e
 pub use Rattle.std.proofs.lemmas.Iterator.Splits.{YieldsList-from_str_split}
 pub use Rattle.std.proofs.lemmas.List.{append-nil, at_drop_all, at_drop_more, drop-drop, drop_all, length-map, map-id, take-map}
 pub use Rattle.std.proofs.lemmas.List.Elements.{recursion_from_All}
-pub use Rattle.std.proofs.lemmas.List.Sorted.{IsPermutation-cons, IsPermutation-middle, IsPermutation-refl, IsPermutation-sym, IsPermutation-trans, length_permutation}
+pub use Rattle.std.proofs.lemmas.List.Filters.{length-filter_both}
+pub use Rattle.std.proofs.lemmas.List.Sorted.{IsPermutation-cons, IsPermutation-filter_both, IsPermutation-middle, IsPermutation-refl, IsPermutation-sym, IsPermutation-trans, length_permutation}
 pub use Rattle.std.proofs.lemmas.List.Sums.{sum_by-cons}
 pub use Rattle.std.proofs.lemmas.Map.Keys.{sorted_head, sorted_tail}
 pub use Rattle.std.proofs.lemmas.Map.Text.{is_eq-slice_cmp}

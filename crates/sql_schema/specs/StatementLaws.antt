@@ -1,22 +1,13 @@
 -- Laws of statements, for the proofs of callers: what a refusal leaves, what a statement whose text is known does, and CREATE.
-use Rattle.sql_schema.specs.{Prelude.{cases_Bool, Error, Mode, Row, understood, Table, Schema, Trees, Command, CreateTable, CreateIndex, Database, IsDatabase, Tally, Does, lacks_sequence, created, indexed, next_tree, KeepsRows, table_defined_by, index_defined_by, State, Executes, ExecutesInside, IsUnchanged, IsTooLate, KeepsCommit, shows_rows, FailsToShow, RunsCommand, Runs, Shows, CommitsShowing, Survives, ShowsRows, mode_of, survives_weaker, never_commits, IsPlain, statement_of, runs_as, IsSound, Compiled, Returning, Index}, Statements.{IsBack, IsCommandText, IsKeptText, MakesDatabase}}
+use Rattle.sql_schema.specs.{Prelude.{Error, Mode, Row, understood, Table, Schema, Trees, Command, CreateTable, CreateIndex, Database, IsDatabase, Tally, Does, lacks_sequence, created, indexed, next_tree, KeepsRows, table_defined_by, index_defined_by, State, Executes, ExecutesInside, IsUnchanged, IsTooLate, KeepsCommit, FailsToShow, RunsCommand, Runs, Shows, CommitsShowing, Survives, ShowsRows, mode_of, survives_weaker, never_commits, IsPlain, statement_of, runs_as, IsSound, Compiled, Returning, Index}, Statements.{IsBack, IsCommandText, IsKeptText, MakesDatabase}}
 use Rattle.std.proofs.Common.{◌≡◌, ◌⊎◌, inl, inr, ℕ, List, [], slice_get, true, false, cond, Option, Some, None, Ok, Err, Result, IfOk, IfErr, OnOk, IsTrue, sym, ap, subst, ◌∙◌}
-use Rattle.sqlite.specs.State.{ExecutesIn, FailsToQuery, IsNotRun, Writes as Wrote, Shown}
+use Rattle.sqlite.specs.State.{FailsToQuery, IsNotRun, Writes as Wrote, Shown}
 
 -- ---- refusals
 
 command_back : (old new : State) (sql : List ℕ) (c : Compiled) (params : Row) (e : Error) → RunsCommand old new sql c params (Err e) → IsBack old new
 command_back old new sql c params e (inl h) = inl h.1
 command_back old new sql c params e (inr h) = inr h.3
-
-pub refused : (sql : List ℕ) (params : Row) (old new : State) (e : Error) → Executes sql params old new (Err e) → IsBack old new
-unfolding ExecutesIn IsNotRun
-refused sql params old new e (inl (inl h)) = inl h.1
-refused sql params old new e (inl (inr h)) = inr h.3
-refused sql params old new e (inr h) = elim (cases_Bool (shows_rows false h.0)) [
-  | inl shows ↦ inl (rw shows at h.2).1
-  | inr runs ↦ command_back old new sql h.0 _ e (rw runs at h.2)
-]
 
 -- a text that isn't run leaves all as it was, or goes back
 pub not_run_back : (old new : State) (sql : List ℕ) (e : Error) → ((params : Row) → IsNotRun old new sql params e) → IsBack old new

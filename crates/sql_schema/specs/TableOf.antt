@@ -1,5 +1,5 @@
 -- A table of a hall: what it stores, and what its statements say.
-use Rattle.sql_schema.specs.{Prelude.{next_rowid, Value, Null, Text, Row, Table, Term, lit, Key, IsKeyedBy, Keys, Rows, numbers, listed, StandUnder}, Columns.number, HallRows.HallRows, Queries.{cell, parameter, equals, rising}, Rows.{Entry, row_of, rowid_of, item_of}}
+use Rattle.sql_schema.specs.{Prelude.{next_rowid, Value, Null, Text, Row, Table, Term, Query, lit, Key, IsKeyedBy, Keys, Rows, numbers, listed, StandUnder}, Columns.number, HallRows.HallRows, Queries.{cell, parameter, equals, from_one, rising}, Rows.{Entry, row_of, rowid_of, item_of}}
 use Rattle.std.proofs.Common.{refl, ◌≡◌, ℕ, ℤ, zero, suc, pos, List, [], ◌∷◌, map, drop, IsPermutation}
 
 -- ---- what a table stores
@@ -63,10 +63,11 @@ pub record TableOf {K : Type 0} (keys : Keys K) (X E : Type 0) : Type 0 where
   -- an item as a query shows it and a statement is given it, and a key as a statement is given it
   pub values_of : X → Row
   pub key_values : K → Row
-  -- WHERE the key is the given one, SELECT of all columns, ORDER BY the key, and VALUES of an INSERT
+  -- WHERE the key is the given one, SELECT of all columns, ORDER BY the key, also where it is given, and VALUES of an INSERT
   pub matches : List Term
   pub shown : List Term
   pub by_key : List (Term × Key)
+  pub one_by : List (Term × Key)
   pub given : List Term
   -- its rows, and all rows with others in their place
   pub rows : HallRows → Rows keys X
@@ -93,6 +94,7 @@ numbered table place number_of columns more rows with_rows = record {
   matches = equals 0 0 ∷ [];
   shown = cell 0 ∷ cells_from 2 more;
   by_key = rising 0 ∷ [];
+  one_by = [];
   given = parameter 0 ∷ lit Null ∷ parameters_from 1 more;
   rows = rows;
   with_rows = with_rows;
@@ -115,6 +117,7 @@ named table place key_of key_values parts columns width rows with_rows = record 
   matches = equal_from 0 parts;
   shown = cells_from 1 width;
   by_key = rising_from 1 parts;
+  one_by = rising_from 1 parts;
   given = lit Null ∷ parameters_from 0 width;
   rows = rows;
   with_rows = with_rows;
@@ -122,7 +125,8 @@ named table place key_of key_values parts columns width rows with_rows = record 
 
 -- ---- among the tables of a hall
 
--- A table at its place in the schema: what it holds of a hall's rows, and which stored rows are that.
+-- A table at its place in the schema: what it holds of a hall's rows, which stored rows are that, and the texts that name all its columns: one
+-- makes it, one reads rows of it, by this query, and one adds a row, by these VALUES.
 pub record HallTable : Type 1 where
   pub table : Table
   pub place : ℕ
@@ -130,14 +134,24 @@ pub record HallTable : Type 1 where
   pub held : HallRows → Held
   pub with_held : HallRows → Held → HallRows
   pub stores : List Row → Held → Type 0
+  pub create : List ℕ
+  pub find : List ℕ
+  pub query : Query
+  pub add : List ℕ
+  pub given : List Term
 
--- a table that is described
-abbrev pub of_table : {K X E : Type 0} {keys : Keys K} → TableOf keys X E → HallTable
-of_table {X = X} {keys = keys} t = record {
+-- a table that is described, with its texts
+abbrev pub of_table : {K X E : Type 0} {keys : Keys K} → TableOf keys X E → List ℕ → List ℕ → List ℕ → HallTable
+of_table {X = X} {keys = keys} t create find add = record {
   table = t.table;
   place = t.place;
   Held = Rows keys X;
   held = t.rows;
   with_held = t.with_rows;
   stores = IsKept t.rowid t.item t.key_of t.columns;
+  create = create;
+  find = find;
+  query = from_one t.table.tree t.matches t.shown t.one_by;
+  add = add;
+  given = t.given;
 }

@@ -1,6 +1,6 @@
 -- Laws of the statements on a table, for the proofs of callers: what they ask and write.
-use Rattle.sql_schema.specs.{Words.{append-nil, list_all, option_to_list, Row, Term, holds, eval_all, Trees, IsAnswer, overlay, cast_row, Values, State, Shown, works, Enforced, Key, Keys, Rows, at, gone, rows_where, listed, same_key, Hall, never_follows, TableOf, kept_row, HallRows, IsWithin, within, shown_within, finds_kept, lists_kept, adds_kept, sets_kept_if, removes_kept, removes_kept_where, output_of, IsBefore, uncounted, AreTables, Spells, and_true, IsCommandText, IsQueryText, IsReturningText, hall_schema}, Asking.Asks, AskingLaws.asks_by, TableStatements.{IsTable, shows_query, add_command, set_command, remove_command, with_item}, Writing.{Makes, Puts}}
-use Rattle.std.proofs.Common.{◌≡◌, ◌⊎◌, ◌/◌, inl, inr, not, ℕ, List, [], ◌∷◌, ◌++◌, map, filter, length, Bool, true, false, true≢false, ◌&&◌, Option, Some, None, Less, refl, sym, ap, subst, ◌∙◌}
+use Rattle.sql_schema.specs.{Words.{append-nil, list_all, option_to_list, Row, Term, holds, eval_all, Trees, IsAnswer, overlay, cast_row, Values, State, Shown, works, Enforced, Key, Keys, Rows, at, listed, same_key, Hall, never_follows, TableOf, kept_row, HallRows, IsWithin, within, shown_within, finds_kept, lists_kept, adds_kept, sets_kept_if, removes_kept, removes_kept_where, output_of, IsBefore, uncounted, AreTables, Spells, and_true, IsCommandText, IsQueryText, IsReturningText, hall_schema}, Asking.Asks, AskingLaws.asks_by, TableStatements.{IsTable, shows_query, add_command, set_command, remove_command, with_item, without_item, without_where}, Writing.{Makes, Puts}}
+use Rattle.std.proofs.Common.{◌≡◌, ◌⊎◌, ◌/◌, inl, inr, ℕ, List, [], ◌∷◌, ◌++◌, map, filter, length, Bool, true, false, true≢false, ◌&&◌, Option, Some, None, Less, refl, sym, ap, subst, ◌∙◌}
 
 module _ {K X E : Type 0} {keys : Keys K} (t : TableOf keys X E) (is : IsTable t) where
   -- a row passes `WHERE` of a key if its key is that one
@@ -79,7 +79,7 @@ module _ {K X E : Type 0} {keys : Keys K} (t : TableOf keys X E) (is : IsTable t
 
     -- DELETE of the row with a key, where no row of another table is a child of one
     pub removes : (sql : List ℕ) → IsCommandText hall_schema sql (remove_command t t.matches) → ((olds : List Row) → works hall_schema Enforced 0 t.table.tree olds [] ≡ [])
-        → (key : K) (before : Hall) (c : HallRows) → Makes state_of sql (t.key_values key) before c (t.with_rows c (gone key (t.rows c)))
+        → (key : K) (before : Hall) (c : HallRows) → Makes state_of sql (t.key_values key) before c (without_item t c key)
     removes sql text alone key before c one other held count ran =
         let old = state_of one in
         let new = state_of other in
@@ -90,7 +90,7 @@ module _ {K X E : Type 0} {keys : Keys K} (t : TableOf keys X E) (is : IsTable t
     -- DELETE of the rows that pass
     pub removes_where : (sql : List ℕ) (filters : List Term) → IsCommandText hall_schema sql (remove_command t filters) → ((olds : List Row) → works hall_schema Enforced 0 t.table.tree olds [] ≡ [])
         → (params : Row) (p : X → Bool) → ((e : E) → list_all (holds (params ∷ kept_row t e ∷ [])) filters ≡ p (t.item e))
-        → (before : Hall) (c : HallRows) → Makes state_of sql params before c (t.with_rows c (rows_where (λ x. not (p x)) (t.rows c)))
+        → (before : Hall) (c : HallRows) → Makes state_of sql params before c (without_where t c p)
     removes_where sql filters text alone params p tests before c one other held count ran =
         let old = state_of one in
         let new = state_of other in

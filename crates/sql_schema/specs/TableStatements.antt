@@ -1,6 +1,6 @@
 -- What has to be known of a table, so that all is known of its statements.
-use Rattle.sql_schema.specs.Words.{list_all, cast_row, Command, Insert, Update, Delete, with_rowid, Database, value_rows, Row, overlay, Query, Chosen, Values, Term, holds, eval_all, Trees, Key, Keys, Rows, put, same_key, IsKept, TableOf, kept_row, HallRows, cell, from_one, uncounted, AreTables, Spells, SetsRows, only, hall_schema}
-use Rattle.std.specs.Prelude.{◌≡◌, ◌/◌, List, [], ◌∷◌, ◌++◌, length, Some, slice_get}
+use Rattle.sql_schema.specs.Words.{list_all, cast_row, Command, Insert, Update, Delete, with_rowid, Database, value_rows, Row, overlay, Query, Chosen, Values, Term, holds, eval_all, Trees, Key, Keys, Rows, put, gone, rows_where, same_key, IsKept, TableOf, kept_row, HallRows, cell, from_one, uncounted, AreTables, Spells, SetsRows, only, hall_schema}
+use Rattle.std.specs.Prelude.{◌≡◌, ◌/◌, Bool, not, List, [], ◌∷◌, ◌++◌, length, Some, slice_get}
 
 module _ {K X E : Type 0} {keys : Keys K} (t : TableOf keys X E) where
   -- SELECT of all columns, of the rows that pass
@@ -22,6 +22,14 @@ module _ {K X E : Type 0} {keys : Keys K} (t : TableOf keys X E) where
   -- the rows with an item, new or in place of the one that has its key
   abbrev pub with_item : HallRows → X → HallRows
   with_item c x = t.with_rows c (put (t.key_of x) x (t.rows c))
+
+  -- without the one with a key
+  abbrev pub without_item : HallRows → K → HallRows
+  without_item c key = t.with_rows c (gone key (t.rows c))
+
+  -- without those that pass
+  abbrev pub without_where : HallRows → (X → Bool) → HallRows
+  without_where c p = t.with_rows c (rows_where (λ x. not (p x)) (t.rows c))
 
 -- it is this table of a hall
 pub record IsTable {K X E : Type 0} {keys : Keys K} (t : TableOf keys X E) : Type 0 where

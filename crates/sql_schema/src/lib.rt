@@ -5,7 +5,6 @@
 
 pub mod creating;
 mod kinds;
-pub mod opening;
 mod probe;
 mod reading;
 mod table;
@@ -17,7 +16,7 @@ pub use probe::is_running;
 pub use reading::{ask_all, ask_first, ask_one};
 pub use table::Table;
 pub use values::{
-    digest_in, mac_in, name_in, name_value, number_in, number_value, octets_value, request_key_in,
-    small_in, small_value, text_value, token_in, truth_in, truth_value, uuid_in,
+    name_in, name_value, number_in, number_value, octets_in, octets_value, small_in, small_value,
+    text_value, truth_in, truth_value,
 };
 pub use writing::{put, write};

@@ -2,7 +2,7 @@
 ghost use Rattle.sql_schema.specs.{Prelude.{Int, Text, Blob, column, owned}, Columns.{number, truth_number}};
 ghost use Rattle.std.specs.Prelude.{◌≡◌, ◌<◌, ◌^◌, pos, IfOk};
 
-use hall_types::{Digest, MacAddress, MachineUuid, Name, Number, RequestKey, Token};
+use hall_types::{Name, Number};
 use sqlite::types::{Type, ValueRef};
 use sqlite::{Error, Row};
 
@@ -11,32 +11,21 @@ pub fn name_in(row: &Row, at: usize) -> Result<Name, Error>
     ensures { IfOk result (λ name. column row.now at ≡ Text name) }
 {
     let text: String = row.get(at)?;
-    match Name::new(text.as_str()) {
-        Ok(name) => Ok(name),
-        Err(_) => Err(Error::InvalidColumnType(at, Type::Text)),
-    }
+    Name::new(text.as_str()).map_err(|_| Error::InvalidColumnType(at, Type::Text))
 }
 
 /// The number of a machine, a boot or an order in a column.
 pub fn number_in(row: &Row, at: usize) -> Result<Number, Error>
     ensures { IfOk result (λ n. column row.now at ≡ number n) }
 {
-    let n: u64 = row.get(at)?;
-    match Number::new(n) {
-        Ok(number) => Ok(number),
-        Err(_) => Err(Error::IntegralValueOutOfRange(at)),
-    }
+    Number::new(row.get(at)?).map_err(|_| Error::IntegralValueOutOfRange(at))
 }
 
 /// The small number in a column, as that of a kind.
 pub fn small_in(row: &Row, at: usize) -> Result<u8, Error>
     ensures { IfOk result (λ n. column row.now at ≡ number n) }
 {
-    let n: u64 = row.get(at)?;
-    match u8::try_from(n) {
-        Ok(small) => Ok(small),
-        Err(_) => Err(Error::IntegralValueOutOfRange(at)),
-    }
+    u8::try_from(row.get::<u64>(at)?).map_err(|_| Error::IntegralValueOutOfRange(at))
 }
 
 /// The truth value in a column, 0 or 1.
@@ -51,55 +40,12 @@ pub fn truth_in(row: &Row, at: usize) -> Result<bool, Error>
     }
 }
 
-// So many octets in a column.
-fn octets_in<const N: usize>(row: &Row, at: usize) -> Result<[u8; N], Error>
+/// So many octets in a column.
+pub fn octets_in<const N: usize>(row: &Row, at: usize) -> Result<[u8; N], Error>
     ensures { IfOk result (λ octets. column row.now at ≡ Blob octets) }
 {
     let blob: Vec<u8> = row.get(at)?;
-    match <[u8; N]>::try_from(blob.as_slice()) {
-        Ok(octets) => Ok(octets),
-        Err(_) => Err(Error::InvalidColumnType(at, Type::Blob)),
-    }
-}
-
-/// The digest in a column.
-pub fn digest_in(row: &Row, at: usize) -> Result<Digest, Error>
-    ensures { IfOk result (λ digest. column row.now at ≡ Blob digest) }
-{
-    let octets = octets_in(row, at)?;
-    Ok(Digest::from(octets))
-}
-
-/// The hardware address in a column.
-pub fn mac_in(row: &Row, at: usize) -> Result<MacAddress, Error>
-    ensures { IfOk result (λ mac. column row.now at ≡ Blob mac) }
-{
-    let octets = octets_in(row, at)?;
-    Ok(MacAddress::from(octets))
-}
-
-/// The UUID of a machine in a column.
-pub fn uuid_in(row: &Row, at: usize) -> Result<MachineUuid, Error>
-    ensures { IfOk result (λ uuid. column row.now at ≡ Blob uuid) }
-{
-    let octets = octets_in(row, at)?;
-    Ok(MachineUuid::from(octets))
-}
-
-/// The token of a boot in a column.
-pub fn token_in(row: &Row, at: usize) -> Result<Token, Error>
-    ensures { IfOk result (λ token. column row.now at ≡ Blob token) }
-{
-    let octets = octets_in(row, at)?;
-    Ok(Token::from(octets))
-}
-
-/// The key of a request in a column.
-pub fn request_key_in(row: &Row, at: usize) -> Result<RequestKey, Error>
-    ensures { IfOk result (λ key. column row.now at ≡ Blob key) }
-{
-    let octets = octets_in(row, at)?;
-    Ok(RequestKey::from(octets))
+    <[u8; N]>::try_from(blob.as_slice()).map_err(|_| Error::InvalidColumnType(at, Type::Blob))
 }
 
 /// A number as a parameter.

@@ -1,5 +1,5 @@
 -- What each statement of the transaction makes of the tables that are carried over.
-use Rattle.sql_schema.specs.{Words.{all-slice_get, machines, wipes, HallRows, lists_kept, adds_kept, rises, number_is_free, sets, TableName, described, of_last, of_machines, of_wipes, Spells, numbers, listed, put, Null, Int, Database, Row, column, lit, op2, Binary, State, Shown, Compare, Eq, filter_all, all_of, Hall, erase_number, Full, Machine, Numbers, Status, status_number, never_follows, same_status, Wipe, number, machine_columns, machine_values, wipe_columns, and_true, add_wipe_is, list_machines_is, cell, rising, shown_answer, makes_table, shown_same, IsCommandText, changes, hall_schema, hall_table, wipes_table, Table}, declared.{creating.TheConstants.CREATE_WIPES, opening.TheConstants.{ADD_WIPE, LIST_MACHINES}}}
+use Rattle.sql_schema.specs.{Words.{all-slice_get, machines, wipes, HallRows, lists_kept, adds_kept, rises, number_is_free, sets, TableName, described, of_last, of_machines, of_wipes, Spells, numbers, listed, put, Null, Int, Database, Row, column, lit, op2, Binary, State, Shown, Compare, Eq, filter_all, all_of, Hall, erase_number, Full, Machine, Numbers, Status, status_number, never_follows, Wipe, number, machine_columns, machine_values, wipe_columns, and_true, list_machines_is, cell, rising, shown_answer, makes_table, shown_same, IsCommandText, changes, hall_schema, hall_table, wipes_table, Table, add_is, same_kind, status_by_number}, declared.creating.TheConstants.{CREATE_WIPES, ADD_WIPE, LIST_MACHINES}}
 use Rattle.sql_tables.{specs.{Migrating.{is_first, carried_rows, IsFirst, as_second, first_schema, is_erasing, set_schema_command, set_schema_text, with_kind_of, with_kinds_of}, Running.IsRun}, proofs.MakingLemmas.{rest_stays, kinds_stay, hall_named}}
 use Rattle.std.proofs.Common.{slice_get, ◌≡◌, ℕ, pos, List, [], ◌∷◌, map, Bool, true, refl, sym, ap, subst, ◌∙◌, arith, Some, if◌then◌else◌}
 use Rattle.sqlite.specs.Listing.{understood}
@@ -26,7 +26,8 @@ columns x = Null ∷ number x.0 ∷ number x.1.machine ∷ number x.1.boot ∷ n
 -- the table of kinds of erasing is made, and `hall` names the second schema
 second_made : {a b c : State} → IsRun CREATE_WIPES.now [] a b → IsRun set_schema_text [] b c → (h : Hall) → IsFirst a.now h → Spells c.now (as_second h)
 second_made {a = a} {b = b} {c = c} make set h was =
-    let made = makes_table first_schema hall_schema CREATE_WIPES.now (record wipes_table { tree = 0 }) law.create_wipes.text law.create_wipes.defined law.create_wipes.next law.create_wipes.unlisted a b make.count was.schema make.ran in
+    let makes = law.creates of_wipes in
+    let made = makes_table first_schema hall_schema CREATE_WIPES.now (record wipes_table { tree = 0 }) makes.text makes.defined makes.next makes.unlisted a b make.count was.schema make.ran in
     let changed = changes (λ (x : ℕ × Numbers). pos 1) columns hall_schema 0 hall_table refl b c made.0 ((1, h.last) ∷ []) (made.2.0 ∙ was.spelt.last) (op2 (Compare Eq Binary) (cell 0) (lit (Int (pos 1))) ∷ []) [] (λ x. true)
     (λ x. and_true _ ∙ value.same_number (pos 1) (pos 1)) (tt, tt) refl (cell 0 ∷ lit Null ∷ lit (Int (pos 2)) ∷ cell 3 ∷ cell 4 ∷ cell 5 ∷ []) (omega arith) never_follows (λ x. (2, x.1)) (λ x. refl)
     (λ x. rw (value.cast-Int, value.cast-Null, value.cast-Int, value.cast-Int, value.cast-Int, value.cast-Int) refl) set_schema_text set_schema_is set.count set.ran in
@@ -54,7 +55,7 @@ full_put {old = old} {new = new} id run c was =
     let w : Wipe = record { machine = id; erase = Full } in
     let is = was.tables.each of_wipes in
     let it = adds_kept numbers wipes.rowid wipes.item wipes.key_of wipe_columns (old.now.trees 24) c.wipes is hall_schema 12 wipes_table refl old new was.schema refl ADD_WIPE.now (wipes.values_of w) run.count run.ran
-    wipes.given 3 add_wipe_is w (number_is_free wipes.key_of wipe_columns (old.now.trees 24) c.wipes is id) (wipes.source w) refl (rw (value.cast-Int, value.cast-Null, value.cast-Int) refl) in
+    wipes.given 3 (add_is of_wipes) w (number_is_free wipes.key_of wipe_columns (old.now.trees 24) c.wipes is id) (wipes.source w) refl (rw (value.cast-Int, value.cast-Null, value.cast-Int) refl) in
     sets of_wipes old.now new.now c was it.0.0 _ it.0.1 it.0.2
 
 -- the machine in a row
@@ -66,7 +67,7 @@ module _ (row : Row) (m : Machine) (row_is : row ≡ machine_values m) (id : ℕ
   its_status =
       let e : number (status_number m.status) ≡ number (status_number status) = sym (ap (λ r. column r 4) row_is) ∙ status_is in
       let numbers_are : status_number status ≡ status_number m.status = cc in
-      same_status status m.status numbers_are
+      same_kind status_by_number status m.status numbers_are
 
   -- its kind is put, if its disks are to be erased or were to be
   pub kind_made : (b : Bool) → is_erasing status ≡ b → (db : Database) (c : HallRows) → Spells db (record c { wipes = if b then put id (record { machine = id; erase = Full }) c.wipes else c.wipes }) → Spells db (with_kind_of c m)

@@ -1,11 +1,11 @@
 -- Looks at the tables of a file, inside a transaction that is undone.
-use Rattle.sql_schema.specs.{Words.{AllByRecursion, Null, Int, Error, SqlInputError, Row, Database, reads_listing, Schema, State, IsUnchanged, store_error, Outlines, IsPlain, Command, Compiled, CompileError, Returning, append-nil, cell, column, command_of, items_in_order}, Steps.IsStep, StepLaws.fails, declared.creating.TheConstants.FIND_NUMBERS}
+use Rattle.sql_schema.specs.{Words.{AllByRecursion, Null, Int, Error, SqlInputError, Row, Database, reads_listing, Schema, State, IsUnchanged, store_error, Outlines, IsPlain, Command, Compiled, CompileError, Returning, append-nil, cell, column, command_of, items_in_order}, Steps.IsStep, StepLaws.{fails, queried}, declared.creating.TheConstants.FIND_NUMBERS}
 use Rattle.std.proofs.Common.{◌≡◌, ◌≢◌, inl, inr, ℕ, ℤ, pos, List, [], ◌∷◌, Ok, Err, Result, Option, None, Bool, true, false, true≢false, refl, sym, ap, subst, ◌∙◌, ◌↔◌, if◌then◌else◌}
 use Rattle.sqlite_resolve.specs.{Compile.compiled, Lowering.{Checked, and_then}, declared.error.CompileError.TheVariants.NoSuchTable}
 use Rattle.sqlite_tied.specs.Compute.{everything}
 use Rattle.sqlite.specs.{Effect.Reads, Listing.{IsSourceOf, if_select, listing_schema, misses_table, understood}, State.{FailsToQuery, IsNotRun, Shown}}
 use Rattle.sqlite_trees.specs.declared.error.StoreError.TheVariants as fault
-use Rattle.sql_tables.{specs.{declared.{fault.OpenFault.{OpenFault, TheVariants.{NotAHall, OtherVersion, Unavailable}}, looking.Wanted.{Wanted, TheVariants.{First, Second}}}, Opening.{AreFound, AreUnderstood, HasTables, IsAnswerFor, IsAnswerOf, IsFoundBy, IsOneRow, IsSchemaRow, IsUnderstood, IsVersionOf, NamesSchema, SaysSchema, ShowsRows, first_rows, has_indexes, if_indexed, second_rows, wanted_number, wanted_rows}}, proofs.TransactionLemmas.asked}
+use Rattle.sql_tables.specs.{declared.{fault.OpenFault.{OpenFault, TheVariants.{NotAHall, OtherVersion, Unavailable}}, looking.Wanted.{Wanted, TheVariants.{First, Second}}}, Opening.{AreFound, AreUnderstood, HasTables, IsAnswerFor, IsAnswerOf, IsFoundBy, IsOneRow, IsSchemaRow, IsUnderstood, IsVersionOf, NamesSchema, SaysSchema, ShowsRows, first_rows, has_indexes, if_indexed, second_rows, wanted_number, wanted_rows}}
 
 -- ---- whether texts are understood
 
@@ -38,7 +38,7 @@ understood_step old new same = record { gives = same.0.now_is; mode = λ inside.
 
 pub not_run_step : (old new : State) (sql : List ℕ) (e : Error) (why : OpenFault) → ((params : Row) → IsNotRun old new sql params e) → (A : Unit {0} → Type 0) → IsStep old new (Err why) A
 unfolding FailsToQuery
-not_run_step old new sql e why not_run A = fails A e why (asked {X = List Row} old new sql (λ rows. rows) (Err e) tt (inl (inl (not_run []))))
+not_run_step old new sql e why not_run A = fails A e why (queried {X = List Row} sql [] old new (λ rows. rows) (Err e) tt (inl (inl (not_run []))))
 
 -- several texts, of which these are left, where one more of them is asked for
 module _ (db : Database) (old : State) (all left more : List (List ℕ)) (sql : List ℕ) (same : old.now ≡ db) (is : left ≡ sql ∷ more) (so_far : AreUnderstood db.schema all ↔ AreUnderstood db.schema left) where
@@ -78,12 +78,6 @@ compiled_of (Err e) plain = absurd plain
 pub all_compiled : (schema : Schema) (texts : List (List ℕ)) → AllByRecursion (λ sql. IsPlain (understood schema sql)) texts → AreUnderstood schema texts
 all_compiled schema [] plain = tt
 all_compiled schema (sql ∷ more) plain = (compiled_of _ plain.0, all_compiled schema more plain.1)
-
--- if `hall` isn't there, there is no number
-pub no_version : (wanted : Wanted) (db : Database) (e : OpenFault) → AreFound (FIND_NUMBERS.now ∷ []) db (Err e) → (n : ℤ) → SaysSchema db n → IsVersionOf wanted n (Err e)
-no_version wanted db NotAHall missing n says = missing (compiled_of _ says.reads.plain, tt)
-no_version wanted db OtherVersion missing n says = absurd missing
-no_version wanted db Unavailable missing n says = tt
 
 pub not_found : (Names : ℤ → Type 0) (wanted : Wanted) (db : Database) (e : OpenFault) → AreFound (FIND_NUMBERS.now ∷ []) db (Err e) → IsFoundBy Names wanted (Err e)
 not_found Names wanted db NotAHall missing = tt

@@ -1,5 +1,5 @@
 -- What each statement of a new hall makes of the tables.
-use Rattle.sql_schema.specs.{Words.{hall_schema, hall_table, operators_table, pools_table, AllByRecursion, IsPermutation-refl, Null, Int, Text, Row, KeepsRows, next_tree, Database, Schema, Table, lit, Trees, State, Keys, numbers, texts, at, put, no_rows, listed, pairs, at-no_rows, none_size, none_pass, length-listed, Hall, default_pool, new_hall, second, IsSound, Admin, Numbers, Operator, Pool, makes_table, makes_index, MakesOne, inserts, add_operator_is, add_pool_is, first_numbers_is, CountRow, operator_columns, pool_columns, numbers_row, number, IsKept, HallRows, pools, operators, adds_kept, sets, at_table, option_to_list, in_rows, Spells, SpellHall, is_in, wipe_of, TableName, described, count_key, of_last, of_operators, of_pools, of_images, of_counts, of_wipes}, declared.opening.TheConstants.{ADD_OPERATOR, ADD_POOL, FIRST_NUMBERS}}
+use Rattle.sql_schema.specs.{Words.{hall_schema, hall_table, operators_table, pools_table, AllByRecursion, IsPermutation-refl, Null, Int, Text, Row, KeepsRows, next_tree, Database, Schema, Table, lit, Trees, State, Keys, numbers, texts, at, put, no_rows, listed, pairs, at-no_rows, none_size, none_pass, length-listed, Hall, default_pool, new_hall, second, IsSound, Admin, Numbers, Operator, Pool, makes_table, makes_index, MakesOne, inserts, CountRow, operator_columns, pool_columns, numbers_row, number, IsKept, HallRows, pools, operators, adds_kept, sets, at_table, option_to_list, in_rows, Spells, SpellHall, is_in, wipe_of, TableName, described, count_key, of_last, of_operators, of_pools, of_images, of_counts, of_wipes, add_is}, declared.creating.TheConstants.{ADD_OPERATOR, ADD_POOL, FIRST_NUMBERS}}
 use Rattle.std.{proofs.Common.{inl, inr, true, ◌≡◌, ◌≢◌, ◌++◌, ℕ, pos, List, [], ◌∷◌, length, map, None, Some, refl, sym, ap, subst, ◌∙◌, arith, IsPermutation, ℤ}, specs.Prelude.option_and_then}
 use Rattle.sql_schema.specs.ValueLaws as value
 use Rattle.sql_tables.specs.{Creating.{CanMake, HasNoRows, bare_hall, without_kinds}, Migrating.{AreFirstRows, as_second, is_first}, Running.IsRun}
@@ -111,7 +111,7 @@ hall_columns last = Null ∷ number 2 ∷ number last.machine ∷ number last.bo
 numbers_put : {old new : State} → IsRun FIRST_NUMBERS.now [] old new → HasNoRows old.now hall_schema → Spells new.now (without_kinds bare_hall)
 numbers_put {old = old} {new = new} run was =
     let set = (inserts (λ (last : Numbers). pos 1) hall_columns hall_schema 0 hall_table refl old new was.schema [] was.empty.0 FIRST_NUMBERS.now []
-    (lit (Int (pos 1)) ∷ lit Null ∷ lit (Int (pos 2)) ∷ lit (Int (pos 0)) ∷ lit (Int (pos 0)) ∷ lit (Int (pos 0)) ∷ []) 6 first_numbers_is run.count run.ran
+    (lit (Int (pos 1)) ∷ lit Null ∷ lit (Int (pos 2)) ∷ lit (Int (pos 0)) ∷ lit (Int (pos 0)) ∷ lit (Int (pos 0)) ∷ []) 6 (add_is of_last) run.count run.ran
     bare_hall.last (numbers_row bare_hall.last) refl (rw (value.cast-Int, value.cast-Null, value.cast-Int, value.cast-Int) refl)).0 in
     let none = at_table (λ (t : Table). old.now.trees t.tree ≡ []) was.empty in
     hall_named old.now.trees new.now bare_hall (bare_rows old.now.trees none) (rest_stays old.now.trees new.now.trees set.others) (kinds_stay old.now.trees new.now.trees set.others ∙ none of_wipes) set.same_schema set.sound set.table
@@ -120,14 +120,14 @@ numbers_put {old = old} {new = new} run was =
 pool_put : {old new : State} (c : HallRows) (p : Pool) → at c.hall.pools p.name ≡ None → IsRun ADD_POOL.now (Text p.name ∷ []) old new → Spells old.now c → Spells new.now (record c { hall = record c.hall { pools = put p.name p c.hall.pools } })
 pool_put {old = old} {new = new} c p free run was =
     let it = adds_kept texts pools.rowid pools.item pools.key_of pool_columns (old.now.trees 4) c.hall.pools (was.tables.each of_pools) hall_schema 2 pools_table refl old new was.schema refl ADD_POOL.now (Text p.name ∷ []) run.count run.ran
-    pools.given 2 add_pool_is (pools.entry (old.now.trees 4) p) (λ _. free) (pools.source p) refl (rw value.cast-Null refl) in
+    pools.given 2 (add_is of_pools) (pools.entry (old.now.trees 4) p) (λ _. free) (pools.source p) refl (rw value.cast-Null refl) in
     sets of_pools old.now new.now c was it.0.0 _ it.0.1 it.0.2
 
 -- an operator in a database that spells such rows
 operator_put : {old new : State} (c : HallRows) (o : Operator) → at c.hall.operators o.name ≡ None → IsRun ADD_OPERATOR.now (operator_columns o) old new → Spells old.now c → Spells new.now (record c { hall = record c.hall { operators = put o.name o c.hall.operators } })
 operator_put {old = old} {new = new} c o free run was =
     let it = adds_kept texts operators.rowid operators.item operators.key_of operator_columns (old.now.trees 1) c.hall.operators (was.tables.each of_operators) hall_schema 1 operators_table refl old new was.schema refl ADD_OPERATOR.now (operator_columns o) run.count run.ran
-    operators.given 5 add_operator_is (operators.entry (old.now.trees 1) o) (λ _. free) (operators.source o) refl (rw (value.cast-Null, value.cast-Int, value.cast-Int) refl) in
+    operators.given 5 (add_is of_operators) (operators.entry (old.now.trees 1) o) (λ _. free) (operators.source o) refl (rw (value.cast-Null, value.cast-Int, value.cast-Int) refl) in
     sets of_operators old.now new.now c was it.0.0 _ it.0.1 it.0.2
 
 -- the rows of a new hall

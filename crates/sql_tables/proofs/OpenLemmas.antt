@@ -1,5 +1,5 @@
 -- From what was looked for to the hall that is held.
-use Rattle.sql_schema.specs.{Words.{of_last, SpellHall, Database, State, IsLive, IsSound, lists_once, IsQueryText, Hall, find_numbers_is, find_numbers_query, hall_schema, IsHeld}, SchemaLaws.reads_plain, declared.creating.TheConstants.FIND_NUMBERS}
+use Rattle.sql_schema.specs.{Words.{of_last, SpellHall, Database, State, IsLive, IsSound, lists_once, IsQueryText, Hall, find_numbers_query, hall_schema, IsHeld, find_is}, SchemaLaws.reads_plain, declared.creating.TheConstants.FIND_NUMBERS}
 use Rattle.sqlite_schema.specs.Names.{same_name}
 use Rattle.std.proofs.Common.{◌≡◌, pos, Ok, Err, Result, IfErr, OnOk, refl, sym, ap, subst, ◌∙◌}
 use Rattle.sql_tables.{specs.{declared.{fault.OpenFault.{OpenFault, TheVariants.{NotAHall, OtherVersion, Unavailable}}, looking.Wanted.{Wanted, TheVariants.Second}}, Opening.{HasAll, IfSaid, IsAnswerFor, IsReady, SaysSchema, wanted_number, wanted_rows}}, proofs.LookLemmas.{all_compiled, one_schema}}
@@ -16,7 +16,7 @@ has_all = (all_compiled hall_schema (wanted_rows Second) reads_plain, refl)
 
 module _ (db : Database) (h : Hall) (sound : IsSound db.schema db.trees) (spelt : SpellHall db.trees h) where
   pub says_second : SaysSchema db (pos 2)
-  says_second = record { reads = subst (λ s. IsQueryText s FIND_NUMBERS.now find_numbers_query) (sym (schema_of db h sound spelt)) find_numbers_is; last = (_, _, _, (spelt.tables.each of_last)) }
+  says_second = record { reads = subst (λ s. IsQueryText s FIND_NUMBERS.now find_numbers_query) (sym (schema_of db h sound spelt)) (find_is of_last); last = (_, _, _, (spelt.tables.each of_last)) }
 
   pub has_second : HasAll Second db.schema
   has_second = subst (HasAll Second) (sym (schema_of db h sound spelt)) has_all

@@ -1,6 +1,6 @@
 -- Statements inside a transaction, and how the transaction ends.
-use Rattle.sql_schema.specs.{Words.{cases_Bool, at_drop_more, drop_all, Error, Row, Database, State, FailsToQuery, HasCleanDisk, IsTooLate, IsRolledBack, Shown, Survives, Held, state, survives_then, Trees, Hall, SpellHall, hall_schema, IsHeld, Leaves, query_keeps, query_mode}, Steps.IsStep, StepLaws.next}
-use Rattle.std.proofs.Common.{◌≡◌, ◌<◌, ◌≤◌, ◌+◌, ◌⊎◌, inl, inr, ℕ, List, [], ◌∷◌, length, drop, get_or, true, false, Ok, Err, Result, IfOk, IfErr, OnOk, OnErr, IsTrue, refl, sym, ap, subst, ◌∙◌, arith}
+use Rattle.sql_schema.specs.{Words.{cases_Bool, at_drop_more, drop_all, Error, Database, State, HasCleanDisk, IsRolledBack, Survives, Held, state, Hall, SpellHall, hall_schema, earlier}, Steps.IsStep}
+use Rattle.std.proofs.Common.{◌≡◌, ◌<◌, ◌≤◌, ◌+◌, inl, inr, ℕ, List, [], ◌∷◌, length, drop, get_or, true, false, Ok, Err, Result, IfOk, OnOk, OnErr, IsTrue, sym, ap, subst, ◌∙◌}
 use Rattle.sqlite_trees.specs.declared.store.Store as store
 use Rattle.sql_tables.specs.{Creating.{IsFlat, IsMade, KeepsTables}, Running.IsEnded}
 
@@ -18,22 +18,6 @@ pub whatever : {X E A : Type 0} (r : Result X E) → A → IfOk r (λ _. A)
 whatever (Ok x) a = a
 whatever (Err e) a = tt
 
--- ---- one call and then another
-
--- a disk that is clean after a call was clean before it
-pub earlier : {old new : State} {Commits : Trees → Type 0} → Survives old new Commits → HasCleanDisk new → HasCleanDisk old
-earlier one clean = omega (arith, one.clean, clean)
-
-pub survives_none : (a : State) → Survives a a (λ _. ⊥)
-survives_none a = record { clean = omega arith; shield = λ shield. shield; counts = omega arith; limit = refl; closes = λ clean live. inl live; crash = λ clean db may. inl may }
-
-pub survives_both : {a b c : State} → Survives a b (λ _. ⊥) → Survives b c (λ _. ⊥) → Survives a c (λ _. ⊥)
-survives_both {a = a} {b = b} {c = c} one two = survives_then a b c _ _ (λ _. ⊥) (λ _ db none. none) (λ _ db none. none) one two
-
--- a step that answers, and then another one: what both give
-pub pair : {Y Z E F : Type 0} {old mid new : State} {A : Y → Type 0} {B : Z → Type 0} (y : Y) (r : Result Z F) → IsStep old mid {E = E} (Ok y) A → IsStep mid new r B → IsStep old new r (λ z. A y × B z)
-pair y r first second = next _ y r first second (λ z a b. (a, b))
-
 -- what is left of a slice at an index
 pub left_at : {X : Type 0} (slice xs : List X) (i : ℕ) (x : X) → slice ≡ xs → i < length slice → x ≡ get_or slice i x → drop i xs ≡ x ∷ drop (i + 1) xs
 left_at slice xs i x is low at = subst (λ l. drop i l ≡ x ∷ drop (i + 1) l) is (at_drop_more (λ l. l) slice i x low ∙ ap (λ y. y ∷ drop (i + 1) slice) (sym at))
@@ -49,11 +33,6 @@ found_inside old ended = elim (cases_Bool old.in_transaction) [
   | inl going ↦ going
   | inr over ↦ absurd (let e = ended over in cc)
 ]
-
-pub asked : {X : Type 0} (old new : State) (sql : List ℕ) (rows_of : X → List Row) (r : Result X Error) → IfOk r (λ x. Shown sql [] old new (rows_of x)) → IfErr r (λ e. FailsToQuery sql [] old new e ⊎ IsTooLate sql [] old new e)
-    → IsStep old new r (λ x. Shown sql [] old new (rows_of x))
-asked old new sql rows_of (Ok x) ok err = record { gives = ok; mode = query_mode old new sql [] (rows_of x) ok; kept = query_keeps old new sql [] rows_of (Ok x) ok err }
-asked old new sql rows_of (Err e) ok err = record { gives = tt; mode = tt; kept = query_keeps old new sql [] rows_of (Err e) ok err }
 
 -- ---- a transaction of one step
 
@@ -101,10 +80,3 @@ module _ {S : Type 0} (g : store.Ghosts S) (h0 h1 t u : Held S) {E F : Type 0} (
       | inr all ↦ inr (subst (λ trees. SpellHall trees h) (sym all.1) (spells (given all.0)).1)
     ];
   }
-
--- ---- between calls
-
--- while it is open a stop leaves the last commit, which is what it shows between calls
-pub settles : {S : Type 0} (g : store.Ghosts S) (s : Held S) (h : Hall) → ((db : Trees) → IsTrue (state g s).is_open → (state g s).may_leave db → db ≡ (state g s).committed.trees) → IsHeld (state g s) h → Leaves (state g s) (h ∷ [])
-settles g s h settled held db may =
-    (h, inl refl, subst (λ d. SpellHall d h) (sym (settled db held.running may ∙ ap (λ (d : Database). d.trees) held.kept)) held.spelt)

@@ -5,8 +5,7 @@ ghost use Rattle.sql_tables.specs.Creating.{CanMake, HasNoRows, without_kinds};
 
 use crate::running::run;
 use hall_types::{Digest, Name, Role};
-use sql_schema::creating::CREATE_ALL;
-use sql_schema::opening::{ADD_OPERATOR, ADD_POOL, FIRST_NUMBERS};
+use sql_schema::creating::{ADD_OPERATOR, ADD_POOL, CREATE_ALL, FIRST_NUMBERS};
 use sqlite::{Alter, Error, Transaction, params};
 
 // Tables and indexes are made by their texts, one after another.

@@ -9,8 +9,7 @@ use crate::looking::Wanted;
 use crate::opening::{look_at_tables, look_for};
 use crate::running::{ask, end, run};
 use hall_types::{Erase, Number, Status};
-use sql_schema::creating::CREATE_WIPES;
-use sql_schema::opening::{ADD_WIPE, LIST_MACHINES};
+use sql_schema::creating::{ADD_WIPE, CREATE_WIPES, LIST_MACHINES};
 use sql_schema::{kind_in, number_in, number_value, small_value};
 use sqlite::{Alter, Connection, Error, Row, Transaction};
 

@@ -1,15 +1,9 @@
 -- A transaction that writes the rows of a change.
-use Rattle.sql_schema.specs.Words.{Error, Database, Held, state, FailsToCommit, State, HasCleanDisk, IsRolledBack, Survives, Shows, KeepsCommit, KeepsCounts, survives_then, survives_begin, Hall, applied, written, RowWrite, IsHeld, Holds, Leaves, leaves_on, leaves_more, SpellHall}
+use Rattle.sql_schema.specs.Words.{Error, Database, Held, state, FailsToCommit, State, HasCleanDisk, IsRolledBack, Survives, Shows, KeepsCommit, KeepsCounts, survives_then, survives_begin, Hall, applied, written, RowWrite, IsHeld, Holds, Leaves, leaves_on, leaves_more, SpellHall, survives_none, survives_both}
 use Rattle.std.{specs.Prelude.IsErr, proofs.Common.{◌≡◌, inl, inr, List, [], ◌∷◌, true, false, Ok, Err, Result, OnOk, IfErr, IsTrue, refl, sym, ap, subst, ◌∙◌, arith, true≢false}}
 use Rattle.sqlite_trees.specs.declared.store.Store as trees
 use Rattle.hall_store.specs.{Rules.AllKeep, Versions.HaveVersions}
 use Rattle.sql_writes.specs.{Within.{IsWithinHall, IsRowWritten}, Applying.IsTold}
-
-still : (s : State) → Survives s s (λ _. ⊥)
-still s = record { clean = omega arith; shield = λ h. h; counts = omega arith; limit = refl; closes = λ _ live. inl live; crash = λ _ db may. inl may }
-
-survives_on : {a b c : State} → Survives a b (λ _. ⊥) → Survives b c (λ _. ⊥) → Survives a c (λ _. ⊥)
-survives_on {a = a} {b = b} {c = c} one two = survives_then a b c _ _ (λ _. ⊥) (λ _ db none. none) (λ _ db none. none) one two
 
 keeps_on : {a b c : State} → KeepsCommit a b → KeepsCommit b c → KeepsCommit a c
 keeps_on one two = record { was_open = λ live. one.was_open (two.was_open live); committed = λ live. two.committed live ∙ one.committed (two.was_open live) }
@@ -30,7 +24,7 @@ pub record Going (s0 s : State) (left all : List RowWrite) : Type 0 where
 
 pub begins : {S : Type 0} (g : trees.Ghosts S) (h0 h1 : Held S) (all : List RowWrite) → h1 ≡ record h0 { in_transaction = true } → Going (state g h0) (state g h1) all all
 begins g h0 h1 all is = rw is (record {
-  survives = survives_begin g h0 (state g (record h0 { in_transaction = true })) (λ _. ⊥) (still _);
+  survives = survives_begin g h0 (state g (record h0 { in_transaction = true })) (λ _. ⊥) (survives_none _);
   kept = λ _. record { was_open = λ live. live; committed = λ _. refl };
   mode = λ _. refl;
   made = λ _ h held keep. record {
@@ -54,7 +48,7 @@ begins g h0 h1 all is = rw is (record {
 -- one more row was written
 pub steps : {Y E : Type 0} {s0 s t : State} (y : Y) (w : RowWrite) (left all : List RowWrite) → Going s0 s (w ∷ left) all → Survives s t (λ _. ⊥) → (HasCleanDisk t → IsRowWritten s t {E = E} (Ok y) w) → Going s0 t left all
 steps y w left all going more made = record {
-  survives = survives_on going.survives more;
+  survives = survives_both going.survives more;
   kept = λ clean. keeps_on (going.kept (omega (arith, more.clean))) ((made clean).kept (going.mode (omega (arith, more.clean))));
   mode = λ clean. (made clean).mode (going.mode (omega (arith, more.clean)));
   made = λ clean h held keep.
@@ -125,5 +119,5 @@ refused {s0 = s0} {s = s} {m = m} {t = t} (Err f) left all bad going one kept tw
       made = tt;
       versions = tt;
       back = λ h held. rolled s0 m t h (keeps_on (going.kept first) (kept mid (rw (going.mode first) refl))) (back clean) held;
-      crash = λ h held keep hs left. leaves_more t (applied all h) hs (leaves_on s0 t hs (survives_on (survives_on going.survives one) two) clean left);
+      crash = λ h held keep hs left. leaves_more t (applied all h) hs (leaves_on s0 t hs (survives_both (survives_both going.survives one) two) clean left);
     }

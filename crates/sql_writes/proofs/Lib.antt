@@ -2,5 +2,4 @@ pub mod ApplyingLemmas
 pub mod CountLemmas
 pub mod MachineLemmas
 pub mod RemovalLemmas
-pub mod StepLemmas
 pub mod WriteLemmas

@@ -1,8 +1,8 @@
 -- A machine's row, read and put.
-use Rattle.sql_schema.specs.{Words.{equal_keys, finds_kept, machines, Counts, HallRows, numbers, at, put, of_machines, AreRowsOf, Spells, SpellHall, option_to_list, Database, Error, Text, Row, column, State, Shown, Hall, status_number, Machine, number, machine_columns, machine_values, same_status, IsWithin, equals, shown_answer, query_keeps, query_mode, shown_same, hall_schema, find_machine_is}, declared.creating.TheConstants.FIND_MACHINE, Steps.IsStep}
+use Rattle.sql_schema.specs.{Words.{equal_keys, finds_kept, machines, Counts, HallRows, numbers, at, put, of_machines, AreRowsOf, Spells, SpellHall, option_to_list, Database, Error, Text, Row, column, State, Shown, Hall, status_number, Machine, number, machine_columns, machine_values, IsWithin, equals, shown_answer, query_keeps, query_mode, shown_same, hall_schema, find_is, same_kind, status_by_number}, declared.creating.TheConstants.FIND_MACHINE, Steps.IsStep, TableStatements.with_item}
 use Rattle.std.proofs.Common.{◌≡◌, ℕ, List, [], ◌∷◌, Option, Some, None, Ok, option_map, map, refl, sym, ap, ap₂, subst, ◌∙◌}
 use Rattle.hall_store.specs.Versions.{version_of}
-use Rattle.sql_items.specs.{Machines.{HasVersion, with_machine}, Wipes.with_wipe, WipeLaws.wipes_put}
+use Rattle.sql_items.specs.{Machines.HasVersion, Wipes.with_wipe, WipeLaws.wipes_put}
 use Rattle.sql_writes.{specs.{Machines.{group_of, with_row}, Within.IsWithinHall, declared.groups.Group.Group}, proofs.CountLemmas.AreCounted}
 
 -- a read of a machine's row
@@ -12,8 +12,8 @@ finds_machine old new id rows shown = record {
   gives = λ before h held.
       let c = held.hall_rows in
       let within = held.within in
-      let answer = shown_answer hall_schema FIND_MACHINE.now find_machine_is (number id ∷ []) old new rows within.spelt.schema shown in
-      let same = shown_same FIND_MACHINE.now (number id ∷ []) hall_schema find_machine_is.plain old new rows within.spelt.schema shown in (
+      let answer = shown_answer hall_schema FIND_MACHINE.now (find_is of_machines) (number id ∷ []) old new rows within.spelt.schema shown in
+      let same = shown_same FIND_MACHINE.now (number id ∷ []) hall_schema (find_is of_machines).plain old new rows within.spelt.schema shown in (
         finds_kept numbers machines.rowid machines.item machines.key_of machine_columns (old.now.trees 11) c.hall.machines (within.spelt.tables.each of_machines) _ 11 (equals 0 0 ∷ []) machines.shown [] (number id ∷ [])
             old.now.trees refl refl rows answer id (λ m. equal_keys m.id id) machine_values (λ m. refl)
             ∙ ap (λ (x : Hall). map machine_values (option_to_list (at x.machines id))) held.agrees.hall,
@@ -39,7 +39,7 @@ group_is row group pool status m is =
     let numbers : number (status_number group.status) ≡ number (status_number m.status) = sym status ∙ ap (λ r. column r 4) is in
     let same_pool : group.pool ≡ m.pool = cc in
     let same_number : status_number group.status ≡ status_number m.status = cc in
-    ap₂ (λ a b. record { pool = a; status = b }) same_pool (same_status group.status m.status same_number)
+    ap₂ (λ a b. record { pool = a; status = b }) same_pool (same_kind status_by_number group.status m.status same_number)
 
 -- where a group was found, its machine is there
 pub there_is : (o : Option Machine) (group : Group) → Some group ≡ option_map group_of o → (there : Machine) × (o ≡ Some there) × (group ≡ group_of there)
@@ -54,10 +54,10 @@ pub version_is : (c : HallRows) (h : Hall) → c.hall ≡ h → (id was : ℕ) �
 version_is c h same id was has = sym (ap (option_map (λ (m : Machine). m.version)) (ap (λ (x : Hall). at x.machines id) (sym same) ∙ has.1) ∙ ap (λ n. Some n) has.2)
 
 -- a machine's row, the counts and its kind of erasing were put
-pub puts_whole : (s : State) (before h : Hall) (c : HallRows) → AreRowsOf h c → (m : Machine) (all : Counts) → AreCounted all (put m.id m h.machines) → IsWithin s before (with_wipe (record (with_machine c m) { counts = all }) m.id m.erase)
+pub puts_whole : (s : State) (before h : Hall) (c : HallRows) → AreRowsOf h c → (m : Machine) (all : Counts) → AreCounted all (put m.id m h.machines) → IsWithin s before (with_wipe (record (with_item machines c m) { counts = all }) m.id m.erase)
     → IsWithinHall s before (with_row h m)
 puts_whole s before h c agrees m all counts within = record {
-  hall_rows = with_wipe (record (with_machine c m) { counts = all }) m.id m.erase;
+  hall_rows = with_wipe (record (with_item machines c m) { counts = all }) m.id m.erase;
   within = within;
   agrees = record { hall = ap (λ x. with_row x m) agrees.hall; counts = counts; wipes = wipes_put c.wipes h.machines agrees.wipes m };
 }

@@ -1,7 +1,7 @@
 -- What the statements of one machine's write make of the rows.
-use Rattle.sql_schema.specs.Words.{Hall, put, status_number, Machine, HallRows}
-use Rattle.std.specs.Prelude.{◌+◌, ◌-◌, ℕ, None}
-use Rattle.sql_items.specs.{Boots.without_boots, Counts.with_count, Interfaces.without_interfaces, Machines.without_row, Orders.without_orders, Wipes.with_wipe}
+use Rattle.sql_schema.specs.{Words.{Hall, put, status_number, Machine, HallRows, boots, interfaces, machines, orders}, TableStatements.{without_item, without_where}}
+use Rattle.std.specs.Prelude.{◌+◌, ◌-◌, ℕ, None, ◌==◌}
+use Rattle.sql_items.specs.{Counts.with_count, Wipes.with_wipe}
 use Rattle.sql_writes.specs.declared.groups.Group.{Group}
 
 -- where a machine is counted
@@ -22,8 +22,8 @@ with_row h m = record h { machines = put m.id m h.machines }
 
 -- the rows where no row points to the machine with this number
 abbrev pub childless : HallRows → ℕ → HallRows
-childless c id = with_wipe (without_orders (without_boots (without_interfaces c id) id) id) id None
+childless c id = with_wipe (without_where orders (without_where boots (without_where interfaces c (λ i. i.machine == id)) (λ b. b.machine == id)) (λ o. o.machine == id)) id None
 
 -- the rows without the machine with this number, while it is still counted
 abbrev pub without_rows : HallRows → ℕ → HallRows
-without_rows c id = without_row (childless c id) id
+without_rows c id = without_item machines (childless c id) id

@@ -5,7 +5,8 @@ ghost use Rattle.sql_writes.specs.{Machines.without_rows, Within.IsWithinHall};
 
 use crate::groups::find_group;
 use hall_types::Number;
-use sql_items::{count_down, put_wipe, remove_boots, remove_interfaces, remove_orders, remove_row};
+use sql_items::{REMOVE_BOOTS, REMOVE_INTERFACES, REMOVE_ORDERS, count_down, put_wipe, remove_row};
+use sql_schema::{number_value, write};
 use sqlite::{Alter, Error, Transaction};
 
 // All rows of a machine go: those that point to it and then its own, while it is still counted.
@@ -14,9 +15,9 @@ fn remove_rows<S: Alter>(tx: &mut Transaction<'_, S>, id: Number) -> Result<(), 
     ensures written { HasCleanDisk (state S.Store tx.new.conn.now) → IsWritten (state S.Store tx.old.conn.now) (state S.Store tx.new.conn.now) result always (λ c. without_rows c id) }
     ensures survives { Survives (state S.Store tx.old.conn.now) (state S.Store tx.new.conn.now) (λ _. ⊥) }
 {
-    remove_interfaces(tx, id)?;
-    remove_boots(tx, id)?;
-    remove_orders(tx, id)?;
+    write(tx, REMOVE_INTERFACES, &[number_value(id.get())])?;
+    write(tx, REMOVE_BOOTS, &[number_value(id.get())])?;
+    write(tx, REMOVE_ORDERS, &[number_value(id.get())])?;
     put_wipe(tx, id, None)?;
     remove_row(tx, id)
 }

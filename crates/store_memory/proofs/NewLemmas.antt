@@ -1,7 +1,8 @@
 -- What a store has of no machines and no interfaces.
 use Rattle.std.{proofs.{Common.{◌≡◌, ℕ, List, Some, refl, sym, ap, ◌∙◌}, lemmas.Option.none-some}, specs.{HashMap.IsEmpty, FinMap.len-empty, Map.lookup, Ordering.nat_cmp, Str.bytes_eq}}
 use Rattle.hall_types.specs.{Rows.{at, no_rows, numbers, size, texts}, RowLaws.at-no_rows, declared.machine.{Interface.Interface, Machine.Machine}}
-use Rattle.store_memory.specs.{Hashed.Hashed, Held.{AreFound, IsEarliest, IsIndex}, Table.row_in}
+use Rattle.hall_store.specs.Expiry.{IsEarliest}
+use Rattle.store_memory.specs.{Hashed.Hashed, Held.{AreFound, IsIndex}, Table.row_in}
 
 no_machine : (id : ℕ) (m : Machine) → at (no_rows {K = ℕ} {X = Machine} {keys = numbers}) id ≡ Some m → ⊥
 no_machine id m there = none-some m (sym (at-no_rows numbers id no_rows refl) ∙ there)
@@ -17,7 +18,7 @@ unfolding size no_rows numbers
 new_count = sym (len-empty nat_cmp Machine)
 
 pub new_earliest : (earliest : ℕ) → IsEarliest earliest no_rows
-new_earliest earliest id m deadline there is = absurd (no_machine id m there)
+new_earliest earliest id m there deadline is = absurd (no_machine id m there)
 
 pub none_found : (table : Hashed (List ℕ) Interface) → IsEmpty table → AreFound table no_rows
 none_found table empty mac = ap (λ es. row_in (lookup (bytes_eq mac) es)) empty ∙ sym (at-no_rows texts mac no_rows refl)

@@ -1,6 +1,7 @@
 -- Which hall a store in memory has.
-use Rattle.std.specs.{Prelude.{◌≡◌, ℕ, ◌≤◌, ◌↔◌, ⊤, List, [], ◌∷◌, Option, Some, None, if◌then◌else◌}, Cmp.Lexicographic.slice_cmp, Ordering.{nat_cmp, ordering_then}, Str.bytes_eq, declared.cmp.Ordering.Ordering}
-use Rattle.hall_types.specs.{Hall.{Hall, pair, second}, Kinds.arch_number, Keyed.IsKeyed, Lookup.has_uuid, Rows.{Rows, numbers, texts, at, size}, declared.{change.RowWrite.{RowWrite, TheVariants.{PutOperator, PutPool, PutMember, PutImage, ImageGone, PutLive, PutMachine, MachineGone, PutInterface, InterfaceGone, PutBoot, PutOrder, PutReceipt, PutNumbers}}, machine.{Interface.Interface, Machine.Machine}}}
+use Rattle.std.specs.{Prelude.{◌≡◌, ℕ, ◌↔◌, ⊤, List, [], ◌∷◌, Option, Some, None, if◌then◌else◌}, Cmp.Lexicographic.slice_cmp, Ordering.{nat_cmp, ordering_then}, Str.bytes_eq, declared.cmp.Ordering.Ordering}
+use Rattle.hall_types.specs.{Hall.{Hall, pair, second}, Kinds.arch_number, Keyed.IsKeyed, Lookup.has_uuid, Rows.{Rows, numbers, texts, at, size}, declared.{change.RowWrite.{RowWrite, TheVariants.{PutOperator, PutPool, PutMember, PutImage, PutLive, PutMachine, PutInterface, PutBoot, PutOrder, PutReceipt}}, machine.{Interface.Interface, Machine.Machine}}}
+use Rattle.hall_store.specs.Expiry.{IsEarliest}
 use Rattle.store_memory.specs.{Hashed.{HasEntry, Hashed, entry_at}, Table.{HasSlot, IsTable}, declared.memory.MemoryStore.MemoryStore}
 
 abbrev pub text_cmp : List ℕ → List ℕ → Ordering
@@ -34,10 +35,6 @@ uuid_of (Some m) = m.uuid
 abbrev pub SetsEntry : Hashed (List ℕ) ℕ → Hashed (List ℕ) ℕ → Option (List ℕ) → Option ℕ → Type 0
 SetsEntry old new given entry = (uuid : List ℕ) → entry_at bytes_eq new uuid ≡ (if has_uuid given uuid then entry else entry_at bytes_eq old uuid)
 
--- no machine has an earlier deadline
-abbrev pub IsEarliest : ℕ → Rows numbers Machine → Type 0
-IsEarliest earliest machines = (id : ℕ) (m : Machine) (deadline : ℕ) → at machines id ≡ Some m → m.deadline ≡ Some deadline → earliest ≤ deadline
-
 -- the store has this hall: each table has its rows, and what is kept beside the tables is theirs
 pub record IsHeld (s : MemoryStore) (h : Hall) : Type 0 where
   pub schema : h.schema ≡ second
@@ -64,16 +61,13 @@ HasSlots (PutOperator o) s = HasSlot text_cmp s.operators o.name
 HasSlots (PutPool p) s = HasSlot text_cmp s.pools p.name
 HasSlots (PutMember m) s = HasSlot pair_cmp s.members (m.pool, m.operator)
 HasSlots (PutImage i) s = HasSlot text_cmp s.images i.name
-HasSlots (ImageGone name) s = ⊤
 HasSlots (PutLive l) s = HasSlot nat_cmp s.lives (arch_number l.arch)
 HasSlots (PutMachine m was) s = HasSlot nat_cmp s.machines m.id × ((uuid : List ℕ) → m.uuid ≡ Some uuid → HasEntry bytes_eq s.uuids uuid)
-HasSlots (MachineGone id) s = ⊤
 HasSlots (PutInterface i) s = HasSlot text_cmp s.interfaces i.mac × HasEntry bytes_eq s.addresses i.mac
-HasSlots (InterfaceGone mac) s = ⊤
 HasSlots (PutBoot b) s = HasSlot nat_cmp s.boots b.number
 HasSlots (PutOrder o) s = HasSlot nat_cmp s.orders o.number
 HasSlots (PutReceipt r) s = HasSlot pair_cmp s.receipts (r.operator, r.key)
-HasSlots (PutNumbers n) s = ⊤
+HasSlots w s = ⊤
 
 -- each slot is still there
 abbrev pub KeepsAllSlots : MemoryStore → MemoryStore → Type 0

@@ -1,13 +1,12 @@
 //! What a store in memory answers.
 ghost use Rattle.std.specs.Prelude.{◌≡◌, filter, IfOk, option_map};
-ghost use Rattle.hall_types.specs.{Hall.{Hall, pair}, Kinds.arch_number, Lookup.{interfaces_of, is_image_used, machine_with_uuid, operator_with_digest, waiting}, Rows.{at, listed}};
+ghost use Rattle.hall_types.specs.{Hall.{Hall, pair}, Lookup.{interfaces_of, is_image_used, machine_with_uuid, operator_with_digest, waiting}, Rows.{at, listed}};
 ghost use Rattle.store_memory.specs.Held.{IsHeld};
 
 use crate::memory::MemoryStore;
 use crate::{hashed, table};
 use hall_types::{
-    Arch, Boot, Digest, Image, Interface, Live, MacAddress, Machine, MachineUuid, Member, Name,
-    Number, Operator, Order, OrderStage, Pool, Receipt, RequestKey, arch_number,
+    Image, MacAddress, Machine, MachineUuid, Member, Name, Number, Receipt, RequestKey,
 };
 use std::alloc::{AllocError, Global};
 
@@ -33,40 +32,10 @@ impl MemoryStore {
         table::row(&self.machines, &id.get())
     }
 
-    pub(crate) fn boot_row(&self, number: Number) -> Option<Boot>
-        ensures { (h : Hall) → IsHeld self.now h → result ≡ at h.boots number }
-    {
-        table::row(&self.boots, &number.get())
-    }
-
-    pub(crate) fn order_row(&self, number: Number) -> Option<Order>
-        ensures { (h : Hall) → IsHeld self.now h → result ≡ at h.orders number }
-    {
-        table::row(&self.orders, &number.get())
-    }
-
-    pub(crate) fn operator_row(&self, name: &Name) -> Option<Operator>
-        ensures { (h : Hall) → IsHeld self.now h → result ≡ at h.operators name.now }
-    {
-        table::row(&self.operators, name)
-    }
-
-    pub(crate) fn pool_row(&self, name: &Name) -> Option<Pool>
-        ensures { (h : Hall) → IsHeld self.now h → result ≡ at h.pools name.now }
-    {
-        table::row(&self.pools, name)
-    }
-
     pub(crate) fn member_row(&self, pool: &Name, operator: &Name) -> Option<Member>
         ensures { (h : Hall) → IsHeld self.now h → result ≡ at h.members (pair pool.now operator.now) }
     {
         table::row(&self.members, &(*pool, *operator))
-    }
-
-    pub(crate) fn live_row(&self, arch: Arch) -> Option<Live>
-        ensures { (h : Hall) → IsHeld self.now h → result ≡ at h.lives (arch_number arch) }
-    {
-        table::row(&self.lives, &arch_number(arch))
     }
 
     pub(crate) fn image_row(&self, alloc: Global, name: &Name) -> Result<Option<Image>, AllocError>

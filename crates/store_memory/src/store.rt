@@ -3,10 +3,11 @@ ghost use Rattle.std.specs.{Prelude.{◌≡◌, IfOk}, Result.result_ok};
 ghost use Rattle.hall_types.specs.Hall.{new_hall, second};
 
 use crate::memory::MemoryStore;
+use crate::table;
 use hall_store::{Count, HallStore, Unavailable};
 use hall_types::{
     Arch, Boot, Change, Digest, Image, Interface, Live, MacAddress, Machine, MachineUuid, Member,
-    Moment, Name, Number, Numbers, Operator, Order, Pool, Receipt, RequestKey,
+    Moment, Name, Number, Numbers, Operator, Order, Pool, Receipt, RequestKey, arch_number,
 };
 use std::alloc::{AllocError, Global};
 
@@ -54,15 +55,15 @@ impl HallStore for MemoryStore {
     }
 
     fn boot(&mut self, number: Number) -> Result<Option<Boot>, Unavailable> {
-        Ok(self.boot_row(number))
+        Ok(table::row(&self.boots, &number.get()))
     }
 
     fn order(&mut self, number: Number) -> Result<Option<Order>, Unavailable> {
-        Ok(self.order_row(number))
+        Ok(table::row(&self.orders, &number.get()))
     }
 
     fn operator(&mut self, name: &Name) -> Result<Option<Operator>, Unavailable> {
-        Ok(self.operator_row(name))
+        Ok(table::row(&self.operators, name))
     }
 
     fn operator_by_digest(&mut self, digest: &Digest) -> Result<Option<Operator>, Unavailable> {
@@ -70,7 +71,7 @@ impl HallStore for MemoryStore {
     }
 
     fn pool(&mut self, name: &Name) -> Result<Option<Pool>, Unavailable> {
-        Ok(self.pool_row(name))
+        Ok(table::row(&self.pools, name))
     }
 
     fn member(&mut self, pool: &Name, operator: &Name) -> Result<Option<Member>, Unavailable> {
@@ -86,7 +87,7 @@ impl HallStore for MemoryStore {
     }
 
     fn live(&mut self, arch: Arch) -> Result<Option<Live>, Unavailable> {
-        Ok(self.live_row(arch))
+        Ok(table::row(&self.lives, &arch_number(arch)))
     }
 
     fn receipt(

@@ -1,6 +1,10 @@
+use Rattle.std.specs.Prelude.{List}
+use Rattle.hall_types.specs.{Hall.applied, declared.change.RowWrite.RowWrite}
+use Rattle.hall_events.specs.Reply.{Content}
+use Rattle.boot_desk.specs.{DecisionLaws.if_ok, Sound.IsSound}
 use Rattle.desk_command.proofs.SoundLemmas.{command_keeps}
 use Rattle.desk_command.proofs.laws.commands_keep_halls_sound.Goals as goal
 
 pub returns : goal.returns
-returns c = λ h bearer key command moment rows content s in_second is.
-    command_keeps h s in_second key command moment rows content bearer is
+returns c = λ h bearer key command moment rows content s in_second.
+    if_ok (λ (d : List RowWrite × Content). IsSound (applied d.0 h)) _ (rows, content) (command_keeps h s in_second bearer key command moment)

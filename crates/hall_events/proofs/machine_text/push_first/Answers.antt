@@ -17,16 +17,6 @@ returns c =
     (codes "erase", or_null (λ e. string (erase_text e)) m.erase)
     (codes "id", count m.id)
     (string_bytes c.args.text.now)
-    (string_bytes c.push_str.new.self)
-    (string_bytes c.push_text.new.text)
-    (string_bytes c.push_str-2.new.self)
-    (string_bytes c.push_number.new.text)
-    (string_bytes c.push_str-3.new.self)
-    (string_bytes c.push_moment.new.text)
-    (string_bytes c.push_str-4.new.self)
-    (string_bytes c.push_erase.new.text)
-    (string_bytes c.push_str-5.new.self)
-    (string_bytes c.push_count.new.text)
     c.in_ok-push_str.ensures.bytes
     (c.in_ok-push_text.ensures ∙ ap (λ (word : List ℕ). string_bytes c.push_str.new.self ++ quoted word) c.text.ensures)
     c.in_ok-push_str-2.ensures.bytes c.in_ok-push_number.ensures

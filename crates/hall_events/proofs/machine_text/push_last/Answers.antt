@@ -16,16 +16,6 @@ returns c =
     (codes "uuid", or_null uuid_data m.uuid)
     (codes "version", count m.version)
     (string_bytes c.args.text.now)
-    (string_bytes c.push_str.new.self)
-    (string_bytes c.push_name.new.text)
-    (string_bytes c.push_str-2.new.self)
-    (string_bytes c.push_text.new.text)
-    (string_bytes c.push_str-3.new.self)
-    (string_bytes c.push_text-2.new.text)
-    (string_bytes c.push_str-4.new.self)
-    (string_bytes c.push_uuid.new.text)
-    (string_bytes c.push_str-5.new.self)
-    (string_bytes c.push_count.new.text)
     c.in_ok-push_str.ensures.bytes c.in_ok-push_name.ensures
     c.in_ok-push_str-2.ensures.bytes
     (c.in_ok-push_text.ensures ∙ ap (λ (word : List ℕ). string_bytes c.push_str-2.new.self ++ quoted word) c.text.ensures.text)

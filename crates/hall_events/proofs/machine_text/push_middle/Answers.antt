@@ -15,14 +15,6 @@ returns c =
     (codes "locked", boolean m.locked)
     (codes "order", or_null count m.waiting)
     (string_bytes c.args.text.now)
-    (string_bytes c.push_str.new.self)
-    (string_bytes c.push_name.new.text)
-    (string_bytes c.push_str-2.new.self)
-    (string_bytes c.push_macs.new.text)
-    (string_bytes c.push_str-3.new.self)
-    (string_bytes c.push_flag.new.text)
-    (string_bytes c.push_str-4.new.self)
-    (string_bytes c.push_number.new.text)
     c.in_ok-push_str.ensures.bytes c.in_ok-push_name.ensures
     c.in_ok-push_str-2.ensures.bytes c.in_ok-push_macs.ensures
     c.in_ok-push_str-3.ensures.bytes c.in_ok-push_flag.ensures

@@ -1,8 +1,5 @@
-use Rattle.hall_laws.{specs.Laws.KeepsMachines, proofs.{Deleted.keeps_machines, Frame.{anything, at_each}}}
+use Rattle.hall_laws.{specs.Laws.KeepsMachines, proofs.{Deleted.keeps_machines, Frame.at_step}}
 use Rattle.hall_laws.proofs.past.machines_stay.Goals as goal
 
 pub returns : goal.returns
-returns c = λ h end steps sound in_second run.
-    at_each c.steps_keep_halls_sound.ensures.step (λ s. Unit {0}) (λ past h. Unit {0}) (λ past s given is sound later old. tt)
-    KeepsMachines (λ past s is sound old. keeps_machines c.refusals_change_nothing.ensures.hall past s is sound)
-    steps h end (anything steps) sound in_second tt run
+returns c = at_step c.steps_keep_halls_sound.ensures.step KeepsMachines keeps_machines

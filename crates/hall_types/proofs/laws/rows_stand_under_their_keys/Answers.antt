@@ -1,4 +1,4 @@
-use Rattle.hall_types.proofs.WriteLemmas.{keyed-new_hall, keyed-written}
+use Rattle.hall_types.specs.KeyedLaws.{keyed-new_hall, keyed-written}
 use Rattle.hall_types.proofs.laws.rows_stand_under_their_keys.Goals as goal
 
 pub returns-clause-new : goal.returns-clause-new

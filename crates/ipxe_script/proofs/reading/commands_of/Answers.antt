@@ -1,15 +1,8 @@
 use Rattle.std.proofs.lemmas.Result.{err_from_is_err_and}
-use Rattle.ipxe_script.proofs.ReadingLemmas.{commands_of-more, commands_of-ends, commands_of-done}
+use Rattle.ipxe_script.proofs.ReadingLemmas.{commands_of-ends}
 use Rattle.ipxe_script.proofs.reading.commands_of.Goals as goal
 
 pub returns-in_err-command_in : goal.returns-in_err-command_in
 returns-in_err-command_in c =
     let p = err_from_is_err_and c.from_residual-in_err-command_in.result c.from_residual-in_err-command_in.ensures.1 in
     rw (p.1, p.2) (commands_of-ends c.loop-line.commands.items c.args.lines.now c.loop-line.line-index _ c.in_err-command_in.field-0.0 _ c.loop-line-test.true c.in_err-command_in.ensures c.loop-line.invariant)
-
-pub loop-line-preserved : goal.loop-line-preserved
-loop-line-preserved c =
-    rw c.in_ok-push.ensures.items (commands_of-more c.loop-line.commands.items c.args.lines.now c.loop-line.line-index _ c.in_ok-command_in.field-0 _ c.loop-line-test.true c.in_ok-command_in.ensures c.loop-line.invariant)
-
-pub returns : goal.returns
-returns c = commands_of-done _ c.args.lines.now c.loop-line.line-index _ c.loop-line-test.false c.loop-line.invariant

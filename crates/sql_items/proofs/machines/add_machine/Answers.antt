@@ -1,6 +1,6 @@
-use Rattle.sql_schema.specs.{Words.{state, ExecutesInside, machine_values, execute_mode, execute_keeps, on_made}, StepLaws.of_any}
+use Rattle.sql_schema.specs.{Words.{state, ExecutesInside, machine_values, execute_mode, execute_keeps, on_made}, StepLaws.of_any, declared.creating.TheConstants.ADD_MACHINE}
 use Rattle.std.proofs.Common.{refl, IsTrue}
-use Rattle.sql_items.{proofs.MachineLemmas.{adds_machine, row_bound}, specs.declared.machines.TheConstants.ADD_MACHINE}
+use Rattle.sql_items.{proofs.MachineLemmas.{adds_machine, row_bound}}
 use Rattle.sql_items.proofs.machines.add_machine.Goals as goal
 
 pub returns-clause-written : goal.returns-clause-written

@@ -1,5 +1,5 @@
-use Rattle.sql_schema.specs.Words.{state}
-use Rattle.sql_tables.proofs.{LookLemmas.{first_missing, second_found}, TransactionLemmas.earlier}
+use Rattle.sql_schema.specs.Words.{state, earlier}
+use Rattle.sql_tables.proofs.LookLemmas.{first_missing, second_found}
 use Rattle.sql_tables.proofs.looking.has_tables.Goals as goal
 
 pub returns-in-Err-clause-found : goal.returns-in-Err-clause-found

@@ -1,6 +1,6 @@
-use Rattle.sql_schema.specs.{Words.{Database, state}, StepLaws.{next, reads_on}, declared.creating.TheConstants.FIND_NUMBERS}
+use Rattle.sql_schema.specs.{Words.{Database, state, earlier}, StepLaws.{next, reads_on}, declared.creating.TheConstants.FIND_NUMBERS}
 use Rattle.std.proofs.Common.{◌≡◌, Ok, subst, ◌∙◌}
-use Rattle.sql_tables.{specs.Opening.{NamesSchema, ShowsRows}, proofs.{LookLemmas.{found_in, not_found, schema_row, shown_rows}, TransactionLemmas.{earlier, whatever}}}
+use Rattle.sql_tables.{specs.Opening.{NamesSchema, ShowsRows}, proofs.{LookLemmas.{found_in, not_found, schema_row, shown_rows}, TransactionLemmas.whatever}}
 use Rattle.sql_tables.proofs.looking.has_version.Goals as goal
 
 pub returns-in-Err-clause-found : goal.returns-in-Err-clause-found

@@ -1,5 +1,5 @@
-use Rattle.sql_schema.specs.Words.{state}
-use Rattle.sql_tables.proofs.{LookLemmas.{looked, stopped}, TransactionLemmas.earlier}
+use Rattle.sql_schema.specs.Words.{state, earlier}
+use Rattle.sql_tables.proofs.LookLemmas.{looked, stopped}
 use Rattle.sql_tables.proofs.looking.look.Goals as goal
 
 pub returns-in-Err-clause-answered : goal.returns-in-Err-clause-answered

@@ -1,6 +1,6 @@
-use Rattle.sql_schema.specs.{Words.{at_drop_all, at_drop_more, state}, StepLaws.{next, stays}}
+use Rattle.sql_schema.specs.{Words.{at_drop_all, at_drop_more, state, earlier, survives_none, survives_both}, StepLaws.{next, stays}}
 use Rattle.std.proofs.Common.{map, Ok, refl, sym, subst, ◌∙◌}
-use Rattle.sql_tables.{specs.Opening.AreUnderstood, proofs.{LookLemmas.{not_run_step, one_missing, one_understood, understood_step}, TransactionLemmas.{earlier, survives_both, survives_none}}}
+use Rattle.sql_tables.{specs.Opening.AreUnderstood, proofs.LookLemmas.{not_run_step, one_missing, one_understood, understood_step}}
 use Rattle.sql_tables.proofs.looking.understands.Goals as goal
 
 pub loop-text-init : goal.loop-text-init

@@ -1,6 +1,6 @@
-use Rattle.sql_schema.specs.{Words.{at_drop_all, at_drop_more, state}, StepLaws.{gives, next, stays}}
+use Rattle.sql_schema.specs.{Words.{at_drop_all, at_drop_more, state, earlier, survives_none, survives_both}, StepLaws.{gives, next, stays}}
 use Rattle.std.proofs.Common.{map, Ok, refl, subst, ◌∙◌}
-use Rattle.sql_tables.{specs.Creating.CanMake, proofs.{MakingLemmas.{all_made, made_one}, TransactionLemmas.{earlier, survives_both, survives_none}}}
+use Rattle.sql_tables.{specs.Creating.CanMake, proofs.MakingLemmas.{all_made, made_one}}
 use Rattle.sql_tables.proofs.making.make_all.Goals as goal
 
 pub loop-text-init : goal.loop-text-init

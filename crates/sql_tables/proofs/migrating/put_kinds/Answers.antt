@@ -1,6 +1,6 @@
-use Rattle.sql_schema.specs.{Words.state, StepLaws.{gives, next, stays}}
+use Rattle.sql_schema.specs.{Words.{state, earlier, survives_none, survives_both}, StepLaws.{gives, next, stays}}
 use Rattle.std.proofs.Common.{Ok, refl, subst, ◌∙◌}
-use Rattle.sql_tables.{specs.Migrating.with_kinds_of, proofs.{CarryingLemmas.{AreLeft, left_next, left_none}, TransactionLemmas.{earlier, left_at, left_none_at, survives_both, survives_none}}}
+use Rattle.sql_tables.{specs.Migrating.with_kinds_of, proofs.{CarryingLemmas.{AreLeft, left_next, left_none}, TransactionLemmas.{left_at, left_none_at}}}
 use Rattle.sql_tables.proofs.migrating.put_kinds.Goals as goal
 
 pub rows-init : goal.rows-init

@@ -1,5 +1,5 @@
-use Rattle.sql_schema.specs.Words.{state}
-use Rattle.sql_tables.{specs.{declared.looking.Wanted.TheVariants.Second, OpeningLaws.no_hall}, proofs.{OpenLemmas.{has_second, held_ready, on_said, refused_as, says_second}, TransactionLemmas.settles}}
+use Rattle.sql_schema.specs.Words.{state, settles}
+use Rattle.sql_tables.{specs.{declared.looking.Wanted.TheVariants.Second, OpeningLaws.no_hall}, proofs.OpenLemmas.{has_second, held_ready, on_said, refused_as, says_second}}
 use Rattle.sql_tables.proofs.opening.look_at_tables.Goals as goal
 
 pub returns-clause-held : goal.returns-clause-held
@@ -8,7 +8,7 @@ returns-clause-held g c clean =
 
 pub returns-clause-settled : goal.returns-clause-settled
 returns-clause-settled g c clean =
-    on_said c.look_for.result (c.look_for.ensures.ready clean) (λ ready h spelt. settles g.S.Store c.look_for.new.conn h (λ db live may. g.met.S.Store.settled c.look_for.new.conn.store db live may)
+    on_said c.look_for.result (c.look_for.ensures.ready clean) (λ ready h spelt. settles (state g.S.Store c.look_for.new.conn) h (λ db live may. g.met.S.Store.settled c.look_for.new.conn.store db live may)
     (held_ready (state g.S.Store c.args.conn.now) (state g.S.Store c.look_for.new.conn) h c.look_for.ensures.live ready spelt))
 
 pub returns-clause-refused : goal.returns-clause-refused

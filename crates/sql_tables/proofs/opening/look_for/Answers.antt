@@ -1,6 +1,6 @@
-use Rattle.sql_schema.specs.Words.{Held, state, HasCleanDisk}
+use Rattle.sql_schema.specs.Words.{Held, state, HasCleanDisk, earlier}
 use Rattle.std.proofs.Common.{◌≡◌, ap, rules, subst, sym, ◌∙◌}
-use Rattle.sql_tables.{specs.Opening.{HasTables, IsAnswerOf, has_indexes}, proofs.{LookLemmas.indexed, TransactionLemmas.earlier}}
+use Rattle.sql_tables.{specs.Opening.{HasTables, IsAnswerOf, has_indexes}, proofs.LookLemmas.indexed}
 use Rattle.sql_tables.proofs.opening.look_for.Goals as goal
 
 pub returns-then-is_running-clause-answered : goal.returns-then-is_running-clause-answered

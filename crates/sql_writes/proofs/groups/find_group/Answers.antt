@@ -1,5 +1,4 @@
-use Rattle.sql_schema.specs.{Words.{Row, at, if_ok, query_keeps}, StepLaws.reads_on}
-use Rattle.std.proofs.Common.{Err, List}
+use Rattle.sql_schema.specs.{Words.{at, if_ok}, StepLaws.{reads_on, refuses}}
 use Rattle.sql_writes.proofs.MachineLemmas.{finds_machine}
 use Rattle.sql_writes.proofs.groups.find_group.Goals as goal
 
@@ -10,4 +9,4 @@ returns-in-Ok-clause-found g c clean =
     (λ found. if_ok _ _ c.first_group.result c.first_group.ensures (λ group is before h held. let it = found before h held in (is (at h.machines c.args.id) it.0, it.1)))
 
 pub returns-in-Err-clause-found : goal.returns-in-Err-clause-found
-returns-in-Err-clause-found g c clean = record { gives = tt; mode = tt; kept = query_keeps _ _ _ _ (λ (rows : List Row). rows) (Err c.in-Err.error) tt (c.in-Err.ensures.err clean) }
+returns-in-Err-clause-found g c clean = refuses _ _ _ _ _ c.in-Err.error (c.in-Err.ensures.err clean)

@@ -1,6 +1,5 @@
-use Rattle.sql_schema.specs.{Words.{bytes_eq-Decides, status_number, same_status}, StepLaws.{gives, stays}}
+use Rattle.sql_schema.specs.{Words.{bytes_eq-Decides, status_number, same_kind, status_by_number}, StepLaws.{gives, stays, then}}
 use Rattle.std.proofs.Common.{◌≡◌, Ok, inl, inr, arith, sym, ap₂, ◌∙◌}
-use Rattle.sql_writes.proofs.StepLemmas.{then}
 use Rattle.sql_writes.proofs.groups.move_count.Goals as goal
 
 pub returns-then-number-clause-written : goal.returns-then-number-clause-written
@@ -9,7 +8,7 @@ returns-then-number-clause-written g c clean =
     let m = c.args.machine.now in
     let pool : from.pool ≡ m.pool = (bytes_eq-Decides from.pool m.pool).0 (sym c.eq.ensures ∙ c.if-eq.true) in
     let numbers : status_number from.status ≡ status_number m.status = omega (arith, c.number-then-eq.ensures.number, c.number.ensures.number, c.if-number.true) in
-    stays _ _ (Ok tt) (λ before rows held. inl (ap₂ (λ a b. record { pool = a; status = b }) pool (same_status from.status m.status numbers), held))
+    stays _ _ (Ok tt) (λ before rows held. inl (ap₂ (λ a b. record { pool = a; status = b }) pool (same_kind status_by_number from.status m.status numbers), held))
 
 pub returns-clause-written : goal.returns-clause-written
 returns-clause-written g c clean =

@@ -1,6 +1,6 @@
-use Rattle.sql_schema.specs.{Words.{Hall, at}, StepLaws.gives}
+use Rattle.sql_schema.specs.{Words.{Hall, at}, StepLaws.{gives, then}}
 use Rattle.std.proofs.Common.{◌≡◌, None, subst}
-use Rattle.sql_writes.proofs.{CountLemmas.counted_new, MachineLemmas.puts_whole, StepLemmas.then}
+use Rattle.sql_writes.proofs.{CountLemmas.counted_new, MachineLemmas.puts_whole}
 use Rattle.sql_writes.proofs.machines.add_whole.Goals as goal
 
 pub returns-clause-written : goal.returns-clause-written

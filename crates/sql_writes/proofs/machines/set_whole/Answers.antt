@@ -1,6 +1,6 @@
-use Rattle.sql_schema.specs.{Words.at, StepLaws.gives}
+use Rattle.sql_schema.specs.{Words.at, StepLaws.{gives, then}}
 use Rattle.std.proofs.Common.{inl, inr, refl, sym, ◌∙◌}
-use Rattle.sql_writes.proofs.{CountLemmas.{counted_moved, counted_same}, MachineLemmas.{puts_whole, there_is, version_is}, StepLemmas.then}
+use Rattle.sql_writes.proofs.{CountLemmas.{counted_moved, counted_same}, MachineLemmas.{puts_whole, there_is, version_is}}
 use Rattle.sql_writes.proofs.machines.set_whole.Goals as goal
 
 pub returns-in_ok-move_count-in-Some-clause-written : goal.returns-in_ok-move_count-in-Some-clause-written

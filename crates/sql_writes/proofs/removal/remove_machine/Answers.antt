@@ -1,6 +1,6 @@
-use Rattle.sql_schema.specs.{Words.at, StepLaws.gives}
+use Rattle.sql_schema.specs.{Words.at, StepLaws.{gives, then}}
 use Rattle.std.proofs.Common.{Ok, sym, ◌∙◌}
-use Rattle.sql_writes.proofs.{CountLemmas.{counted_gone, counted_none}, MachineLemmas.{none_there, there_is}, RemovalLemmas.removes_whole, StepLemmas.then}
+use Rattle.sql_writes.proofs.{CountLemmas.{counted_gone, counted_none}, MachineLemmas.{none_there, there_is}, RemovalLemmas.removes_whole}
 use Rattle.sql_writes.proofs.removal.remove_machine.Goals as goal
 
 pub returns-in-Some-clause-written : goal.returns-in-Some-clause-written

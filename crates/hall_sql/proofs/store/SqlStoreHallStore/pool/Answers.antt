@@ -1,5 +1,11 @@
+use Rattle.sql_schema.specs.Words.{at}
+use Rattle.sql_items.specs.TableLaws.{finds_pool}
 use Rattle.hall_sql.proofs.StoreLemmas.{asks}
 use Rattle.hall_sql.proofs.store.SqlStoreHallStore.pool.Goals as goal
 
 pub returns : goal.returns
-returns g c = asks g.S.Store _ _ _ c.if-self.false c.find_pool-answer.ensures.clean c.find_pool-answer.ensures.asked c.pass.ensures.clean c.pass.ensures.passed c.pass.ensures.settled
+returns g c =
+    asks g.S.Store _ _ _ c.if-self.false c.ask_one-answer.ensures.clean
+    (λ clean. c.ask_one-answer.ensures.asked clean (λ h. at h.pools c.args.name.now)
+    (rw c.name_value.ensures (finds_pool c.args.name.now)))
+    c.pass.ensures.clean c.pass.ensures.passed c.pass.ensures.settled

@@ -1,5 +1,9 @@
+use Rattle.sql_schema.specs.Words.{waiting}
+use Rattle.sql_items.specs.ChildLaws.{lists_waiting}
 use Rattle.hall_sql.proofs.StoreLemmas.{asks}
 use Rattle.hall_sql.proofs.store.SqlStoreHallStore.waiting_orders.Goals as goal
 
 pub returns : goal.returns
-returns g c = asks g.S.Store _ _ _ c.if-self.false c.waiting_orders-answer.ensures.clean c.waiting_orders-answer.ensures.asked c.pass.ensures.clean c.pass.ensures.passed c.pass.ensures.settled
+returns g c =
+    asks g.S.Store _ _ _ c.if-self.false c.ask_all-answer.ensures.clean (λ clean. c.ask_all-answer.ensures.asked clean waiting lists_waiting)
+    c.pass.ensures.clean c.pass.ensures.passed c.pass.ensures.settled

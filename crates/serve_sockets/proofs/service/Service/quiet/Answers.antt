@@ -1,16 +1,16 @@
 use Rattle.std.proofs.Common.{◌∙◌, ◌&&◌, ◌||◌, Bool, ap, sym}
 use Rattle.hall_desk.specs.declared.arrival.Input.{Input}
-use Rattle.serve_sockets.{specs.{Turn.is_unavailable, declared.turn.Kind.Kind}, proofs.TurnLemmas.{of_quiet, still_opening, told_unavailable}}
+use Rattle.serve_sockets.{specs.{Turn.is_unavailable}, proofs.TurnLemmas.{of_quiet, still_opening, told_unavailable}}
 use Rattle.serve_sockets.proofs.service.Service.quiet.Goals as goal
 
 pub returns-clause-desk : goal.returns-clause-desk
 returns-clause-desk g c =
-    let it = c.hand_quiet-answer.ensures in
+    let it = c.hand-answer.ensures in
     record {
       kept = record { clean = λ clean. (it.given clean).0; site = it.site; enlists = it.enlists };
       handed = λ clean. record {
         what = Input.Quiet;
-        said = c.hand_quiet-answer.result.0;
+        said = c.hand-answer.result.0;
         tells = record { kind = c.handover.ensures.kind; size = c.handover.ensures.len; said = c.handover.ensures.said };
         answered = (it.given clean).1;
       };
@@ -21,8 +21,8 @@ returns-clause-desk g c =
 
 pub returns-clause-opened : goal.returns-clause-opened
 returns-clause-opened g c = λ begun.
-    c.is_still_opening-self.ensures ∙ ap (λ (b : Bool). b && (c.hand_quiet-answer.result.1 || is_unavailable c.hand_quiet-answer.result.0)) begun
+    c.is_still_opening-self.ensures ∙ ap (λ (b : Bool). b && (c.hand-answer.result.1 || is_unavailable c.hand-answer.result.0)) begun
 
 pub returns-clause-shut : goal.returns-clause-shut
 returns-clause-shut g c = λ told.
-    c.is_still_opening-self.ensures ∙ still_opening _ _ _ (told_unavailable Kind.Quiet c.hand_quiet-answer.result.0 (sym c.handover.ensures.said ∙ told))
+    c.is_still_opening-self.ensures ∙ still_opening _ _ _ (told_unavailable c.hand-answer.result.0 (sym c.handover.ensures.said ∙ told))

@@ -1,8 +1,0 @@
-use Rattle.hall_desk.specs.{declared.arrival.Input.TheVariants.Datagram, AttemptLaws.missed_same}
-use Rattle.serve_sockets.proofs.handing.hand_datagram.Goals as goal
-
-pub returns-in-Err-clause-answered : goal.returns-in-Err-clause-answered
-returns-in-Err-clause-answered g c = λ clean. (
-  clean,
-  missed_same g.S.HallStore g.S.HallStore.wider _ _ _ _ (Datagram c.args.port c.args.octets.now),
-)
