@@ -73,7 +73,7 @@ def lists():
     silences = variants("crates/dhcp_frame/src/fault.rt", "FrameFault") + variants("crates/pxe_vendor/src/serve.rt", "NotServed")
     silences += variants("crates/boot_desk/src/frames.rt", "Silence")
     statuses = re.findall(r'Status::\w+ => "([^"]+)"', text_of("crates/hall_types/src/status.rt"))
-    commands = re.findall(r'Kind::\w+ => "(\w+)"', text_of("crates/hall_events/src/kind.rt"))
+    commands = re.findall(r'Kind::\w+ => "(\w+)"', text_of("crates/hall_events/src/command.rt"))
     commands += re.findall(r'Act::\w+ => "(\w+)"', text_of("crates/hall_types/src/act.rt"))
     return [
         ("refusal", variants("crates/hall_types/src/refusal.rt", "Refusal"), r'\b\d{3} \{"refusal":"%s"', lambda case: case.wanted),

@@ -5,7 +5,7 @@
 use crate::fault::Fault;
 use hall_store::HallStore;
 use hall_types::{Change, Digest, MacAddress, MachineUuid, Moment, Number};
-use play_log::{digest, first, issued, mac, moment, number, uuid};
+use play_log::{first, parsed, uuid};
 use play_store::change;
 use std::alloc::Global;
 
@@ -27,13 +27,13 @@ pub enum Call {
 pub fn parse_call(alloc: Global, text: &str) -> Result<Call, Fault> {
     let (what, rest) = first(text);
     let found = match what {
-        "machine" => Call::Machine(issued(number(rest)?)?),
-        "address" => Call::Address(mac(rest)?),
-        "unknown" => Call::Unknown(mac(rest)?),
+        "machine" => Call::Machine(parsed(rest)?),
+        "address" => Call::Address(parsed(rest)?),
+        "unknown" => Call::Unknown(parsed(rest)?),
         "uuid" => Call::Uuid(uuid(rest)?),
-        "interfaces" => Call::Interfaces(issued(number(rest)?)?),
-        "digest" => Call::Operator(digest(rest)?),
-        "expired" => Call::Expired(moment(number(rest)?)?),
+        "interfaces" => Call::Interfaces(parsed(rest)?),
+        "digest" => Call::Operator(parsed(rest)?),
+        "expired" => Call::Expired(parsed(rest)?),
         "list" => Call::List,
         "apply" => Call::Apply(change(alloc, rest)?),
         _ => return Err(Fault::Line),
@@ -41,57 +41,28 @@ pub fn parse_call(alloc: Global, text: &str) -> Result<Call, Fault> {
     Ok(found)
 }
 
-// What is counted of the number that a look-up answers.
-fn found_number(found: Option<Number>) -> Result<u64, Fault> {
-    match found {
-        Some(id) => Ok(id.get()),
-        None => Err(Fault::Refused),
-    }
-}
-
-fn one(is_as_asked: bool) -> Result<u64, Fault> {
-    if is_as_asked {
-        Ok(1)
-    } else {
-        Err(Fault::Refused)
-    }
-}
-
-fn version<S: HallStore>(store: &mut S, id: Number) -> Result<u64, Fault> {
-    match store.machine(id)? {
-        Some(machine) => Ok(machine.version.get()),
-        None => Err(Fault::Refused),
-    }
-}
-
-fn interfaces<S: HallStore>(alloc: Global, store: &mut S, id: Number) -> Result<u64, Fault> {
-    let interfaces = store.interfaces_of(alloc, id)?;
-    Ok(interfaces.len() as u64)
-}
-
+// The sum of the machines' numbers.
 fn list<S: HallStore>(alloc: Global, store: &mut S) -> Result<u64, Fault> {
     let machines = store.machines(alloc)?;
-    let mut sum = 0u64;
-    for machine in machines.as_slice() {
-        sum = sum.saturating_add(machine.id.get());
-    }
-    Ok(sum)
+    let numbers = machines.iter().map(|machine| machine.id.get());
+    Ok(numbers.fold(0u64, |sum, number| sum.saturating_add(number)))
 }
 
 /// Calls the store, and counts what it found.
 pub fn counted<S: HallStore>(alloc: Global, store: &mut S, call: &Call) -> Result<u64, Fault> {
-    match call {
-        Call::Machine(id) => version(store, *id),
-        Call::Address(mac) => found_number(store.by_mac(*mac)?),
-        Call::Unknown(mac) => one(store.by_mac(*mac)?.is_none()),
-        Call::Uuid(uuid) => found_number(store.by_uuid(*uuid)?),
-        Call::Interfaces(id) => interfaces(alloc, store, *id),
-        Call::Operator(digest) => one(store.operator_by_digest(digest)?.is_some()),
-        Call::Expired(moment) => one(store.next_expired(*moment)?.is_none()),
-        Call::List => list(alloc, store),
+    let found = match call {
+        Call::Machine(id) => store.machine(*id)?.map(|machine| machine.version.get()),
+        Call::Address(mac) => store.by_mac(*mac)?.map(|id| id.get()),
+        Call::Unknown(mac) => store.by_mac(*mac)?.is_none().then_some(1),
+        Call::Uuid(uuid) => store.by_uuid(*uuid)?.map(|id| id.get()),
+        Call::Interfaces(id) => Some(store.interfaces_of(alloc, *id)?.len() as u64),
+        Call::Operator(digest) => store.operator_by_digest(digest)?.map(|_| 1),
+        Call::Expired(moment) => store.next_expired(*moment)?.is_none().then_some(1),
+        Call::List => Some(list(alloc, store)?),
         Call::Apply(change) => {
             store.apply(change)?;
-            Ok(1)
+            Some(1)
         }
-    }
+    };
+    found.ok_or(Fault::Refused)
 }

@@ -2,35 +2,27 @@
 use cases::CaseFault;
 use hall_store::Unavailable;
 use sql_file::FileFault;
+use thiserror::Error;
 
 /// Why a benchmark ends early.
-#[derive(Clone, Copy)]
+#[derive(Clone, Copy, Debug, PartialEq, Eq, Error)]
 pub enum Fault {
+    #[error("words: FILE TIMES")]
     Usage,
+    #[error("the log can't be read")]
     Log,
+    #[error("a line of the log is malformed")]
     Line,
-    /// A line of the new hall is refused.
+    #[error("a line of the new hall is refused")]
     Hall,
-    /// An answer isn't 200, or is silence, or a call finds nothing.
+    #[error("an answer isn't 200, or is silence, or a call finds nothing")]
     Refused,
+    #[error("the file isn't a hall's, or can't be made, opened or closed")]
     File,
+    #[error("the store can't answer")]
     Unavailable,
+    #[error("out of memory")]
     Memory,
-}
-
-impl Fault {
-    pub fn message(self) -> &'static str {
-        match self {
-            Fault::Usage => "words: FILE TIMES",
-            Fault::Log => "the log can't be read",
-            Fault::Line => "a line of the log is malformed",
-            Fault::Hall => "a line of the new hall is refused",
-            Fault::Refused => "an answer isn't 200, or is silence, or a call finds nothing",
-            Fault::File => "the file isn't a hall's, or can't be made, opened or closed",
-            Fault::Unavailable => "the store can't answer",
-            Fault::Memory => "out of memory",
-        }
-    }
 }
 
 impl From<CaseFault> for Fault {

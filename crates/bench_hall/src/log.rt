@@ -30,17 +30,6 @@ fn add_round(alloc: Global, log: &mut Log, line: &str) -> Result<(), Fault> {
     if is_added { Ok(()) } else { Err(Fault::Memory) }
 }
 
-fn empty(alloc: Global, line: &str) -> Result<Log, Fault> {
-    let (admin, digest) = admin(line)?;
-    Ok(Log {
-        admin,
-        digest,
-        hall: Vec::new(alloc),
-        arrivals: Vec::new(alloc),
-        calls: Vec::new(alloc),
-    })
-}
-
 // Adds the lines after the first, in their order.
 fn add_lines(alloc: Global, log: &mut Log, lines: Vec<String>) -> Result<(), Fault> {
     let mut is_round = false;
@@ -69,10 +58,15 @@ fn lines_of<R: Read + Drop>(alloc: Global, reader: R) -> Result<Vec<String>, Fau
 /// Reads a log to its end.
 pub fn read<R: Read + Drop>(alloc: Global, reader: R) -> Result<Log, Fault> {
     let lines = lines_of(alloc, reader)?;
-    let Some(first) = lines.first() else {
-        return Err(Fault::Line);
+    let first = lines.first().ok_or(Fault::Line)?;
+    let (admin, digest) = admin(first.as_str())?;
+    let mut log = Log {
+        admin,
+        digest,
+        hall: Vec::new(alloc),
+        arrivals: Vec::new(alloc),
+        calls: Vec::new(alloc),
     };
-    let mut log = empty(alloc, first.as_str())?;
     add_lines(alloc, &mut log, lines)?;
     Ok(log)
 }

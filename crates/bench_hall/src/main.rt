@@ -18,19 +18,16 @@ use rounds::play;
 use sql_file::{StoreTask, create, over};
 use std::alloc::Global;
 use std::process::ExitCode;
-use std::{env, fs, io};
+use std::{env, fs};
 use store_memory::MemoryStore;
 
 // Makes a hall in the file, where there is none; whether it was made.
 fn made(rt: &HostRuntime, file: &str, log: &Log) -> Result<bool, Fault> {
-    match fs::exists(rt, file) {
-        Ok(true) => Ok(false),
-        Ok(false) => {
-            create(rt, file, log.admin, log.digest)?;
-            Ok(true)
-        }
-        Err(_) => Err(Fault::Unavailable),
+    if fs::exists(rt, file).map_err(|_| Fault::Unavailable)? {
+        return Ok(false);
     }
+    create(rt, file, log.admin, log.digest)?;
+    Ok(true)
 }
 
 // The rounds, over the store of a hall's file.
@@ -65,19 +62,12 @@ fn over_file(rt: &HostRuntime, file: &str, log: &Log, times: u64) -> Result<u64,
 }
 
 fn in_memory(alloc: Global, log: &Log, times: u64) -> Result<u64, Fault> {
-    match MemoryStore::create(alloc, log.admin, log.digest) {
-        Ok(store) => {
-            let (sum, _) = play(alloc, store, log, true, times);
-            sum
-        }
-        Err(_) => Err(Fault::Memory),
-    }
+    let store = MemoryStore::create(alloc, log.admin, log.digest).map_err(|_| Fault::Memory)?;
+    play(alloc, store, log, true, times).0
 }
 
 fn measure(rt: &HostRuntime, file: &str, times: &str) -> Result<u64, Fault> {
-    let Ok(times) = times.parse::<u64>() else {
-        return Err(Fault::Usage);
-    };
+    let times = times.parse::<u64>().map_err(|_| Fault::Usage)?;
     let log = read(rt.alloc(), rt.stdin())?;
     if file == "-" {
         in_memory(rt.alloc(), &log, times)
@@ -87,19 +77,17 @@ fn measure(rt: &HostRuntime, file: &str, times: &str) -> Result<u64, Fault> {
 }
 
 // The two words after the program's name.
-fn given(rt: &HostRuntime) -> Result<(String, String), io::Error> {
-    let mut words = env::args(rt)?.skip(1);
+fn given(rt: &HostRuntime) -> Result<(String, String), Fault> {
+    let mut words = env::args(rt).map_err(|_| Fault::Usage)?.skip(1);
     match (words.next(), words.next(), words.next()) {
         (Some(file), Some(times), None) => Ok((file, times)),
-        _ => Err(io::Error::from(io::ErrorKind::InvalidInput)),
+        _ => Err(Fault::Usage),
     }
 }
 
 fn run(rt: &HostRuntime) -> Result<u64, Fault> {
-    match given(rt) {
-        Ok((file, times)) => measure(rt, file.as_str(), times.as_str()),
-        Err(_) => Err(Fault::Usage),
-    }
+    let (file, times) = given(rt)?;
+    measure(rt, file.as_str(), times.as_str())
 }
 
 fn main(rt: HostRuntime) -> ExitCode {
@@ -109,7 +97,7 @@ fn main(rt: HostRuntime) -> ExitCode {
             ExitCode::from(0)
         }
         Err(fault) => {
-            let _ = eprintln!(rt; "bench_hall: {}", fault.message());
+            let _ = eprintln!(rt; "bench_hall: {fault}");
             ExitCode::from(1)
         }
     }

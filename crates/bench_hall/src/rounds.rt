@@ -1,5 +1,5 @@
 //! What is measured, over an open store, which is given back. The store's type stays open here, so that no proof looks into a file.
-use crate::calls::{Call, counted, parse_call};
+use crate::calls::{counted, parse_call};
 use crate::fault::Fault;
 use crate::log::Log;
 use hall_desk::{Answer, Arrival, Desk};
@@ -9,12 +9,11 @@ use pxe_vendor::Place;
 use std::alloc::Global;
 use std::slice;
 
+/// What is counted: octets that are answered, or what calls find.
+pub type Counted = Result<u64, Fault>;
+
 // The number of octets that are answered, if they aren't a refusal.
-fn answered<S: HallStore>(
-    alloc: Global,
-    desk: &mut Desk<S>,
-    arrival: &Arrival,
-) -> Result<u64, Fault> {
+fn answered<S: HallStore>(alloc: Global, desk: &mut Desk<S>, arrival: &Arrival) -> Counted {
     match desk.answer(alloc, arrival) {
         Answer::Frame(octets)
         | Answer::Response {
@@ -25,32 +24,14 @@ fn answered<S: HallStore>(
     }
 }
 
-fn answer_all<S: HallStore>(
-    alloc: Global,
-    desk: &mut Desk<S>,
-    arrivals: &[Arrival],
-    times: u64,
-) -> Result<u64, Fault> {
+// The sum of what is counted of each of these, so many times.
+fn sum_of<T, F: FnMut(&T) -> Counted>(all: &[T], times: u64, mut count: F) -> Counted
+    requires { F.IsAlwaysCallable count }
+{
     let mut sum = 0u64;
     for _ in 0..times {
-        for arrival in arrivals {
-            sum = sum.saturating_add(answered(alloc, desk, arrival)?);
-        }
-    }
-    Ok(sum)
-}
-
-// The sum of what the calls find.
-fn call_all<S: HallStore>(
-    alloc: Global,
-    store: &mut S,
-    calls: &[Call],
-    times: u64,
-) -> Result<u64, Fault> {
-    let mut sum = 0u64;
-    for _ in 0..times {
-        for call in calls {
-            sum = sum.saturating_add(counted(alloc, store, call)?);
+        for one in all {
+            sum = sum.saturating_add(count(one)?);
         }
     }
     Ok(sum)
@@ -61,26 +42,27 @@ fn over_desk<S: HallStore>(
     store: S,
     arrivals: &[Arrival],
     times: u64,
-) -> (Result<u64, Fault>, S) {
+) -> (Counted, S) {
     let Ok(place) = Place::new(alloc, [192, 0, 2, 1], [192, 0, 2, 2], "hall.example") else {
         return (Err(Fault::Memory), store);
     };
     let mut desk = Desk::new(store, place);
-    let sum = answer_all(alloc, &mut desk, arrivals, times);
+    let sum = sum_of(
+        arrivals,
+        times,
+        |arrival| answered(alloc, &mut desk, arrival),
+    );
     (sum, desk.into_store())
 }
 
 // Makes a change of the new hall, which is a call of its store.
-fn change<S: HallStore>(alloc: Global, store: S, line: &str) -> (Result<u64, Fault>, S) {
-    let mut store = store;
-    let made = match parse_call(alloc, line) {
-        Ok(call) => counted(alloc, &mut store, &call),
-        Err(fault) => Err(fault),
-    };
+fn change<S: HallStore>(alloc: Global, mut store: S, line: &str) -> (Counted, S) {
+    let call = parse_call(alloc, line);
+    let made = call.and_then(|call| counted(alloc, &mut store, &call));
     (made, store)
 }
 
-fn arrive<S: HallStore>(alloc: Global, store: S, line: &str) -> (Result<u64, Fault>, S) {
+fn arrive<S: HallStore>(alloc: Global, store: S, line: &str) -> (Counted, S) {
     match arrival(alloc, line) {
         Ok(arrival) => over_desk(alloc, store, slice::from_ref(&arrival), 1),
         Err(fault) => (Err(Fault::from(fault)), store),
@@ -88,8 +70,7 @@ fn arrive<S: HallStore>(alloc: Global, store: S, line: &str) -> (Result<u64, Fau
 }
 
 // Plays the lines of a new hall, until one is refused.
-fn make<S: HallStore>(alloc: Global, store: S, lines: &[String]) -> (Result<(), Fault>, S) {
-    let mut store = store;
+fn make<S: HallStore>(alloc: Global, mut store: S, lines: &[String]) -> (Result<(), Fault>, S) {
     for line in lines {
         let (made, after) = if line.starts_with("apply ") {
             change(alloc, store, line.as_str())
@@ -107,18 +88,14 @@ fn make<S: HallStore>(alloc: Global, store: S, lines: &[String]) -> (Result<(), 
 }
 
 // The sum over the arrivals, and over the calls.
-fn measure<S: HallStore>(
-    alloc: Global,
-    store: S,
-    log: &Log,
-    times: u64,
-) -> (Result<u64, Fault>, S) {
+fn measure<S: HallStore>(alloc: Global, store: S, log: &Log, times: u64) -> (Counted, S) {
     let (answers, mut store) = over_desk(alloc, store, log.arrivals.as_slice(), times);
-    let calls = call_all(alloc, &mut store, log.calls.as_slice(), times);
-    let sum = match (answers, calls) {
-        (Ok(octets), Ok(found)) => Ok(octets.saturating_add(found)),
-        (Err(fault), _) | (_, Err(fault)) => Err(fault),
-    };
+    let calls = sum_of(
+        log.calls.as_slice(),
+        times,
+        |call| counted(alloc, &mut store, call),
+    );
+    let sum = answers.and_then(|octets| Ok(octets.saturating_add(calls?)));
     (sum, store)
 }
 
@@ -129,7 +106,7 @@ pub fn play<S: HallStore>(
     log: &Log,
     is_new: bool,
     times: u64,
-) -> (Result<u64, Fault>, S) {
+) -> (Counted, S) {
     if !is_new {
         return measure(alloc, store, log, times);
     }

@@ -5,7 +5,7 @@ use Rattle.hall_types.specs.declared.kinds.Outcome.TheVariants as outcome
 use Rattle.hall_types.specs.declared.kinds.Progress.TheVariants as progress
 use Rattle.hall_types.specs.declared.kinds.Purpose.TheVariants as purpose
 use Rattle.life_cycle.specs.{declared.{entering.Entered.Entered, signal.Signal.{Signal, TheVariants.{Answer, Expired, FourthBoot, Report}}, step.Step.Step}, Entering.entered, Table.step_of, TableLaws.is_signal}
-use Rattle.boot_desk.{specs.{declared.{class.ScriptClass.TheVariants.Work, fault.Verdict.TheVariants.Counted}, Class.{class_in, class_of}, DecisionLaws.{IfOk, answering_rows, fetched_cases, order_cases, report_cases, step_cases, swept_cases}, Expiry.swept, Fetch.fetched, Following.{answering, entry_rows, followed, with_entry}, OrderAnswer.{answered, answered_with, stage_for}, Report.{is_wrong_stage, reported}, Texts.hold_script, Views.{order_view, report_view, row_at, view_of}, Sound.{IsSoundMachine, IsSound}, SoundLaws.{some_is, boots_same}, EntryLaws.{entry_from_sound, entry_sound, is_by, orders_answered, orders_withdrawn, waits_answered, waits_withdrawn}, ClassLaws.same_purpose}, proofs.{MoveLemmas.{boots_staged, idle_sound, issue_sound, start_sound}, StepLemmas.{KeptBoot, done-leads, failed-leads, may_enter}}}
+use Rattle.boot_desk.{specs.{declared.{class.ScriptClass.TheVariants.Work, fault.Verdict.TheVariants.Counted}, Class.{class_in, class_of}, DecisionLaws.{IfOk, answering_rows, fetched_cases, order_cases, report_cases, step_cases, swept_cases}, Expiry.swept, Fetch.fetched, Following.{answering, entry_rows, followed, with_entry}, OrderAnswer.{answered, answered_with, stage_for}, Report.{is_wrong_stage, reported}, Texts.hold_script, Views.{order_view, report_view, row_at, view_of}, Sound.IsSound, SoundLaws.{some_is, boots_same}, EntryLaws.{entry_from_sound, entry_sound, is_by, orders_answered, orders_withdrawn, waits_answered, waits_withdrawn}, ClassLaws.same_purpose}, proofs.{MoveLemmas.{boots_staged, idle_sound, issue_sound, start_sound}, StepLemmas.{KeptBoot, done-leads, failed-leads, may_enter}}}
 
 -- the rows of an answer leave the hall sound
 abbrev pub Keeps : {A : Type 0} → Hall → Result (List RowWrite × A) Refusal → Type 0
@@ -14,9 +14,6 @@ Keeps {A = A} h = IfOk (λ (d : List RowWrite × A). IsSound (applied d.0 h))
 module _ (h : Hall) (m : Machine) (s : IsSound h) (was : at h.machines m.id ≡ Some m) where
   abbrev KeepsRows : Result (List RowWrite) Refusal → Type 0
   KeepsRows = IfOk (λ (rows : List RowWrite). IsSound (applied rows h))
-
-  v : IsSoundMachine (view_of h m)
-  v = s.machines m.id m was
 
   -- an entry by a signal that no operator and no report gives
   entry_keeps : (signal : Signal) (moment : ℕ) → is_by signal ≡ false → is_signal signal (Report progress.Started) ≡ false → (step : Step) (e : Entered) → step_of m signal ≡ Some step → entered m step moment h.last ≡ Some e

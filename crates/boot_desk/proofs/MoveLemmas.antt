@@ -1,7 +1,7 @@
 -- How the rows of one machine change, except for entries: a new boot, a boot's stage, an order that waits no more.
 use Rattle.std.{specs.Prelude.{◌≡◌, ◌≤◌, ◌==◌, ◌&&◌, not, ℕ, ◌+◌, Bool, true, false, List, Some, None, is_some}, proofs.{Common.{refl, sym, ap, subst, inl, inr, arith, ◌∙◌}, lemmas.{Bool.eqb-false, Option.none-some}}}
 use Rattle.hall_types.specs.{Number.next_number, Rows.{numbers, Rows, at, put}, RowLaws.{at-put-same, put_same}, Hall.Hall, declared.{boot.Boot.Boot, kinds.{Purpose.Purpose, Stage.{Stage, TheVariants.Started}}, machine.Machine.Machine, order.Order.Order, status.Status.{Status, TheVariants.Rescue}}}
-use Rattle.boot_desk.specs.{declared.class.ScriptClass.TheVariants.Work, Class.class_of, Fetch.{booted, boots_after, is_fourth, is_rescue_mode, new_boot}, OrderAnswer.idle, Views.{row_at, view_of}, Sound.{IsSoundMachine, IsSound}, SoundLaws.{some_is, own_more, own_put, boots_same, orders_same, waits_same, OwnBoots, OwnOrders, WaitsFor, moved_to, stayed_sound}, EntryLaws.next_is}
+use Rattle.boot_desk.specs.{declared.class.ScriptClass.TheVariants.Work, Class.class_of, Fetch.{booted, boots_after, is_fourth, is_rescue_mode, new_boot}, OrderAnswer.idle, Views.{row_at, view_of}, Sound.{IsSoundMachine, IsSound}, SoundLaws.{some_is, own_put, boots_same, orders_same, waits_same, OwnBoots, OwnOrders, WaitsFor, moved_to, stayed_sound}, EntryLaws.next_is}
 
 -- before the fourth boot there is room for one more
 few_boots : (status : Status) (boots : ℕ) → boots ≤ 3 → ((boots == 3) && not (is_rescue_mode status)) ≡ false → boots_after status boots ≤ 3
@@ -28,9 +28,8 @@ module _ (h : Hall) (m : Machine) (s : IsSound h) (was : at h.machines m.id ≡ 
       → IsSound (moved_to h (booted number m) (put number (new_boot number m p fresh) h.boots) h.orders (record h.last { boot = number }))
   issue_sound number p fresh next works few =
       stayed_sound h m s was (booted number m) (put number new h.boots) h.orders number (s.machine_pools m.id m was) v.locked
-      (own_put (λ (b : Boot). b.number) (λ (b : Boot). b.machine) m.id h.boots number h.boots new
-      (own_more (λ (b : Boot). b.number) (λ (b : Boot). b.machine) m.id h.boots h.last.boot number h.boots (omega (arith, above)) (boots_same h m s))
-      refl (omega arith) (λ b is. absurd (unused b is)))
+      (own_put (λ (b : Boot). b.number) (λ (b : Boot). b.machine) m.id h.boots h.last.boot number h.boots new (boots_same h m s)
+      (omega (arith, above)) refl (omega arith) (λ b is. absurd (unused b is)))
       (omega (arith, above)) (λ n is. (new, at-put-same h.boots number new, refl, inl refl, works)) (few_boots m.status m.boots v.boots few) (λ is. no_boots m.status m.boots is (v.rescue is))
       (orders_same h m s) (waits_same h m s was) v.order v.deployed
     where
@@ -47,7 +46,7 @@ module _ (h : Hall) (m : Machine) (s : IsSound h) (was : at h.machines m.id ≡ 
 
   pub boots_staged : (b : Boot) (stage : Stage) → at h.boots b.number ≡ Some b → b.machine ≡ m.id → OwnBoots h m.id h.last.boot (put b.number (record b { stage = stage }) h.boots)
   boots_staged b stage is its =
-      own_put (λ (b : Boot). b.number) (λ (b : Boot). b.machine) m.id h.boots h.last.boot h.boots (record b { stage = stage }) (boots_same h m s) its (s.last_boot b.number (ap (λ x. is_some x) is))
+      own_put (λ (b : Boot). b.number) (λ (b : Boot). b.machine) m.id h.boots h.last.boot h.last.boot h.boots (record b { stage = stage }) (boots_same h m s) (omega arith) its (s.last_boot b.number (ap (λ x. is_some x) is))
       (λ x there. ap (λ (y : Boot). y.machine) (some_is x b (sym there ∙ is)) ∙ its)
 
   -- the machine's current boot has started

@@ -1,8 +1,8 @@
 -- A hall stays sound if one of its machines enters a status as it may.
-use Rattle.std.{specs.{Prelude.{◌≡◌, ◌≢◌, ◌⊎◌, ◌==◌, ℕ, ◌+◌, Bool, true, false, Option, Some, None, is_some, IsSome, option_map, not, if◌then◌else◌}, List.list_all}, proofs.{Common.{refl, sym, ap, subst, inl, inr, arith, ◌∙◌}, lemmas.{Bool.{both_ways, not-true}, Option.none-some}}}
+use Rattle.std.{specs.{Prelude.{◌≡◌, ◌≢◌, ◌⊎◌, ◌≤◌, ◌==◌, ℕ, ◌+◌, Bool, true, false, Option, Some, None, is_some, IsSome, option_map, not, if◌then◌else◌}, List.list_all}, proofs.{Common.{refl, sym, ap, subst, inl, inr, arith, ◌∙◌}, lemmas.{Bool.{both_ways, not-true}, Option.none-some}}}
 use Rattle.hall_types.specs.{Number.{next_number, max_number}, Rows.{Keys, numbers, Rows, at, put}, RowLaws.{at-put-same, put_cases}, Hall.{Schema, first, second, Hall, applied}, declared.{boot.Boot.Boot, kinds.{OrderKind.OrderKind, OrderStage.TheVariants.{Waiting, Withdrawn}, Purpose.Purpose, Stage.TheVariants.{Offered, Started}}, machine.Machine.Machine, number.Numbers.Numbers, order.Order.Order, status.Status.{Status, TheVariants.{Deployed, EnteringRescue, Rescue}}}, Status.status_number, Lookup.{HasRow, HasRowIf}}
 use Rattle.life_cycle.specs.{declared.{entering.Entered.Entered, signal.Signal.{Signal, TheVariants.By}, step.Step.Step}, Entering.{back_after, boot_after, entered, is_rescue, keeps_owner, kept, limit_of, machine_in}, Table.{transitions, step_of}, TableLaws.{StepTest, passes, only_if, only_if_true, is_status, is_status-same, each_step}, EnteringLaws.{entered_cases, entered-back, entered-status, remembered_in_rescue, remembered_statuses}, Laws.IsRemembered}
-use Rattle.boot_desk.specs.{declared.class.ScriptClass.TheVariants.Work, Class.class_in, Fetch.image_for, Following.entry_rows, Views.{row_at, view_of}, Sound.{KeepsErase, IsSoundMachine, IsSound}, SoundLaws.{some_is, own_more, own_put, boots_same, orders_same, waits_same, OwnBoots, OwnOrders, WaitsFor, moved_to, image_for-same, moved_sound}}
+use Rattle.boot_desk.specs.{declared.class.ScriptClass.TheVariants.Work, Class.class_in, Fetch.image_for, Following.entry_rows, Views.{row_at, view_of}, Sound.{KeepsErase, IsSound}, SoundLaws.{some_is, own_put, boots_same, orders_same, waits_same, OwnBoots, OwnOrders, WaitsFor, moved_to, image_for-same, moved_sound}}
 
 -- ---- the order that waited
 
@@ -23,7 +23,7 @@ module _ (h : Hall) (m : Machine) (s : IsSound h) (was : at h.machines m.id ≡ 
   -- an order of the machine takes another stage
   pub orders_answered : (o o' : Order) → at h.orders o.number ≡ Some o → o.machine ≡ m.id → o'.number ≡ o.number → o'.machine ≡ o.machine → OwnOrders h m.id h.last.order (put o'.number o' h.orders)
   orders_answered o o' is its number machine =
-      own_put (λ (x : Order). x.number) (λ (x : Order). x.machine) m.id h.orders h.last.order h.orders o' (orders_same h m s) (machine ∙ its)
+      own_put (λ (x : Order). x.number) (λ (x : Order). x.machine) m.id h.orders h.last.order h.last.order h.orders o' (orders_same h m s) (omega arith) (machine ∙ its)
       (omega (arith, number, s.last_order o.number (ap (λ x. is_some x) is)))
       (λ x there. ap (λ (y : Order). y.machine) (some_is x o (sym there ∙ (ap (at h.orders) number ∙ is))) ∙ its)
 
@@ -88,43 +88,22 @@ kept_has rows true o has = has
 kept_has rows false o has = λ key is. absurd (none-some key is)
 
 -- how the disks are erased doesn't depend on the order that waits
-erase_kept : (schema : Schema) (m : Machine) (step : Step) (moment n : ℕ) → KeepsErase schema (machine_in m step.status moment None) → KeepsErase schema (machine_in m step.status moment (Some n))
-erase_kept first m step moment n keeps = keeps
-erase_kept second m step moment n keeps = keeps
+erase_kept : (schema : Schema) (m : Machine) (step : Step) (moment : ℕ) (waiting : Option ℕ) → KeepsErase schema (machine_in m step.status moment None) → KeepsErase schema (machine_in m step.status moment waiting)
+erase_kept first m step moment waiting keeps = keeps
+erase_kept second m step moment waiting keeps = keeps
 
 mapped : {X Y : Type 0} (f : X → Y) (o : Option X) → is_some (option_map f o) ≡ is_some o
 mapped f None = refl
 mapped f (Some x) = refl
 
 module _ (h : Hall) (m entering : Machine) (step : Step) (moment : ℕ) (boots : Rows numbers Boot) (s : IsSound h) (was : at h.machines m.id ≡ Some m) (may : MayEnter h m entering step moment boots) (own : OwnBoots h m.id h.last.boot boots) where
-  -- the machine in its new status is sound, with these orders and last numbers
-  machine_sound : (waiting : Option ℕ) (orders : Rows numbers Order) (last : Numbers)
+  -- the machine has entered its new status: of these orders this one waits for it, and this is the last number of one
+  entry : (waiting : Option ℕ) (orders : Rows numbers Order) (last : ℕ) → OwnOrders h m.id last orders → WaitsFor m.id waiting orders → h.last.order ≤ last
       → ((number : ℕ) → waiting ≡ Some number → (o : Order) × (at orders number ≡ Some o) × (o.machine ≡ m.id) × (o.stage ≡ Waiting))
       → (step.status ≡ Deployed → waiting ≡ None)
-      → IsSoundMachine (view_of (moved_to h (machine_in entering step.status moment waiting) boots orders last) (machine_in entering step.status moment waiting))
-  machine_sound waiting orders last order deployed = record {
-    boot = λ number is.
-        let b = may.boot number is in
-        (b.0, ap (row_at boots) is ∙ b.1, b.2 ∙ sym may.id, b.3, b.4);
-    order = λ number is.
-        let o = order number is in
-        (o.0, ap (row_at orders) is ∙ o.1, o.2 ∙ sym may.id, o.3);
-    deployed = deployed;
-    boots = omega arith;
-    rescue = λ is. refl;
-    locked = λ is. absurd (both_ways entering.locked may.unlocked is);
-    deadline = mapped (λ limit. moment + limit) (limit_of step.status);
-    back = may.back;
-    remembered = may.remembered;
-    image = λ purpose is.
-        ap (λ o. is_some o) (image_for-same purpose (view_of (moved_to h (machine_in entering step.status moment waiting) boots orders last) (machine_in entering step.status moment waiting)) (view_of h (machine_in entering step.status moment None)) refl refl)
-        ∙ may.works purpose is;
-  }
-
-  -- no order is queued
-  entry_plain : (orders : Rows numbers Order) → OwnOrders h m.id h.last.order orders → WaitsFor m.id None orders → IsSound (moved_to h (machine_in entering step.status moment None) boots orders h.last)
-  entry_plain orders own_orders waits =
-      moved_sound h m (machine_in entering step.status moment None) boots orders h.last s (record {
+      → IsSound (moved_to h (machine_in entering step.status moment waiting) boots orders (record h.last { order = last }))
+  entry waiting orders last own_orders waits later order deployed =
+      moved_sound h m (machine_in entering step.status moment waiting) boots orders (record h.last { order = last }) s (record {
         was = was;
         id = may.id;
         uuid = may.uuid;
@@ -136,35 +115,44 @@ module _ (h : Hall) (m entering : Machine) (step : Step) (moment : ℕ) (boots :
         waits = waits;
         last_machine = refl;
         last_boot = omega arith;
-        last_order = omega arith;
-        machine = machine_sound None orders h.last (λ number is. absurd (none-some number is)) (λ is. refl);
-        erase = may.erase;
+        last_order = later;
+        machine = record {
+          boot = λ number is.
+              let b = may.boot number is in
+              (b.0, ap (row_at boots) is ∙ b.1, b.2 ∙ sym may.id, b.3, b.4);
+          order = λ number is.
+              let o = order number is in
+              (o.0, ap (row_at orders) is ∙ o.1, o.2 ∙ sym may.id, o.3);
+          deployed = deployed;
+          boots = omega arith;
+          rescue = λ is. refl;
+          locked = λ is. absurd (both_ways entering.locked may.unlocked is);
+          deadline = mapped (λ limit. moment + limit) (limit_of step.status);
+          back = may.back;
+          remembered = may.remembered;
+          image = λ purpose is.
+              ap (λ o. is_some o) (image_for-same purpose (view_of (moved_to h (machine_in entering step.status moment waiting) boots orders (record h.last { order = last })) (machine_in entering step.status moment waiting)) (view_of h (machine_in entering step.status moment None)) refl refl)
+              ∙ may.works purpose is;
+        };
+        erase = erase_kept h.schema entering step moment waiting may.erase;
       })
+
+  -- no order is queued
+  entry_plain : (orders : Rows numbers Order) → OwnOrders h m.id h.last.order orders → WaitsFor m.id None orders → IsSound (moved_to h (machine_in entering step.status moment None) boots orders h.last)
+  entry_plain orders own_orders waits =
+      entry None orders h.last.order own_orders waits (omega arith) (λ number is. absurd (none-some number is)) (λ is. refl)
 
   -- an order is queued
   entry_queued : (orders : Rows numbers Order) → OwnOrders h m.id h.last.order orders → WaitsFor m.id None orders → (kind : OrderKind) (n : ℕ) → step.order ≡ Some kind → next_number h.last.order ≡ Some n
       → IsSound (moved_to h (machine_in entering step.status moment (Some n)) boots (put n (record { number = n; machine = entering.id; kind = kind; stage = Waiting }) orders) (record h.last { order = n }))
   entry_queued orders own_orders waits kind n queued next =
-      moved_sound h m (machine_in entering step.status moment (Some n)) boots (put n new orders) (record h.last { order = n }) s (record {
-        was = was;
-        id = may.id;
-        uuid = may.uuid;
-        pool = may.pool;
-        owner = kept_has h.operators (keeps_owner step.status) entering.owner may.owner;
-        image = kept_has h.images (keeps_owner step.status) entering.image may.image;
-        own_boots = own;
-        own_orders = own_put (λ (o : Order). o.number) (λ (o : Order). o.machine) m.id h.orders n orders new
-            (own_more (λ (o : Order). o.number) (λ (o : Order). o.machine) m.id h.orders h.last.order n orders (omega (arith, above)) own_orders)
-            may.id (omega arith) (λ o is. absurd (fresh o is));
-        waits = λ k o is its wait. elim (put_cases orders n new k o is) [ inl w ↦ ap (λ x. Some x) (sym w.0) | inr w ↦ absurd (none-some k (waits k o w.1 its wait)) ];
-        last_machine = refl;
-        last_boot = omega arith;
-        last_order = omega (arith, above);
-        machine = machine_sound (Some n) (put n new orders) (record h.last { order = n })
-            (λ number is. (new, ap (at (put n new orders)) (sym (some_is n number is)) ∙ at-put-same orders n new, may.id, refl))
-            (λ is. absurd (none-some kind (sym (may.deployed is) ∙ queued)));
-        erase = erase_kept h.schema entering step moment n may.erase;
-      })
+      entry (Some n) (put n new orders) n
+      (own_put (λ (o : Order). o.number) (λ (o : Order). o.machine) m.id h.orders h.last.order n orders new own_orders
+      (omega (arith, above)) may.id (omega arith) (λ o is. absurd (fresh o is)))
+      (λ k o is its wait. elim (put_cases orders n new k o is) [ inl w ↦ ap (λ x. Some x) (sym w.0) | inr w ↦ absurd (none-some k (waits k o w.1 its wait)) ])
+      (omega (arith, above))
+      (λ number is. (new, ap (at (put n new orders)) (sym (some_is n number is)) ∙ at-put-same orders n new, may.id, refl))
+      (λ is. absurd (none-some kind (sym (may.deployed is) ∙ queued)))
     where
       new : Order
       new = record { number = n; machine = entering.id; kind = kind; stage = Waiting }

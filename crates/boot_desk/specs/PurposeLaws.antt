@@ -1,9 +1,9 @@
 -- Laws of what kernels are told to do, for the proofs of callers.
-use Rattle.std.{proofs.{Common.{◌≡◌, ℕ, zero, suc, ◌⊎◌, true, false, List, [], ◌∷◌, ◌++◌, refl, sym, ap, subst, ◌∙◌, inl, inr, arith}, lemmas.{Bool.{or_parts, both_ways}, List.Elements.{Contains-append_cases, Contains-append_left, Contains-append_right}, Slice.Eq.bytes_eq-Decides}}, specs.{Prelude.{Option, Some, Ok, Contains, bytes_eq, codes}, List.list_any, Fmt.decimal}}
+use Rattle.std.{proofs.{Common.{◌≡◌, ℕ, ◌⊎◌, true, false, List, [], ◌∷◌, ◌++◌, refl, sym, ap, subst, ◌∙◌, inl, inr, arith}, lemmas.{Bool.{or_parts, both_ways}, List.Elements.{Contains-append_cases, Contains-append_left, Contains-append_right}, Slice.Eq.bytes_eq-Decides}}, specs.{Prelude.{Option, Some, Ok, Contains, bytes_eq, codes}, List.list_any, Fmt.decimal}}
 use Rattle.hex.specs.Hex.{encode_lower}
 use Rattle.pxe_vendor.specs.declared.arch.Arch.{Arch}
 use Rattle.pxe_vendor.specs.declared.arch.Arch.TheVariants as arch
-use Rattle.ipxe_script.specs.{Purpose.{HasKernelWord, is_kernel}, PurposeLaws.{HasKernelWord-boot, HasKernelWord-no_kernel, IsArgument-hall}, Script.{spelling, IsScript}, Word.is_hall_word, declared.command.Command.Command}
+use Rattle.ipxe_script.specs.{Purpose.{HasKernelWord, is_kernel}, PurposeLaws.{Contains-cases, HasKernelWord-boot, HasKernelWord-no_kernel, IsArgument-hall}, Script.{spelling, IsScript}, Word.is_hall_word, declared.command.Command.Command}
 use Rattle.hall_types.specs.{Image.{BootImage, has_hall_word}, Kinds.{erase_text, purpose_text}, declared.{boot.Boot.Boot, change.RowWrite.RowWrite, kinds.{Erase.Erase, Purpose.Purpose}, status.Status.{Status, TheVariants.{Deploying, DiskErasing, ExitingRescue}}}}
 use Rattle.hall_types.specs.declared.kinds.Erase.TheVariants as erase
 use Rattle.hall_types.specs.declared.kinds.Purpose.TheVariants as purpose
@@ -37,10 +37,6 @@ given host v moment fresh rows script =
     (λ p image number works its few next. inr (p, record { boot = new_boot number v.machine p fresh; image = image; class = works; image_is = its; is = refl })))
 
 -- ---- the words of its kernel's line
-
-Contains-cases : (x : List ℕ) (xs : List (List ℕ)) (y : List ℕ) → Contains (x ∷ xs) y → (x ≡ y) ⊎ Contains xs y
-Contains-cases x xs y (zero, lt, e) = inl e
-Contains-cases x xs y (suc k, lt, e) = inr (k, omega arith, e)
 
 Contains-none : (y : List ℕ) → Contains [] y → ⊥
 Contains-none y h = omega (arith, h.1)

@@ -32,22 +32,22 @@ module _ {X : Type 0} (number_of machine_of : X → ℕ) (id : ℕ) (before : Ro
           by true t = inr (under n x is, below n (ap (λ o. is_some o) is), eqb-true (machine_of x) id t)
           by false t = inl (eqb-false (machine_of x) id t, is)
 
-  -- a higher last number is above them too
-  pub own_more : (last more : ℕ) (after : Rows numbers X) → last ≤ more → OwnRows number_of machine_of id last before after → OwnRows number_of machine_of id more before after
-  own_more last more after le own = record { back = back; others = own.others }
-    where
-      back : (n : ℕ) (x : X) → at after n ≡ Some x → ((machine_of x ≢ id) × (at before n ≡ Some x)) ⊎ ((number_of x ≡ n) × (n ≤ more) × (machine_of x ≡ id))
-      back n x is = elim (own.back n x is) [ inl w ↦ inl w | inr w ↦ inr (w.0, omega (arith, w.1), w.2) ]
+  -- none is above the last number
+  own_last : (last more : ℕ) (after : Rows numbers X) → OwnRows number_of machine_of id more before after → ((n : ℕ) → HasRow before n → n ≤ last) → last ≤ more → (n : ℕ) → HasRow after n → n ≤ more
+  own_last last more after own below le n is = let x = some_of (at after n) is in elim (own.back n x.0 x.1) [
+    | inl w ↦ omega (arith, below n (ap (λ o. is_some o) w.1), le)
+    | inr w ↦ w.1
+  ]
 
-  -- a row of the machine is put in the place of none, or of one of its own
-  pub own_put : (last : ℕ) (after : Rows numbers X) (row : X) → OwnRows number_of machine_of id last before after → machine_of row ≡ id → number_of row ≤ last
-      → ((x : X) → at before (number_of row) ≡ Some x → machine_of x ≡ id) → OwnRows number_of machine_of id last before (put (number_of row) row after)
-  own_put last after row own its few free = record { back = back; others = others }
+  -- a row of the machine is put in the place of none, or of one of its own; the last number may be a higher one then
+  pub own_put : (last more : ℕ) (after : Rows numbers X) (row : X) → OwnRows number_of machine_of id last before after → last ≤ more → machine_of row ≡ id → number_of row ≤ more
+      → ((x : X) → at before (number_of row) ≡ Some x → machine_of x ≡ id) → OwnRows number_of machine_of id more before (put (number_of row) row after)
+  own_put last more after row own le its few free = record { back = back; others = others }
     where
-      back : (n : ℕ) (x : X) → at (put (number_of row) row after) n ≡ Some x → ((machine_of x ≢ id) × (at before n ≡ Some x)) ⊎ ((number_of x ≡ n) × (n ≤ last) × (machine_of x ≡ id))
+      back : (n : ℕ) (x : X) → at (put (number_of row) row after) n ≡ Some x → ((machine_of x ≢ id) × (at before n ≡ Some x)) ⊎ ((number_of x ≡ n) × (n ≤ more) × (machine_of x ≡ id))
       back n x is = elim (put_cases after (number_of row) row n x is) [
         | inl w ↦ inr (ap number_of w.1 ∙ sym w.0, omega (arith, w.0, few), ap machine_of w.1 ∙ its)
-        | inr w ↦ own.back n x w.1
+        | inr w ↦ elim (own.back n x w.1) [ inl y ↦ inl y | inr y ↦ inr (y.0, omega (arith, y.1, le), y.2) ]
       ]
 
       others : (n : ℕ) (x : X) → at before n ≡ Some x → machine_of x ≢ id → at (put (number_of row) row after) n ≡ Some x
@@ -206,18 +206,6 @@ module _ (h : Hall) (m m' : Machine) (boots : Rows numbers Boot) (orders : Rows 
     | inr w ↦ (m', ap (at after.machines) w.2 ∙ there, moved.waits n o is w.2 waits)
   ]
 
-  last_boot_after : (n : ℕ) → HasRow boots n → n ≤ last.boot
-  last_boot_after n is = let b = some_of (at boots n) is in elim (moved.own_boots.back n b.0 b.1) [
-    | inl w ↦ omega (arith, s.last_boot n (ap (λ o. is_some o) w.1), moved.last_boot)
-    | inr w ↦ w.1
-  ]
-
-  last_order_after : (n : ℕ) → HasRow orders n → n ≤ last.order
-  last_order_after n is = let o = some_of (at orders n) is in elim (moved.own_orders.back n o.0 o.1) [
-    | inl w ↦ omega (arith, s.last_order n (ap (λ o. is_some o) w.1), moved.last_order)
-    | inr w ↦ w.1
-  ]
-
   same_size : size after.machines ≡ size h.machines
   same_size =
       let e = size-put h.machines m'.id m' in
@@ -251,8 +239,8 @@ module _ (h : Hall) (m m' : Machine) (boots : Rows numbers Boot) (orders : Rows 
     erasing = each_put (λ x. KeepsErase h.schema x) h.machines m'.id m' moved.erase s.erasing;
     waiting = waiting_after;
     last_machine = λ id is. omega (arith, s.last_machine id (had id is), moved.last_machine);
-    last_boot = last_boot_after;
-    last_order = last_order_after;
+    last_boot = own_last (λ (b : Boot). b.number) (λ (b : Boot). b.machine) m.id h.boots h.last.boot last.boot boots moved.own_boots s.last_boot moved.last_boot;
+    last_order = own_last (λ (o : Order). o.number) (λ (o : Order). o.machine) m.id h.orders h.last.order last.order orders moved.own_orders s.last_order moved.last_order;
   }
 
 -- ---- the rows of one machine in a sound hall

@@ -1,5 +1,5 @@
 -- The desk's words are words of a script.
-use Rattle.std.{proofs.{Common.{◌≡◌, ◌≤◌, ◌/◌, ◌%◌, ◌++◌, ◌^◌, ◌<◌, ℕ, suc, Bool, true, List, [], ◌∷◌, length, slice_index, refl, ap, false, arith, append_assoc}, lemmas.{Bool.{agree_below_at, leb-true}, List.Elements.All-from_recursion}}, specs.{Prelude.{All, Option, Some, codes, ◌&&◌, ◌||◌, ◌==◌, nat_le, IsTrue}, Char.is_ascii_alphanumeric, List.list_all, Fmt.decimal}}
+use Rattle.std.{proofs.{Common.{◌≡◌, ◌≤◌, ◌/◌, ◌%◌, ◌++◌, ◌^◌, ◌<◌, ℕ, suc, true, List, [], ◌∷◌, length, slice_index, refl, ap, arith, append_assoc}, lemmas.{Bool.{agree_below_at, and_from, and_parts, leb-true}, List.Elements.All-from_recursion}}, specs.{Prelude.{All, Option, Some, codes, ◌&&◌, ◌||◌, ◌==◌, nat_le, IsTrue}, Char.is_ascii_alphanumeric, List.list_all, Fmt.decimal}}
 use Rattle.hex.{specs.Hex.{encode_lower, encode_with, lower_digits}, proofs.HexLemmas.length-encode_with}
 use Rattle.pxe_vendor.specs.{Place.{is_host, is_host_octet}, declared.arch.Arch.Arch}
 use Rattle.pxe_vendor.specs.declared.arch.Arch.TheVariants as arch
@@ -32,17 +32,13 @@ digit : (value : ℕ) → value < 16 → is_word_octet (slice_index lower_digits
 unfolding is_first_octet is_word_octet
 digit value small = agree_below_at (λ (v : ℕ). is_word_octet (slice_index lower_digits v)) (λ (v : ℕ). true) 16 value refl small
 
-both : (a b : Bool) → a ≡ true → b ≡ true → (a && b) ≡ true
-both true b h k = k
-both false b h k = h
-
 digits : (octets : List ℕ) → ((i : ℕ) → slice_index octets i < 256) → AreWordOctets (encode_lower octets)
 unfolding encode_with
 digits [] small = refl
 digits (octet ∷ octets) small =
     let first : octet < 256 = small 0 in
-    both (is_word_octet (slice_index lower_digits (octet / 16))) _ (digit (octet / 16) (omega arith))
-    (both (is_word_octet (slice_index lower_digits (octet % 16))) (list_all is_word_octet (encode_with lower_digits octets)) (digit (octet % 16) (omega arith)) (digits octets (λ i. small (suc i))))
+    and_from (is_word_octet (slice_index lower_digits (octet / 16))) _ (digit (octet / 16) (omega arith))
+    (and_from (is_word_octet (slice_index lower_digits (octet % 16))) (list_all is_word_octet (encode_with lower_digits octets)) (digit (octet % 16) (omega arith)) (digits octets (λ i. small (suc i))))
 
 token_start : IsWord (codes "hall.token=")
 unfolding is_word is_first_octet is_word_octet
@@ -59,10 +55,6 @@ desk_start : IsWord (codes "hall.desk=http://")
 unfolding is_word is_first_octet is_word_octet
 desk_start = refl
 
-parts : (a b : Bool) → (a && b) ≡ true → (a ≡ true) × (b ≡ true)
-parts true b h = (refl, h)
-parts false b h = cc
-
 first_of_host : (octet : ℕ) → is_ascii_alphanumeric octet ≡ true → is_host_octet octet ≡ true
 first_of_host octet h = ap (λ b. b || (octet == 45) || (octet == 46) || (octet == 58)) h
 
@@ -71,9 +63,9 @@ host_octets : (host : List ℕ) → IsTrue (is_host host) → AreWordOctets host
 unfolding is_host
 host_octets [] is = cc
 host_octets (first ∷ others) is =
-    let both_parts = parts (is_ascii_alphanumeric first && nat_le (length (first ∷ others)) 64) (list_all is_host_octet others) is in
-    let start = parts (is_ascii_alphanumeric first) (nat_le (length (first ∷ others)) 64) both_parts.0 in (
-      AreWordOctets-host (first ∷ others) (both (is_host_octet first) (list_all is_host_octet others) (first_of_host first start.0) both_parts.1),
+    let both_parts = and_parts (is_ascii_alphanumeric first && nat_le (length (first ∷ others)) 64) (list_all is_host_octet others) is in
+    let start = and_parts (is_ascii_alphanumeric first) (nat_le (length (first ∷ others)) 64) both_parts.0 in (
+      AreWordOctets-host (first ∷ others) (and_from (is_host_octet first) (list_all is_host_octet others) (first_of_host first start.0) both_parts.1),
       leb-true (length (first ∷ others)) 64 start.1,
     )
 

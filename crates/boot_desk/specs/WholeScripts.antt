@@ -1,5 +1,5 @@
 -- Each script that a machine is given is one within the limits, where it is made of what its types allow.
-use Rattle.std.{specs.{Prelude.{◌≡◌, ◌≤◌, ◌+◌, ◌++◌, ◌==◌, ℕ, Bool, true, false, List, [], ◌∷◌, Option, Some, None, Ok, All, IsTrue, codes, if◌then◌else◌}, Fmt.decimal}, proofs.{Common.{refl, arith}, lemmas.{Bool.Decides.nat_tests, List.{length-append, Elements.{All-append, All-from_recursion, All-nil}}}}}
+use Rattle.std.{specs.{Prelude.{◌≡◌, ◌≤◌, ◌+◌, ◌++◌, ◌==◌, ℕ, Bool, true, false, List, [], ◌∷◌, Option, Some, None, Ok, All, IsTrue, codes, if◌then◌else◌}, Fmt.decimal}, proofs.{Common.{refl, arith}, lemmas.{Bool.Decides.nat_tests, Option.same_Some, List.{length-append, Elements.{All-append, All-from_recursion, All-nil}}}}}
 use Rattle.hex.specs.Hex.{encode_lower}
 use Rattle.pxe_vendor.specs.Place.{is_host}
 use Rattle.ipxe_script.specs.{Script.IsScript, Word.IsWord, declared.command.Command.Command}
@@ -37,9 +37,6 @@ module _ (host : List ℕ) (is : IsTrue (is_host host)) where
       boot_is_script i.kernel (i.args ++ own) i.initrd image.kernel (All-append IsWord i.args own image.words words) image.initrd
       (omega (arith, length-append i.args own, length-append (erase_argument p e) last, few_erase_arguments p e, image.few))
 
-some_number : (a b : ℕ) → Some a ≡ Some b → a ≡ b
-some_number a b e = cc
-
 -- a number that is issued is in the range
 pub number_in_range : (last number : ℕ) → last ≤ max_number → next_number last ≡ Some number → number ≤ max_number
 number_in_range last number low next = by (last == max_number) refl next
@@ -49,7 +46,7 @@ number_in_range last number low next = by (last == max_number) refl next
 
     by : (top : Bool) → (last == max_number) ≡ top → ◌≡◌ {A = Option ℕ} (if top then None else Some (last + 1)) (Some number) → number ≤ max_number
     by true at is = cc
-    by false at is = in_range last number at low (some_number (last + 1) number is)
+    by false at is = in_range last number at low (same_Some (last + 1) number is)
 
 module _ (host : List ℕ) (host_is : IsTrue (is_host host)) (v : BootView) (moment : ℕ) (fresh : List ℕ) (fresh_are : AreOctets 16 fresh) (whole : IsWholeView v) where
   offered_is : (b : Option Boot) (o : Boot) → offered_boot b ≡ Some o → ((x : Boot) → b ≡ Some x → IsBoot x) → IsBoot o

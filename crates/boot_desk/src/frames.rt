@@ -124,10 +124,7 @@ fn default_pool() -> Name
 fn uuid_of(client: &Client) -> Option<MachineUuid>
     ensures { result ≡ client.now.uuid }
 {
-    match client.uuid {
-        Some(uuid) => Some(MachineUuid::from(uuid)),
-        None => None,
-    }
+    Some(MachineUuid::from(client.uuid?))
 }
 
 fn new_machine(id: Number, client: &Client) -> Machine

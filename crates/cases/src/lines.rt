@@ -33,11 +33,7 @@ fn line_of(text: &str) -> Line<'_> {
 
 /// The lines of a text. The line at place 0 is the text's line 1.
 pub fn lines_of(alloc: Global, text: &str) -> Result<Vec<Line<'_>>, CaseFault> {
-    let mut lines = Vec::new(alloc);
-    for line in text.lines() {
-        lines.push(line_of(line))?;
-    }
-    Ok(lines)
+    Ok(text.lines().map(|line| line_of(line)).collect(alloc)?)
 }
 
 /// A case file: its name, and its lines.

@@ -37,11 +37,7 @@ pub trait Player {
 
 /// The names of the files that the arguments are.
 pub fn files_of(rt: &HostRuntime) -> Result<Vec<String>, CaseFault> {
-    let mut files = Vec::new(rt.alloc());
-    for word in env::args(rt)?.skip(1) {
-        files.push(word)?;
-    }
-    Ok(files)
+    Ok(env::args(rt)?.skip(1).collect(rt.alloc())?)
 }
 
 /// Plays a file, and prints what differs.

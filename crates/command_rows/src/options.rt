@@ -23,70 +23,25 @@ pub struct Options<'a> {
     given: Vec<Given<'a>>,
 }
 
-// Adds the texts of an option.
-fn push_option<'a>(
-    given: &mut Vec<Given<'a>>,
-    matches: &ArgMatches<'a>,
-    row: &OptionRow,
-) -> Result<(), AllocError> {
-    let name = row.name;
-    if row.shape == Shape::Flag {
-        if matches.get_flag(name) {
-            given.push(Given { name, text: None })?;
-        }
-        return Ok(());
-    }
-    for text in matches.get_strs(name).unwrap_or(&[]) {
-        given.push(Given {
-            name,
-            text: Some(*text),
-        })?;
-    }
-    Ok(())
-}
-
-fn push_options<'a>(
-    given: &mut Vec<Given<'a>>,
-    matches: &ArgMatches<'a>,
-    rows: &[OptionRow],
-) -> Result<(), AllocError> {
-    for row in rows {
-        push_option(given, matches, row)?;
-    }
-    Ok(())
-}
-
-// Adds the options of the command with this name.
-fn push_command<'a>(
-    given: &mut Vec<Given<'a>>,
-    matches: &ArgMatches<'a>,
-    front: &Front<'_>,
-    name: &str,
-) -> Result<(), AllocError> {
-    if let Some(row) = front.commands.iter().find(|row| row.name == name) {
-        push_options(given, matches, row.options)?;
-        push_options(given, matches, row.common)?;
-    }
-    Ok(())
-}
-
 fn options_of<'a>(
     alloc: Global,
     front: &Front<'_>,
     matches: &ArgMatches<'a>,
 ) -> Result<Options<'a>, AllocError> {
-    let mut given = Vec::new(alloc);
-    let mut command = None;
-    if let Some((name, after)) = matches.subcommand() {
-        command = Some(name);
-        push_command(&mut given, after, front, name)?;
-    }
-    push_options(&mut given, matches, front.options)?;
-    Ok(Options {
+    let mut options = Options {
         alloc,
-        command,
-        given,
-    })
+        command: None,
+        given: Vec::new(alloc),
+    };
+    if let Some((name, after)) = matches.subcommand() {
+        options.command = Some(name);
+        if let Some(row) = front.commands.iter().find(|row| row.name == name) {
+            options.push(after, row.options)?;
+            options.push(after, row.common)?;
+        }
+    }
+    options.push(matches, front.options)?;
+    Ok(options)
 }
 
 fn matched<'a>(
@@ -99,6 +54,24 @@ fn matched<'a>(
 }
 
 impl<'a> Options<'a> {
+    // Adds the texts of these options.
+    fn push(&mut self, matches: &ArgMatches<'a>, rows: &[OptionRow]) -> Result<(), AllocError> {
+        for row in rows {
+            let name = row.name;
+            if row.shape == Shape::Flag {
+                if matches.get_flag(name) {
+                    self.given.push(Given { name, text: None })?;
+                }
+                continue;
+            }
+            for text in matches.get_strs(name).unwrap_or(&[]) {
+                let text = Some(*text);
+                self.given.push(Given { name, text })?;
+            }
+        }
+        Ok(())
+    }
+
     /// What the words of a command line say, of which the first is the program's name.
     ///
     /// # Errors
@@ -137,13 +110,8 @@ impl<'a> Options<'a> {
 
     /// All texts of an option, those that stand behind the command first.
     pub fn texts(&self, row: &OptionRow) -> Result<Vec<&'a str>, AllocError> {
-        let mut texts = Vec::new(self.alloc);
-        for given in self.given.iter().filter(|given| given.name == row.name) {
-            if let Some(text) = given.text {
-                texts.push(text)?;
-            }
-        }
-        Ok(texts)
+        let given = self.given.iter().filter(|given| given.name == row.name);
+        given.filter_map(|given| given.text).collect(self.alloc)
     }
 
     /// That an option isn't what its row says.
@@ -169,10 +137,8 @@ impl<'a> Options<'a> {
     ) -> Result<T, Wrong>
         requires { F.IsAlwaysCallable reader }
     {
-        match reader(self.required(row)?) {
-            Some(value) => Ok(value),
-            None => Err(self.wrong(row)),
-        }
+        let value = reader(self.required(row)?);
+        value.ok_or_else(|| self.wrong(row))
     }
 
     /// The value that a reader finds in the text of an option, if it was given.

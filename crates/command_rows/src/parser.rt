@@ -13,13 +13,6 @@ fn named<'a>(alloc: Global, row: &OptionRow) -> Arg<'a> {
         .allow_hyphen_values(true)
 }
 
-fn flag<'a>(alloc: Global, row: &OptionRow) -> Arg<'a> {
-    Arg::new(alloc, row.name)
-        .long(row.name)
-        .help(row.help)
-        .action(ArgAction::SetTrue)
-}
-
 fn place<'a>(alloc: Global, row: &OptionRow) -> Arg<'a> {
     Arg::new(alloc, row.name)
         .help(row.help)
@@ -35,21 +28,15 @@ fn arg<'a>(alloc: Global, row: &OptionRow) -> Result<Arg<'a>, AllocError> {
         Shape::Unless(other) => named(alloc, row).required_unless_present(other),
         Shape::OrElse(value) => Ok(named(alloc, row).default_value(value)),
         Shape::Often => Ok(named(alloc, row).action(ArgAction::Append)),
-        Shape::Flag => Ok(flag(alloc, row)),
+        Shape::Flag => Ok(
+            Arg::new(alloc, row.name)
+                .long(row.name)
+                .help(row.help)
+                .action(ArgAction::SetTrue),
+        ),
         Shape::Place => Ok(place(alloc, row)),
         Shape::Places => Ok(place(alloc, row).num_args(1..)),
     }
-}
-
-fn push_args<'a>(
-    alloc: Global,
-    args: &mut Vec<Arg<'a>>,
-    rows: &[OptionRow],
-) -> Result<(), AllocError> {
-    for row in rows {
-        args.push(arg(alloc, row)?)?;
-    }
-    Ok(())
 }
 
 fn args_of<'a>(
@@ -58,8 +45,9 @@ fn args_of<'a>(
     common: &[OptionRow],
 ) -> Result<Vec<Arg<'a>>, AllocError> {
     let mut args = Vec::new(alloc);
-    push_args(alloc, &mut args, own)?;
-    push_args(alloc, &mut args, common)?;
+    for row in own.iter().chain(common) {
+        args.push(arg(alloc, row)?)?;
+    }
     Ok(args)
 }
 

@@ -1,6 +1,6 @@
 //! Options whose values aren't what they must be.
 use crate::rows::OptionRow;
-use std::alloc::{AllocError, Global};
+use std::alloc::{AllocError, AllocFailed, Global};
 
 /// Why an option can't be read.
 #[derive(Drop)]
@@ -36,6 +36,12 @@ impl Wrong {
             Ok(text) => Wrong::Text(text),
             Err(AllocError) => Wrong::Memory,
         }
+    }
+}
+
+impl<T: Drop> From<AllocFailed<T>> for Wrong {
+    fn from(_: AllocFailed<T>) -> Wrong {
+        Wrong::Memory
     }
 }
 

@@ -1,12 +1,11 @@
 -- A hall stays sound if a machine enters the status that an operator's action leads to.
 use Rattle.std.{specs.{Prelude.{◌≡◌, ◌&&◌, ◌||◌, ℕ, Bool, true, false, List, Option, Some, None, is_some, IsSome, option_map}, List.list_all}, proofs.{Common.{refl, sym, ap, subst, ◌∙◌}, lemmas.{Bool.and_parts, Option.none-some}}}
-use Rattle.hall_types.specs.{Hall.{Schema, second, Hall, applied}, Number.next_number, Rows.at, Status.status_number, declared.{change.RowWrite.RowWrite, kinds.{Erase.Erase, OrderKind.OrderKind, Purpose.Purpose}, machine.Machine.Machine, number.Numbers.Numbers, status.Status.{Status, TheVariants.{Commissioning, Testing, Deploying, DiskErasing, EnteringRescue}}}, Lookup.HasRowIf}
-use Rattle.hall_events.specs.Reply.{Content}
-use Rattle.life_cycle.specs.{Entering.{back_after, entered, entered_by, entered_plain, entered_queued, keeps_erase, kept, machine_in}, Table.{step_of, transitions}, TableLaws.{StepTest, each_step, is_signal, is_status, only_if, only_if_true, passes}, declared.{action.Action.Action, entering.Entered.Entered, signal.Signal.{Signal, TheVariants.By}, step.Step.Step}}
+use Rattle.hall_types.specs.Status.{status_number}
+use Rattle.life_cycle.specs.{Entering.{back_after, keeps_erase}, Table.step_of, TableLaws.passes}
 use Rattle.hall_types.specs.declared.act.Act.TheVariants as does
 use Rattle.life_cycle.specs.declared.action.Action.TheVariants as act
-use Rattle.boot_desk.specs.{Class.class_in, DecisionLaws.IfOk, EntryLaws.{back-remembered, command-boot, deployed-order, entry_from_sound, is_by, is_some-back}, Fetch.image_for, Following.entry_rows, Sound.{IsSound, IsSoundMachine, KeepsErase}, SoundLaws.some_of, Views.{image_named, live_image, row_at, view_of}, declared.class.ScriptClass.TheVariants.Work, ClassLaws.{works-status, works_at}}
-use Rattle.desk_command.specs.Effect.{Effect}
+use Rattle.boot_desk.specs.{Class.class_in, DecisionLaws.IfOk, Views.live_image}
+use Rattle.desk_command.specs.{Prelude.{Schema, second, Hall, applied, next_number, at, RowWrite, Erase, OrderKind, Purpose, Machine, Numbers, Status, Commissioning, Testing, Deploying, DiskErasing, EnteringRescue, HasRowIf, Content, entered, entered_by, entered_plain, entered_queued, kept, machine_in, transitions, StepTest, each_step, is_signal, is_status, only_if, only_if_true, Action, Entered, Signal, By, Step, back-remembered, command-boot, deployed-order, entry_from_sound, is_by, is_some-back, image_for, entry_rows, IsSound, IsSoundMachine, KeepsErase, some_of, image_named, row_at, view_of, Work, works-status, works_at}, Effect.Effect}
 
 -- ---- what the table says of the actions
 

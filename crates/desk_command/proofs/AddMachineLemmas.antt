@@ -1,18 +1,11 @@
 -- A sound hall stays sound with a machine that an operator adds.
-use Rattle.std.{specs.Prelude.{◌≡◌, ◌||◌, ℕ, not, nat_le, List, [], ◌∷◌, Option, Some, None, is_some, option_map, false}, proofs.{Common.{refl, sym, subst}, lemmas.Bool.{leb-false, or_parts}}}
-use Rattle.pxe_vendor.specs.declared.arch.Arch.{Arch}
-use Rattle.hall_types.specs.{Number.next_number, Rows.{at, size}, Hall.{Hall, applied}, Lookup.machine_with_uuid, declared.{change.RowWrite.TheVariants.{PutInterface, PutMachine, PutNumbers}, machine.TheConstants.MAX_MACHINES}, Machine.blank_machine}
+use Rattle.std.{specs.Prelude.{◌≡◌, ◌||◌, ℕ, not, nat_le, List, [], ◌∷◌, Option, Some, None, is_some, false}, proofs.{Common.{refl, sym, subst}, lemmas.Bool.{leb-false, or_parts}}}
 use Rattle.hall_types.specs.declared.refusal.Refusal.TheVariants as cause
-use Rattle.boot_desk.specs.{FrameEvent.machine_with, NewMachineLaws.{blank_is_new, new_machine_sound}, Sound.IsSound}
-use Rattle.desk_command.{specs.{Causes.{first_of, when}, Effect.added, View.{by_mac, by_uuid, has_pool}, declared.view.CommandView.CommandView, AllowedLaws.{first_none, unless_none, when_none}}, proofs.ActionLemmas.Keeps}
-
-no_row : {X : Type 0} (f : X → ℕ) (o : Option X) → is_some (option_map f o) ≡ false → o ≡ None
-no_row f None is = refl
-no_row f (Some x) is = cc
+use Rattle.desk_command.{specs.{Prelude.{Arch, next_number, at, size, Hall, applied, machine_with_uuid, PutInterface, PutMachine, PutNumbers, MAX_MACHINES, blank_machine, machine_with, blank_is_new, new_machine_sound, IsSound}, Causes.{first_of, when}, Effect.added, View.{by_mac, by_uuid, has_pool}, declared.view.CommandView.CommandView, AllowedLaws.{first_none, none_mapped, unless_none, when_none}}, proofs.ActionLemmas.Keeps}
 
 no_machine : (h : Hall) (uuid : Option (List ℕ)) → is_some (by_uuid h uuid) ≡ false → machine_with h uuid ≡ None
 no_machine h None free = refl
-no_machine h (Some uuid) free = no_row (λ m. m.id) (machine_with_uuid h uuid) free
+no_machine h (Some uuid) free = none_mapped (λ m. m.id) (machine_with_uuid h uuid) free
 
 -- a machine that an operator adds leaves the hall sound
 pub add_machine_sound : (h : Hall) (mac : List ℕ) (arch : Arch) (pool : List ℕ) (uuid : Option (List ℕ)) (v : CommandView) → IsSound h → v.numbers ≡ h.last
@@ -35,4 +28,4 @@ add_machine_sound h mac arch pool uuid v s numbers none = by (next_number h.last
         let room = leb-false MAX_MACHINES (size h.machines) (when_none (nat_le MAX_MACHINES (size h.machines)) cause.Full full.0) in
         subst (λ last. IsSound (applied (PutMachine (blank_machine id arch pool uuid) None ∷ PutInterface (record { mac = mac; machine = id }) ∷ PutNumbers (record last { machine = id }) ∷ []) h)) (sym numbers)
         (new_machine_sound h mac (blank_machine id arch pool uuid) s
-        (blank_is_new h id arch pool uuid mac next room (no_row (λ i. i.machine) (at h.interfaces mac) free.0) (no_machine h uuid free.1) (unless_none (has_pool h pool) cause.NoPool pools.0)))
+        (blank_is_new h id arch pool uuid mac next room (none_mapped (λ i. i.machine) (at h.interfaces mac) free.0) (no_machine h uuid free.1) (unless_none (has_pool h pool) cause.NoPool pools.0)))

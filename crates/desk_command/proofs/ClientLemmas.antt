@@ -1,9 +1,7 @@
 -- What is enough for a client's frame.
 use Rattle.std.{specs.Prelude.{◌≡◌, ℕ, not, Bool, true, false, Option, Some, if◌then◌else◌}, proofs.Common.{sym, ap, ◌∙◌}}
-use Rattle.pxe_vendor.specs.declared.clients.Client.{Client}
-use Rattle.hall_types.specs.{Hall.Hall, declared.port.Port.Port}
-use Rattle.boot_desk.specs.{FrameEvent.{file_for, for_address, frame_decision, frame_view, is_echo_long, is_port_of, is_uuid_of_other}, declared.frames.{Decision.{Decision, TheVariants.{Loader, ScriptUrl, Enlist, Silent}}, FrameView.FrameView, Silence.TheVariants.{WrongPort, EchoTooLong, KnownUuid}}}
-use Rattle.desk_command.specs.Client.{IsEnough}
+use Rattle.boot_desk.specs.FrameEvent.{frame_decision}
+use Rattle.desk_command.specs.{Prelude.{Client, Hall, Port, file_for, for_address, frame_view, is_echo_long, is_port_of, is_uuid_of_other, Decision, Loader, ScriptUrl, Enlist, Silent, FrameView, WrongPort, EchoTooLong, KnownUuid}, Client.IsEnough}
 
 -- the decision for a client whose address is known
 abbrev decided : Option ℕ → ℕ → Port → Client → Decision

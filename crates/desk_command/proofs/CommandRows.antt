@@ -1,17 +1,15 @@
 -- Worked commands, computed on the definitions alone.
 use Rattle.std.{proofs.Common.{◌≡◌, ℕ, true, false, [], ◌∷◌, Some, None, Ok, refl}, specs.Prelude.{⊤, codes}}
-use Rattle.pxe_vendor.specs.declared.arch.Arch.TheVariants.{Bios, Uefi64}
-use Rattle.hall_types.specs.{Kinds.arch_number, Status.status_number, declared.{change.RowWrite.TheVariants.{PutMachine, PutOrder, PutNumbers, MachineGone}, kinds.OrderKind.TheVariants.{Cycle, Off}, machine.Machine.Machine, operator.Operator.Operator, order.Order.Order}, Machine.blank_machine}
+use Rattle.hall_types.specs.{Kinds.arch_number, Status.status_number}
 use Rattle.hall_types.specs.declared.kinds.Erase.TheVariants as erase
 use Rattle.hall_types.specs.declared.kinds.OrderStage.TheVariants as order
 use Rattle.hall_types.specs.declared.kinds.Role.TheVariants as role
 use Rattle.hall_types.specs.declared.refusal.Refusal.TheVariants as refusal
 use Rattle.hall_types.specs.declared.status.Status.TheVariants as status
-use Rattle.hall_events.specs.{Reply.{machine_is, machine_gone, done}, declared.command.HallCommand.TheVariants.{AddMachine, AddPool, DisableOperator, OnMachine}}
 use Rattle.hall_types.specs.declared.act.Act.TheVariants as does
 use Rattle.hall_events.specs.declared.command.MachineCommand.TheVariants as on
 use Rattle.life_cycle.specs.{Entering.{limit_of, keeps_owner, boot_after, is_rescue, is_origin, back_after, keeps_erase}, Table.{step_of, who_gives}}
-use Rattle.desk_command.specs.{Causes.{causes, first_of}, Effect.effect, declared.view.CommandView.CommandView}
+use Rattle.desk_command.specs.{Prelude.{Bios, Uefi64, PutMachine, PutOrder, PutNumbers, MachineGone, Cycle, Off, Machine, Operator, Order, blank_machine, machine_is, machine_gone, done, AddMachine, AddPool, DisableOperator, OnMachine}, Causes.{causes, first_of}, Effect.effect, declared.view.CommandView.CommandView}
 
 unfoldable commands : ⊤
 unfolding causes effect limit_of keeps_owner boot_after is_rescue is_origin back_after keeps_erase step_of who_gives status_number arch_number

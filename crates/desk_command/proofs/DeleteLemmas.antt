@@ -1,7 +1,6 @@
 -- A hall stays sound without a machine: its interfaces, boots and orders go with it.
 use Rattle.std.{specs.Prelude.{◌≡◌, ◌≢◌, ◌≤◌, ◌==◌, not, ℕ, true, List, Some, is_some}, proofs.{Common.{sym, ap, arith, ◌∙◌}, lemmas.Bool.{both_ways, eqb-true, eq-eqb, ne_eqb}}}
-use Rattle.hall_types.specs.{CountLaws.{how_many-split, none_pass}, Hall.{Hall, without_machine}, KeyedLaws.keyed-written, Rows.{Keys, Rows, at, how_many, rows_where, size}, RowLaws.{at-gone-other, gone_found, size-gone, where_found, where_kept}, declared.{boot.Boot.Boot, change.RowWrite.TheVariants.MachineGone, kinds.OrderStage.TheVariants.Waiting, machine.{Interface.Interface, Machine.Machine}, order.Order.Order}, Lookup.HasRow}
-use Rattle.boot_desk.specs.{Sound.{IsSoundMachine, IsSound}, SoundLaws.{some_of, sound_among}, Views.view_of}
+use Rattle.desk_command.specs.Prelude.{how_many-split, none_pass, Hall, without_machine, keyed-written, Keys, Rows, at, how_many, rows_where, size, at-gone-other, gone_found, size-gone, where_found, where_kept, Boot, MachineGone, Waiting, Interface, Machine, Order, HasRow, IsSoundMachine, IsSound, some_of, sound_among, view_of}
 
 not_eq : (a b : ℕ) → not (a == b) ≡ true → a ≢ b
 not_eq a b t e = let same = ap not (eq-eqb a b e) in both_ways (not (a == b)) same t

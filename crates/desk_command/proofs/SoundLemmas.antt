@@ -1,15 +1,13 @@
 -- A sound hall stays sound when the rows of a command are written.
 use Rattle.std.{specs.Prelude.{◌≡◌, ◌||◌, not, ℕ, List, [], ◌∷◌, Option, Some, None, Ok, Err, is_some}, proofs.{Common.{refl, sym, ap, subst}, lemmas.Bool.or_parts}}
-use Rattle.hall_types.specs.{Hall.{second, Hall, applied}, Lookup.{is_image_used, operator_with_digest, HasRow}, Rows.at, declared.{machine.Machine.Machine, operator.Operator.Operator, status.Status.TheVariants.{Commissioning, DiskErasing, EnteringRescue, Testing}}, ChangeLaws.applied_append}
 use Rattle.hall_types.specs.declared.change.RowWrite.TheVariants as write
 use Rattle.hall_types.specs.declared.kinds.Purpose.TheVariants as purpose
 use Rattle.hall_types.specs.declared.refusal.Refusal.TheVariants as cause
-use Rattle.hall_events.specs.declared.command.{HallCommand.{HallCommand, TheVariants.{AddOperator, DisableOperator, AddPool, Grant, AddImage, DeleteImage, SetLive, AddMachine, OnMachine}}, MachineCommand.MachineCommand}
 use Rattle.hall_types.specs.declared.act.Act.TheVariants as does
 use Rattle.hall_events.specs.declared.command.MachineCommand.TheVariants as on
 use Rattle.life_cycle.specs.declared.action.Action.TheVariants as act
-use Rattle.boot_desk.specs.{Class.class_in, Sound.IsSound, SoundLaws.operators_stay}
-use Rattle.desk_command.{specs.{Causes.{causes, first_of, is_deployed, when}, Command.{command_decision, receipt_of, with_receipt}, DecisionLaws.{command_cases, machine_cases, sender_is}, Effect.{Effect, effect, machine_effect}, View.{command_view, has_pool, image_arch, machine_view, of_machine}, AllowedLaws.{IsAllowed, first_none, unless_none, when_none}}, proofs.{ActionLemmas.Keeps, AddMachineLemmas.add_machine_sound, DeleteLemmas.without_machine_sound, EditLemmas.{add_interface_sound, lock_sound, pool_set_sound, remove_interface_sound, unlock_sound}, EnteringLemmas.{abort_sound, deploy_sound, given, live_sound, no_erasing, plain_sound}, OtherRowLemmas.{image_sound, member_sound, pool_sound, receipt_sound}, PlainLemmas.{add_operator_sound, delete_image_sound, disable_sound, set_live_sound}}}
+use Rattle.boot_desk.specs.Class.{class_in}
+use Rattle.desk_command.{specs.{Prelude.{second, Hall, applied, is_image_used, operator_with_digest, HasRow, at, Machine, Operator, Commissioning, DiskErasing, EnteringRescue, Testing, applied_append, HallCommand, AddOperator, DisableOperator, AddPool, Grant, AddImage, DeleteImage, SetLive, AddMachine, OnMachine, MachineCommand, IsSound, operators_stay}, Causes.{causes, first_of, is_deployed, when}, Command.{command_decision, receipt_of, with_receipt}, DecisionLaws.{command_cases, machine_cases, sender_is}, Effect.{Effect, effect, machine_effect}, View.{command_view, has_pool, image_arch, machine_view, of_machine}, AllowedLaws.{IsAllowed, first_none, unless_none, when_none}}, proofs.{ActionLemmas.Keeps, AddMachineLemmas.add_machine_sound, DeleteLemmas.without_machine_sound, EditLemmas.{add_interface_sound, lock_sound, pool_set_sound, remove_interface_sound, unlock_sound}, EnteringLemmas.{abort_sound, deploy_sound, given, live_sound, no_erasing, plain_sound}, OtherRowLemmas.{image_sound, member_sound, pool_sound, receipt_sound}, PlainLemmas.{add_operator_sound, delete_image_sound, disable_sound, set_live_sound}}}
 
 module _ (h : Hall) (s : IsSound h) (in_second : h.schema ≡ second) (o : Operator) (known : HasRow h.operators o.name) (moment : ℕ) where
   -- ---- commands on a machine

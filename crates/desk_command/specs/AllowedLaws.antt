@@ -1,9 +1,7 @@
 -- What follows for a command from the absence of each cause to refuse it.
-use Rattle.std.{specs.{Prelude.{◌≡◌, not, ℕ, Bool, true, false, List, [], ◌∷◌, Option, Some, None, find, is_some}, Option.option_flatten}, proofs.Common.{refl, ap, ◌∙◌}}
-use Rattle.hall_types.specs.declared.{machine.Machine.Machine, operator.Operator.Operator, refusal.Refusal.Refusal}
+use Rattle.std.{specs.{Prelude.{◌≡◌, not, ℕ, Bool, true, false, List, [], ◌∷◌, Option, Some, None, find, is_some, option_map}, Option.option_flatten}, proofs.{Common.{refl, ap, ◌∙◌}, lemmas.Bool.not-false}}
 use Rattle.hall_types.specs.declared.refusal.Refusal.TheVariants as cause
-use Rattle.hall_events.specs.declared.command.MachineCommand.{MachineCommand}
-use Rattle.desk_command.specs.{Causes.{action_of, causes_at, first_of, forbidden, is_barred, is_stale, missing, own, when}, declared.view.CommandView.CommandView}
+use Rattle.desk_command.specs.{Prelude.{Machine, Operator, Refusal, MachineCommand}, Causes.{action_of, causes_at, first_of, forbidden, is_barred, is_stale, missing, own, when}, declared.view.CommandView.CommandView}
 
 -- where there is no first cause, there is neither this one nor one after it
 pub first_none : (c : Option Refusal) (cs : List (Option Refusal)) → first_of (c ∷ cs) ≡ None → (c ≡ None) × (first_of cs ≡ None)
@@ -24,13 +22,18 @@ pub when_none : (b : Bool) (refusal : Refusal) → when b refusal ≡ None → b
 when_none true refusal is = cc
 when_none false refusal is = refl
 
-pub not_false : (b : Bool) → not b ≡ false → b ≡ true
-not_false true is = refl
-not_false false is = cc
-
 -- a cause that a test excludes: the test holds
 pub unless_none : (b : Bool) (refusal : Refusal) → when (not b) refusal ≡ None → b ≡ true
-unless_none b refusal is = not_false b (when_none (not b) refusal is)
+unless_none b refusal is = not-false b (when_none (not b) refusal is)
+
+-- nothing is there
+pub none_is : {X : Type 0} (o : Option X) → is_some o ≡ false → o ≡ None
+none_is None is = refl
+none_is (Some x) is = cc
+
+pub none_mapped : {X Y : Type 0} (f : X → Y) (o : Option X) → is_some (option_map f o) ≡ false → o ≡ None
+none_mapped f None is = refl
+none_mapped f (Some x) is = cc
 
 -- nothing that the command names is missing, the machine isn't locked against it, and there is no cause of the command's own
 pub record IsAllowed (v : CommandView) (m : Machine) (command : MachineCommand) : Type 0 where

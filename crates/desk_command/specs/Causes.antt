@@ -1,14 +1,12 @@
 -- Why a command is refused: each cause that its refusals have, in the order in which they are looked for.
 use Rattle.std.specs.{Prelude.{ℕ, ◌==◌, nat_le, not, Bool, true, false, ◌||◌, List, [], ◌∷◌, Option, Some, None, is_some}, Str.bytes_eq}
-use Rattle.pxe_vendor.specs.declared.arch.Arch.{Arch}
-use Rattle.hall_types.specs.{Kinds.arch_number, Number.{max_number, next_number}, declared.{act.Act.Act, kinds.Erase.Erase, machine.{Machine.Machine, TheConstants.{MAX_INTERFACES, MAX_MACHINES}}, operator.Operator.Operator, refusal.Refusal.Refusal, status.Status.{Status, TheVariants.{New, Ready, Broken, FailedCommissioning, FailedTesting, Deployed}}}}
+use Rattle.hall_types.specs.Kinds.{arch_number}
 use Rattle.hall_types.specs.declared.act.Act.TheVariants as does
 use Rattle.hall_types.specs.declared.refusal.Refusal.TheVariants as cause
-use Rattle.hall_events.specs.declared.command.{HallCommand.{HallCommand, TheVariants.{AddOperator, DisableOperator, AddPool, Grant, AddImage, DeleteImage, SetLive, AddMachine, OnMachine}}, MachineCommand.MachineCommand}
 use Rattle.hall_events.specs.declared.command.MachineCommand.TheVariants as on
-use Rattle.life_cycle.specs.{Permission.{permission_for, who_acts}, Table.step_of, declared.{action.Action.Action, signal.Signal.TheVariants.By}}
+use Rattle.life_cycle.specs.Table.{step_of}
 use Rattle.life_cycle.specs.declared.action.Action.TheVariants as act
-use Rattle.desk_command.specs.declared.view.CommandView.{CommandView}
+use Rattle.desk_command.specs.{Prelude.{Arch, max_number, next_number, Act, Erase, Machine, MAX_INTERFACES, MAX_MACHINES, Operator, Refusal, Status, New, Ready, Broken, FailedCommissioning, FailedTesting, Deployed, HallCommand, AddOperator, DisableOperator, AddPool, Grant, AddImage, DeleteImage, SetLive, AddMachine, OnMachine, MachineCommand, permission_for, who_acts, Action, By}, declared.view.CommandView.CommandView}
 
 abbrev pub when : Bool → Refusal → Option Refusal
 when true refusal = Some refusal

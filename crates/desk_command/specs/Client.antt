@@ -1,8 +1,7 @@
 -- What is read of a hall for a client's frame.
 use Rattle.std.specs.Prelude.{◌≡◌}
-use Rattle.pxe_vendor.specs.declared.clients.Client.{Client}
-use Rattle.hall_types.specs.{Hall.Hall, declared.port.Port.Port}
-use Rattle.boot_desk.specs.{FrameEvent.{frame_decision, frame_view}, declared.frames.{Decision.TheVariants.Enlist, FrameView.FrameView}}
+use Rattle.desk_command.specs.Prelude.{Client, Hall, Port, frame_view, Enlist, FrameView}
+use Rattle.boot_desk.specs.FrameEvent.{frame_decision}
 
 -- The view is enough for the client's frame: it leads to the decision to which all leads that the hall has of the client, and
 -- it has the last numbers if the client is enlisted.

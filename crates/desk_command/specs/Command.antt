@@ -1,11 +1,8 @@
 -- What an operator's command is answered.
 use Rattle.std.specs.{Prelude.{ℕ, Bool, true, false, List, [], ◌∷◌, ◌++◌, Option, Some, None, Result, Ok, Err, if◌then◌else◌}, Str.bytes_eq}
-use Rattle.hall_types.specs.{Hall.{Hall, second, pair}, Lookup.operator_with_digest, Rows.at, declared.{change.RowWrite.{RowWrite, TheVariants.PutReceipt}, kinds.Role.Role, operator.Operator.Operator, receipt.Receipt.Receipt, refusal.Refusal.Refusal}}
 use Rattle.hall_types.specs.declared.kinds.Role.TheVariants as role
 use Rattle.hall_types.specs.declared.refusal.Refusal.TheVariants as cause
-use Rattle.hall_events.specs.{Command.command_text, Reply.{Content, reply_of, stored}, declared.{command.HallCommand.{HallCommand, TheVariants.OnMachine}, reply.Reply.{Reply, TheVariants.Http}}}
-use Rattle.life_cycle.specs.{Permission.who_acts, declared.action.{Who.{Who, TheVariants.Admin}, Action.Action}}
-use Rattle.desk_command.specs.{Causes.{action_of, causes, first_of}, Effect.{Effect, effect}, View.command_view, declared.view.CommandView.CommandView}
+use Rattle.desk_command.specs.{Prelude.{Hall, second, pair, operator_with_digest, at, RowWrite, PutReceipt, Role, Operator, Receipt, Refusal, command_text, Content, reply_of, stored, HallCommand, OnMachine, Reply, Http, who_acts, Who, Admin, Action}, Causes.{action_of, causes, first_of}, Effect.{Effect, effect}, View.command_view, declared.view.CommandView.CommandView}
 
 -- ---- who may send it
 

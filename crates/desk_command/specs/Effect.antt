@@ -1,15 +1,11 @@
 -- What a command that isn't refused makes of a hall, and what it answers.
 use Rattle.std.specs.{Prelude.{◌≡◌, ⊤, ℕ, true, false, List, [], ◌∷◌, Option, Some, None, Result, Ok, Err, if◌then◌else◌}, Str.bytes_eq}
-use Rattle.pxe_vendor.specs.declared.arch.Arch.{Arch}
-use Rattle.hall_types.specs.{Number.{next_number, next_version}, declared.{change.RowWrite.{RowWrite, TheVariants.{PutOperator, PutPool, PutMember, PutImage, ImageGone, PutLive, PutMachine, MachineGone, PutInterface, InterfaceGone, PutNumbers}}, machine.Machine.Machine, operator.Operator.Operator, refusal.Refusal.Refusal}, Machine.blank_machine}
 use Rattle.hall_types.specs.declared.act.Act.TheVariants as does
 use Rattle.hall_types.specs.declared.refusal.Refusal.TheVariants as cause
-use Rattle.hall_events.specs.{Reply.{Content, machine_is, machine_gone, done}, declared.command.{HallCommand.{HallCommand, TheVariants.{AddOperator, DisableOperator, AddPool, Grant, AddImage, DeleteImage, SetLive, AddMachine, OnMachine}}, MachineCommand.MachineCommand}}
 use Rattle.hall_events.specs.declared.command.MachineCommand.TheVariants as on
-use Rattle.life_cycle.specs.{Entering.entered, Table.step_of, declared.{action.Action.Action, entering.Entered.Entered, signal.Signal.TheVariants.By, step.Step.Step}}
+use Rattle.life_cycle.specs.Table.{step_of}
 use Rattle.life_cycle.specs.declared.action.Action.TheVariants as act
-use Rattle.boot_desk.specs.{Following.{entry_rows, machine_row}, declared.fault.DeskFault.{DeskFault, TheVariants.{Refused, Memory}}}
-use Rattle.desk_command.specs.{Causes.release_action, declared.{effects.Subject.Subject, view.CommandView.CommandView}}
+use Rattle.desk_command.specs.{Prelude.{Arch, next_number, next_version, RowWrite, PutOperator, PutPool, PutMember, PutImage, ImageGone, PutLive, PutMachine, MachineGone, PutInterface, InterfaceGone, PutNumbers, Machine, Operator, Refusal, blank_machine, Content, machine_is, machine_gone, done, HallCommand, AddOperator, DisableOperator, AddPool, Grant, AddImage, DeleteImage, SetLive, AddMachine, OnMachine, MachineCommand, entered, Action, Entered, By, Step, entry_rows, machine_row, DeskFault, Refused, Memory}, Causes.release_action, declared.{effects.Subject.Subject, view.CommandView.CommandView}}
 use Rattle.desk_command.specs.declared.effects.Subject.TheVariants as subject
 
 -- the rows to write and what is answered, or a refusal

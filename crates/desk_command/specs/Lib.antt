@@ -1,3 +1,4 @@
+pub mod Prelude
 pub mod AllowedLaws
 pub mod Causes
 pub mod Command

@@ -1,7 +1,6 @@
 -- What the reads of a decision promise together, over any store.
 use Rattle.std.specs.Prelude.{List, Result, IfOk}
-use Rattle.hall_types.specs.Hall.{Hall}
-use Rattle.hall_store.specs.declared.store.HallStore.{Ghosts}
+use Rattle.desk_command.specs.Prelude.{Hall, Ghosts}
 
 module _ {S : Type 0} (g : Ghosts S) (old new : S) {Y E : Type 0} (r : Result Y E) where
   -- No read, or some: what is not read settles nothing, and what is read adds nothing to what a stop leaves.

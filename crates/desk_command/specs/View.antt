@@ -1,12 +1,9 @@
 -- What a hall has of a command: the rows that the command names.
 use Rattle.std.specs.Prelude.{ℕ, Bool, false, List, length, Option, Some, None, is_some, option_map, option_and_then}
-use Rattle.pxe_vendor.specs.declared.arch.Arch.{Arch}
-use Rattle.hall_types.specs.{Hall.{Hall, pair}, Image.BootImage, Kinds.arch_number, Lookup.{interfaces_of, is_image_used, machine_with_uuid, operator_with_digest}, Rows.{at, size}, declared.{kinds.Erase.Erase, machine.Machine.Machine, operator.Operator.Operator}}
+use Rattle.hall_types.specs.Kinds.{arch_number}
 use Rattle.hall_types.specs.declared.act.Act.TheVariants as does
-use Rattle.hall_events.specs.declared.command.{HallCommand.{HallCommand, TheVariants.{AddOperator, DisableOperator, AddPool, Grant, AddImage, DeleteImage, SetLive, AddMachine, OnMachine}}, MachineCommand.MachineCommand}
 use Rattle.hall_events.specs.declared.command.MachineCommand.TheVariants as on
-use Rattle.boot_desk.specs.Views.{row_at}
-use Rattle.desk_command.specs.declared.view.CommandView.{CommandView}
+use Rattle.desk_command.specs.{Prelude.{Arch, Hall, pair, BootImage, interfaces_of, is_image_used, machine_with_uuid, operator_with_digest, at, size, Erase, Machine, Operator, HallCommand, AddOperator, DisableOperator, AddPool, Grant, AddImage, DeleteImage, SetLive, AddMachine, OnMachine, MachineCommand, row_at}, declared.view.CommandView.CommandView}
 
 -- nothing but the last numbers
 abbrev pub nothing_of : Hall → CommandView

@@ -1,18 +1,18 @@
 //! Machines with the rows that decisions about them need, read from a store.
 ghost use Rattle.std.specs.Prelude.{◌≡◌};
-ghost use Rattle.hall_types.specs.{Lookup.next_expired, Rows.at};
 ghost use Rattle.boot_desk.specs.Views as view;
-ghost use Rattle.boot_desk.specs.Views.{machine_view, row_at, view_of};
-ghost use Rattle.desk_command.specs.Look.{Looks};
+ghost use Rattle.boot_desk.specs.Views.{machine_view};
+ghost use Rattle.desk_command.specs.{Prelude.{next_expired, at, row_at, view_of}, Look.Looks};
 
 use crate::images::{image_at, live_image};
+use crate::view::Read;
 use boot_desk::{BootView, OrderView, ReportView};
-use hall_store::{HallStore, Unavailable};
+use hall_store::HallStore;
 use hall_types::{Boot, MacAddress, Machine, Moment, Number, Order};
 use std::alloc::Global;
 
 // The boot with a number, if there is a number.
-fn boot_at<S: HallStore>(store: &mut S, number: Option<Number>) -> Result<Option<Boot>, Unavailable>
+fn boot_at<S: HallStore>(store: &mut S, number: Option<Number>) -> Read<Option<Boot>>
     ensures { Looks S.HallStore store.old store.new result (λ h answer. answer ≡ row_at h.boots number) }
 {
     match number {
@@ -22,10 +22,7 @@ fn boot_at<S: HallStore>(store: &mut S, number: Option<Number>) -> Result<Option
 }
 
 // The order with a number, if there is a number.
-pub(crate) fn order_at<S: HallStore>(
-    store: &mut S,
-    number: Option<Number>,
-) -> Result<Option<Order>, Unavailable>
+pub(crate) fn order_at<S: HallStore>(store: &mut S, number: Option<Number>) -> Read<Option<Order>>
     ensures { Looks S.HallStore store.old store.new result (λ h answer. answer ≡ row_at h.orders number) }
 {
     match number {
@@ -35,11 +32,7 @@ pub(crate) fn order_at<S: HallStore>(
 }
 
 /// A machine with the rows that a decision about it may need. The store isn't changed.
-pub fn boot_view<S: HallStore>(
-    alloc: Global,
-    store: &mut S,
-    machine: Machine,
-) -> Result<BootView, Unavailable>
+pub fn boot_view<S: HallStore>(alloc: Global, store: &mut S, machine: Machine) -> Read<BootView>
     ensures { Looks S.HallStore store.old store.new result (λ h answer. answer ≡ view_of h machine) }
 {
     let boot = boot_at(store, machine.boot)?;
@@ -58,11 +51,7 @@ pub fn boot_view<S: HallStore>(
 }
 
 // The machine with a number, and its rows.
-fn numbered_view<S: HallStore>(
-    alloc: Global,
-    store: &mut S,
-    id: Number,
-) -> Result<Option<BootView>, Unavailable>
+fn numbered_view<S: HallStore>(alloc: Global, store: &mut S, id: Number) -> Read<Option<BootView>>
     ensures { Looks S.HallStore store.old store.new result (λ h answer. answer ≡ machine_view h (at h.machines id)) }
 {
     match store.machine(id)? {
@@ -76,7 +65,7 @@ pub fn view_at<S: HallStore>(
     alloc: Global,
     store: &mut S,
     mac: MacAddress,
-) -> Result<Option<BootView>, Unavailable>
+) -> Read<Option<BootView>>
     ensures { Looks S.HallStore store.old store.new result (λ h answer. answer ≡ view.view_at h mac) }
 {
     match store.by_mac(mac)? {
@@ -90,7 +79,7 @@ pub fn report_view<S: HallStore>(
     alloc: Global,
     store: &mut S,
     number: Number,
-) -> Result<Option<ReportView>, Unavailable>
+) -> Read<Option<ReportView>>
     ensures { Looks S.HallStore store.old store.new result (λ h answer. answer ≡ view.report_view h number) }
 {
     let Some(asked) = store.boot(number)? else {
@@ -107,7 +96,7 @@ pub fn order_view<S: HallStore>(
     alloc: Global,
     store: &mut S,
     number: Number,
-) -> Result<Option<OrderView>, Unavailable>
+) -> Read<Option<OrderView>>
     ensures { Looks S.HallStore store.old store.new result (λ h answer. answer ≡ view.order_view h number) }
 {
     let Some(asked) = store.order(number)? else {
@@ -124,7 +113,7 @@ pub fn expired_view<S: HallStore>(
     alloc: Global,
     store: &mut S,
     moment: Moment,
-) -> Result<Option<BootView>, Unavailable>
+) -> Read<Option<BootView>>
     ensures { Looks S.HallStore store.old store.new result (λ h answer. answer ≡ machine_view h (next_expired h moment)) }
 {
     match store.next_expired(moment)? {

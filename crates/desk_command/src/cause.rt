@@ -65,10 +65,8 @@ fn forbidden(
 ) -> Option<Refusal>
     ensures { result ≡ forbidden by.now machine.now is_member (action_of command.now) }
 {
-    match action_of(command) {
-        Some(action) => may(by, machine, action, is_member).err(),
-        None => None,
-    }
+    let action = action_of(command)?;
+    may(by, machine, action, is_member).err()
 }
 
 fn is_stale(wanted: Option<Version>, version: Version) -> bool

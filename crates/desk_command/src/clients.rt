@@ -2,8 +2,9 @@
 ghost use Rattle.std.specs.Prelude.{◌≡◌};
 ghost use Rattle.desk_command.specs.{View.by_uuid, Client.IsEnough, Look.Looks};
 
+use crate::view::Read;
 use boot_desk::FrameView;
-use hall_store::{HallStore, Unavailable};
+use hall_store::HallStore;
 use hall_types::{LastIssued, MacAddress, MachineUuid, Number, Numbers};
 use pxe_vendor::Client;
 
@@ -17,7 +18,7 @@ const NO_NUMBERS: Numbers = Numbers {
 pub(crate) fn by_uuid<S: HallStore>(
     store: &mut S,
     uuid: Option<MachineUuid>,
-) -> Result<Option<Number>, Unavailable>
+) -> Read<Option<Number>>
     ensures { Looks S.HallStore store.old store.new result (λ h answer. answer ≡ by_uuid h uuid) }
 {
     match uuid {
@@ -29,7 +30,7 @@ pub(crate) fn by_uuid<S: HallStore>(
 /// What a hall has of a client, as far as the decision on its frame needs it: the machines of its address and of its UUID, and,
 /// where its address is unknown, how many machines there are and the last numbers.
 #[tactic(auto, using(crate::proofs::ClientLemmas::whole_enough))]
-pub fn frame_view<S: HallStore>(store: &mut S, client: &Client) -> Result<FrameView, Unavailable>
+pub fn frame_view<S: HallStore>(store: &mut S, client: &Client) -> Read<FrameView>
     ensures { Looks S.HallStore store.old store.new result (λ h view. IsEnough h client.now view) }
 {
     let by_mac = store.by_mac(MacAddress::from(client.mac))?;

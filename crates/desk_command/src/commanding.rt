@@ -1,9 +1,6 @@
 //! The answer to a command.
 ghost use Rattle.std.specs.Prelude.{◌≡◌, ◌++◌, [], ◌∷◌, IfOk};
-ghost use Rattle.hall_types.specs.{Hall.second, declared.change.RowWrite.TheVariants.PutReceipt};
-ghost use Rattle.hall_events.specs.{Command.command_text, Reply.reply_of};
-ghost use Rattle.boot_desk.specs.Decided.{Decides};
-ghost use Rattle.desk_command.specs.{Command.{body_of, commanded, receipt_of, repeated, replied}, Effect.content_of};
+ghost use Rattle.desk_command.specs.{Prelude.{second, PutReceipt, command_text, reply_of, Decides}, Command.{body_of, commanded, receipt_of, repeated, replied}, Effect.content_of};
 
 use crate::cause::cause;
 use crate::effects::{Subject, effect};

@@ -1,24 +1,20 @@
 //! The rows that a command names, read from a store.
 ghost use Rattle.std.specs.Prelude.{◌≡◌, is_some};
-ghost use Rattle.hall_types.specs.{Lookup.{is_image_used, operator_with_digest}, Rows.{at, size}};
 ghost use Rattle.desk_command.specs.Command as made;
 ghost use Rattle.desk_command.specs.View as view;
-ghost use Rattle.desk_command.specs.Look.{Looks};
+ghost use Rattle.desk_command.specs.{Prelude.{is_image_used, operator_with_digest, at, size}, Look.Looks};
 
 use crate::clients::by_uuid;
 use crate::machine_commands::machine_view;
 use crate::named::{has_digest, has_member, has_pool, image_arch, nothing};
-use crate::view::CommandView;
+use crate::view::{CommandView, Read};
 use hall_events::{HallCommand, MachineCommand};
-use hall_store::{HallStore, Unavailable};
+use hall_store::HallStore;
 use hall_types::{Digest, MacAddress, MachineUuid, Name, Number, Operator};
 use std::alloc::Global;
 
 /// The operator of a bearer token's digest.
-pub fn sender<S: HallStore>(
-    store: &mut S,
-    bearer: Option<Digest>,
-) -> Result<Option<Operator>, Unavailable>
+pub fn sender<S: HallStore>(store: &mut S, bearer: Option<Digest>) -> Read<Option<Operator>>
     ensures { Looks S.HallStore store.old store.new result (λ h answer. answer ≡ made.sender h bearer) }
 {
     match bearer {
@@ -28,11 +24,7 @@ pub fn sender<S: HallStore>(
 }
 
 // What a hall has of a new operator.
-fn operator_view<S: HallStore>(
-    store: &mut S,
-    name: &Name,
-    digest: &Digest,
-) -> Result<CommandView, Unavailable>
+fn operator_view<S: HallStore>(store: &mut S, name: &Name, digest: &Digest) -> Read<CommandView>
     ensures { Looks S.HallStore store.old store.new result (λ h answer. answer ≡ record (view.nothing_of h) { operator = at h.operators name.now; has_digest = is_some (operator_with_digest h digest.now) }) }
 {
     let operator = store.operator(name)?;
@@ -46,7 +38,7 @@ fn operator_view<S: HallStore>(
 }
 
 // What a hall has of an operator that is disabled.
-fn disabled_view<S: HallStore>(store: &mut S, name: &Name) -> Result<CommandView, Unavailable>
+fn disabled_view<S: HallStore>(store: &mut S, name: &Name) -> Read<CommandView>
     ensures { Looks S.HallStore store.old store.new result (λ h answer. answer ≡ record (view.nothing_of h) { operator = at h.operators name.now }) }
 {
     let operator = store.operator(name)?;
@@ -58,7 +50,7 @@ fn disabled_view<S: HallStore>(store: &mut S, name: &Name) -> Result<CommandView
 }
 
 // What a hall has of a new pool.
-fn pool_view<S: HallStore>(store: &mut S, pool: &Name) -> Result<CommandView, Unavailable>
+fn pool_view<S: HallStore>(store: &mut S, pool: &Name) -> Read<CommandView>
     ensures { Looks S.HallStore store.old store.new result (λ h answer. answer ≡ record (view.nothing_of h) { has_pool = view.has_pool h pool.now }) }
 {
     let has_pool = has_pool(store, pool)?;
@@ -70,11 +62,7 @@ fn pool_view<S: HallStore>(store: &mut S, pool: &Name) -> Result<CommandView, Un
 }
 
 // What a hall has of a new member.
-fn member_view<S: HallStore>(
-    store: &mut S,
-    pool: &Name,
-    name: &Name,
-) -> Result<CommandView, Unavailable>
+fn member_view<S: HallStore>(store: &mut S, pool: &Name, name: &Name) -> Read<CommandView>
     ensures { Looks S.HallStore store.old store.new result (λ h answer. answer ≡ record (view.nothing_of h) { has_pool = view.has_pool h pool.now; operator = at h.operators name.now; is_member = view.has_member h pool.now name.now }) }
 {
     let has_pool = has_pool(store, pool)?;
@@ -90,11 +78,7 @@ fn member_view<S: HallStore>(
 }
 
 // What a hall has of an image that is added, or becomes a live image.
-fn image_view<S: HallStore>(
-    alloc: Global,
-    store: &mut S,
-    image: &Name,
-) -> Result<CommandView, Unavailable>
+fn image_view<S: HallStore>(alloc: Global, store: &mut S, image: &Name) -> Read<CommandView>
     ensures { Looks S.HallStore store.old store.new result (λ h answer. answer ≡ record (view.nothing_of h) { image = view.image_arch h image.now }) }
 {
     let image = image_arch(alloc, store, image)?;
@@ -103,11 +87,7 @@ fn image_view<S: HallStore>(
 }
 
 // What a hall has of an image that is deleted.
-fn deleted_view<S: HallStore>(
-    alloc: Global,
-    store: &mut S,
-    image: &Name,
-) -> Result<CommandView, Unavailable>
+fn deleted_view<S: HallStore>(alloc: Global, store: &mut S, image: &Name) -> Read<CommandView>
     ensures { Looks S.HallStore store.old store.new result (λ h answer. answer ≡ record (view.nothing_of h) { image = view.image_arch h image.now; image_used = is_image_used h image.now }) }
 {
     let image_used = store.image_used(image)?;
@@ -126,7 +106,7 @@ fn added_view<S: HallStore>(
     mac: MacAddress,
     pool: &Name,
     uuid: Option<MachineUuid>,
-) -> Result<CommandView, Unavailable>
+) -> Read<CommandView>
     ensures { Looks S.HallStore store.old store.new result (λ h answer. answer ≡ record (view.nothing_of h) { has_pool = view.has_pool h pool.now; by_mac = view.by_mac h mac; by_uuid = view.by_uuid h uuid; machines = size h.machines }) }
 {
     let has_pool = has_pool(store, pool)?;
@@ -150,7 +130,7 @@ fn numbered_view<S: HallStore>(
     by: &Operator,
     id: Number,
     command: &MachineCommand,
-) -> Result<CommandView, Unavailable>
+) -> Read<CommandView>
     ensures { Looks S.HallStore store.old store.new result (λ h answer. answer ≡ view.machine_view_if h by.now (at h.machines id) command.now) }
 {
     match store.machine(id)? {
@@ -166,7 +146,7 @@ pub fn command_view<S: HallStore>(
     store: &mut S,
     by: &Operator,
     command: &HallCommand,
-) -> Result<CommandView, Unavailable>
+) -> Read<CommandView>
     ensures { Looks S.HallStore store.old store.new result (λ h answer. answer ≡ view.command_view h by.now command.now) }
 {
     match command {

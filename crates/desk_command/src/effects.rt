@@ -1,9 +1,7 @@
 //! What commands make of a hall.
 ghost use Rattle.std.specs.Prelude.{◌≡◌, [], ◌∷◌, IfOk, Ok, None};
-ghost use Rattle.hall_types.specs.{declared.change.RowWrite.TheVariants.{PutImage, PutInterface, PutMachine, PutNumbers}, Number.next_number};
-ghost use Rattle.hall_events.specs.Reply.{done};
 ghost use Rattle.desk_command.specs.declared.effects.Subject.TheVariants as subject;
-ghost use Rattle.desk_command.specs.Effect.{Effects, acted, added, disabled, edited, effect, live_image, machine_effect, moved_to_pool, prepared, raised};
+ghost use Rattle.desk_command.specs.{Prelude.{PutImage, PutInterface, PutMachine, PutNumbers, next_number, done}, Effect.{Effects, acted, added, disabled, edited, effect, live_image, machine_effect, moved_to_pool, prepared, raised}};
 
 use crate::action::release_action;
 use crate::view::CommandView;

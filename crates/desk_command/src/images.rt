@@ -1,10 +1,10 @@
 //! Images, read from a store.
 ghost use Rattle.std.specs.Prelude.{◌≡◌};
-ghost use Rattle.hall_types.specs.Kinds.{arch_number};
-ghost use Rattle.boot_desk.specs.Views.{live_image, row_at};
-ghost use Rattle.desk_command.specs.Look.{Looks};
+ghost use Rattle.boot_desk.specs.Views.{live_image};
+ghost use Rattle.desk_command.specs.{Prelude.{arch_number, row_at}, Look.Looks};
 
-use hall_store::{HallStore, Unavailable};
+use crate::view::Read;
+use hall_store::HallStore;
 use hall_types::{Arch, Image, Name};
 use std::alloc::Global;
 
@@ -13,7 +13,7 @@ pub(crate) fn image_at<S: HallStore>(
     alloc: Global,
     store: &mut S,
     name: Option<Name>,
-) -> Result<Option<Image>, Unavailable>
+) -> Read<Option<Image>>
     ensures { Looks S.HallStore store.old store.new result (λ h answer. answer ≡ row_at h.images name) }
 {
     match name {
@@ -27,7 +27,7 @@ pub(crate) fn live_image<S: HallStore>(
     alloc: Global,
     store: &mut S,
     arch: Arch,
-) -> Result<Option<Image>, Unavailable>
+) -> Read<Option<Image>>
     ensures { Looks S.HallStore store.old store.new result (λ h answer. answer ≡ live_image h (arch_number arch)) }
 {
     match store.live(arch)? {

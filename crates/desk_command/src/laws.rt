@@ -1,9 +1,6 @@
 //! What holds of halls, whatever operators command.
 ghost use Rattle.std.specs.Prelude.{◌≡◌, ℕ, List, Ok, Option};
-ghost use Rattle.hall_types.specs.{Hall.{Hall, applied, second}, declared.change.RowWrite.RowWrite};
-ghost use Rattle.hall_events.specs.{Reply.Content, declared.command.HallCommand.HallCommand};
-ghost use Rattle.boot_desk.specs.Sound.{IsSound};
-ghost use Rattle.desk_command.specs.Command.{command_decision};
+ghost use Rattle.desk_command.specs.{Prelude.{Hall, applied, second, RowWrite, Content, HallCommand, IsSound}, Command.command_decision};
 
 /// A sound hall of the second schema stays sound when the rows of a command are written.
 pub fn commands_keep_halls_sound()

@@ -1,23 +1,18 @@
 //! The rows that a command on a machine names, read from a store.
 ghost use Rattle.std.specs.Prelude.{◌≡◌, length};
-ghost use Rattle.hall_types.specs.Lookup.{interfaces_of};
 ghost use Rattle.desk_command.specs.View as view;
-ghost use Rattle.desk_command.specs.Look.{Looks};
+ghost use Rattle.desk_command.specs.{Prelude.interfaces_of, Look.Looks};
 
 use crate::boots::order_at;
 use crate::named::{has_live, has_member, has_pool, image_arch, nothing};
-use crate::view::CommandView;
+use crate::view::{CommandView, Read};
 use hall_events::MachineCommand;
-use hall_store::{HallStore, Unavailable};
+use hall_store::HallStore;
 use hall_types::{Act, MacAddress, Machine, Name, Operator};
 use std::alloc::Global;
 
 // How many interfaces a machine has.
-fn interface_count<S: HallStore>(
-    alloc: Global,
-    store: &mut S,
-    machine: &Machine,
-) -> Result<u64, Unavailable>
+fn interface_count<S: HallStore>(alloc: Global, store: &mut S, machine: &Machine) -> Read<u64>
     ensures { Looks S.HallStore store.old store.new result (λ h answer. answer ≡ length (interfaces_of h machine.now.id)) }
 {
     let interfaces = store.interfaces_of(alloc, machine.id)?;
@@ -25,7 +20,7 @@ fn interface_count<S: HallStore>(
 }
 
 // A machine, and the order that it waits for.
-fn of_machine<S: HallStore>(store: &mut S, machine: &Machine) -> Result<CommandView, Unavailable>
+fn of_machine<S: HallStore>(store: &mut S, machine: &Machine) -> Read<CommandView>
     ensures { Looks S.HallStore store.old store.new result (λ h answer. answer ≡ view.of_machine h machine.now) }
 {
     let order = order_at(store, machine.waiting)?;
@@ -43,7 +38,7 @@ fn with_interfaces<S: HallStore>(
     store: &mut S,
     machine: &Machine,
     mac: MacAddress,
-) -> Result<CommandView, Unavailable>
+) -> Read<CommandView>
     ensures { Looks S.HallStore store.old store.new result (λ h answer. answer ≡ view.with_interfaces h machine.now mac) }
 {
     let interfaces = interface_count(alloc, store, machine)?;
@@ -57,7 +52,7 @@ fn with_interfaces<S: HallStore>(
 }
 
 // With whether the machine's architecture has a live image.
-fn with_live<S: HallStore>(store: &mut S, machine: &Machine) -> Result<CommandView, Unavailable>
+fn with_live<S: HallStore>(store: &mut S, machine: &Machine) -> Read<CommandView>
     ensures { Looks S.HallStore store.old store.new result (λ h answer. answer ≡ view.with_live h machine.now) }
 {
     let has_live = has_live(store, machine.arch)?;
@@ -66,11 +61,7 @@ fn with_live<S: HallStore>(store: &mut S, machine: &Machine) -> Result<CommandVi
 }
 
 // With whether there is a pool.
-fn with_pool<S: HallStore>(
-    store: &mut S,
-    machine: &Machine,
-    pool: &Name,
-) -> Result<CommandView, Unavailable>
+fn with_pool<S: HallStore>(store: &mut S, machine: &Machine, pool: &Name) -> Read<CommandView>
     ensures { Looks S.HallStore store.old store.new result (λ h answer. answer ≡ record (view.of_machine h machine.now) { has_pool = view.has_pool h pool.now }) }
 {
     let has_pool = has_pool(store, pool)?;
@@ -79,11 +70,7 @@ fn with_pool<S: HallStore>(
 }
 
 // With whether an operator is a member of the machine's pool.
-fn with_member<S: HallStore>(
-    store: &mut S,
-    machine: &Machine,
-    by: &Operator,
-) -> Result<CommandView, Unavailable>
+fn with_member<S: HallStore>(store: &mut S, machine: &Machine, by: &Operator) -> Read<CommandView>
     ensures { Looks S.HallStore store.old store.new result (λ h answer. answer ≡ record (view.of_machine h machine.now) { is_member = view.has_member h machine.now.pool by.now.name }) }
 {
     let is_member = has_member(store, &machine.pool, &by.name)?;
@@ -97,7 +84,7 @@ fn with_image<S: HallStore>(
     store: &mut S,
     machine: &Machine,
     image: &Name,
-) -> Result<CommandView, Unavailable>
+) -> Read<CommandView>
     ensures { Looks S.HallStore store.old store.new result (λ h answer. answer ≡ record (view.of_machine h machine.now) { image = view.image_arch h image.now }) }
 {
     let image = image_arch(alloc, store, image)?;
@@ -111,7 +98,7 @@ pub(crate) fn machine_view<S: HallStore>(
     by: &Operator,
     machine: &Machine,
     command: &MachineCommand,
-) -> Result<CommandView, Unavailable>
+) -> Read<CommandView>
     ensures { Looks S.HallStore store.old store.new result (λ h answer. answer ≡ view.machine_view h by.now machine.now command.now) }
 {
     match command {

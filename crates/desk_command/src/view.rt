@@ -1,5 +1,9 @@
 //! The rows of a hall that a command names.
+use hall_store::Unavailable;
 use hall_types::{Arch, Machine, Number, Numbers, Operator, Order};
+
+/// What was read of a store, unless it is unavailable.
+pub type Read<T> = Result<T, Unavailable>;
 
 /// What a hall has of a command. What the command doesn't name is none, 0 or false.
 #[derive(Clone, Copy)]

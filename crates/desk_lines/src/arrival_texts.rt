@@ -1,15 +1,11 @@
 //! What came, how it was answered and which machine it moved, in words for a log. No token, key or digest is in them.
 use crate::frame_texts::datagram_text;
+use crate::members::Text;
 use crate::request_texts::exchange_text;
 use hall_desk::{Account, Answer, Arrival, Input, Moved};
-use std::alloc::{AllocError, Global};
+use std::alloc::Global;
 
-fn answered_text(
-    alloc: Global,
-    input: &Input,
-    answer: &Answer,
-    account: &Account,
-) -> Result<String, AllocError> {
+fn answered_text(alloc: Global, input: &Input, answer: &Answer, account: &Account) -> Text {
     match (input, answer) {
         (Input::Datagram { port, .. }, _) => datagram_text(alloc, *port, answer, account),
         (Input::Request(octets), _) => exchange_text(alloc, octets.as_slice(), answer, account),
@@ -29,7 +25,7 @@ pub fn is_of_note(arrival: &Arrival, answer: &Answer, account: &Account) -> bool
 }
 
 // `machine 5: Ready to Allocated`, `machine 5: new, New` or `machine 5: Broken, gone`.
-fn move_text(alloc: Global, moved: &Moved) -> Result<String, AllocError> {
+fn move_text(alloc: Global, moved: &Moved) -> Text {
     let id = moved.machine.get();
     let (from, between, to) = match (moved.from, moved.to) {
         (Some(from), Some(to)) => (from.text(), " to ", to.text()),
@@ -45,12 +41,7 @@ fn move_text(alloc: Global, moved: &Moved) -> Result<String, AllocError> {
 /// `boot REQUEST 52:54:00:12:34:56 uefi64: silence, the hall is full`, or
 /// `POST /commands allocate of machine 1 by ada: 200 {..}; machine 1: Ready to Allocated`. The answer and the account are the desk's
 /// for this arrival.
-pub fn arrival_text(
-    alloc: Global,
-    arrival: &Arrival,
-    answer: &Answer,
-    account: &Account,
-) -> Result<String, AllocError> {
+pub fn arrival_text(alloc: Global, arrival: &Arrival, answer: &Answer, account: &Account) -> Text {
     let text = answered_text(alloc, &arrival.input, answer, account)?;
     match &account.notes.moved {
         Some(moved) => {

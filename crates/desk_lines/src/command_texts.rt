@@ -1,9 +1,10 @@
 //! A command in words for a log: its word, and what it is about.
+use crate::members::Text;
 use hall_events::{HallCommand, MachineCommand};
-use std::alloc::{AllocError, Global};
+use std::alloc::Global;
 
 // What a command on a machine is about, beside the machine.
-fn machine_object(alloc: Global, command: &MachineCommand) -> Result<String, AllocError> {
+fn machine_object(alloc: Global, command: &MachineCommand) -> Text {
     match command {
         MachineCommand::AddInterface { mac } | MachineCommand::RemoveInterface { mac } => {
             pxe_vendor::print_mac(alloc, &mac.octets())
@@ -17,7 +18,7 @@ fn machine_object(alloc: Global, command: &MachineCommand) -> Result<String, All
 }
 
 // What a command is about: names, an address or a machine.
-fn object(alloc: Global, command: &HallCommand) -> Result<String, AllocError> {
+fn object(alloc: Global, command: &HallCommand) -> Text {
     match command {
         HallCommand::AddOperator { operator, .. } | HallCommand::DisableOperator { operator } => {
             String::from_str(alloc, operator.text())
@@ -47,7 +48,7 @@ fn object(alloc: Global, command: &HallCommand) -> Result<String, AllocError> {
 
 /// A command by its word and the names or the address that it is about: `add_pool lab`, `grant lab olga`, `deploy jammy of machine 1`,
 /// and `release full of machine 1` where all disks are to be erased in full.
-pub(crate) fn command_text(alloc: Global, command: &HallCommand) -> Result<String, AllocError> {
+pub(crate) fn command_text(alloc: Global, command: &HallCommand) -> Text {
     let word = command.kind().word();
     let object = object(alloc, command)?;
     format!(in alloc; "{word} {object}")

@@ -1,9 +1,9 @@
 //! Lines of a log that no arrival has, and their moments.
-use crate::members::Members;
+use crate::members::{Members, Text};
 use hall_report::LogFormat;
 use hall_types::Moment;
 use jiff::Timestamp;
-use std::alloc::{AllocError, Global};
+use std::alloc::Global;
 
 fn time_of(moment: Moment) -> Option<Timestamp> {
     let seconds = i64::try_from(moment.get()).ok()?;
@@ -11,7 +11,7 @@ fn time_of(moment: Moment) -> Option<Timestamp> {
 }
 
 /// A moment as `1790000000` or `2026-09-21T14:13:20Z`.
-pub fn moment_text(alloc: Global, format: LogFormat, moment: Moment) -> Result<String, AllocError> {
+pub fn moment_text(alloc: Global, format: LogFormat, moment: Moment) -> Text {
     if format != LogFormat::Seconds
         && let Some(time) = time_of(moment)
     {
@@ -21,13 +21,12 @@ pub fn moment_text(alloc: Global, format: LogFormat, moment: Moment) -> Result<S
 }
 
 /// Members that begin with a moment, if there is one.
-pub fn stamped(alloc: Global, moment: Option<Moment>) -> Result<Members, AllocError> {
+pub fn stamped(alloc: Global, moment: Option<Moment>) -> Members {
     let mut members = Members::new(alloc);
     if let Some(moment) = moment {
-        let text = moment_text(alloc, LogFormat::Json, moment)?;
-        members.push_text("@timestamp", text.as_str())?;
+        members.push_made("@timestamp", moment_text(alloc, LogFormat::Json, moment));
     }
-    Ok(members)
+    members
 }
 
 fn object_line(
@@ -36,22 +35,17 @@ fn object_line(
     action: &str,
     count: Option<u64>,
     words: &str,
-) -> Result<String, AllocError> {
-    let mut members = stamped(alloc, moment)?;
-    members.push_text("event.action", action)?;
+) -> Text {
+    let mut members = stamped(alloc, moment);
+    members.push_text("event.action", action);
     if let Some(count) = count {
-        members.push_number("hall.count", count)?;
+        members.push_number("hall.count", count);
     }
-    members.push_text("message", words)?;
+    members.push_text("message", words);
     members.into_line()
 }
 
-fn text_line(
-    alloc: Global,
-    format: LogFormat,
-    moment: Option<Moment>,
-    words: &str,
-) -> Result<String, AllocError> {
+fn text_line(alloc: Global, format: LogFormat, moment: Option<Moment>, words: &str) -> Text {
     match moment {
         Some(moment) => {
             let moment = moment_text(alloc, format, moment)?;
@@ -70,7 +64,7 @@ pub(crate) fn event_line(
     action: &str,
     count: Option<u64>,
     words: &str,
-) -> Result<String, AllocError> {
+) -> Text {
     match format {
         LogFormat::Json => object_line(alloc, moment, action, count, words),
         LogFormat::Seconds | LogFormat::Utc => text_line(alloc, format, moment, words),
@@ -88,7 +82,7 @@ pub enum Backup {
 // The nanoseconds of a millisecond.
 const NANOSECONDS: u64 = 1_000_000;
 
-fn backup_text(alloc: Global, backup: &Backup) -> Result<String, AllocError> {
+fn backup_text(alloc: Global, backup: &Backup) -> Text {
     match backup {
         Backup::Made {
             octets,
@@ -98,29 +92,21 @@ fn backup_text(alloc: Global, backup: &Backup) -> Result<String, AllocError> {
     }
 }
 
-fn backup_object(
-    alloc: Global,
-    moment: Option<Moment>,
-    backup: &Backup,
-    words: &str,
-) -> Result<String, AllocError> {
-    let mut members = stamped(alloc, moment)?;
-    members.push_text("event.action", "backup")?;
+fn backup_object(alloc: Global, moment: Option<Moment>, backup: &Backup, words: &str) -> Text {
+    let mut members = stamped(alloc, moment);
+    members.push_text("event.action", "backup");
     match backup {
         Backup::Made {
             octets,
             milliseconds,
         } => {
-            members.push_text("event.outcome", "success")?;
-            members.push_number(
-                "event.duration",
-                (*milliseconds).saturating_mul(NANOSECONDS),
-            )?;
-            members.push_number("file.size", *octets)?;
+            members.push_text("event.outcome", "success");
+            members.push_number("event.duration", milliseconds.saturating_mul(NANOSECONDS));
+            members.push_number("file.size", *octets);
         }
-        Backup::Failed => members.push_text("event.outcome", "failure")?,
+        Backup::Failed => members.push_text("event.outcome", "failure"),
     }
-    members.push_text("message", words)?;
+    members.push_text("message", words);
     members.into_line()
 }
 
@@ -130,7 +116,7 @@ pub fn backup_line(
     format: LogFormat,
     moment: Option<Moment>,
     backup: &Backup,
-) -> Result<String, AllocError> {
+) -> Text {
     let words = backup_text(alloc, backup)?;
     match format {
         LogFormat::Json => backup_object(alloc, moment, backup, words.as_str()),
@@ -139,18 +125,13 @@ pub fn backup_line(
 }
 
 /// The line where the service's clock or its source of random octets begins to fail. It has no moment.
-pub fn unstamped_line(alloc: Global, format: LogFormat) -> Result<String, AllocError> {
+pub fn unstamped_line(alloc: Global, format: LogFormat) -> Text {
     let words = "the clock or the random source failed";
     event_line(alloc, format, None, "unstamped", None, words)
 }
 
 /// The line that says how many lines before it couldn't be written.
-pub fn lost_line(
-    alloc: Global,
-    format: LogFormat,
-    moment: Option<Moment>,
-    lost: u64,
-) -> Result<String, AllocError> {
+pub fn lost_line(alloc: Global, format: LogFormat, moment: Option<Moment>, lost: u64) -> Text {
     let words = format!(in alloc; "lost {lost}")?;
     event_line(alloc, format, moment, "lost", Some(lost), words.as_str())
 }

@@ -1,9 +1,10 @@
 //! A client's frame and its answer, in words for a log.
+use crate::members::Text;
 use boot_desk::{Decision, Silence};
 use hall_desk::{Account, Answer, Came, Notes};
 use hall_types::Port;
 use pxe_vendor::{Client, Kind};
-use std::alloc::{AllocError, Global};
+use std::alloc::Global;
 
 /// The kind of a client's message (RFC 2132 section 9.6).
 pub(crate) fn kind_word(kind: Kind) -> &'static str {
@@ -21,7 +22,7 @@ pub(crate) fn port_word(port: Port) -> &'static str {
     }
 }
 
-fn client_text(alloc: Global, client: &Client) -> Result<String, AllocError> {
+fn client_text(alloc: Global, client: &Client) -> Text {
     let kind = kind_word(client.kind);
     let mac = pxe_vendor::print_mac(alloc, &client.mac)?;
     let arch = client.arch.text();
@@ -68,12 +69,7 @@ fn reply_text(answer: &Answer) -> &str {
     }
 }
 
-fn served_text(
-    alloc: Global,
-    client: &Client,
-    answer: &Answer,
-    notes: &Notes,
-) -> Result<String, AllocError> {
+fn served_text(alloc: Global, client: &Client, answer: &Answer, notes: &Notes) -> Text {
     let came = client_text(alloc, client)?;
     let said = reply_text(answer);
     match answer {
@@ -85,7 +81,7 @@ fn served_text(
     }
 }
 
-fn frame_text(alloc: Global, answer: &Answer, account: &Account) -> Result<String, AllocError> {
+fn frame_text(alloc: Global, answer: &Answer, account: &Account) -> Text {
     let said = reply_text(answer);
     match &account.came {
         Came::Malformed(fault) => format!(in alloc; "malformed, {fault}: {said}"),
@@ -97,12 +93,7 @@ fn frame_text(alloc: Global, answer: &Answer, account: &Account) -> Result<Strin
 
 /// A datagram that came to a port and how it was answered: a client's frame by its kind, its address, its architecture and the
 /// file of the answer, or why there is none.
-pub(crate) fn datagram_text(
-    alloc: Global,
-    port: Port,
-    answer: &Answer,
-    account: &Account,
-) -> Result<String, AllocError> {
+pub(crate) fn datagram_text(alloc: Global, port: Port, answer: &Answer, account: &Account) -> Text {
     let word = port_word(port);
     let frame = frame_text(alloc, answer, account)?;
     format!(in alloc; "{word} {frame}")

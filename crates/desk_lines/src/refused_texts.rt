@@ -1,7 +1,8 @@
 //! What a request was about that asks for nothing that the desk knows. It is looked for among the words that the desk knows, so that no
 //! token is in it.
+use crate::members::Text;
 use hall_http::{BodyFault, HttpFault, body_fault};
-use std::alloc::{AllocError, Global};
+use std::alloc::Global;
 
 // The method, as far as it is one of the desk's.
 fn method_of(word: &str) -> &'static str {
@@ -31,7 +32,7 @@ fn route_of(target: &str) -> &'static str {
 }
 
 // The word of the command that a body names, and what is wrong with its members.
-fn fault_text(alloc: Global, fault: BodyFault) -> Result<String, AllocError> {
+fn fault_text(alloc: Global, fault: BodyFault) -> Text {
     let (kind, what, member) = match fault {
         BodyFault::NoCommand => return String::from_str(alloc, ", no command"),
         BodyFault::Missing(kind, member) => (kind, "no member", member),
@@ -43,12 +44,7 @@ fn fault_text(alloc: Global, fault: BodyFault) -> Result<String, AllocError> {
 }
 
 // What is wrong with the body of a command, if that is why it was refused.
-fn body_text(
-    alloc: Global,
-    fault: HttpFault,
-    route: &str,
-    body: &str,
-) -> Result<String, AllocError> {
+fn body_text(alloc: Global, fault: HttpFault, route: &str, body: &str) -> Text {
     let is_its_body = fault == HttpFault::BadRequest && route == "/commands";
     match body_fault(alloc, body.as_bytes())? {
         Some(fault) if is_its_body => fault_text(alloc, fault),
@@ -58,11 +54,7 @@ fn body_text(
 
 /// The fault, and the method, the route, the command and the wrong member of the request, as far as the desk
 /// knows them: `refused at once, BadRequest, POST /commands allocate, no member machine`.
-pub(crate) fn refused_text(
-    alloc: Global,
-    octets: &[u8],
-    fault: HttpFault,
-) -> Result<String, AllocError> {
+pub(crate) fn refused_text(alloc: Global, octets: &[u8], fault: HttpFault) -> Text {
     let text = std::str::from_utf8(octets).unwrap_or("");
     let (head, body) = match text.split_once("\r\n\r\n") {
         Some((head, body)) => (head, Some(body)),

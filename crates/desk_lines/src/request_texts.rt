@@ -1,15 +1,16 @@
 //! A request and its response, in words for a log.
 use crate::command_texts::command_text;
+use crate::members::Text;
 use crate::refused_texts::refused_text;
 use hall_desk::{Account, Answer, Came};
 use hall_events::Event;
-use std::alloc::{AllocError, Global};
+use std::alloc::Global;
 
 /// The longest body that is printed.
 pub(crate) const MAX_BODY: usize = 100;
 
 /// The path of a request, without its token.
-pub(crate) fn path_text(alloc: Global, event: &Event) -> Result<String, AllocError> {
+pub(crate) fn path_text(alloc: Global, event: &Event) -> Text {
     match event {
         Event::Script { mac } => {
             let mac = pxe_vendor::print_mac(alloc, &mac.octets())?;
@@ -43,7 +44,7 @@ pub(crate) fn method_word(event: &Event) -> &'static str {
 }
 
 // The method and the path of a request, and what its body asks for.
-fn event_text(alloc: Global, event: &Event) -> Result<String, AllocError> {
+fn event_text(alloc: Global, event: &Event) -> Text {
     let method = method_word(event);
     let path = path_text(alloc, event)?;
     match event {
@@ -63,7 +64,7 @@ fn event_text(alloc: Global, event: &Event) -> Result<String, AllocError> {
     }
 }
 
-fn request_text(alloc: Global, octets: &[u8], came: &Came) -> Result<String, AllocError> {
+fn request_text(alloc: Global, octets: &[u8], came: &Came) -> Text {
     match came {
         Came::Asked(event) => event_text(alloc, event),
         Came::Refused(fault) => refused_text(alloc, octets, *fault),
@@ -83,7 +84,7 @@ pub(crate) fn body_of(octets: &[u8]) -> &str {
 }
 
 // The status of a response, and its body where it is short and no script, which has a token.
-fn response_text(alloc: Global, status: u16, octets: &[u8]) -> Result<String, AllocError> {
+fn response_text(alloc: Global, status: u16, octets: &[u8]) -> Text {
     let body = body_of(octets);
     if body.starts_with('{') && body.len() <= MAX_BODY {
         format!(in alloc; "{status} {body}")
@@ -93,7 +94,7 @@ fn response_text(alloc: Global, status: u16, octets: &[u8]) -> Result<String, Al
     }
 }
 
-fn answer_text(alloc: Global, answer: &Answer) -> Result<String, AllocError> {
+fn answer_text(alloc: Global, answer: &Answer) -> Text {
     match answer {
         Answer::Response { status, octets } => response_text(alloc, *status, octets.as_slice()),
         Answer::Unavailable => String::from_str(alloc, "unavailable"),
@@ -102,7 +103,7 @@ fn answer_text(alloc: Global, answer: &Answer) -> Result<String, AllocError> {
 }
 
 // What came, and which operator's token it had, if it had one's.
-fn sender_text(alloc: Global, octets: &[u8], account: &Account) -> Result<String, AllocError> {
+fn sender_text(alloc: Global, octets: &[u8], account: &Account) -> Text {
     let came = request_text(alloc, octets, &account.came)?;
     match account.notes.operator {
         Some(operator) => format!(in alloc; "{came} by {operator}"),
@@ -117,7 +118,7 @@ pub(crate) fn exchange_text(
     octets: &[u8],
     answer: &Answer,
     account: &Account,
-) -> Result<String, AllocError> {
+) -> Text {
     let came = sender_text(alloc, octets, account)?;
     let said = answer_text(alloc, answer)?;
     format!(in alloc; "{came}: {said}")

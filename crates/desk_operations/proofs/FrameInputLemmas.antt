@@ -1,8 +1,7 @@
 -- The program `understood` finds the addresses and the octets in an input.
-use Rattle.std.{proofs.{Common.{◌≡◌, ℕ, ◌≤◌, ◌==◌, true, false, List, [], ◌∷◌, ◌++◌, length, Option, Some, None, Result, Ok, Err, refl, sym, ap, subst, ◌∙◌, arith, inl, inr}, lemmas.{Bool.{cases_eq, eq-eqb, ne_eqb, Decides.nat_tests}, List.{append-nil, append_assoc, nil_from_length, Elements.All-weaker, Splits.join_with_byte-slice_split}, Option.same_Some}}, specs.{Prelude.{option_map, All}, List.join_with_byte, Result.result_ok}}
-use Rattle.hex.{specs.{Hex.{decode_of, is_hex_digit}, declared.error.FromHexError.FromHexError}, proofs.HexLemmas.decode_of-ok}
-use Rattle.pxe_vendor.specs.{MacText.{IsMacText, mac_of}, MacLaws.{mac_of-from_IsMacText, IsMacText-from_mac_of, IsMacText-high}}
-use Rattle.desk_operations.{specs.FrameInput.{IsHexLine, ended, open_ended, IsInput, frame, address, Understood, lines_of, only_line, hex_octets, framed, listed, listed_then, understood_lines, understood}, proofs.LineLemmas.{lines_of-line, lines_of-last}}
+use Rattle.std.{proofs.{Common.{◌≡◌, ℕ, ◌≤◌, ◌<◌, ◌+◌, ◌==◌, true, false, List, [], ◌∷◌, ◌++◌, length, map, drop, drop-cons, get_or, add-one, Bor, Option, Some, None, Result, Ok, Err, refl, sym, ap, subst, ◌∙◌, arith, inl, inr}, lemmas.{Bool.{cases_eq, eq-eqb, ne_eqb, Decides.nat_tests}, List.{append-nil, append_assoc, nil_from_length, drop_all, Elements.All-weaker, Splits.{join_with_byte-slice_split, slice_split_at, slice_split_none}}, Option.same_Some}}, specs.{Prelude.{option_map, All}, List.join_with_byte, Result.result_ok}}
+use Rattle.hex.proofs.HexLemmas.{decode_of-ok}
+use Rattle.desk_operations.specs.{Prelude.{decode_of, is_hex_digit, FromHexError, IsMacText, mac_of, mac_of-from_IsMacText, IsMacText-from_mac_of, IsMacText-high, length-IsMacText}, FrameInput.{IsHexLine, ended, open_ended, IsInput, frame, address, Understood, lines_of, only_line, hex_octets, framed, listed, listed_then, understood_lines, understood}}
 
 -- ---- characters that are no line feed
 
@@ -18,21 +17,29 @@ digits_no_feed digits octets e = All-weaker (λ (c : ℕ). is_hex_digit c ≡ tr
 mac_no_feed : (text octets : List ℕ) → IsMacText text octets → All (λ c. (c == 10) ≡ false) text
 mac_no_feed text octets is = All-weaker (λ (c : ℕ). 48 ≤ c) (λ (c : ℕ). (c == 10) ≡ false) high_no_feed text (IsMacText-high text octets is)
 
+lines_of-line : (line rest : List ℕ) → All (λ c. (c == 10) ≡ false) line → lines_of (line ++ 10 ∷ rest) ≡ line ∷ lines_of rest
+unfolding lines_of
+lines_of-line line rest h = slice_split_at (λ c. c == 10) line 10 rest h refl
+
+lines_of-last : (line : List ℕ) → All (λ c. (c == 10) ≡ false) line → lines_of line ≡ line ∷ []
+unfolding lines_of
+lines_of-last line h = slice_split_none (λ c. c == 10) line h
+
 -- ---- one line of hexadecimal
 
-pub only_line-open : (line : List ℕ) → (length line ≡ 0 → ⊥) → only_line (line ∷ []) ≡ Some line
+only_line-open : (line : List ℕ) → (length line ≡ 0 → ⊥) → only_line (line ∷ []) ≡ Some line
 unfolding only_line
 only_line-open line h = rw (ne_eqb (length line) 0 h) refl
 
-pub only_line-nothing : (line : List ℕ) → length line ≡ 0 → only_line (line ∷ []) ≡ None
+only_line-nothing : (line : List ℕ) → length line ≡ 0 → only_line (line ∷ []) ≡ None
 unfolding only_line
 only_line-nothing line h = rw (eq-eqb (length line) 0 h) refl
 
-pub only_line-ended : (line after : List ℕ) → length after ≡ 0 → only_line (line ∷ after ∷ []) ≡ Some line
+only_line-ended : (line after : List ℕ) → length after ≡ 0 → only_line (line ∷ after ∷ []) ≡ Some line
 unfolding only_line
 only_line-ended line after h = rw (eq-eqb (length after) 0 h) refl
 
-pub only_line-more : (line after : List ℕ) → (length after ≡ 0 → ⊥) → only_line (line ∷ after ∷ []) ≡ None
+only_line-more : (line after : List ℕ) → (length after ≡ 0 → ⊥) → only_line (line ∷ after ∷ []) ≡ None
 unfolding only_line
 only_line-more line after h = rw (ne_eqb (length after) 0 h) refl
 
@@ -77,7 +84,7 @@ hex_octets-from_IsHexLine (open_ended line octets some e) =
 
 -- ---- the lines of an input
 
-pub understood_lines-frame : (line : List ℕ) (lines : List (List ℕ)) → length line ≡ 0 → understood_lines (line ∷ lines) ≡ option_map framed (hex_octets lines)
+understood_lines-frame : (line : List ℕ) (lines : List (List ℕ)) → length line ≡ 0 → understood_lines (line ∷ lines) ≡ option_map framed (hex_octets lines)
 unfolding understood_lines
 understood_lines-frame line lines h = rw (eq-eqb (length line) 0 h) refl
 
@@ -85,17 +92,17 @@ understood_lines-listed : (line : List ℕ) (lines : List (List ℕ)) → (lengt
 unfolding understood_lines
 understood_lines-listed line lines h = rw (ne_eqb (length line) 0 h) refl
 
-pub understood_lines-no_mac : (line : List ℕ) (lines : List (List ℕ)) → (length line ≡ 0 → ⊥) → mac_of line ≡ None → understood_lines (line ∷ lines) ≡ None
+understood_lines-no_mac : (line : List ℕ) (lines : List (List ℕ)) → (length line ≡ 0 → ⊥) → mac_of line ≡ None → understood_lines (line ∷ lines) ≡ None
 understood_lines-no_mac line lines h e = understood_lines-listed line lines h ∙ rw e refl
 
-pub understood_lines-address : (line mac : List ℕ) (lines : List (List ℕ)) → (length line ≡ 0 → ⊥) → mac_of line ≡ Some mac → understood_lines (line ∷ lines) ≡ option_map (listed mac) (understood_lines lines)
+understood_lines-address : (line mac : List ℕ) (lines : List (List ℕ)) → (length line ≡ 0 → ⊥) → mac_of line ≡ Some mac → understood_lines (line ∷ lines) ≡ option_map (listed mac) (understood_lines lines)
 understood_lines-address line mac lines h e = understood_lines-listed line lines h ∙ rw e refl
 
 listed_then-none : (mac : Option (List ℕ)) → listed_then mac None ≡ None
 listed_then-none None = refl
 listed_then-none (Some first) = refl
 
-pub understood_lines-last : (line : List ℕ) → understood_lines (line ∷ []) ≡ None
+understood_lines-last : (line : List ℕ) → understood_lines (line ∷ []) ≡ None
 unfolding understood_lines only_line
 understood_lines-last line =
     elim (cases_eq (length line) 0) [
@@ -110,9 +117,8 @@ framed-some None u e = absurd cc
 framed-some (Some octets) u e = (octets, refl, same_Some _ _ e)
 
 listed-some : (mac : Option (List ℕ)) (after : Option Understood) (u : Understood) → listed_then mac after ≡ Some u → (first : List ℕ) × (v : Understood) × (mac ≡ Some first) × (after ≡ Some v) × (listed first v ≡ u)
-listed-some None after u e = absurd cc
-listed-some (Some first) None u e = absurd cc
 listed-some (Some first) (Some v) u e = (first, v, refl, refl, same_Some _ _ e)
+listed-some mac after u e = absurd cc
 
 -- the input has these addresses and these octets
 abbrev Has : List ℕ → Understood → Type 0
@@ -142,9 +148,7 @@ IsInput-from_understood input u e =
     subst (λ (text : List ℕ). Has text u) (join_with_byte-slice_split 10 input) (Has-from_lines (lines_of input) u e)
 
 mac_some : (text mac : List ℕ) → IsMacText text mac → length text ≡ 0 → ⊥
-unfolding mac_of
-mac_some [] mac is none = let gone = mac_of-from_IsMacText [] mac is in cc
-mac_some (c ∷ text) mac is none = omega arith
+mac_some text mac is none = omega (arith, length-IsMacText text mac is, none)
 
 pub understood-from_IsInput : {input : List ℕ} {macs : List (List ℕ)} {octets : List ℕ} → IsInput input macs octets → understood input ≡ Some (record { addresses = macs; octets = octets })
 unfolding understood lines_of
@@ -161,19 +165,7 @@ understood-from_IsInput (address input text rest octets mac macs is mac_is other
 pub IsInput-one : (input : List ℕ) (u v : Understood) → IsInput input u.addresses u.octets → IsInput input v.addresses v.octets → u ≡ v
 IsInput-one input u v first second = same_Some u v (sym (understood-from_IsInput first) ∙ understood-from_IsInput second)
 
--- ---- what is left of an input, from one line to the next
-
-left_last : (text : List ℕ) → lines_of text ≡ text ∷ [] → understood_lines (lines_of text) ≡ None
-left_last text is = ap understood_lines is ∙ understood_lines-last text
-
-left_frame : (text line rest : List ℕ) → lines_of text ≡ line ∷ lines_of rest → length line ≡ 0 → understood_lines (lines_of text) ≡ option_map framed (hex_octets (lines_of rest))
-left_frame text line rest is none = ap understood_lines is ∙ understood_lines-frame line (lines_of rest) none
-
-left_no_mac : (text line rest : List ℕ) → lines_of text ≡ line ∷ lines_of rest → (length line ≡ 0 → ⊥) → mac_of line ≡ None → understood_lines (lines_of text) ≡ None
-left_no_mac text line rest is some e = ap understood_lines is ∙ understood_lines-no_mac line (lines_of rest) some e
-
-left_address : (text line rest mac : List ℕ) → lines_of text ≡ line ∷ lines_of rest → (length line ≡ 0 → ⊥) → mac_of line ≡ Some mac → understood_lines (lines_of text) ≡ option_map (listed mac) (understood_lines (lines_of rest))
-left_address text line rest mac is some e = ap understood_lines is ∙ understood_lines-address line mac (lines_of rest) some e
+-- ---- from one line to the next
 
 -- the addresses so far, before those of what is left
 abbrev pub with_addresses : List (List ℕ) → Option Understood → Option Understood
@@ -183,30 +175,49 @@ with_addresses-nothing : (left : Option Understood) → left ≡ with_addresses 
 with_addresses-nothing None = refl
 with_addresses-nothing (Some u) = refl
 
-pub understood-start : (input : List ℕ) → with_addresses [] (understood_lines (lines_of input)) ≡ understood input
-unfolding understood
-understood-start input = sym (with_addresses-nothing _)
-
-pub understood-last : (input text : List ℕ) (macs : List (List ℕ)) → with_addresses macs (understood_lines (lines_of text)) ≡ understood input → lines_of text ≡ text ∷ [] → understood input ≡ None
-understood-last input text macs so_far is = sym so_far ∙ ap (with_addresses macs) (left_last text is)
-
-pub understood-no_octets : (input text line rest : List ℕ) (macs : List (List ℕ)) → with_addresses macs (understood_lines (lines_of text)) ≡ understood input → lines_of text ≡ line ∷ lines_of rest → length line ≡ 0 → hex_octets (lines_of rest) ≡ None → understood input ≡ None
-understood-no_octets input text line rest macs so_far is none e = sym so_far ∙ ap (with_addresses macs) (left_frame text line rest is none ∙ ap (option_map framed) e)
-
-pub understood-frame : (input text line rest octets : List ℕ) (macs : List (List ℕ)) → with_addresses macs (understood_lines (lines_of text)) ≡ understood input → lines_of text ≡ line ∷ lines_of rest → length line ≡ 0 → hex_octets (lines_of rest) ≡ Some octets → understood input ≡ Some (record { addresses = macs; octets = octets })
-understood-frame input text line rest octets macs so_far is none e =
-    sym so_far ∙ ap (with_addresses macs) (left_frame text line rest is none ∙ ap (option_map framed) e)
-    ∙ ap (λ (xs : List (List ℕ)). Some (record { addresses = xs; octets = octets })) (append-nil macs)
-
-pub understood-no_mac : (input text line rest : List ℕ) (macs : List (List ℕ)) → with_addresses macs (understood_lines (lines_of text)) ≡ understood input → lines_of text ≡ line ∷ lines_of rest → (length line ≡ 0 → ⊥) → mac_of line ≡ None → understood input ≡ None
-understood-no_mac input text line rest macs so_far is some e = sym so_far ∙ ap (with_addresses macs) (left_no_mac text line rest is some e)
-
 with_addresses-listed : (macs : List (List ℕ)) (mac : List ℕ) (left : Option Understood) → with_addresses (macs ++ mac ∷ []) left ≡ with_addresses macs (option_map (listed mac) left)
 with_addresses-listed macs mac None = refl
 with_addresses-listed macs mac (Some u) = ap (λ (xs : List (List ℕ)). Some (record u { addresses = xs })) (append_assoc macs (mac ∷ []) u.addresses)
 
-pub understood-address : (input text line rest mac : List ℕ) (macs : List (List ℕ)) → with_addresses macs (understood_lines (lines_of text)) ≡ understood input → lines_of text ≡ line ∷ lines_of rest → (length line ≡ 0 → ⊥) → mac_of line ≡ Some mac → with_addresses (macs ++ mac ∷ []) (understood_lines (lines_of rest)) ≡ understood input
-understood-address input text line rest mac macs so_far is some e =
-    with_addresses-listed macs mac _ ∙ sym (ap (with_addresses macs) (left_address text line rest mac is some e)) ∙ so_far
+-- what is found in lines from one on, where the addresses before it are known
+abbrev pub Finds : List (List ℕ) → List (Bor (List ℕ)) → ℕ → Type 0
+Finds macs lines at = with_addresses macs (understood_lines (map (λ line. line.now) (drop at lines))) ≡ understood_lines (map (λ line. line.now) lines)
 
-pub ruleset parse_steps = (understood-start, understood-last, understood-no_octets, understood-frame, understood-no_mac, understood-address)
+pub understood-start : (lines : List (Bor (List ℕ))) → Finds [] lines 0
+understood-start lines = sym (with_addresses-nothing _)
+
+pub understood-none : (macs : List (List ℕ)) (lines : List (Bor (List ℕ))) (at : ℕ) → Finds macs lines at → length lines ≤ at → understood_lines (map (λ line. line.now) lines) ≡ None
+unfolding understood_lines
+understood-none macs lines at so_far past =
+    sym so_far ∙ ap (λ (left : List (Bor (List ℕ))). with_addresses macs (understood_lines (map (λ line. line.now) left))) (drop_all at lines past)
+
+module _ (macs : List (List ℕ)) (lines : List (Bor (List ℕ))) (at : ℕ) (d : Bor (List ℕ)) (so_far : Finds macs lines at) (inside : at < length lines) where
+  abbrev line : List ℕ
+  line = (get_or lines at d).now
+
+  abbrev rest : List (List ℕ)
+  rest = map (λ line. line.now) (drop (at + 1) lines)
+
+  -- what the next line and those after it give
+  next_line : (given : Option Understood) → understood_lines (line ∷ rest) ≡ given → understood_lines (map (λ line. line.now) lines) ≡ with_addresses macs given
+  next_line given e =
+      let here : drop at lines ≡ get_or lines at d ∷ drop (at + 1) lines = drop-cons lines at d inside ∙ ap (λ n. get_or lines at d ∷ drop n lines) (sym (add-one at)) in
+      sym so_far ∙ ap (λ (left : List (Bor (List ℕ))). with_addresses macs (understood_lines (map (λ line. line.now) left))) here ∙ ap (with_addresses macs) e
+
+  pub understood-no_octets : length line ≡ 0 → hex_octets rest ≡ None → understood_lines (map (λ line. line.now) lines) ≡ None
+  understood-no_octets none e = next_line None (understood_lines-frame line rest none ∙ ap (option_map framed) e)
+
+  pub understood-frame : (octets : List ℕ) → length line ≡ 0 → hex_octets rest ≡ Some octets
+      → understood_lines (map (λ line. line.now) lines) ≡ Some (record { addresses = macs; octets = octets })
+  understood-frame octets none e =
+      next_line (Some (framed octets)) (understood_lines-frame line rest none ∙ ap (option_map framed) e)
+      ∙ ap (λ (xs : List (List ℕ)). Some (record { addresses = xs; octets = octets })) (append-nil macs)
+
+  pub understood-no_mac : (length line ≡ 0 → ⊥) → mac_of line ≡ None → understood_lines (map (λ line. line.now) lines) ≡ None
+  understood-no_mac some e = next_line None (understood_lines-no_mac line rest some e)
+
+  pub understood-address : (mac : List ℕ) → (length line ≡ 0 → ⊥) → mac_of line ≡ Some mac → Finds (macs ++ mac ∷ []) lines (at + 1)
+  understood-address mac some e =
+      with_addresses-listed macs mac (understood_lines rest) ∙ sym (next_line (option_map (listed mac) (understood_lines rest)) (understood_lines-address line mac rest some e))
+
+pub ruleset parse_steps = (understood-start, understood-none, understood-no_octets, understood-frame, understood-no_mac, understood-address)

@@ -1,11 +1,8 @@
 -- A run finds the answer to the frame in its input.
 use Rattle.std.{proofs.{Common.{◌≡◌, ℕ, ◌≤◌, Bool, true, false, List, [], length, arith, refl, Option, Some, None, Result, Ok, Err, sym, subst, ◌∙◌, inl, inr}, lemmas.Bool.{false≢true, Decides.nat_tests}}, specs.{Prelude.{◌⊎◌, IfSome, IsTrue, unwrap_or, not, if◌then◌else◌}, Io.KnownBytes.Appends}}
-use Rattle.dhcp_frame.specs.{Message.{Message, IsFrame}, declared.fault.FrameFault.FrameFault}
-use Rattle.pxe_vendor.specs.{Client.IsClient, Place.Site, declared.{clients.Client.Client, serve.NotServed.{NotServed, TheVariants.Memory}}}
-use Rattle.hall_types.specs.declared.port.Port.{Port}
-use Rattle.boot_desk.specs.{FrameEvent.{frame_decision, is_echo_long, is_port_of, is_uuid_of_other, for_address}, declared.frames.{Decision.TheVariants.Silent, FrameView.FrameView, Silence.TheVariants.{WrongPort, EchoTooLong, KnownUuid}}}
-use Rattle.desk_operations.{specs.{FrameInput.{Understood, understood}, Frame.{is_answer, is_served, IsReply, IsGood, IsAnswer, IsBad}}, proofs.FrameInputLemmas.{IsInput-from_understood, understood-from_IsInput}}
-use Rattle.hall_report.specs.declared.task_fault.Fault.{Fault, TheVariants.{BadInput, Memory as NoMemory}}
+use Rattle.boot_desk.specs.FrameEvent.{frame_decision}
+use Rattle.desk_operations.{specs.{Prelude.{Message, IsFrame, FrameFault, IsClient, Site, Client, NotServed, Memory, Port, is_echo_long, is_port_of, is_uuid_of_other, for_address, Silent, FrameView, WrongPort, EchoTooLong, KnownUuid, Fault, BadInput}, FrameInput.{Understood, understood}, Frame.{is_answer, is_served, IsReply, IsGood, IsAnswer, IsBad}}, proofs.FrameInputLemmas.{IsInput-from_understood, understood-from_IsInput}}
+use Rattle.hall_report.specs.declared.task_fault.Fault.TheVariants.{Memory as NoMemory}
 
 -- ---- there is no answer
 
@@ -86,9 +83,6 @@ IsBad-none input fault why is =
       | inl memory ↦ absurd cc
       | inr none ↦ λ addresses octets good. let e = sym none.1 ∙ understood-from_IsInput good.has in cc
     ]
-
-pub IsBad-long : (input : List ℕ) → (length input ≤ 65536 → ⊥) → IsBad input
-IsBad-long input long = λ addresses octets good. long good.room
 
 -- ---- what was written
 

@@ -1,14 +1,6 @@
 -- An import goes on by one row.
 use Rattle.std.{proofs.{Common.{◌≡◌, ◌≢◌, ◌+◌, ◌<◌, ◌==◌, ◌&&◌, ℕ, Bool, true, false, List, [], ◌∷◌, ◌++◌, Option, Result, Ok, Err, IfErr, IsErrAnd, if◌then◌else◌, length, drop, map, take, get_or, refl, sym, ap, subst, ◌∙◌, suc, append-nil, append_assoc, add-zero, arith}, KnownBytes.{Appends-nil, Appends-trans}, lemmas.List.{length-map, map-append, take-append-drop, take_more, Folds.list_all-append, Sums.fold-append}}, specs.{Prelude.replicate, Io.KnownBytes.Appends, List.{AllByRecursion, enumerate_from, flat_map, fold, list_all, scan}}}
-use Rattle.pxe_vendor.specs.Place.{Site}
-use Rattle.boot_desk.specs.Sound.{IsSound}
-use Rattle.hall_types.specs.Hall.{Hall, applied, second}
-use Rattle.hall_events.specs.{Reply.reply_of, declared.{event.Event.Event, reply.{BodyKind.BodyKind, Reply.{Reply, TheVariants.Http}}}}
-use Rattle.hall_store.specs.{Rules.AllKeep, declared.store.{HallStore.Ghosts, Unavailable.Unavailable}}
-use Rattle.hall_laws.specs.Decision.{decision_of}
-use Rattle.hall_report.specs.declared.{row.ImportRow.ImportRow, task_fault.Fault.{Fault, TheVariants.Io}}
-use Rattle.hall_desk.specs.{Headline.HasHistory, History.{Item, Origin, carried_out}, Plan.IsCarriedOut}
-use Rattle.desk_operations.specs.{Import.{IsImported, IsRowAnswered, IsRowDone, IsRowItem, IsRowStopped, IsStopped, GoOn, after_row, after_rows, end_of, event_of, is_ok, line_of, lines_of, replies_to, reply_to, row_line, unavailable}, declared.imports.Imported.{Imported, TheVariants.{All, NotAll}}}
+use Rattle.desk_operations.specs.{Prelude.{Site, IsSound, Hall, applied, second, reply_of, Event, BodyKind, Reply, Http, AllKeep, Ghosts, Unavailable, decision_of, ImportRow, Fault, Io, HasHistory, Item, Origin, carried_out, IsCarriedOut}, Import.{IsImported, IsRowAnswered, IsRowDone, IsRowItem, IsRowStopped, IsStopped, GoOn, after_row, after_rows, end_of, event_of, is_ok, line_of, lines_of, replies_to, reply_to, row_line}, declared.imports.Imported.{Imported, TheVariants.{All, NotAll}}}
 
 -- ---- lists with one more element
 
@@ -32,9 +24,8 @@ numbered-more f n m (x ∷ ys) y e =
 
 end-more : (all ok : Bool) (end : Imported) → end ≡ (if all then All else NotAll) → (if ok then end else NotAll) ≡ (if all && (ok && true) then All else NotAll)
 end-more true true end is = is
-end-more true false end is = refl
 end-more false true end is = is
-end-more false false end is = refl
+end-more all ok end is = refl
 
 end_of-more : (replies : List Reply) (reply : Reply) (end : Imported) → end ≡ end_of replies
     → (if is_ok reply then end else NotAll) ≡ end_of (replies ++ reply ∷ [])
@@ -69,10 +60,6 @@ module _ {S : Type 0} (g : Ghosts S) (site : Site) (bearer : List ℕ) (moment :
         sound = subst (Sound (event_of bearer row)) fresh_is (subst (λ (e : Event). Sound e fresh) e_is stayed);
         is = carried.answer h held ∙ ap (λ (e : Event). reply_for e fresh) e_is ∙ ap (reply_for (event_of bearer row)) fresh_is;
       }
-
-  -- the store couldn't answer, and the row counts as not having come
-  pub row_missed : (new : S) (row : ImportRow) (reply : Reply) → reply ≡ unavailable → (h : Hall) → g.holds new h → IsSound h → IsRowAnswered g new site bearer moment h row reply
-  row_missed new row reply is h held sound = record { came = false; held = held; sound = sound; is = is }
 
   -- the row's line was written
   pub row_done : (new : S) (row : ImportRow) (reply : Reply) (status : ℕ) (kind : BodyKind) (body : List ℕ) → reply ≡ Http status kind body

@@ -1,4 +1,3 @@
 pub mod FrameInputLemmas
 pub mod FrameLemmas
 pub mod ImportLemmas
-pub mod LineLemmas

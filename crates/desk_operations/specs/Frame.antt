@@ -1,12 +1,7 @@
 -- The answer of the program to its input.
 use Rattle.std.specs.{Prelude.{◌≡◌, ◌≤◌, ℕ, suc, nat_le, Bool, true, false, List, [], ◌∷◌, ◌++◌, length, position, Option, Some, None, option_and_then, if◌then◌else◌, IsTrue, ⊤}, Str.bytes_eq}
-use Rattle.hex.specs.Hex.{encode_lower}
-use Rattle.dhcp_frame.specs.{Message.{Message, IsFrame}, Reply.reply_octets}
-use Rattle.pxe_vendor.specs.{Answer.answer_to, BootFile.boot_file_of, Client.IsClient, Place.Site, declared.clients.Client.Client}
-use Rattle.hall_types.specs.{Number.max_number, declared.port.Port.Port}
-use Rattle.boot_desk.specs.{FrameEvent.frame_decision, declared.frames.{Decision.{Decision, TheVariants.{Loader, ScriptUrl}}, FrameView.FrameView}}
-use Rattle.desk_operations.specs.{declared.{frame_input.TheConstants.MAX_OCTETS, frames.Exit.{Exit, TheVariants.{Done, Fault as Failed, NotAll, Silence}}}, FrameInput.IsInput}
-use Rattle.hall_report.specs.Fault.{IsFrameFault}
+use Rattle.desk_operations.specs.{Prelude.{encode_lower, Message, IsFrame, reply_octets, answer_to, boot_file_of, IsClient, Site, Client, max_number, Port, Decision, Loader, ScriptUrl, FrameView, IsFrameFault}, declared.{frame_input.TheConstants.MAX_OCTETS, frames.Exit.{Exit, TheVariants.{Done, Fault as Failed, NotAll, Silence}}}, FrameInput.IsInput}
+use Rattle.boot_desk.specs.FrameEvent.{frame_decision}
 
 -- a machine's number
 abbrev pub numbered : ℕ → Option ℕ

@@ -1,7 +1,6 @@
 -- The program's input: Ethernet addresses, each on a line, an empty line, and one line of hexadecimal.
 use Rattle.std.specs.{Prelude.{◌≡◌, ◌≢◌, ℕ, ◌==◌, if◌then◌else◌, List, [], ◌∷◌, ◌++◌, length, Option, Some, None, Ok, option_and_then, option_map}, List.slice_split, Result.result_ok}
-use Rattle.hex.specs.Hex.{decode_of}
-use Rattle.pxe_vendor.specs.MacText.{IsMacText, mac_of}
+use Rattle.desk_operations.specs.Prelude.{decode_of, IsMacText, mac_of}
 
 -- The line is these octets in hexadecimal. Its line feed may be missing, but then it isn't empty.
 pub data IsHexLine : List ℕ → List ℕ → Type 0 where

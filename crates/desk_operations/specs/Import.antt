@@ -1,15 +1,7 @@
 -- What an import does to a hall, and what it writes.
 use Rattle.std.specs.{Prelude.{◌≡◌, ◌≢◌, ◌≤◌, ◌==◌, ℕ, Bool, true, false, List, [], ◌∷◌, ◌++◌, Option, Some, length, map, replicate, if◌then◌else◌}, Fmt.decimal, Io.KnownBytes.Appends, List.{AllByRecursion, enumerate_from, flat_map, fold, list_all, scan}}
-use Rattle.pxe_vendor.specs.Place.{Site}
-use Rattle.boot_desk.specs.Sound.{IsSound}
-use Rattle.hall_types.specs.Hall.{Hall, applied, second}
 use Rattle.hall_types.specs.declared.refusal.Refusal.TheVariants as cause
-use Rattle.hall_events.specs.{Reply.{refused, reply_of}, declared.{command.HallCommand.TheVariants.AddMachine, event.Event.{Event, TheVariants.Command}, reply.Reply.{Reply, TheVariants.Http}}}
-use Rattle.hall_laws.specs.Decision.{Decided, decision_of}
-use Rattle.hall_desk.specs.{Headline.HasHistory, History.{Item, Origin, carried_out}}
-use Rattle.hall_report.specs.declared.{row.ImportRow.ImportRow, task_fault.Fault.{Fault, TheVariants.Io}}
-use Rattle.desk_operations.specs.declared.imports.Imported.{Imported, TheVariants.{All, NotAll}}
-use Rattle.hall_store.specs.declared.store.HallStore.{Ghosts}
+use Rattle.desk_operations.specs.{Prelude.{Site, IsSound, Hall, applied, second, refused, reply_of, AddMachine, Event, Command, Reply, Http, Decided, decision_of, HasHistory, Item, Origin, carried_out, ImportRow, Fault, Io, Ghosts}, declared.imports.Imported.{Imported, TheVariants.{All, NotAll}}}
 
 -- ---- lines
 

@@ -1,3 +1,4 @@
+pub mod Prelude
 pub mod Frame
 pub mod FrameInput
 pub mod Import

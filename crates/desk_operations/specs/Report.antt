@@ -1,7 +1,6 @@
 -- What is written for each report on a hall.
 use Rattle.std.specs.Prelude.{◌≡◌, ℕ, List, Some, None}
-use Rattle.hall_types.specs.{Hall.Hall, Number.IsNumber}
-use Rattle.hall_report.specs.{Lines.{IsHallText, machine_text, order_text}, declared.values.What.What}
+use Rattle.desk_operations.specs.Prelude.{Hall, IsNumber, IsHallText, machine_text, order_text, What}
 use Rattle.hall_report.specs.declared.values.What.TheVariants as what
 
 -- the text is the report on the hall
@@ -12,6 +11,5 @@ IsReport (what.Machine id) h text = machine_text h id ≡ Some text
 
 -- the machine that the report is about isn't there; a number that is none is no machine's
 abbrev pub IsMissing : What → Hall → Type 0
-IsMissing what.Hall h = ⊥
-IsMissing what.Orders h = ⊥
 IsMissing (what.Machine id) h = IsNumber id → machine_text h id ≡ None
+IsMissing other h = ⊥

@@ -1,7 +1,6 @@
 //! The input of a frame's run: Ethernet addresses, each on a line, an empty line, and one line of hexadecimal.
-ghost use Rattle.std.specs.{Prelude.{◌≡◌, ◌≤◌, ◌<◌, ◌↔◌, ◌⊎◌, ◌∷◌, [], List, ℕ, None, Some, length, option_map, option_copied, position, ◌==◌, Contains, IsTrue, IfOk, IfErr, IfSome, IsErrOf, MatchOption, vec_len, suc}, Str.bytes_eq};
-ghost use Rattle.desk_operations.specs.{FrameInput.{IsInput, Understood, hex_octets, lines_of, only_line, understood}, Frame.{line_number, numbered}};
-ghost use Rattle.hall_report.specs.Fault.{IsFrameFault};
+ghost use Rattle.std.specs.{Prelude.{◌≡◌, ◌≤◌, ◌<◌, ◌↔◌, ◌⊎◌, List, ℕ, None, Some, length, option_map, option_copied, map, position, ◌==◌, Contains, IsTrue, IfOk, IfErr, IfSome, IsErrOf, vec_len, suc}, Str.bytes_eq, List.slice_split};
+ghost use Rattle.desk_operations.specs.{Prelude.IsFrameFault, FrameInput.{IsInput, Understood, hex_octets, only_line, understood, understood_lines}, Frame.{line_number, numbered}};
 
 use hall_report::Fault;
 use hall_types::Number;
@@ -52,43 +51,30 @@ pub fn one_reading()
     ensures one { (input : List ℕ) (u v : Understood) → IsInput input u.addresses u.octets → IsInput input v.addresses v.octets → u ≡ v }
 {}
 
-fn line_end(text: &[u8]) -> Option<usize>
-    ensures { result ≡ position (λ c. c == 10) text.now }
+// The texts between the line feeds.
+fn lines_in(alloc: Global, text: &[u8]) -> Result<Vec<&[u8]>, AllocError>
+    ensures { IfOk result (λ lines. map (λ line. line.now) lines.items ≡ slice_split (λ c. c == 10) text.now) }
 {
-    text.iter().position(|c| *c == b'\n')
+    text.split(|c| *c == b'\n').collect(alloc)
 }
 
-// The first line, and the text after its line feed. `None` means that there is no line feed.
-#[tactic(auto, using(crate::proofs::LineLemmas::line_steps))]
-fn split_line(text: &[u8]) -> Option<(&[u8], &[u8])>
-    ensures { MatchOption result (lines_of text.now ≡ text.now ∷ [])
-        (λ parts. (lines_of text.now ≡ parts.0.now ∷ lines_of parts.1.now) × (length parts.1.now < length text.now)) }
+// The only line, after which there may be a line feed.
+#[tactic(auto, unfolding(crate::specs::FrameInput::only_line))]
+fn only_line<'a>(lines: &[&'a [u8]]) -> Option<&'a [u8]>
+    ensures { option_copied result ≡ only_line (map (λ line. line.now) lines.now) }
 {
-    let Some(end) = line_end(text) else {
-        return None;
-    };
-    let (line, _) = text.split_at(end);
-    let (_, rest) = text.split_at(end + 1);
-    Some((line, rest))
-}
-
-// The only line of a text, without its line feed.
-#[tactic(auto, using(crate::proofs::LineLemmas::only_steps))]
-fn line_in(text: &[u8]) -> Option<&[u8]>
-    ensures { option_copied result ≡ only_line (lines_of text.now) }
-{
-    match split_line(text) {
-        Some((line, rest)) if rest.is_empty() => Some(line),
-        None if !text.is_empty() => Some(text),
+    match lines {
+        [line] if !line.is_empty() => Some(line),
+        [line, after] if after.is_empty() => Some(line),
         _ => None,
     }
 }
 
-// The octets of one line of hexadecimal. `None` means that the text is no such line.
-fn decode(alloc: Global, text: &[u8]) -> Result<Option<Vec<u8>>, AllocError>
-    ensures { IfOk result (λ found. option_map (λ octets. octets.items) found ≡ hex_octets (lines_of text.now)) }
+// The octets of one line of hexadecimal. `None` means that the lines are no such line.
+fn decode(alloc: Global, lines: &[&[u8]]) -> Result<Option<Vec<u8>>, AllocError>
+    ensures { IfOk result (λ found. option_map (λ octets. octets.items) found ≡ hex_octets (map (λ line. line.now) lines.now)) }
 {
-    let Some(digits) = line_in(text) else {
+    let Some(digits) = only_line(lines) else {
         return Ok(None);
     };
     match hex::decode(alloc, digits) {
@@ -114,13 +100,14 @@ impl Model for Input {
 }
 
 #[tactic(auto, using(crate::proofs::FrameInputLemmas::parse_steps))]
-fn parse_inner(alloc: Global, input: &[u8]) -> Result<Option<Input>, AllocError>
-    ensures { IfOk result (λ found. found ≡ understood input.now) }
+fn parse_lines(alloc: Global, lines: &[&[u8]]) -> Result<Option<Input>, AllocError>
+    ensures { IfOk result (λ found. found ≡ understood_lines (map (λ line. line.now) lines.now)) }
 {
     let mut addresses = Vec::new(alloc);
-    let mut left = input;
-    while let Some((line, rest)) = split_line(left) {
+    for at in 0..lines.len() {
+        let line = lines[at];
         if line.is_empty() {
+            let (_, rest) = lines.split_at(at + 1);
             let Some(octets) = decode(alloc, rest)? else {
                 return Ok(None);
             };
@@ -130,9 +117,16 @@ fn parse_inner(alloc: Global, input: &[u8]) -> Result<Option<Input>, AllocError>
             return Ok(None);
         };
         addresses.push(address)?;
-        left = rest;
     }
     Ok(None)
+}
+
+#[tactic(auto, unfolding(crate::specs::FrameInput::understood, crate::specs::FrameInput::lines_of))]
+fn parse_inner(alloc: Global, input: &[u8]) -> Result<Option<Input>, AllocError>
+    ensures { IfOk result (λ found. found ≡ understood input.now) }
+{
+    let lines = lines_in(alloc, input)?;
+    parse_lines(alloc, &lines)
 }
 
 /// Parses an input. The errors are `BadInput` and `Memory`.

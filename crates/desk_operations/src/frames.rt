@@ -1,8 +1,6 @@
 //! Reading the frame of one client, and writing the answer to it.
 ghost use Rattle.std.specs.{Prelude.{◌≡◌, ◌≢◌, ◌≤◌, ◌⊎◌, ◌++◌, ◌∷◌, [], List, ℕ, IsTrue, IsErrOf, IfErr, IfOk, IfSome, MatchOption, string_bytes, length, unwrap_or}, Io.KnownBytes.Appends};
-ghost use Rattle.hex.specs.Hex.{encode_lower};
-ghost use Rattle.desk_operations.specs.{declared.frame_input.TheConstants.MAX_OCTETS, Frame.{is_served, line_view, IsReply, IsAnswer, IsIgnored, IsBad, IsFrameEnd}};
-ghost use Rattle.dhcp_frame.specs.declared.reply.TheConstants.{MAX_VALUE_LEN};
+ghost use Rattle.desk_operations.specs.{Prelude.{encode_lower, MAX_VALUE_LEN}, declared.frame_input.TheConstants.MAX_OCTETS, Frame.{is_served, line_view, IsReply, IsAnswer, IsIgnored, IsBad, IsFrameEnd}};
 
 use crate::frame_input::{Input, parse, read_input};
 use boot_desk::{Decision, FrameView, frame};

@@ -1,11 +1,7 @@
 //! The import of new machines.
 ghost use Rattle.std.specs.Prelude.{◌≡◌, ◌≢◌, ◌⊎◌, ℕ, List, [], ◌∷◌, Ok, Err, IfErr, IfOk, IsErr, OnErr, if◌then◌else◌, string_bytes};
-ghost use Rattle.hall_types.specs.Hall.{Hall};
-ghost use Rattle.boot_desk.specs.Sound.{IsSound};
-ghost use Rattle.hall_desk.specs.Desk.{site_of, store_of};
-ghost use Rattle.hall_report.specs.{Import.import_in, declared.row.ImportRow.ImportRow, Fault.{IsImportFault, IsStoreFault}};
 ghost use Rattle.hall_report.specs.declared.fault.ImportFault.TheVariants as cause;
-ghost use Rattle.desk_operations.specs.Import.{GoOn, IsImported, IsRowAnswered, IsRowDone, IsRowStopped, IsStopped, event_of, row_line};
+ghost use Rattle.desk_operations.specs.{Prelude.{Hall, IsSound, site_of, store_of, import_in, ImportRow, IsImportFault, IsStoreFault}, Import.{GoOn, IsImported, IsRowAnswered, IsRowDone, IsRowStopped, IsStopped, event_of, row_line}};
 
 use crate::writing::write_text;
 use hall_desk::Desk;

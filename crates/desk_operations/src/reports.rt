@@ -1,9 +1,6 @@
 //! Reports on a hall, and the export of its machines.
 ghost use Rattle.std.specs.{Prelude.{◌≡◌, ◌≢◌, ℕ, List, Err, IfErr, string_bytes}, Io.KnownBytes.Appends};
-ghost use Rattle.hall_types.specs.Hall.{Hall};
-ghost use Rattle.hall_store.specs.Reading.{Reads};
-ghost use Rattle.hall_report.specs.{Export.export_text, Fault.{IsReportFault, IsStoreFault}};
-ghost use Rattle.desk_operations.specs.Report.{IsMissing, IsReport};
+ghost use Rattle.desk_operations.specs.{Prelude.{Hall, Reads, export_text, IsReportFault, IsStoreFault}, Report.{IsMissing, IsReport}};
 
 use crate::writing::write_text;
 use hall_report::{Fault, What, export_text, hall_text, machine_text, order_text};

@@ -1,8 +1,6 @@
 //! One request, from a reader to a writer.
 ghost use Rattle.std.specs.Prelude.{◌≡◌, ◌⊎◌, List, true, false, IfErr, IfSome};
-ghost use Rattle.hall_http.specs.Noted.{failed_of, inner_of, takes_of};
-ghost use Rattle.hall_desk.specs.{Desk.{site_of, store_of}, Headline.{HasHistory, HasSomeRequest}, History.{Item, Origin}, Stops.{IsLeft, IsSettled, OrSomeRequest}};
-ghost use Rattle.desk_operations.specs.Request.{HasServed};
+ghost use Rattle.desk_operations.specs.{Prelude.{failed_of, inner_of, takes_of, site_of, store_of, HasHistory, HasSomeRequest, Item, Origin, IsLeft, IsSettled, OrSomeRequest}, Request.HasServed};
 
 use hall_desk::{Desk, Served};
 use hall_http::Noted;

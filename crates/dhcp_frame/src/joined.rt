@@ -57,10 +57,7 @@ impl<'a> JoinedValue<'a> {
     pub fn as_slice(&self) -> Option<&[u8]>
         ensures { option_copied result ≡ self.now }
     {
-        match &self.octets {
-            Some(octets) => Some(octets.as_slice()),
-            None => None,
-        }
+        Some(self.octets.as_ref()?.as_slice())
     }
 
     /// The joined octets in memory of their own, or `None` where no value was joined. The only error is

@@ -1,18 +1,8 @@
 -- The list of all machines, each with its own interfaces.
-use Rattle.std.{proofs.Common.{◌≡◌, ℕ, List, [], ◌∷◌, refl, sym, ap, ◌∙◌}, specs.{declared.alloc.AllocError.AllocError, Prelude.{filter, map, Result, Ok, Err, IfOk, ◌==◌}}}
-use Rattle.hall_desk.specs.Plan.{Plans}
-use Rattle.hall_events.specs.{Reply.{ListedMachine, listed, machine_list, reply_of}, declared.reply.Reply.Reply}
+use Rattle.std.{proofs.Common.{◌≡◌, List, [], sym, ap, ◌∙◌}, specs.{declared.alloc.AllocError.AllocError, Prelude.{filter, map, Result, Ok, Err, IfOk, ◌==◌}}}
+use Rattle.hall_desk.specs.{Prelude.{ListedMachine, listed, machine_list, reply_of, Reply, RowWrite, Interface, Machine, Hall, second, listed_of, says}, Plan.Plans}
 use Rattle.hall_store.specs.declared.store.Unavailable.{Unavailable}
-use Rattle.hall_types.specs.{declared.{change.RowWrite.RowWrite, machine.{Interface.Interface, Machine.Machine}}, Hall.{Hall, second}, Rows.listed as rows_of}
-use Rattle.hall_laws.specs.Decision.{listed_of, says}
-
--- machines with the interfaces that are theirs in either of two lists
-pub listed_same : (ms : List Machine) (xs ys : List Interface) → ((id : ℕ) → filter (λ i. i.machine == id) ys ≡ filter (λ i. i.machine == id) xs)
-    → map (λ m. listed m (filter (λ i. i.machine == m.id) ys)) ms ≡ map (λ m. listed m (filter (λ i. i.machine == m.id) xs)) ms
-listed_same [] xs ys same = refl
-listed_same (m ∷ ms) xs ys same =
-    ap (λ (own : List Interface). listed m own ∷ map (λ m. listed m (filter (λ i. i.machine == m.id) ys)) ms) (same m.id)
-    ∙ ap (λ (rest : List ListedMachine). listed m (filter (λ i. i.machine == m.id) xs) ∷ rest) (listed_same ms xs ys same)
+use Rattle.hall_types.specs.Rows.{listed as rows_of}
 
 -- the machines and the interfaces of a hall
 all_listed : (h : Hall) (ms : List Machine) (is : List Interface) → ms ≡ rows_of h.machines → is ≡ rows_of h.interfaces

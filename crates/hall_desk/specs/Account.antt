@@ -1,15 +1,8 @@
 -- What an account of an arrival says.
 use Rattle.std.specs.Prelude.{◌≡◌, ⊤, ℕ, Bool, false, not, List, Option, None, Some, Result, Ok, Err, IfSome, option_map, if◌then◌else◌}
-use Rattle.dhcp_frame.specs.{Message.Message, Understood.understood}
-use Rattle.pxe_vendor.specs.{Place.Site, Served.{Answers, client_of}, declared.{clients.Client.Client, serve.NotServed.NotServed}}
-use Rattle.hall_types.specs.{Hall.{Hall, pair}, Lookup.next_expired, Rows.at, declared.{change.RowWrite.RowWrite, kinds.Role.Role, machine.Machine.Machine, operator.Operator.Operator, port.Port.Port, receipt.Receipt.Receipt}}
-use Rattle.hall_events.specs.declared.{command.HallCommand.HallCommand, event.Event.Event}
 use Rattle.hall_events.specs.declared.event.Event.TheVariants as event
-use Rattle.boot_desk.specs.{FrameEvent.{frame_decision, frame_view}, declared.frames.Decision.{Decision, TheVariants.{Loader, ScriptUrl, Enlist, Silent}}, Views.{machine_view, order_view, report_view, view_at}}
-use Rattle.desk_command.specs.{Command.{may_send, needs_admin, sender}, View.command_view}
-use Rattle.hall_http.specs.Request.{IsEvent}
-use Rattle.hall_laws.specs.Decision.{decision_of, may_answer}
-use Rattle.hall_desk.specs.{Moved.moved_by, Octets.{IsFrom}, declared.{account.{Account.Account, Came.Came, Found.Found, Notes.Notes}, arrival.{Answer.Answer, Input.Input}}}
+use Rattle.hall_laws.specs.Decision.{decision_of}
+use Rattle.hall_desk.specs.{Prelude.{Message, understood, Site, Answers, client_of, Client, NotServed, Hall, pair, next_expired, at, RowWrite, Role, Machine, Operator, Port, Receipt, HallCommand, Event, frame_decision, frame_view, Decision, Enlist, machine_view, order_view, report_view, view_at, may_send, needs_admin, sender, command_view, IsEvent, may_answer}, Moved.moved_by, Octets.IsFrom, declared.{account.{Account.Account, Came.Came, Found.Found, Notes.Notes}, arrival.{Answer.Answer, Input.Input}}}
 use Rattle.hall_desk.specs.declared.account.Came.TheVariants as came
 use Rattle.hall_desk.specs.declared.arrival.Answer.TheVariants as answer
 use Rattle.hall_desk.specs.declared.arrival.Input.TheVariants as input
@@ -30,21 +23,10 @@ abbrev pub IsReadAs : Input → Came → Type 0
 IsReadAs (input.Datagram port octets) (came.Malformed fault) = understood octets ≡ Err fault
 IsReadAs (input.Datagram port octets) (came.NotServed cause) = IsUnanswered octets cause
 IsReadAs (input.Datagram port octets) (came.Client client) = IsMessageOf octets client
-IsReadAs (input.Datagram port octets) (came.Refused fault) = ⊥
-IsReadAs (input.Datagram port octets) (came.Asked e) = ⊥
-IsReadAs (input.Datagram port octets) came.Quiet = ⊥
-IsReadAs (input.Request octets) (came.Malformed fault) = ⊥
-IsReadAs (input.Request octets) (came.NotServed cause) = ⊥
-IsReadAs (input.Request octets) (came.Client client) = ⊥
 IsReadAs (input.Request octets) (came.Refused fault) = IsEvent octets (Err fault)
 IsReadAs (input.Request octets) (came.Asked e) = IsEvent octets (Ok e)
-IsReadAs (input.Request octets) came.Quiet = ⊥
-IsReadAs input.Quiet (came.Malformed fault) = ⊥
-IsReadAs input.Quiet (came.NotServed cause) = ⊥
-IsReadAs input.Quiet (came.Client client) = ⊥
-IsReadAs input.Quiet (came.Refused fault) = ⊥
-IsReadAs input.Quiet (came.Asked e) = ⊥
 IsReadAs input.Quiet came.Quiet = ⊤
+IsReadAs input came = ⊥
 
 -- ---- what is found
 
@@ -122,10 +104,8 @@ noted_of site h e moment fresh = with_move (decision_of site h e moment fresh).r
 
 -- a client that is to be enlisted isn't, by a desk that doesn't enlist
 abbrev pub is_unlisted : Bool → Decision → Bool
-is_unlisted enlists Loader = false
-is_unlisted enlists ScriptUrl = false
 is_unlisted enlists Enlist = not enlists
-is_unlisted enlists (Silent cause) = false
+is_unlisted enlists other = false
 
 -- the decision on a client's frame is the hall's, and it says whether nobody was enlisted for it
 abbrev pub IsDecided : Bool → Hall → Port → Client → Notes → Type 0
@@ -156,5 +136,4 @@ given_or missed (Err e) = missed
 -- what came is a datagram
 abbrev pub IsDatagram : Input → Type 0
 IsDatagram (input.Datagram port octets) = ⊤
-IsDatagram (input.Request octets) = ⊥
-IsDatagram input.Quiet = ⊥
+IsDatagram other = ⊥

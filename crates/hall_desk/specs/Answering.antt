@@ -1,8 +1,6 @@
 -- What an answer of a desk promises, over any store.
 use Rattle.std.specs.Prelude.{◌≡◌, ℕ, false, List, [], ◌∷◌, ◌++◌}
-use Rattle.hall_types.specs.Hall.{Hall}
-use Rattle.hall_desk.specs.{Account.{IsDatagram, IsFound, IsReadAs}, Attempt.{GivesAnswer, IsOnlyRead}, Desk.{enlists_of, site_of, store_of}, Headline.HasHistory, History.{Item, Origin, exchanged}, Octets.IsGiven, Stops.{IsLeft, IsSettled, OrUnanswered}, declared.{account.Account.Account, arrival.{Answer.Answer, Arrival.Arrival, Input.Input}, desk.Desk.Desk}}
-use Rattle.hall_store.specs.declared.store.HallStore.{Ghosts}
+use Rattle.hall_desk.specs.{Prelude.{Hall, Ghosts}, Account.{IsDatagram, IsFound, IsReadAs}, Attempt.{GivesAnswer, IsOnlyRead}, Desk.{enlists_of, site_of, store_of}, Headline.HasHistory, History.{Item, Origin, exchanged}, Octets.IsGiven, Stops.{IsLeft, IsSettled, OrUnanswered}, declared.{account.Account.Account, arrival.{Answer.Answer, Arrival.Arrival, Input.Input}, desk.Desk.Desk}}
 
 -- An arrival is answered so, and the desk stays where it is. Each promise but these two is made where the store is clean afterwards.
 pub record Answers {S : Type 0} (g : Ghosts S) (old new : Desk S) (arrival : Arrival) (answer : Answer) : Type 0 where

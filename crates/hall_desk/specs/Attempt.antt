@@ -1,10 +1,6 @@
 -- What carrying an arrival out promises, over any store.
-use Rattle.std.specs.{Prelude.{◌≡◌, ◌⊎◌, ℕ, List, [], ◌∷◌, Result, IfOk, OnErr}, List.AllByRecursion}
-use Rattle.pxe_vendor.specs.Place.{Site}
-use Rattle.hall_types.specs.Hall.{Hall}
-use Rattle.boot_desk.specs.Sound.{IsSound}
-use Rattle.hall_desk.specs.{Octets.{HasCome, HasMissed, IsArrivalStep, IsArrivalRun, IsIdle}, declared.arrival.{Answer.{Answer, TheVariants.Unavailable}, Arrival.Arrival, Input.Input}}
-use Rattle.hall_store.specs.declared.store.HallStore.{Ghosts}
+use Rattle.std.specs.{Prelude.{◌≡◌, ◌⊎◌, ℕ, List, [], ◌∷◌}, List.AllByRecursion}
+use Rattle.hall_desk.specs.{Prelude.{Site, Hall, IsSound, Ghosts}, Octets.{HasCome, HasMissed, IsArrivalStep, IsArrivalRun, IsIdle}, declared.arrival.{Answer.{Answer, TheVariants.Unavailable}, Arrival.Arrival, Input.Input}}
 
 module _ {S : Type 0} (g : Ghosts S) (old new : S) (site : Site) (input : Input) (moment : ℕ) (fresh : List ℕ) where
   -- what came is in the store: the next hall is sound, and if a stop left the hall before alone, it leaves that one alone
@@ -21,15 +17,6 @@ module _ {S : Type 0} (g : Ghosts S) (old new : S) (site : Site) (input : Input)
     pub answer : Answer
     pub step : IsArrivalStep site h input moment fresh answer next
     pub left : g.leaves new (next ∷ hs)
-
-  -- An arrival is carried out, and its answer given; or it counts as not having come.
-  pub record IsAttempt {E : Type 0} (r : Result Answer E) : Type 0 where
-    pub came : IfOk r (λ a. (h : Hall) → g.holds old h → IsSound h → IsKept h a)
-    pub missed : OnErr r ((h : Hall) → g.holds old h → g.holds new h)
-    pub unavailable : IfOk r (λ a. a ≡ Unavailable → (h : Hall) → g.holds old h → g.holds new h)
-    pub idle : (h : Hall) → g.holds old h → IsIdle site h input moment fresh → g.holds new h
-    pub still : (h : Hall) → g.holds old h → IsIdle site h input moment fresh → (hs : List Hall) → g.leaves old hs → g.leaves new hs
-    pub crash : (h : Hall) → g.holds old h → IsSound h → (hs : List Hall) → g.leaves old hs → IsTorn h hs
 
   -- An arrival is answered.
   pub record IsAnswered (a : Answer) : Type 0 where

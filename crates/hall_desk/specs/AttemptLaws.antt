@@ -1,26 +1,36 @@
 -- An answer to octets that decide a request is one to more of them; what counts as not having come leaves the store as it is.
-use Rattle.std.{specs.Prelude.{◌∷◌, ◌++◌, ℕ, List, Ok, Err}, proofs.Common.{inl, inr, refl}}
-use Rattle.pxe_vendor.specs.Place.{Site}
-use Rattle.hall_types.specs.Hall.{Hall}
+use Rattle.std.{specs.{Prelude.{◌≡◌, ◌⊎◌, ◌∷◌, ◌++◌, ℕ, List, Option, Some, None, IfSome, Ok, Err}, Io.KnownBytes.{Consumes, IsAtEnd}}, proofs.Common.{◌∙◌, ap, append-nil, append_assoc, inl, inr, refl, subst, sym}}
 use Rattle.hall_http.specs.Decided.{IsDecided}
-use Rattle.hall_desk.specs.{Attempt.{IsAnswered, IsKept, IsTorn}, Octets.{HasCome, HasMissed, IsArrivalStep, Meaning, Means, answered, asks, missed_answer}, declared.arrival.{Answer.Answer, Input.{Input, TheVariants.Request}}}
-use Rattle.hall_store.specs.declared.store.HallStore.{Ghosts}
+use Rattle.hall_desk.specs.{Prelude.{Site, Hall, Ghosts}, Attempt.{GivesAnswer, IsAnswered, IsKept, IsOnlyRead, IsTorn}, Octets.{HasCome, HasMissed, IsArrivalStep, Meaning, Means, answered, asks, missed_answer}, declared.arrival.{Answer.{Answer, TheVariants.Unavailable}, Input.{Input, TheVariants.Request}}}
 
--- what counts as not having come leaves the store as it is
-pub missed_same : {S : Type 0} (g : Ghosts S) → ((s : S) (h : Hall) (hs : List Hall) → g.leaves s hs → g.leaves s (h ∷ hs))
-    → (s : S) (site : Site) (moment : ℕ) (fresh : List ℕ) (what : Input) → IsAnswered g s s site what moment fresh (missed_answer what)
-missed_same g wider s site moment fresh what = record {
-  step = λ h held sound. inr (record { answer = refl; same = refl }, held);
-  idle = λ h held none. held;
-  still = λ h held none hs left. left;
-  unavailable = λ is h held. held;
-  crash = λ h held sound hs left. record {
-    next = h;
-    answer = missed_answer what;
-    step = inr (record { answer = refl; same = refl });
-    left = wider s h hs left;
-  };
-}
+-- a store that stays as it is was only read
+pub read_same : {S : Type 0} (g : Ghosts S) (s : S) → IsOnlyRead g s s
+read_same g s = record { same = λ h held. held; stop = λ h held hs left. left }
+
+module _ {S : Type 0} (g : Ghosts S) (wider : (s : S) (h : Hall) (hs : List Hall) → g.leaves s hs → g.leaves s (h ∷ hs))
+    (s : S) (site : Site) (moment : ℕ) (fresh : List ℕ) where
+  -- what counts as not having come leaves the store as it is
+  pub missed_same : (what : Input) → IsAnswered g s s site what moment fresh (missed_answer what)
+  missed_same what = record {
+    step = λ h held sound. inr (record { answer = refl; same = refl }, held);
+    idle = λ h held none. held;
+    still = λ h held none hs left. left;
+    unavailable = λ is h held. held;
+    crash = λ h held sound hs left. record {
+      next = h;
+      answer = missed_answer what;
+      step = inr (record { answer = refl; same = refl });
+      left = wider s h hs left;
+    };
+  }
+
+  pub gives_missed : (what : Input) → GivesAnswer g s s site what moment fresh (missed_answer what)
+  gives_missed what = λ clean. (clean, missed_same what)
+
+  -- likewise of a request that can't be read for want of memory, after what was read of it
+  pub unread : (read : List ℕ) (rest : Option (List ℕ)) → IfSome rest (λ more. IsAnswered g s s site (Request (read ++ more)) moment fresh Unavailable)
+  unread read None = tt
+  unread read (Some more) = missed_same (Request (read ++ more))
 
 module _ {S : Type 0} (g : Ghosts S) (old new : S) (site : Site) (moment : ℕ) (fresh : List ℕ) where
   module _ (octets more : List ℕ) (decided : IsDecided octets) where
@@ -53,3 +63,16 @@ module _ {S : Type 0} (g : Ghosts S) (old new : S) (site : Site) (moment : ℕ) 
       unavailable = it.unavailable;
       crash = λ h held sound hs left. torn_on h hs (it.crash h held sound hs left);
     }
+
+  -- an answer to what was read is one to all that was to be read
+  pub answered_whole : (read octets all : List ℕ) (rest after : Option (List ℕ)) (a : Answer) → Consumes rest after octets → all ≡ read ++ octets
+      → (IsAtEnd after ⊎ IsDecided all) → IsAnswered g old new site (Request all) moment fresh a
+      → IfSome rest (λ more. IsAnswered g old new site (Request (read ++ more)) moment fresh a)
+  answered_whole read octets all None after a f k g it = tt
+  answered_whole read octets all (Some more) None a f k g it = absurd f
+  answered_whole read octets all (Some more) (Some left) a f k (inl e) it =
+      let same : all ≡ read ++ more = k ∙ ap (λ t. read ++ t) (sym (f ∙ ap (λ t. octets ++ t) e ∙ append-nil octets)) in
+      subst (λ (o : List ℕ). IsAnswered g old new site (Request o) moment fresh a) same it
+  answered_whole read octets all (Some more) (Some left) a f k (inr d) it =
+      let same : all ++ left ≡ read ++ more = ap (λ t. t ++ left) k ∙ append_assoc read octets left ∙ ap (λ t. read ++ t) (sym f) in
+      subst (λ (o : List ℕ). IsAnswered g old new site (Request o) moment fresh a) same (answered_on all left d a it)

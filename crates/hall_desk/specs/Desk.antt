@@ -1,7 +1,6 @@
 -- What a desk is made of.
 use Rattle.std.specs.Prelude.{◌≡◌, Bool}
-use Rattle.pxe_vendor.specs.Place.{Site}
-use Rattle.hall_desk.specs.declared.desk.Desk.{Desk}
+use Rattle.hall_desk.specs.{Prelude.Site, declared.desk.Desk.Desk}
 
 module _ {S : Type 0} where
   -- the store of its hall

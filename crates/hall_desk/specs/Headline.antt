@@ -9,11 +9,7 @@
 -- and counts once; every refusal changes nothing. All this holds over stops of the desk: what came when it stopped came to the hall
 -- or didn't, and a command that is answered by the status 200 was accepted, once, however often it was sent before.
 use Rattle.std.specs.Prelude.{◌≡◌, ◌<◌, ◌⊎◌, ℕ, List, [], ◌∷◌, ◌++◌, take, length, Option, Some}
-use Rattle.pxe_vendor.specs.Place.{Site}
-use Rattle.hall_types.specs.Hall.{Hall}
-use Rattle.hall_laws.specs.{Step.{IsRun, Step}, Later.KeepsLaws, Origin.first_steps}
-use Rattle.hall_desk.specs.{History.{AllLead, AreStepsOf, BeginsWith, Item, Origin, exchanged}, Octets.octets_of, declared.{arrival.{Answer.Answer, Arrival.Arrival, Input.TheVariants.Request}, serving.Served.{Served, TheVariants.{Answered, ReadFailed, WriteFailed}}}}
-use Rattle.hall_store.specs.declared.store.HallStore.{Ghosts}
+use Rattle.hall_desk.specs.{Prelude.{Site, Hall, IsRun, Step, KeepsLaws, first_steps, Ghosts}, History.{AllLead, AreStepsOf, BeginsWith, Item, Origin, exchanged}, Octets.octets_of, declared.{arrival.{Answer.Answer, Arrival.Arrival, Input.TheVariants.Request}, serving.Served.{Served, TheVariants.{Answered, ReadFailed, WriteFailed}}}}
 
 -- What came to a hall of this origin, until it was the last one.
 pub record Headline (origin : Origin) (items : List Item) (end : Hall) : Type 0 where

@@ -1,11 +1,8 @@
 -- What came to a hall since it was new, and the steps of the model that it was.
 use Rattle.std.specs.Prelude.{◌≡◌, ◌⊎◌, ⊤, ℕ, List, [], ◌∷◌, Some}
-use Rattle.pxe_vendor.specs.Place.{Site}
-use Rattle.hall_types.specs.Hall.{Hall, applied, second}
-use Rattle.hall_events.specs.{Reply.{Content, reply_of}, declared.{event.Event.Event, reply.Reply.Reply}}
-use Rattle.hall_laws.specs.{Decision.decision_of, Step.{IsTyped, Step}}
+use Rattle.hall_laws.specs.Decision.{decision_of}
 pub use Rattle.hall_laws.specs.Origin.{BeginsWith, Origin}
-use Rattle.hall_desk.specs.{Octets.{HasCome, IsArrivalStep, Means, answered, asks, missed_answer}, declared.arrival.{Answer.Answer, Arrival.Arrival}}
+use Rattle.hall_desk.specs.{Prelude.{Site, Hall, applied, second, Content, reply_of, Event, Reply, IsTyped, Step}, Octets.{HasCome, IsArrivalStep, Means, answered, asks, missed_answer}, declared.arrival.{Answer.Answer, Arrival.Arrival}}
 
 -- ---- items
 

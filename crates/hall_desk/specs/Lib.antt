@@ -1,3 +1,4 @@
+pub mod Prelude
 pub mod Account
 pub mod Answering
 pub mod Attempt
@@ -5,9 +6,11 @@ pub mod AttemptLaws
 pub mod Desk
 pub mod Headline
 pub mod History
+pub mod HistoryLaws
 pub mod Moved
 pub mod Octets
 pub mod Plan
+pub mod RunLaws
 pub mod Sender
 pub mod Served
 pub mod Stops

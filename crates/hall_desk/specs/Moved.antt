@@ -1,7 +1,6 @@
 -- A machine's move from one status to another.
 use Rattle.std.specs.{Prelude.{ℕ, ◌==◌, Bool, false, List, [], ◌∷◌, Option, None, Some, if◌then◌else◌}, Option.option_or}
-use Rattle.hall_types.specs.{Status.status_number, declared.{change.RowWrite.{RowWrite, TheVariants.{PutMachine, MachineGone}}, machine.Machine.Machine, status.Status.Status}}
-use Rattle.hall_desk.specs.declared.moved.{Moved.Moved, Seen.Seen}
+use Rattle.hall_desk.specs.{Prelude.{status_number, RowWrite, PutMachine, MachineGone, Machine, Status}, declared.moved.{Moved.Moved, Seen.Seen}}
 
 -- the status that a machine was seen with, none where another machine was seen
 abbrev pub status_seen : Option Seen → ℕ → Option Status

@@ -1,15 +1,10 @@
 -- Arrivals and answers in octets, and what they mean to the model.
 use Rattle.std.specs.Prelude.{◌≡◌, ◌≢◌, ◌⊎◌, ℕ, List, [], ◌∷◌, Ok, Err, ⊤}
-use Rattle.dhcp_frame.specs.{Message.{Message, IsFrame}, Reply.reply_octets}
-use Rattle.pxe_vendor.specs.{Answer.answer_to, Client.IsClient, Place.Site, declared.clients.Client.Client}
-use Rattle.hall_types.specs.{Hall.{Hall, applied, second}, declared.{port.Port.Port, refusal.Refusal.Refusal}}
 use Rattle.hall_types.specs.declared.refusal.Refusal.TheVariants as cause
-use Rattle.hall_events.specs.{Reply.{Content, refused, boot_file, reply_of}, declared.{event.Event.Event, reply.Reply.{Reply, TheVariants.Http}}}
 use Rattle.hall_events.specs.declared.event.Event.TheVariants as event
-use Rattle.hall_http.specs.{Request.IsEvent, declared.{fault.HttpFault.HttpFault, response.TheConstants.UNAVAILABLE}, Response.response_of}
 use Rattle.hall_http.specs.declared.fault.HttpFault.TheVariants as fault
-use Rattle.hall_laws.specs.{Decision.decision_of, Step.IsTyped}
-use Rattle.hall_desk.specs.declared.arrival.{Answer.Answer, Arrival.Arrival, Input.Input}
+use Rattle.hall_laws.specs.Decision.{decision_of}
+use Rattle.hall_desk.specs.{Prelude.{Message, IsFrame, reply_octets, answer_to, IsClient, Site, Client, Hall, applied, second, Port, Refusal, Content, refused, boot_file, reply_of, Event, Reply, Http, IsEvent, HttpFault, UNAVAILABLE, response_of, IsTyped}, declared.arrival.{Answer.Answer, Arrival.Arrival, Input.Input}}
 use Rattle.hall_desk.specs.declared.arrival.Answer.TheVariants as answer
 use Rattle.hall_desk.specs.declared.arrival.Input.TheVariants as input
 
@@ -123,8 +118,7 @@ pub record HasCome (site : Site) (h : Hall) (what : Input) (moment : ℕ) (fresh
 -- how an arrival is answered that counts as not having come
 abbrev pub missed_answer : Input → Answer
 missed_answer (input.Datagram port octets) = answer.Silence
-missed_answer (input.Request octets) = answer.Unavailable
-missed_answer input.Quiet = answer.Unavailable
+missed_answer other = answer.Unavailable
 
 -- an arrival was answered: not by Unavailable, and by silence only where this hall answers a datagram so
 abbrev pub IsGiven : Site → Hall → Input → ℕ → List ℕ → Answer → Type 0

@@ -1,14 +1,7 @@
 -- What is planned for an event, and what writing it promises, over any store.
 use Rattle.std.specs.Prelude.{◌≡◌, List, [], ◌∷◌, Result, IfOk, OnOk, OnErr}
-use Rattle.pxe_vendor.specs.declared.clients.Client.{Client}
-use Rattle.hall_types.specs.{Hall.{Hall, applied, second}, declared.{change.RowWrite.RowWrite, number.Numbers.Numbers}}
-use Rattle.boot_desk.specs.{FrameEvent.enlisted, declared.frames.Decision.{Decision, TheVariants.Enlist}}
-use Rattle.hall_events.specs.{Reply.reply_of, declared.reply.Reply.Reply}
-use Rattle.hall_store.specs.{Rules.AllKeep, declared.store.HallStore.Ghosts}
-use Rattle.hall_laws.specs.Decision.{Decided, decision_of}
-use Rattle.hall_events.specs.declared.event.Event.{Event}
-use Rattle.hall_desk.specs.declared.arrival.Stamp.{Stamp}
-use Rattle.pxe_vendor.specs.Place.{Site}
+use Rattle.hall_laws.specs.Decision.{decision_of}
+use Rattle.hall_desk.specs.{Prelude.{Client, Hall, applied, second, RowWrite, Numbers, enlisted, Decision, Enlist, reply_of, Reply, AllKeep, Ghosts, Decided, Event, Site}, declared.arrival.Stamp.Stamp}
 
 -- what a hall makes of an event that comes to a place with a stamp
 abbrev pub decided_at : Site → Stamp → Event → Hall → Decided

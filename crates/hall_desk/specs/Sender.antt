@@ -1,8 +1,6 @@
 -- Who sends a request, and who may.
 use Rattle.std.specs.Prelude.{Bool, Option, None, Some, if◌then◌else◌}
-use Rattle.hall_types.specs.declared.{kinds.Role.Role, operator.Operator.Operator}
-use Rattle.hall_laws.specs.Decision.{may_answer, may_see_machines, may_see_orders}
-use Rattle.hall_desk.specs.declared.requests.Right.{Right}
+use Rattle.hall_desk.specs.{Prelude.{Role, Operator, may_answer, may_see_machines, may_see_orders}, declared.requests.Right.Right}
 
 -- the operator, if there is one who is enabled
 abbrev pub if_enabled : Option Operator → Option Operator

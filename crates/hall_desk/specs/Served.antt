@@ -1,10 +1,8 @@
 -- What serving one request over a reader and a writer did.
 use Rattle.std.specs.{Prelude.{◌≡◌, ◌<◌, ◌≤◌, ◌⊎◌, ℕ, List, [], ◌++◌, take, length, Option, Some, Bool, true}, Io.KnownBytes.{Consumes, IsAtEnd}}
-use Rattle.pxe_vendor.specs.Place.{Site}
-use Rattle.hall_http.specs.Decided.{Ends, IsDecided}
-use Rattle.hall_desk.specs.{Attempt.IsAnswered, Octets.octets_of, declared.{arrival.{Answer.Answer, Input.TheVariants.Request}, reading.Reading.Reading, serving.Served.{Served, TheVariants.{Answered, ReadFailed, WriteFailed}}}}
+use Rattle.hall_http.specs.Decided.{IsDecided}
+use Rattle.hall_desk.specs.{Prelude.{Site, Ends, Ghosts}, Attempt.IsAnswered, Octets.octets_of, declared.{arrival.{Answer.Answer, Input.TheVariants.Request}, reading.Reading.Reading, serving.Served.{Served, TheVariants.{Answered, ReadFailed, WriteFailed}}}}
 use Rattle.hall_desk.specs.declared.reading.Reading.TheVariants as reading
-use Rattle.hall_store.specs.declared.store.HallStore.{Ghosts}
 
 -- `before` is what the writer held before, and `after` what it holds then
 module _ {S : Type 0} (g : Ghosts S) (old new : S) (site : Site) (moment : ℕ) (fresh : List ℕ) where
@@ -18,21 +16,18 @@ module _ {S : Type 0} (g : Ghosts S) (old new : S) (site : Site) (moment : ℕ) 
 
 -- a read failed, or 4,096 reads gave octets
 abbrev pub IfReadFailed : Served → Bool → ℕ → Type 0
-IfReadFailed Answered failed takes = Unit {0}
 IfReadFailed ReadFailed failed takes = (failed ≡ true) ⊎ (takes ≡ 4096)
-IfReadFailed (WriteFailed n) failed takes = Unit {0}
+IfReadFailed other failed takes = Unit {0}
 
 -- a write failed
 abbrev pub IfWriteFailed : Served → Bool → Type 0
-IfWriteFailed Answered failed = Unit {0}
-IfWriteFailed ReadFailed failed = Unit {0}
 IfWriteFailed (WriteFailed n) failed = failed ≡ true
+IfWriteFailed other failed = Unit {0}
 
 -- the octets are the whole input, or they are its front and decide the request
 abbrev pub TakesWhole : Reading → Option (List ℕ) → Option (List ℕ) → Type 0
 TakesWhole (reading.Whole octets) old new = Consumes old new octets × (IsAtEnd new ⊎ IsDecided octets)
-TakesWhole reading.NoMemory old new = Unit {0}
-TakesWhole reading.Failed old new = Unit {0}
+TakesWhole other old new = Unit {0}
 
 -- what was read: but for the octets of one last read, 512 at most, it doesn't end a request
 pub record IsReadInTime (old new : Option (List ℕ)) : Type 0 where
@@ -43,9 +38,8 @@ pub record IsReadInTime (old new : Option (List ℕ)) : Type 0 where
   pub short : length last ≤ 512
 
 abbrev pub IfFailed : Reading → Bool → ℕ → Type 0
-IfFailed (reading.Whole octets) failed takes = Unit {0}
-IfFailed reading.NoMemory failed takes = Unit {0}
 IfFailed reading.Failed failed takes = (failed ≡ true) ⊎ (takes ≡ 4096)
+IfFailed other failed takes = Unit {0}
 
 -- how much of an answer was written
 abbrev pub IsSent : List ℕ → List ℕ → Served → Option (List ℕ) → Type 0
@@ -54,6 +48,5 @@ IsSent octets before ReadFailed after = ⊥
 IsSent octets before (WriteFailed n) after = (n < length octets) × (after ≡ Some (before ++ take n octets))
 
 abbrev pub IsWritten : Served → Type 0
-IsWritten Answered = Unit {0}
 IsWritten ReadFailed = ⊥
-IsWritten (WriteFailed n) = Unit {0}
+IsWritten other = Unit {0}

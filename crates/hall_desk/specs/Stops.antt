@@ -1,10 +1,6 @@
 -- What a stop of a desk may leave: halls to which histories lead.
 use Rattle.std.specs.{Prelude.{◌≡◌, ◌≢◌, ◌⊎◌, ℕ, List, [], ◌∷◌, ◌++◌}, List.AllByRecursion}
-use Rattle.pxe_vendor.specs.Place.{Site}
-use Rattle.hall_types.specs.Hall.{Hall}
-use Rattle.hall_events.specs.declared.event.Event.{Event}
-use Rattle.hall_desk.specs.{Attempt.IsRan, Headline.{HasHistory, Headline, requested}, History.{AllLead, IsCutRun, Item, Origin, came_unanswered, came_unreplied}, Octets.{IsArrivalStep, IsGiven, missed_answer}, declared.arrival.{Answer.Answer, Arrival.Arrival}}
-use Rattle.hall_store.specs.declared.store.HallStore.{Ghosts}
+use Rattle.hall_desk.specs.{Prelude.{Site, Hall, Event, Ghosts}, Attempt.IsRan, Headline.{HasHistory, Headline, requested}, History.{AllLead, IsCutRun, Item, Origin, came_unanswered, came_unreplied}, Octets.{IsArrivalStep, IsGiven, missed_answer}, declared.arrival.{Answer.Answer, Arrival.Arrival}}
 
 -- each arrival was answered, and none by what is said where it counts as not having come
 abbrev pub AreAnswered : List Arrival → List Answer → Type 0

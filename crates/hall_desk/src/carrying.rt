@@ -1,9 +1,7 @@
 //! Carrying out what came.
 ghost use Rattle.std.specs.Prelude.{◌≡◌, ℕ, List, None, false, OnErr, OnOk};
-ghost use Rattle.hall_types.specs.Hall.{Hall};
 ghost use Rattle.hall_events.specs.declared.event.Event.TheVariants as event;
-ghost use Rattle.hall_laws.specs.Decision.{decision_of};
-ghost use Rattle.hall_desk.specs.{Account.{IsDecided, found_for, is_unlisted, nothing_found, with_found, with_move}, Attempt.IsOnlyRead, Desk.{Stays, enlists_of, site_of, store_of}, Moved.moved_by, Octets.{frame_answer, no_answer, response_answer}, Plan.{CarriesOut, decided_at}};
+ghost use Rattle.hall_desk.specs.{Prelude.{Hall, decision_of}, Account.{IsDecided, found_for, is_unlisted, nothing_found, with_found, with_move}, Attempt.IsOnlyRead, Desk.{Stays, enlists_of, site_of, store_of}, Moved.moved_by, Octets.{frame_answer, no_answer, response_answer}, Plan.{CarriesOut, decided_at}};
 
 use crate::account::{Found, Notes};
 use crate::arrival::{Answer, Stamp};

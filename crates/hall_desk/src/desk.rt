@@ -1,15 +1,12 @@
 //! The desk: a store, and the place that it serves.
 ghost use Rattle.std.specs.Prelude.{◌≡◌, true, false, ℕ, List, [], ◌∷◌, ◌++◌, length, IfOk, OnErr};
-ghost use Rattle.hall_events.specs.Reply.{reply_of};
-ghost use Rattle.desk_command.specs.{Command.sender, Look.Looks};
-ghost use Rattle.hall_laws.specs.{Decision.decision_of, Laws.IsFrame};
-ghost use Rattle.hall_types.specs.Hall.{Hall, second};
-ghost use Rattle.boot_desk.specs.Sound.{IsSound};
-ghost use Rattle.hall_desk.specs.{Account.{IsFound, IsReadAs}, Answering.{Answers, Gives}, Attempt.{ChangeNothing, IsOnlyRead}, Desk.{enlists_of, site_of, store_of}, Headline.HasHistory, History.{BeginsWith, Item, Origin, carried_out, exchanges}, Plan.{CarriesOut, Plans}, Sender.if_enabled, Stops.{AndCutRun, AreGiven, HasRun, IsLeft, IsSettled, OrUnreplied}};
+ghost use Rattle.hall_laws.specs.Laws.{IsFrame};
+ghost use Rattle.hall_desk.specs.{Prelude.{reply_of, sender, Looks, decision_of, Hall, second, IsSound}, Account.{IsFound, IsReadAs}, Answering.{Answers, Gives}, Attempt.{ChangeNothing, IsOnlyRead}, Desk.{enlists_of, site_of, store_of}, Headline.HasHistory, History.{BeginsWith, Item, Origin, carried_out, exchanges}, Plan.{CarriesOut, Plans}, Sender.if_enabled, Stops.{AndCutRun, AreGiven, HasRun, IsLeft, IsSettled, OrUnreplied}};
 
 use crate::account::{Account, Found};
 use crate::arrival::{Answer, Arrival, Input, Stamp};
 use crate::laws::histories_keep_the_laws;
+use crate::plans::Planned;
 use crate::requests::enabled_sender;
 use crate::typed::event_is_typed;
 use crate::writing::write;
@@ -77,13 +74,7 @@ impl<S: HallStore> Desk<S> {
 
     /// The rows that an event writes, and its answer. Nothing is written. The frame of a client that is to be enlisted, by a desk that doesn't,
     /// is refused.
-    pub fn plan(
-        &mut self,
-        alloc: Global,
-        event: &Event,
-        moment: Moment,
-        fresh: Token,
-    ) -> Result<(Change, Reply), Unavailable>
+    pub fn plan(&mut self, alloc: Global, event: &Event, moment: Moment, fresh: Token) -> Planned
         ensures site { site_of self.new ≡ site_of self.old }
         ensures enlists { enlists_of self.new ≡ enlists_of self.old }
         ensures plan { Looks S.HallStore (store_of self.old) (store_of self.new) result

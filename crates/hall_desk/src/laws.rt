@@ -1,9 +1,6 @@
 //! Laws of what came to a hall since it was new.
 ghost use Rattle.std.specs.Prelude.{ℕ, List, [], ◌∷◌, ◌++◌};
-ghost use Rattle.pxe_vendor.specs.Place.{Site};
-ghost use Rattle.hall_types.specs.Hall.{Hall};
-ghost use Rattle.hall_laws.specs.Step.{IsRun, Step};
-ghost use Rattle.hall_desk.specs.{Headline.Headline, History.{AllLead, AreStepsOf, BeginsWith, Item, ItemLeads, Origin, exchanges}, Octets.IsArrivalRun, Stops.{AreAnswered, AreGiven}, declared.arrival.{Answer.Answer, Arrival.Arrival}};
+ghost use Rattle.hall_desk.specs.{Prelude.{Site, Hall, IsRun, Step}, Headline.Headline, History.{AllLead, AreStepsOf, BeginsWith, Item, ItemLeads, Origin, exchanges}, Octets.IsArrivalRun, Stops.{AreAnswered, AreGiven}, declared.arrival.{Answer.Answer, Arrival.Arrival}};
 
 use hall_laws::laws_hold_from_origins;
 

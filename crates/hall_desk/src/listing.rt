@@ -1,15 +1,14 @@
 //! The list of all machines.
 ghost use Rattle.std.specs.{Prelude.{◌≡◌, ◌==◌, filter, map, IfOk}, List.Sorted.IsNonDecreasingBy};
-ghost use Rattle.hall_types.specs.{Hall.second, Rows.listed as rows_of};
-ghost use Rattle.hall_events.specs.Reply.{listed, listing, machine_list, reply_of, with_machine};
-ghost use Rattle.hall_laws.specs.Decision.{listed_of, says};
-ghost use Rattle.desk_command.specs.Look.{Looks};
-ghost use Rattle.hall_desk.specs.Plan.{Plans};
+ghost use Rattle.hall_types.specs.Rows.{listed as rows_of};
+ghost use Rattle.hall_events.specs.Reply.{listed};
+ghost use Rattle.hall_desk.specs.{Prelude.{second, listing, machine_list, reply_of, with_machine, listed_of, says, Looks}, Plan.Plans};
 
+use crate::plans::Planned;
 use crate::requests::said;
 use hall_events::{MachineList, Reply};
-use hall_store::{HallStore, Unavailable};
-use hall_types::{Change, Interface, Machine, own_interfaces, sort_by_machine};
+use hall_store::HallStore;
+use hall_types::{Interface, Machine, own_interfaces, sort_by_machine};
 use std::alloc::{AllocError, Global};
 
 // The answer with machines, each with its interfaces, which are sorted by machine.
@@ -43,10 +42,7 @@ fn machine_list_reply(
 }
 
 /// The answer with all machines, by number, each with its interfaces, by address.
-pub(crate) fn list_machines<S: HallStore>(
-    alloc: Global,
-    store: &mut S,
-) -> Result<(Change, Reply), Unavailable>
+pub(crate) fn list_machines<S: HallStore>(alloc: Global, store: &mut S) -> Planned
     ensures { Looks S.HallStore store.old store.new result
         (λ h planned. Plans (says (machine_list (map (listed_of h) (rows_of h.machines)))) planned) }
 {

@@ -1,12 +1,8 @@
 //! Answers in octets.
 ghost use Rattle.std.specs.Prelude.{◌≡◌, ◌≢◌, IfOk};
-ghost use Rattle.hall_events.specs.Reply.{reply_of, Content};
-ghost use Rattle.hall_types.specs.Hall.{second, Hall};
 ghost use Rattle.hall_events.specs.Reply as content;
 ghost use Rattle.hall_http.specs.declared.fault.HttpFault.TheVariants as why;
-ghost use Rattle.hall_desk.specs.Octets.{refusal_of, response_answer, frame_answer};
-ghost use Rattle.pxe_vendor.specs.Place.{Site};
-ghost use Rattle.hall_laws.specs.Decision.{framed};
+ghost use Rattle.hall_desk.specs.{Prelude.{reply_of, Content, second, Hall, Site, framed}, Octets.{refusal_of, response_answer, frame_answer}};
 
 use crate::arrival::Answer;
 use boot_desk::Decision;

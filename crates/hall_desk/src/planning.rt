@@ -1,21 +1,19 @@
 //! What is planned for every event.
 ghost use Rattle.std.specs.Prelude.{◌≡◌};
-ghost use Rattle.desk_command.specs.Look.{Looks};
-ghost use Rattle.hall_desk.specs.{Account.found_for, Desk.{Stays, site_of, store_of}, Plan.{Plans, decided_at}};
+ghost use Rattle.hall_desk.specs.{Prelude.Looks, Account.found_for, Desk.{Stays, site_of, store_of}, Plan.{Plans, decided_at}};
 
 use crate::account::Found;
 use crate::arrival::Stamp;
 use crate::desk::Desk;
 use crate::plans::{
-    OrderAnswer, noted_boot_view, noted_expired_view, noted_report_view, plan_frame, plan_quiet,
-    plan_report, plan_script,
+    OrderAnswer, Planned, noted_boot_view, noted_expired_view, noted_report_view, plan_frame,
+    plan_quiet, plan_report, plan_script,
 };
 use crate::requests::{
     Sent, plan_command, plan_machines, plan_one_machine, plan_order_answer, plan_orders,
 };
-use hall_events::{Event, Reply};
-use hall_store::{HallStore, Unavailable};
-use hall_types::Change;
+use hall_events::Event;
+use hall_store::HallStore;
 use std::alloc::Global;
 
 impl<S: HallStore> Desk<S> {
@@ -27,7 +25,7 @@ impl<S: HallStore> Desk<S> {
         event: &Event,
         stamp: Stamp,
         found: &mut Found,
-    ) -> Result<(Change, Reply), Unavailable>
+    ) -> Planned
         ensures stays { Stays self.old self.new }
         ensures planned { Looks S.HallStore (store_of self.old) (store_of self.new) result
             (λ h its. Plans (decided_at (site_of self.old) stamp event.now h) its × (found.new ≡ found_for h stamp.moment event.now found.old)) }

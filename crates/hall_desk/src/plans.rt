@@ -1,15 +1,10 @@
 //! What is planned for each event.
 ghost use Rattle.std.specs.Prelude.{◌≡◌, [], List, IfOk, option_copied, option_map};
-ghost use Rattle.pxe_vendor.specs.Place.{Site};
-ghost use Rattle.hall_types.specs.{Hall.{Hall, second}, Lookup.next_expired, declared.change.RowWrite.RowWrite};
-ghost use Rattle.hall_events.specs.Reply.{nothing, reply_of};
-ghost use Rattle.boot_desk.specs.{Decided.Decides, Expiry.swept, Fetch.Fetched, OrderAnswer.answered, Report.{Judged, reported}};
+ghost use Rattle.boot_desk.specs.OrderAnswer.{answered};
 ghost use Rattle.boot_desk.specs.FrameEvent as event;
 ghost use Rattle.boot_desk.specs.Views as views;
 ghost use Rattle.hall_laws.specs.Decision as made;
-ghost use Rattle.hall_laws.specs.Decision.{framed, given_if, judged, refuses, verdict_content};
-ghost use Rattle.desk_command.specs.Look.{Looks};
-ghost use Rattle.hall_desk.specs.{Account.about, Plan.{Plans, rows_for}};
+ghost use Rattle.hall_desk.specs.{Prelude.{Site, Hall, second, next_expired, RowWrite, nothing, reply_of, Decides, swept, Fetched, Judged, reported, framed, given_if, judged, refuses, verdict_content, Looks}, Account.about, Plan.{Plans, rows_for}};
 
 use crate::account::Found;
 use crate::arrival::Stamp;
@@ -27,6 +22,9 @@ use ipxe_script::Script;
 use pxe_vendor::{Client, Place, boot_file};
 use std::alloc::{AllocError, Global};
 
+/// The rows to write for an event, and its answer.
+pub(crate) type Planned = Result<(Change, Reply), Unavailable>;
+
 // An answer without rows to write.
 fn no_rows(alloc: Global) -> Change
     ensures { result ≡ [] }
@@ -35,7 +33,7 @@ fn no_rows(alloc: Global) -> Change
 }
 
 /// The refusal for a cause.
-pub(crate) fn refused(alloc: Global, cause: Refusal) -> Result<(Change, Reply), Unavailable>
+pub(crate) fn refused(alloc: Global, cause: Refusal) -> Planned
     ensures { IfOk result (λ planned. Plans (refuses cause) planned) }
 {
     let reply = Reply::refused(alloc, cause)?;
@@ -101,7 +99,7 @@ pub(crate) fn plan_frame<S: HallStore>(
     place: &Place,
     port: Port,
     client: &Client,
-) -> Result<(Change, Reply), Unavailable>
+) -> Planned
     ensures { Looks S.HallStore store.old store.new result
         (λ h planned. Plans (framed (event.frame_decision (event.frame_view h client.now) port client.now) place.now h client.now) planned) }
 {
@@ -113,10 +111,7 @@ pub(crate) fn plan_frame<S: HallStore>(
 // ---- machines
 
 // The answer with the script that was given.
-fn script_plan(
-    alloc: Global,
-    given: Result<(Change, Script), DeskFault>,
-) -> Result<(Change, Reply), Unavailable>
+fn script_plan(alloc: Global, given: Result<(Change, Script), DeskFault>) -> Planned
     ensures { (fetched : Fetched) → Decides given fetched → IfOk result (λ planned. Plans (made.given fetched) planned) }
 {
     match given {
@@ -147,7 +142,7 @@ pub(crate) fn plan_script(
     view: Option<BootView>,
     place: &Place,
     stamp: Stamp,
-) -> Result<(Change, Reply), Unavailable>
+) -> Planned
     ensures { IfOk result (λ planned. Plans (given_if place.now.host view stamp.moment stamp.fresh) planned) }
 {
     let plan = match &view {
@@ -169,10 +164,7 @@ fn verdict_reply(alloc: Global, verdict: Verdict) -> Result<Reply, Unavailable>
 }
 
 // The answer with the verdict.
-fn verdict_plan(
-    alloc: Global,
-    judgement: Result<(Change, Verdict), DeskFault>,
-) -> Result<(Change, Reply), Unavailable>
+fn verdict_plan(alloc: Global, judgement: Result<(Change, Verdict), DeskFault>) -> Planned
     ensures { (its : Judged) → Decides judgement its → IfOk result (λ planned. Plans (judged its) planned) }
 {
     match judgement {
@@ -204,7 +196,7 @@ pub(crate) fn plan_report(
     token: Token,
     progress: Progress,
     moment: Moment,
-) -> Result<(Change, Reply), Unavailable>
+) -> Planned
     ensures { IfOk result (λ planned. Plans (judged (reported view token progress moment)) planned) }
 {
     let plan = verdict_plan(alloc, report(alloc, view.as_ref(), token, progress, moment));
@@ -226,7 +218,7 @@ pub(crate) fn judge_answer<S: HallStore>(
     store: &mut S,
     answer: OrderAnswer,
     found: &mut Found,
-) -> Result<(Change, Reply), Unavailable>
+) -> Planned
     ensures { Looks S.HallStore store.old store.new result
         (λ h planned. Plans (judged (answered (views.order_view h answer.order) answer.outcome answer.moment)) planned
         × (found.new ≡ about (option_map (λ its. its.at.machine) (views.order_view h answer.order)) found.old)) }
@@ -257,11 +249,7 @@ pub(crate) fn noted_expired_view<S: HallStore>(
 
 /// What is planned for a quiet moment: no answer, with the rows of what expired.
 #[tactic(auto, unfolding(hall_events::specs::Reply::reply_of))]
-pub(crate) fn plan_quiet(
-    alloc: Global,
-    view: Option<BootView>,
-    moment: Moment,
-) -> Result<(Change, Reply), Unavailable>
+pub(crate) fn plan_quiet(alloc: Global, view: Option<BootView>, moment: Moment) -> Planned
     ensures { IfOk result (λ planned. Plans (record { rows = swept view moment; content = nothing }) planned) }
 {
     let swept = sweep(alloc, view.as_ref(), moment);

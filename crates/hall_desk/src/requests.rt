@@ -1,17 +1,14 @@
 //! What is planned for what operators and the power program ask.
 ghost use Rattle.std.specs.Prelude.{◌≡◌, [], map, IfOk, Ok, None, option_map};
-ghost use Rattle.hall_types.specs.{Hall.pair, Lookup.waiting, Rows.{at, listed}};
-ghost use Rattle.boot_desk.specs.{Decided.Decides, OrderAnswer.answered};
+ghost use Rattle.hall_types.specs.Rows.{listed};
+ghost use Rattle.boot_desk.specs.OrderAnswer.{answered};
 ghost use Rattle.boot_desk.specs.Views as views;
 ghost use Rattle.desk_command.specs.Command as commands;
-ghost use Rattle.desk_command.specs.{Command.replied, Effect.Effect, Look.Looks};
-ghost use Rattle.hall_laws.specs.Decision.{commanded, if_role, judged, listed_if, listed_of, may_answer, may_see_machines, may_see_orders, says};
-ghost use Rattle.hall_events.specs.Reply.{machine_list, waiting_orders};
-ghost use Rattle.hall_desk.specs.{Account.{about, if_may, machine_keyed, machine_named, machine_sent, sent_by}, Plan.Plans, Sender.{if_enabled, may}};
+ghost use Rattle.hall_desk.specs.{Prelude.{pair, waiting, at, Decides, replied, Effect, Looks, commanded, if_role, judged, listed_if, listed_of, may_answer, may_see_machines, may_see_orders, says, machine_list, waiting_orders}, Account.{about, if_may, machine_keyed, machine_named, machine_sent, sent_by}, Plan.Plans, Sender.{if_enabled, may}};
 
 use crate::account::Found;
 use crate::listing::list_machines;
-use crate::plans::{OrderAnswer, judge_answer, refused};
+use crate::plans::{OrderAnswer, Planned, judge_answer, refused};
 use boot_desk::DeskFault;
 use desk_command::{command, command_view, may_send, repeated, sender};
 use hall_events::{HallCommand, Reply};
@@ -88,10 +85,7 @@ pub(crate) struct Sent<'a> {
 }
 
 // The answer to a command.
-fn command_plan(
-    alloc: Global,
-    decided: Result<(Change, Reply), DeskFault>,
-) -> Result<(Change, Reply), Unavailable>
+fn command_plan(alloc: Global, decided: Result<(Change, Reply), DeskFault>) -> Planned
     ensures { (effect : Effect) → Decides decided (replied effect) → IfOk result (λ planned. Plans (commanded effect) planned) }
 {
     match decided {
@@ -108,7 +102,7 @@ fn plan_new_command<S: HallStore>(
     by: &Operator,
     sent: Sent<'_>,
     found: &mut Found,
-) -> Result<(Change, Reply), Unavailable>
+) -> Planned
     ensures { Looks S.HallStore store.old store.new result
         (λ h planned. Plans (commanded (commands.keyed h by.now None sent.entry.key sent.entry.wish.now sent.entry.moment)) planned
         × (found.new ≡ about (machine_named h by.now sent.entry.wish.now) found.old)) }
@@ -131,7 +125,7 @@ fn plan_keyed<S: HallStore>(
     by: &Operator,
     sent: Sent<'_>,
     found: &mut Found,
-) -> Result<(Change, Reply), Unavailable>
+) -> Planned
     ensures { Looks S.HallStore store.old store.new result
         (λ h planned. Plans (commanded (commands.keyed h by.now (at h.receipts (pair by.now.name sent.entry.key)) sent.entry.key sent.entry.wish.now sent.entry.moment)) planned
         × (found.new ≡ about (machine_keyed h by.now (at h.receipts (pair by.now.name sent.entry.key)) sent.entry.wish.now) found.old)) }
@@ -155,7 +149,7 @@ pub(crate) fn plan_command<S: HallStore>(
     bearer: Option<Digest>,
     sent: Sent<'_>,
     found: &mut Found,
-) -> Result<(Change, Reply), Unavailable>
+) -> Planned
     ensures { Looks S.HallStore store.old store.new result
         (λ h planned. Plans (commanded (commands.command_decision h bearer sent.entry.key sent.entry.wish.now sent.entry.moment)) planned
         × (found.new ≡ about (machine_sent h (commands.sender h bearer) sent.entry.key sent.entry.wish.now) (sent_by (commands.sender h bearer) found.old))) }
@@ -172,17 +166,14 @@ pub(crate) fn plan_command<S: HallStore>(
 // ---- orders and lists
 
 // An answer that writes nothing.
-pub(crate) fn said(
-    alloc: Global,
-    reply: Result<Reply, AllocError>,
-) -> Result<(Change, Reply), Unavailable>
+pub(crate) fn said(alloc: Global, reply: Result<Reply, AllocError>) -> Planned
     ensures { IfOk result (λ planned. (planned.0 ≡ []) × (reply ≡ Ok planned.1)) }
 {
     Ok((Change::from(Vec::new(alloc)), reply?))
 }
 
 // The orders that wait.
-fn list_orders<S: HallStore>(alloc: Global, store: &mut S) -> Result<(Change, Reply), Unavailable>
+fn list_orders<S: HallStore>(alloc: Global, store: &mut S) -> Planned
     ensures { Looks S.HallStore store.old store.new result
         (λ h planned. Plans (says (waiting_orders (waiting h))) planned) }
 {
@@ -196,7 +187,7 @@ pub(crate) fn plan_orders<S: HallStore>(
     store: &mut S,
     bearer: Option<Digest>,
     found: &mut Found,
-) -> Result<(Change, Reply), Unavailable>
+) -> Planned
     ensures { Looks S.HallStore store.old store.new result
         (λ h planned. Plans (if_role may_see_orders (commands.sender h bearer) (says (waiting_orders (waiting h)))) planned
         × (found.new ≡ sent_by (commands.sender h bearer) found.old)) }
@@ -220,7 +211,7 @@ pub(crate) fn plan_order_answer<S: HallStore>(
     bearer: Option<Digest>,
     answer: OrderAnswer,
     found: &mut Found,
-) -> Result<(Change, Reply), Unavailable>
+) -> Planned
     ensures { Looks S.HallStore store.old store.new result
         (λ h planned. Plans (if_role may_answer (commands.sender h bearer) (judged (answered (views.order_view h answer.order) answer.outcome answer.moment))) planned
         × (found.new ≡ about (if_may may_answer (commands.sender h bearer) (option_map (λ its. its.at.machine) (views.order_view h answer.order))) (sent_by (commands.sender h bearer) found.old))) }
@@ -238,11 +229,7 @@ pub(crate) fn plan_order_answer<S: HallStore>(
 }
 
 // One machine with its interfaces, by address.
-fn list_one<S: HallStore>(
-    alloc: Global,
-    store: &mut S,
-    id: Number,
-) -> Result<(Change, Reply), Unavailable>
+fn list_one<S: HallStore>(alloc: Global, store: &mut S, id: Number) -> Planned
     ensures { Looks S.HallStore store.old store.new result
         (λ h planned. Plans (listed_if h (at h.machines id)) planned) }
 {
@@ -259,7 +246,7 @@ pub(crate) fn plan_one_machine<S: HallStore>(
     bearer: Option<Digest>,
     id: Number,
     found: &mut Found,
-) -> Result<(Change, Reply), Unavailable>
+) -> Planned
     ensures { Looks S.HallStore store.old store.new result
         (λ h planned. Plans (if_role may_see_machines (commands.sender h bearer) (listed_if h (at h.machines id))) planned
         × (found.new ≡ sent_by (commands.sender h bearer) found.old)) }
@@ -282,7 +269,7 @@ pub(crate) fn plan_machines<S: HallStore>(
     store: &mut S,
     bearer: Option<Digest>,
     found: &mut Found,
-) -> Result<(Change, Reply), Unavailable>
+) -> Planned
     ensures { Looks S.HallStore store.old store.new result
         (λ h planned. Plans (if_role may_see_machines (commands.sender h bearer) (says (machine_list (map (listed_of h) (listed h.machines))))) planned
         × (found.new ≡ sent_by (commands.sender h bearer) found.old)) }

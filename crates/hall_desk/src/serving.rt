@@ -1,7 +1,6 @@
 //! Serving one request over a reader and a writer.
 ghost use Rattle.std.specs.{Prelude.{◌≡◌, ◌<◌, ◌≤◌, ◌+◌, ◌⊎◌, ℕ, List, true, false, length, take, drop, IfNone, IfSome}, Io.KnownBytes.Appends};
-ghost use Rattle.hall_http.specs.Noted.{failed_of, inner_of, takes_of};
-ghost use Rattle.hall_desk.specs.{Attempt.IsAnswered, Desk.{enlists_of, site_of, store_of}, Headline.{HasHistory, HasServed, HasSomeRequest}, History.{Item, Origin}, Octets.octets_of, Served.{IfReadFailed, IfWriteFailed, IsReadInTime, IsSent, IsServed, IsWritten}, Stops.{IsLeft, IsSettled, OrSomeRequest}};
+ghost use Rattle.hall_desk.specs.{Prelude.{failed_of, inner_of, takes_of}, Attempt.IsAnswered, Desk.{enlists_of, site_of, store_of}, Headline.{HasHistory, HasServed, HasSomeRequest}, History.{Item, Origin}, Octets.octets_of, Served.{IfReadFailed, IfWriteFailed, IsReadInTime, IsSent, IsServed, IsWritten}, Stops.{IsLeft, IsSettled, OrSomeRequest}};
 ghost use Rattle.hall_desk.specs.declared.arrival.Input.TheVariants as input;
 ghost use Rattle.hall_desk.specs.declared.serving.Served.TheVariants as served;
 

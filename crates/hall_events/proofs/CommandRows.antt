@@ -5,7 +5,7 @@ use Rattle.uuid.proofs.OnLiterals.{uuid_on_literals}
 use Rattle.json.specs.Print.{escape_byte}
 use Rattle.pxe_vendor.specs.{Arch.arch_text, declared.arch.Arch.TheVariants.{Bios, Uefi64}}
 use Rattle.hall_types.specs.{Kinds.{role_text, erase_text}, declared.kinds.{Role.TheVariants.Power, Erase.TheVariants.{Quick, Full}}}
-use Rattle.hall_events.specs.{Command.{command_text, members_of}, Kind.{kind_word, machine_word}, declared.command.{HallCommand.TheVariants.{AddOperator, AddPool, AddImage, AddMachine, OnMachine}, MachineCommand.TheVariants.{Commission, Deploy, Release}}}
+use Rattle.hall_events.specs.{Command.{command_text, members_of, kind_word, machine_word}, declared.command.{HallCommand.TheVariants.{AddOperator, AddPool, AddImage, AddMachine, OnMachine}, MachineCommand.TheVariants.{Commission, Deploy, Release}}}
 
 unfoldable texts_on_literals : ⊤
 unfolding command_text members_of kind_word machine_word escape_byte digits hex_on_literals uuid_on_literals arch_text role_text erase_text

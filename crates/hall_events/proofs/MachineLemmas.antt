@@ -79,32 +79,15 @@ member_pushed later m others t named valued rest =
     ∙ ap (λ (text : List ℕ). text ++ written true others) (valued ∙ ap (λ (text : List ℕ). text ++ compact_text m.1) named)
     ∙ placed t (comma_if later) (quoted m.0) (compact_text m.1) (written true others)
 
--- no other member is left
-none_left : (t : List ℕ) → t ≡ t ++ written true []
-none_left t = sym (append-nil t)
+-- members are written in turn
+pub data Pushes : Bool → List ℕ → List Member → List ℕ → Type 0 where
+  pushed_all : {later : Bool} {t : List ℕ} → Pushes later t [] t
+  pushed : {later : Bool} {m : Member} {ms : List Member} {t u v w : List ℕ} → u ≡ t ++ before later m.0 → v ≡ u ++ compact_text m.1
+      → Pushes true v ms w → Pushes later t (m ∷ ms) w
 
--- four members are written
-pub four_pushed : (later : Bool) (a b c d : Member) (t : List ℕ) {a1 a2 b1 b2 c1 c2 d1 d2 : List ℕ}
-    → a1 ≡ t ++ before later a.0 → a2 ≡ a1 ++ compact_text a.1
-    → b1 ≡ a2 ++ before true b.0 → b2 ≡ b1 ++ compact_text b.1
-    → c1 ≡ b2 ++ before true c.0 → c2 ≡ c1 ++ compact_text c.1
-    → d1 ≡ c2 ++ before true d.0 → d2 ≡ d1 ++ compact_text d.1
-    → d2 ≡ t ++ written later (a ∷ b ∷ c ∷ d ∷ [])
-four_pushed later a b c d t an av bn bv cn cv dn dv =
-    member_pushed later a (b ∷ c ∷ d ∷ []) t an av (member_pushed true b (c ∷ d ∷ []) _ bn bv
-    (member_pushed true c (d ∷ []) _ cn cv (member_pushed true d [] _ dn dv (none_left _))))
-
--- five members are written
-pub five_pushed : (later : Bool) (a b c d e : Member) (t : List ℕ) {a1 a2 b1 b2 c1 c2 d1 d2 e1 e2 : List ℕ}
-    → a1 ≡ t ++ before later a.0 → a2 ≡ a1 ++ compact_text a.1
-    → b1 ≡ a2 ++ before true b.0 → b2 ≡ b1 ++ compact_text b.1
-    → c1 ≡ b2 ++ before true c.0 → c2 ≡ c1 ++ compact_text c.1
-    → d1 ≡ c2 ++ before true d.0 → d2 ≡ d1 ++ compact_text d.1
-    → e1 ≡ d2 ++ before true e.0 → e2 ≡ e1 ++ compact_text e.1
-    → e2 ≡ t ++ written later (a ∷ b ∷ c ∷ d ∷ e ∷ [])
-five_pushed later a b c d e t an av bn bv cn cv dn dv en ev =
-    member_pushed later a (b ∷ c ∷ d ∷ e ∷ []) t an av (member_pushed true b (c ∷ d ∷ e ∷ []) _ bn bv
-    (member_pushed true c (d ∷ e ∷ []) _ cn cv (member_pushed true d (e ∷ []) _ dn dv (member_pushed true e [] _ en ev (none_left _)))))
+pub members_pushed : {later : Bool} {t w : List ℕ} {ms : List Member} → Pushes later t ms w → w ≡ t ++ written later ms
+members_pushed pushed_all = sym (append-nil _)
+members_pushed (pushed named valued rest) = member_pushed _ _ _ _ named valued (members_pushed rest)
 
 -- one address of a list more
 pub mac_written : (interfaces : List Interface) (i : ℕ) (interface : Interface) (text new : List ℕ) (later : Bool) (whole : List ℕ)

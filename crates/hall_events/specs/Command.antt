@@ -1,13 +1,53 @@
--- Commands, and the text by which a receipt keeps a command: compact JSON of all but the request key.
-use Rattle.std.specs.Prelude.{ℕ, true, false, List, [], ◌∷◌, ◌++◌, map, Option, Some, None, option_map, codes, IfSome}
+-- Commands, their kinds and the word of each, and the text by which a receipt keeps a command: compact JSON of all but
+-- the request key.
+use Rattle.std.specs.{Prelude.{ℕ, true, false, List, [], ◌∷◌, ◌++◌, map, Option, Some, None, option_map, codes, IfSome}, Option.option_or}
 use Rattle.hex.specs.Hex.{encode_lower}
 use Rattle.uuid.specs.Text.{hyphenated_text, lower}
 use Rattle.pxe_vendor.specs.{MacText.mac_text, Arch.arch_text}
 use Rattle.serde_json.specs.{Data.{Data, string, boolean, array}, View.items_of, Written.compact_text}
-use Rattle.hall_types.specs.{Kinds.{role_text, erase_text}, Number.IsNumber, Octets.AreOctets, declared.kinds.Erase.{Erase, TheVariants.{Quick, Full}}}
-use Rattle.hall_events.specs.{Object.{Member, object_of, member_if, count}, Kind.kind_word, declared.{kind.{CommandKind.CommandKind, MachineKind.MachineKind}, command.{HallCommand.{HallCommand, TheVariants.{AddOperator, DisableOperator, AddPool, Grant, AddImage, DeleteImage, SetLive, AddMachine, OnMachine}}, MachineCommand.{MachineCommand, TheVariants.{AddInterface, RemoveInterface, SetPool, Commission, Delete, Deploy, Release, Act}}}}}
-use Rattle.hall_events.specs.declared.kind.CommandKind.TheVariants as of_hall
-use Rattle.hall_events.specs.declared.kind.MachineKind.TheVariants as kind
+use Rattle.hall_types.specs.{Act.{act_of_text, act_text}, Kinds.{role_text, erase_text, with_text}, Number.IsNumber, Octets.AreOctets, declared.kinds.Erase.{Erase, TheVariants.{Quick, Full}}}
+use Rattle.hall_events.specs.{Object.{Member, object_of, member_if, count}, declared.command.{CommandKind.CommandKind, MachineKind.MachineKind, HallCommand.{HallCommand, TheVariants.{AddOperator, DisableOperator, AddPool, Grant, AddImage, DeleteImage, SetLive, AddMachine, OnMachine}}, MachineCommand.{MachineCommand, TheVariants.{AddInterface, RemoveInterface, SetPool, Commission, Delete, Deploy, Release, Act}}}}
+use Rattle.hall_events.specs.declared.command.CommandKind.TheVariants as of_hall
+use Rattle.hall_events.specs.declared.command.MachineKind.TheVariants as kind
+
+-- the word of a command on a machine
+unfoldable pub machine_word : MachineKind → List ℕ
+machine_word kind.AddInterface = codes "add_interface"
+machine_word kind.RemoveInterface = codes "remove_interface"
+machine_word kind.SetPool = codes "set_pool"
+machine_word kind.Commission = codes "commission"
+machine_word kind.Delete = codes "delete"
+machine_word kind.Deploy = codes "deploy"
+machine_word kind.Release = codes "release"
+machine_word (kind.Act act) = act_text act
+
+-- the word of a command
+unfoldable pub kind_word : CommandKind → List ℕ
+kind_word of_hall.AddOperator = codes "add_operator"
+kind_word of_hall.DisableOperator = codes "disable_operator"
+kind_word of_hall.AddPool = codes "add_pool"
+kind_word of_hall.Grant = codes "grant"
+kind_word of_hall.AddImage = codes "add_image"
+kind_word of_hall.DeleteImage = codes "delete_image"
+kind_word of_hall.SetLive = codes "set_live"
+kind_word of_hall.AddMachine = codes "add_machine"
+kind_word (of_hall.OnMachine kind) = machine_word kind
+
+-- all kinds but acts
+abbrev pub kinds : List CommandKind
+kinds =
+    of_hall.AddOperator ∷ of_hall.DisableOperator ∷ of_hall.AddPool ∷ of_hall.Grant ∷ of_hall.AddImage
+    ∷ of_hall.DeleteImage ∷ of_hall.SetLive ∷ of_hall.AddMachine ∷ of_hall.OnMachine kind.AddInterface
+    ∷ of_hall.OnMachine kind.RemoveInterface ∷ of_hall.OnMachine kind.SetPool ∷ of_hall.OnMachine kind.Commission
+    ∷ of_hall.OnMachine kind.Delete ∷ of_hall.OnMachine kind.Deploy ∷ of_hall.OnMachine kind.Release ∷ []
+
+-- the act that has this word
+abbrev pub act_kind : List ℕ → Option CommandKind
+act_kind word = option_map (λ act. of_hall.OnMachine (kind.Act act)) (act_of_text word)
+
+-- the kind that has this word
+unfoldable pub kind_with_word : List ℕ → Option CommandKind
+kind_with_word word = option_or (with_text kind_word word kinds) (act_kind word)
 
 -- an address in lower case, with a colon between two octets
 abbrev pub mac_data : List ℕ → Data

@@ -6,7 +6,7 @@ use Rattle.pxe_vendor.specs.{MacText.mac_text, Arch.arch_text, declared.arch.Arc
 use Rattle.serde_json.specs.{Data.{Data, string, boolean}, Find.get}
 use Rattle.hall_types.specs.{Act.{act_text, acts}, Kinds.{archs, with_text, role_text, role_of_text, erase_text}, KindLaws.role_by_text, Number.IsNumber, Octets.AreOctets, declared.kinds.{Role.{Role, TheVariants.Admin}, Erase.{Erase, TheVariants.{Quick, Full}}}}
 use Rattle.hall_types.specs.declared.act.Act.TheVariants as does
-use Rattle.hall_events.specs.{Object.{Member, member_if, count}, ObjectLaws.{IsPlain, IsPlain-object, ItemsArePlain-texts, value_in, value_in-compact_text, text_in, texts_in, texts_of-texts, number_in}, Command.{command_data, command_text, request_data, machine_kind, members_of, own_members, uuid_data, IsCommand, IsMachineCommand}, Kind.{kind_word, machine_word}, declared.command.{HallCommand.{HallCommand, TheVariants.{AddOperator, DisableOperator, AddPool, Grant, AddImage, DeleteImage, SetLive, AddMachine, OnMachine}}, MachineCommand.{MachineCommand, TheVariants.{AddInterface, RemoveInterface, SetPool, Commission, Delete, Deploy, Release, Act}}}}
+use Rattle.hall_events.specs.{Object.{Member, member_if, count}, ObjectLaws.{IsPlain, IsPlain-object, ItemsArePlain-texts, value_in, value_in-compact_text, text_in, texts_in, texts_of-texts, number_in}, Command.{command_data, command_text, request_data, machine_kind, members_of, own_members, uuid_data, IsCommand, IsMachineCommand, kind_word, machine_word}, declared.command.{HallCommand.{HallCommand, TheVariants.{AddOperator, DisableOperator, AddPool, Grant, AddImage, DeleteImage, SetLive, AddMachine, OnMachine}}, MachineCommand.{MachineCommand, TheVariants.{AddInterface, RemoveInterface, SetPool, Commission, Delete, Deploy, Release, Act}}}}
 
 -- ---- commands are plain values
 
@@ -25,7 +25,6 @@ own_plain : (c : MachineCommand) (more : List Member) → ArePlain more → AreP
 unfolding ArePlain
 own_plain Delete more h = h
 own_plain (Act a) more h = h
-own_plain (Release None) more h = (tt, h)
 own_plain (Release (Some Full)) more h = (tt, h)
 own_plain c more h = (tt, h)
 

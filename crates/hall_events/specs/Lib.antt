@@ -1,7 +1,6 @@
 pub mod Command
 pub mod CommandLaws
 pub mod Event
-pub mod Kind
 pub mod Listing
 pub mod Object
 pub mod ObjectLaws

@@ -1,10 +1,9 @@
-//! The commands of operators.
+//! The commands of operators, their kinds, and the word of each kind.
 ghost use Rattle.std.specs.Prelude.{◌≡◌, IfOk, OnOk, string_bytes};
-ghost use Rattle.hall_types.specs.Octets.{AreOctets};
-ghost use Rattle.hall_events.specs.Command.{IsCommand, command_kind, command_text, machine_kind, request_text};
+ghost use Rattle.hall_types.specs.{Kinds.with_text, Octets.AreOctets};
+ghost use Rattle.hall_events.specs.Command.{IsCommand, act_kind, command_kind, command_text, kind_with_word, kind_word, kinds, machine_kind, machine_word, request_text};
 
 use crate::command_value::{command_value, request_value};
-use crate::kind::{CommandKind, MachineKind};
 use hall_types::{
     Act, Digest, Erase, Image, MacAddress, MachineUuid, Name, Number, RequestKey, Role, Version,
 };
@@ -66,6 +65,33 @@ pub enum MachineCommand {
     Act(Act),
 }
 
+/// The kind of a command on a machine.
+#[derive(Clone, Copy)]
+pub enum MachineKind {
+    AddInterface,
+    RemoveInterface,
+    SetPool,
+    Commission,
+    Delete,
+    Deploy,
+    Release,
+    Act(Act),
+}
+
+/// The kind of a command.
+#[derive(Clone, Copy)]
+pub enum CommandKind {
+    AddOperator,
+    DisableOperator,
+    AddPool,
+    Grant,
+    AddImage,
+    DeleteImage,
+    SetLive,
+    AddMachine,
+    OnMachine(MachineKind),
+}
+
 impl MachineCommand {
     /// Its kind.
     pub fn kind(&self) -> MachineKind
@@ -120,5 +146,91 @@ impl HallCommand {
         ensures key { OnOk result (AreOctets 16 key) }
     {
         request_value(alloc, key, self)?.to_string(alloc)
+    }
+}
+
+// All kinds but acts.
+const KINDS: [CommandKind; 15] = [
+    CommandKind::AddOperator,
+    CommandKind::DisableOperator,
+    CommandKind::AddPool,
+    CommandKind::Grant,
+    CommandKind::AddImage,
+    CommandKind::DeleteImage,
+    CommandKind::SetLive,
+    CommandKind::AddMachine,
+    CommandKind::OnMachine(MachineKind::AddInterface),
+    CommandKind::OnMachine(MachineKind::RemoveInterface),
+    CommandKind::OnMachine(MachineKind::SetPool),
+    CommandKind::OnMachine(MachineKind::Commission),
+    CommandKind::OnMachine(MachineKind::Delete),
+    CommandKind::OnMachine(MachineKind::Deploy),
+    CommandKind::OnMachine(MachineKind::Release),
+];
+
+impl MachineKind {
+    /// Its word in requests, in receipts and in a log.
+    #[tactic(auto, unfolding(crate::specs::Command::machine_word))]
+    pub fn word(self) -> &'static str
+        ensures { result.now ≡ machine_word self }
+    {
+        match self {
+            MachineKind::AddInterface => "add_interface",
+            MachineKind::RemoveInterface => "remove_interface",
+            MachineKind::SetPool => "set_pool",
+            MachineKind::Commission => "commission",
+            MachineKind::Delete => "delete",
+            MachineKind::Deploy => "deploy",
+            MachineKind::Release => "release",
+            MachineKind::Act(act) => act.text(),
+        }
+    }
+}
+
+impl CommandKind {
+    /// Its word in requests, in receipts and in a log.
+    #[tactic(auto, unfolding(crate::specs::Command::kind_word))]
+    pub fn word(self) -> &'static str
+        ensures { result.now ≡ kind_word self }
+    {
+        match self {
+            CommandKind::AddOperator => "add_operator",
+            CommandKind::DisableOperator => "disable_operator",
+            CommandKind::AddPool => "add_pool",
+            CommandKind::Grant => "grant",
+            CommandKind::AddImage => "add_image",
+            CommandKind::DeleteImage => "delete_image",
+            CommandKind::SetLive => "set_live",
+            CommandKind::AddMachine => "add_machine",
+            CommandKind::OnMachine(kind) => kind.word(),
+        }
+    }
+
+    /// The kind that has this word.
+    #[tactic(auto, unfolding(crate::specs::Command::kind_with_word))]
+    pub fn with_word(word: &str) -> Option<CommandKind>
+        ensures { result ≡ kind_with_word word.now }
+    {
+        match kind_among(&KINDS, word) {
+            Some(kind) => Some(kind),
+            None => act_kind(word),
+        }
+    }
+}
+
+// The one of these kinds that has this word.
+fn kind_among(kinds: &[CommandKind], word: &str) -> Option<CommandKind>
+    ensures { result ≡ with_text kind_word word.now kinds.now }
+{
+    kinds.iter().copied().find(|kind| kind.word() == word)
+}
+
+// The act that has this word.
+fn act_kind(word: &str) -> Option<CommandKind>
+    ensures { result ≡ act_kind word.now }
+{
+    match word.parse::<Act>() {
+        Ok(act) => Some(CommandKind::OnMachine(MachineKind::Act(act))),
+        Err(_) => None,
     }
 }

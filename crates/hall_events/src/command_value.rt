@@ -1,12 +1,10 @@
 //! Commands as JSON values.
-ghost use Rattle.std.specs.Prelude.{◌≡◌, ◌∷◌, [], codes, map, option_map, IfOk, IfSome, OnOk};
-ghost use Rattle.hex.specs.Hex.{encode_lower};
-ghost use Rattle.serde_json.specs.{Data.{array, put as with, string}, View.{view, items_of, members_view}};
+ghost use Rattle.std.specs.Prelude.{◌≡◌, ◌∷◌, [], map, option_map, IfOk, IfSome, OnOk};
+ghost use Rattle.serde_json.specs.{Data.{array, string}, View.{view, items_of, members_view}};
 ghost use Rattle.hall_types.specs.{Number.IsNumber, Octets.AreOctets};
-ghost use Rattle.hall_events.specs.{Object.{count, member_if, put_all}, Command.{IsCommand, IsMachineCommand, command_data, command_member, erase_data, mac_data, members_of, own_members, request_data, uuid_data}, declared.command.HallCommand.HallCommand};
+ghost use Rattle.hall_events.specs.{Object.{count, put_all}, Command.{IsCommand, IsMachineCommand, command_data, command_member, erase_data, members_of, own_members, request_data}, declared.command.HallCommand.HallCommand};
 
-use crate::command::{HallCommand, MachineCommand};
-use crate::kind::CommandKind;
+use crate::command::{CommandKind, HallCommand, MachineCommand};
 use crate::member::{mac_value, put_count, put_if, put_text, uuid_text, uuid_value};
 use hall_types::{
     Digest, Erase, Image, MacAddress, MachineUuid, Name, Number, RequestKey, Role, Version,
@@ -44,18 +42,6 @@ fn put_grant(
     put_text(alloc, members, "pool", pool.text())
 }
 
-fn put_digest(
-    alloc: Global,
-    members: &mut Map<String, Value>,
-    digest: Digest,
-) -> Result<(), AllocError>
-    ensures members { OnOk result (members_view members.new.entries ≡ with (codes "digest") (string (encode_lower digest)) (members_view members.old.entries)) }
-    ensures whole { OnOk result (AreOctets 32 digest) }
-{
-    let digest = hex::encode(alloc, digest.octets())?;
-    put(members, alloc, "digest", Value::String(digest))
-}
-
 #[tactic(auto, unfolding(crate::specs::Command::members_of))]
 fn put_operator(
     alloc: Global,
@@ -68,7 +54,8 @@ fn put_operator(
     ensures whole { OnOk result (AreOctets 32 digest) }
 {
     put_text(alloc, members, "command", CommandKind::AddOperator.word())?;
-    put_digest(alloc, members, digest)?;
+    let digest = hex::encode(alloc, digest.octets())?;
+    put(members, alloc, "digest", Value::String(digest))?;
     put_text(alloc, members, "operator", operator.text())?;
     put_text(alloc, members, "role", role.text())
 }
@@ -83,17 +70,6 @@ fn words_value(alloc: Global, words: &[Word]) -> Result<Value, AllocError>
     Ok(Value::Array(items))
 }
 
-fn put_words(
-    alloc: Global,
-    members: &mut Map<String, Value>,
-    words: &[Word],
-) -> Result<(), AllocError>
-    ensures { OnOk result (members_view members.new.entries ≡ with (codes "args") (array (items_of (map string words.now))) (members_view members.old.entries)) }
-{
-    let words = words_value(alloc, words)?;
-    put(members, alloc, "args", words)
-}
-
 #[tactic(auto, unfolding(crate::specs::Command::members_of))]
 fn put_image(
     alloc: Global,
@@ -104,34 +80,10 @@ fn put_image(
 {
     put_text(alloc, members, "command", CommandKind::AddImage.word())?;
     put_text(alloc, members, "arch", image.arch().text())?;
-    put_words(alloc, members, image.args())?;
+    put(members, alloc, "args", words_value(alloc, image.args())?)?;
     put_text(alloc, members, "image", image.name().text())?;
     put_text(alloc, members, "initrd", image.initrd().text())?;
     put_text(alloc, members, "kernel", image.kernel().text())
-}
-
-fn put_mac(
-    alloc: Global,
-    members: &mut Map<String, Value>,
-    mac: MacAddress,
-) -> Result<(), AllocError>
-    ensures members { OnOk result (members_view members.new.entries ≡ with (codes "mac") (mac_data mac) (members_view members.old.entries)) }
-    ensures whole { OnOk result (AreOctets 6 mac) }
-{
-    let mac = mac_value(alloc, mac)?;
-    put(members, alloc, "mac", mac)
-}
-
-fn put_uuid(
-    alloc: Global,
-    members: &mut Map<String, Value>,
-    uuid: Option<MachineUuid>,
-) -> Result<(), AllocError>
-    ensures members { OnOk result (members_view members.new.entries ≡ put_all (member_if (codes "uuid") (option_map uuid_data uuid)) (members_view members.old.entries)) }
-    ensures whole { OnOk result (IfSome uuid (AreOctets 16)) }
-{
-    let uuid = uuid_value(alloc, uuid)?;
-    put_if(alloc, members, "uuid", uuid)
 }
 
 #[tactic(auto, unfolding(crate::specs::Command::members_of))]
@@ -148,9 +100,9 @@ fn put_machine(
 {
     put_text(alloc, members, "command", CommandKind::AddMachine.word())?;
     put_text(alloc, members, "arch", arch.text())?;
-    put_mac(alloc, members, mac)?;
+    put(members, alloc, "mac", mac_value(alloc, mac)?)?;
     put_text(alloc, members, "pool", pool.text())?;
-    put_uuid(alloc, members, uuid)
+    put_if(alloc, members, "uuid", uuid_value(alloc, uuid)?)
 }
 
 fn erase_value(alloc: Global, erase: Option<Erase>) -> Result<Value, AllocError>
@@ -161,17 +113,6 @@ fn erase_value(alloc: Global, erase: Option<Erase>) -> Result<Value, AllocError>
         Some(Erase::Full) => Ok(Value::from(true)),
         Some(Erase::Quick) => Value::try_from_str(alloc, Erase::Quick.text()),
     }
-}
-
-fn put_erase(
-    alloc: Global,
-    members: &mut Map<String, Value>,
-    erase: Option<Erase>,
-) -> Result<(), AllocError>
-    ensures { OnOk result (members_view members.new.entries ≡ with (codes "erase") (erase_data erase) (members_view members.old.entries)) }
-{
-    let erase = erase_value(alloc, erase)?;
-    put(members, alloc, "erase", erase)
 }
 
 // The member that only this command on a machine has, if there is one.
@@ -185,12 +126,14 @@ fn put_own(
 {
     match command {
         MachineCommand::AddInterface { mac } | MachineCommand::RemoveInterface { mac } => {
-            put_mac(alloc, members, *mac)
+            put(members, alloc, "mac", mac_value(alloc, *mac)?)
         }
         MachineCommand::SetPool { pool } => put_text(alloc, members, "pool", pool.text()),
         MachineCommand::Commission { tests } => put(members, alloc, "tests", Value::from(*tests)),
         MachineCommand::Deploy { image } => put_text(alloc, members, "image", image.text()),
-        MachineCommand::Release { erase } => put_erase(alloc, members, *erase),
+        MachineCommand::Release { erase } => {
+            put(members, alloc, "erase", erase_value(alloc, *erase)?)
+        }
         _ => Ok(()),
     }
 }
@@ -284,18 +227,6 @@ pub(crate) fn command_value(alloc: Global, command: &HallCommand) -> Result<Valu
     Ok(Value::Object(members))
 }
 
-fn put_key(
-    alloc: Global,
-    members: &mut Map<String, Value>,
-    key: RequestKey,
-) -> Result<(), AllocError>
-    ensures members { OnOk result (members_view members.new.entries ≡ with (codes "key") (uuid_data key) (members_view members.old.entries)) }
-    ensures whole { OnOk result (AreOctets 16 key) }
-{
-    let key = uuid_text(alloc, key.octets())?;
-    put(members, alloc, "key", key)
-}
-
 pub(crate) fn request_value(
     alloc: Global,
     key: RequestKey,
@@ -306,7 +237,7 @@ pub(crate) fn request_value(
     ensures key { OnOk result (AreOctets 16 key) }
 {
     let mut members = Map::new(alloc);
-    put_key(alloc, &mut members, key)?;
+    put(&mut members, alloc, "key", uuid_text(alloc, key.octets())?)?;
     put_command(alloc, &mut members, command)?;
     Ok(Value::Object(members))
 }

@@ -4,7 +4,6 @@
 mod command;
 mod command_value;
 mod event;
-mod kind;
 mod laws;
 mod list_text;
 mod machine_list;
@@ -14,9 +13,8 @@ mod member;
 mod plain_text;
 mod reply;
 
-pub use command::{HallCommand, MachineCommand};
+pub use command::{CommandKind, HallCommand, MachineCommand, MachineKind};
 pub use event::Event;
-pub use kind::{CommandKind, MachineKind};
 pub use laws::{different_answers, one_text};
 pub use machine_list::MachineList;
 pub use reply::{BodyKind, Reply};

@@ -1,8 +1,7 @@
 -- What more octets do to a request: nothing, once it is decided.
-use Rattle.std.{proofs.{Common.{◌≡◌, inl, inr, zero, suc, ◌∷◌, length-append, ◌≤◌, ℕ, List, [], ◌++◌, length, take, drop, map, Result, Ok, Err, IfOk, refl, sym, ◌∙◌, ap, subst, arith, nat_le, true}, lemmas.{Bool.le-leb, List.{append-nil, take-append-le, drop-append-le}}}, specs.{Prelude.{◌↔◌, Bool, IsTrue}, declared.alloc.AllocError.AllocError}}
-use Rattle.httparse.{specs.{Grammar.{RequestHead, ReadsRequest, NeverHasRequest, EndsInTarget, print_request}, Spans.{name_and_value, RequestOverflows, RequestExceeds, span_bytes, header_bytes}, declared.spans.{HeaderSpan.HeaderSpan, RequestSpans.RequestSpans}}, proofs.GrammarLemmas.{request_prefix_free, ReadsRequest-append}}
-use Rattle.hall_events.specs.declared.event.Event.{Event}
-use Rattle.hall_http.specs.{declared.{fault.HttpFault.HttpFault, demand.Demand.{Demand, TheVariants.{Script, Report, Orders, OrderAnswer, Machines, OneMachine, Command}}}, Answer.{Answers, ◌>>=◌}, Demand.{demand_of, body_size}, Event.{body_of, event_of_demand, event_of_parts}, Fields.FieldPair, Head.{HasNoHead, HasHead, IsOpen}, Request.{IsAnswer, front, after_head, of_head}, Decided.{IsReady, IsDecided, Ends}}
+use Rattle.std.{proofs.{Common.{◌≡◌, inl, inr, zero, suc, ◌∷◌, length-append, ◌≤◌, ℕ, List, [], ◌++◌, length, take, drop, map, Result, Ok, Err, IfOk, refl, sym, ◌∙◌, ap, subst, arith}, lemmas.{Bool.le-leb, List.{append-nil, take-append-le, drop-append-le}}}, specs.{Prelude.{◌↔◌, Bool, IsTrue}, declared.alloc.AllocError.AllocError}}
+use Rattle.httparse.proofs.GrammarLemmas.{request_prefix_free, ReadsRequest-append}
+use Rattle.hall_http.specs.{Prelude.{RequestHead, ReadsRequest, NeverHasRequest, EndsInTarget, print_request, name_and_value, RequestOverflows, RequestExceeds, span_bytes, header_bytes, HeaderSpan, RequestSpans, Event}, declared.{fault.HttpFault.HttpFault, demand.Demand.{Demand, TheVariants.{Report, OrderAnswer, Command}}}, Answer.{Answers, ◌>>=◌}, Demand.{demand_of, body_size}, Event.{body_of, event_of_demand, event_of_parts}, Fields.FieldPair, Head.{HasNoHead, HasHead, IsOpen}, Request.{IsAnswer, front, after_head, of_head}, Decided.{IsReady, IsDecided, Ends}}
 
 -- ---- the front of more octets
 
@@ -11,10 +10,6 @@ pub front_goes_on : (n : ℕ) (octets more : List ℕ) → (some : List ℕ) × 
 front_goes_on zero octets more = ([], refl)
 front_goes_on (suc n) [] more = (take (suc n) more, refl)
 front_goes_on (suc n) (octet ∷ octets) more = let later = front_goes_on n octets more in (later.0, ap (λ (t : List ℕ). octet ∷ t) later.1)
-
--- a full front stays
-full_front : (n : ℕ) (octets more : List ℕ) → n ≤ length octets → take n (octets ++ more) ≡ take n octets
-full_front n octets more h = take-append-le n octets more h
 
 -- ---- the answer to more octets
 
@@ -32,7 +27,7 @@ module _ {T : Type 0} (answer : List ℕ → List ℕ → List FieldPair → Lis
       → IsAnswer answer octets result → IsAnswer answer (octets ++ more) result
   full octets more result here h given =
       headless octets more result here
-      (subst (λ (f : List ℕ). HasNoHead f 64) (sym (full_front 8192 octets more h)) here) given
+      (subst (λ (f : List ℕ). HasNoHead f 64) (sym (take-append-le 8192 octets more h)) here) given
 
   -- a front that no octets can complete
   pub never : (octets more : List ℕ) (result : Result T HttpFault) → RequestOverflows 64 (front octets)
@@ -66,23 +61,17 @@ module _ {T : Type 0} (answer : List ℕ → List ℕ → List FieldPair → Lis
 
 -- ---- bodies that are whole
 
-nat_le_true : (a b : ℕ) → a ≤ b → nat_le a b ≡ true
-nat_le_true a b h = le-leb a b h
-
 body_stays : (size : ℕ) (after more : List ℕ) → size ≤ length after → body_of size (after ++ more) ≡ body_of size after
 body_stays size after more h =
     let longer : size ≤ length (after ++ more) = rw length-append (omega (arith, h)) in
-    rw (nat_le_true _ _ longer, nat_le_true _ _ h, take-append-le size after more h) refl
+    rw (le-leb _ _ longer, le-leb _ _ h, take-append-le size after more h) refl
 
 event_stays : (demand : Demand) (after more : List ℕ) → body_size demand ≤ length after → event_of_demand demand (after ++ more) ≡ event_of_demand demand after
 unfolding event_of_demand
-event_stays (Script mac) after more h = refl
 event_stays (Report boot token size) after more h = rw (body_stays size after more h) refl
-event_stays (Orders bearer) after more h = refl
 event_stays (OrderAnswer bearer order size) after more h = rw (body_stays size after more h) refl
-event_stays (Machines bearer) after more h = refl
-event_stays (OneMachine bearer machine) after more h = refl
 event_stays (Command bearer size) after more h = rw (body_stays size after more h) refl
+event_stays other after more h = refl
 
 answer_stays : (demand : Result Demand HttpFault) (after more : List ℕ) → IfOk demand (λ demand. body_size demand ≤ length after)
     → (demand >>= (λ demand. event_of_demand demand (after ++ more))) ≡ (demand >>= (λ demand. event_of_demand demand after))

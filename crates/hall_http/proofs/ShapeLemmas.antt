@@ -1,7 +1,6 @@
 -- The names of an object's members.
 use Rattle.std.{proofs.Common.{◌≡◌, List, [], ◌∷◌, map, String, Global, string_bytes, refl, ap}, specs.Map.keys_of}
-use Rattle.serde_json.specs.{View.members_view, declared.value.Value.Value}
-use Rattle.hall_http.specs.Body.{names_of}
+use Rattle.hall_http.specs.{Prelude.{members_view, Value}, Body.names_of}
 
 pub names_of_members_view : (entries : List (String Global × Value)) → names_of (members_view entries) ≡ map string_bytes (keys_of entries)
 names_of_members_view [] = refl

@@ -1,26 +1,17 @@
 -- Percent-encoded colons, from the left.
-use Rattle.std.{proofs.{Common.{◌≡◌, ◌≤◌, ℕ, true, false, List, [], ◌∷◌, ◌++◌, length, drop, slice_index, refl, sym, ap, ◌∙◌, append_assoc, arith}, lemmas.{Bool.eqb-true, List.append-nil}}, specs.Prelude.◌==◌}
+use Rattle.std.{proofs.{Common.{◌≡◌, ℕ, true, false, List, [], ◌∷◌, ◌++◌, length, drop, slice_index, refl, sym, ap, ◌∙◌, append_assoc, arith}, lemmas.{Bool.eqb-true, List.append-nil}}, specs.Prelude.◌==◌}
 use Rattle.hall_http.specs.Target.{with_colons, begins_with_coded_colon}
 
 pub coded_first : (rest : List ℕ) → begins_with_coded_colon rest ≡ true → with_colons rest ≡ 58 ∷ with_colons (drop 3 rest)
 unfolding with_colons
-coded_first [] h = absurd cc
-coded_first (a ∷ []) h = absurd cc
-coded_first (a ∷ b ∷ []) h = absurd cc
 coded_first (a ∷ b ∷ c ∷ octets) h = rw h refl
-
-pub coded_fits : (rest : List ℕ) → begins_with_coded_colon rest ≡ true → 3 ≤ length rest
-coded_fits [] h = absurd cc
-coded_fits (a ∷ []) h = absurd cc
-coded_fits (a ∷ b ∷ []) h = absurd cc
-coded_fits (a ∷ b ∷ c ∷ octets) h = omega arith
+coded_first others h = absurd cc
 
 pub other_first : (rest : List ℕ) → (length rest == 0) ≡ false → begins_with_coded_colon rest ≡ false → with_colons rest ≡ slice_index rest 0 ∷ with_colons (drop 1 rest)
 unfolding with_colons
 other_first [] some h = absurd cc
-other_first (a ∷ []) some h = refl
-other_first (a ∷ b ∷ []) some h = refl
 other_first (a ∷ b ∷ c ∷ octets) some h = rw h refl
+other_first others some h = refl
 
 none_last : (rest : List ℕ) → length rest ≡ 0 → with_colons rest ≡ []
 unfolding with_colons

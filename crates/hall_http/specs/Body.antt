@@ -1,7 +1,7 @@
 -- Bodies of requests as JSON values (RFC 8259), and which members an object has.
 use denote.Bor.{Bor}
 use Rattle.std.specs.{Prelude.{ℕ, List, [], ◌∷◌, map, Option, Some, None, option_and_then, is_some, bytes_eq, Bool, false, ◌&&◌, ◌||◌, if◌then◌else◌}, List.{list_all, list_any}, Str.is_utf8}
-use Rattle.serde_json.specs.{Data.{Data, Members, no_members, member}, Find.{get, as_object}, Read.read}
+use Rattle.hall_http.specs.Prelude.{Data, Members, no_members, member, get, as_object, read}
 
 -- the octets, if they are UTF-8
 abbrev pub text_of : List ℕ → Option (List ℕ)

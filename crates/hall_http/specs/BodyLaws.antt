@@ -1,20 +1,22 @@
--- Laws of bodies: the desk reads the text of a request with a command as that command with that key.
-use Rattle.std.{proofs.{Common.{◌≡◌, ◌≤◌, ℕ, true, false, List, [], ◌∷◌, Option, Some, None, map, length, refl, sym, ap, ◌∙◌, inl, arith, append-nil}, lemmas.{Bool.{le-leb, not-true}, List.{get_or_default, Elements.recursion_from_All}, Str.is_utf8-from_IsUtf8}}, specs.{Prelude.{codes, option_and_then, option_map, if◌then◌else◌, IsTrue}, List.AllByRecursion, Str.is_utf8}}
-use Rattle.hex.{specs.Hex.encode_lower, proofs.HexLemmas.decode_sized-encode_lower}
-use Rattle.uuid.{specs.Text.{lower, parsed, hyphenated_text}, proofs.RoundTrips.parses_hyphenated}
-use Rattle.pxe_vendor.specs.{MacText.{mac_text, mac_of}, MacLaws.{IsMacText-mac_text, mac_of-from_IsMacText}, ArchLaws.arch_in-arch_text, Blank.is_blank}
+-- Laws of bodies: the text of a request with a command has at most 16,384 octets, and the desk reads it as that command
+-- with that key.
+use Rattle.std.{proofs.{Common.{◌≡◌, ◌≤◌, ◌+◌, lit≤, ℕ, true, false, List, [], ◌∷◌, Option, Some, None, map, length, refl, sym, ap, ◌∙◌, inl, arith, append-nil}, lemmas.{Bool.{le-leb, not-true}, List.{get_or_default, Elements.recursion_from_All}, Str.is_utf8-from_IsUtf8}}, specs.{Prelude.{codes, option_and_then, option_map, if◌then◌else◌, IfSome, IsTrue}, List.AllByRecursion, Str.is_utf8}}
 use Rattle.json.specs.Json as json
-use Rattle.json.{specs.{Token.Token, Tree.json_tokens}, proofs.Printed.{Tokens.tokens-print, Trees.{value-json_tokens, ArePrintable-json_tokens}}}
-use Rattle.serde_json.{specs.{Data.{Data, string}, Read.{read, of_json, of_items, max_depth}, View.items_of, Written.{compact_text, outline, items_outline}}, proofs.{Numbers.number_of-decimal, Texts.print-outline}}
-use Rattle.ipxe_script.specs.Word.{IsWord, IsUri}
-use Rattle.hall_types.specs.{Image.{BootImage, IsImage}, Kinds.{role_text, role_of_text, erase_text}, KindLaws.role_by_text, Name.{IsName, name_of}, Uuid.unless_blank, Number.{IsNumber, number_in}, Octets.{AreOctets, octets_of_text}, Act.act_text, declared.kinds.Role.Role}
+use Rattle.pxe_vendor.specs.Arch.{arch_text}
+use Rattle.hall_types.specs.{Kinds.{role_text, erase_text}, Act.act_text}
 use Rattle.hall_types.specs.declared.kinds.Erase.TheVariants as erase
 use Rattle.hall_types.specs.declared.act.Act.TheVariants as does
-use Rattle.hall_events.specs.{ObjectLaws.{IsPlain, numbers, shallow}, Command.{request_data, request_text, members_of, machine_kind, IsCommand, IsMachineCommand}, CommandLaws.{IsPlain-request, number_fits}, declared.{command.{HallCommand.HallCommand, MachineCommand.MachineCommand}, kind.{CommandKind.CommandKind, MachineKind.MachineKind}}, Kind.{kind_with_word, kind_word, machine_word}}
+use Rattle.hall_events.specs.{Object.count, Command.{request_text, members_of, kind_with_word, kind_word, machine_word}}
 use Rattle.hall_events.specs.declared.command.HallCommand.TheVariants as hall
 use Rattle.hall_events.specs.declared.command.MachineCommand.TheVariants as act
-use Rattle.hall_events.specs.declared.kind.CommandKind.TheVariants as kind
-use Rattle.hall_http.specs.{Command.{command_in, command_of, fits_kind, keyed_command, kind_at, machine_command, on_machine}, Member.{key_at, number_at, version_at}, Steps.◌>>=◌, Value.{uri_of, words_of, image_of, uuid_of_text}, Sendable.{HasNames, HasParts, is_identified, IsSendableCommand}}
+use Rattle.hall_events.specs.declared.command.CommandKind.TheVariants as kind
+use Rattle.hall_events.specs.declared.command.MachineKind.TheVariants as done
+use Rattle.hex.proofs.HexLemmas.{decode_sized-encode_lower}
+use Rattle.uuid.proofs.RoundTrips.{parses_hyphenated}
+use Rattle.json.proofs.Printed.{Tokens.tokens-print, Trees.{value-json_tokens, ArePrintable-json_tokens}}
+use Rattle.serde_json.proofs.{Numbers.number_of-decimal, Texts.print-outline}
+use Rattle.hall_events.specs.{ObjectLaws.{IsPlain, numbers, shallow}, CommandLaws.{IsPlain-request, number_fits}}
+use Rattle.hall_http.specs.{Prelude.{encode_lower, lower, parsed, hyphenated_text, mac_text, mac_of, IsMacText-mac_text, mac_of-from_IsMacText, arch_in-arch_text, is_blank, Token, json_tokens, Data, string, read, of_json, of_items, max_depth, items_of, compact_text, outline, items_outline, IsWord, IsUri, BootImage, IsImage, role_of_text, role_by_text, IsName, name_of, unless_blank, IsNumber, number_in, AreOctets, octets_of_text, Role, member_if, command_member, own_members, uuid_data, request_data, machine_kind, IsCommand, IsMachineCommand, HallCommand, MachineCommand, CommandKind, MachineKind}, Command.{HasNames, HasParts, IsSendableCommand, command_in, command_of, fits_kind, is_identified, keyed_command, kind_at, machine_command, on_machine}, Member.{key_at, number_at, version_at}, SizeLaws.{member_size, total, object_fits, total-append, text_fits, count_fits, truth_fits, name_fits, uri_fits, uuid_fits, mac_fits, digest_fits, arch_fits, role_fits, args_fit}, Steps.◌>>=◌, Value.{uri_of, words_of, image_of, uuid_of_text}}
 
 -- ---- the value of a text
 
@@ -111,12 +113,8 @@ act_reads key n (act.SetPool pool) k h w p =
     act_is _ key n None (act.SetPool pool) (rw (number_of-decimal n (number_fits n h)) refl) refl refl (key_is key k) (number_is n h) refl (rw (name_is pool p) refl)
 act_reads key n (act.Deploy image) k h w p =
     act_is _ key n None (act.Deploy image) (rw (number_of-decimal n (number_fits n h)) refl) refl refl (key_is key k) (number_is n h) refl (rw (name_is image p) refl)
-act_reads key n (act.Release None) k h w p =
-    act_is _ key n None (act.Release None) (rw (number_of-decimal n (number_fits n h)) refl) refl refl (key_is key k) (number_is n h) refl refl
 act_reads key n (act.Release (Some erase.Full)) k h w p =
     act_is _ key n None (act.Release (Some erase.Full)) (rw (number_of-decimal n (number_fits n h)) refl) refl refl (key_is key k) (number_is n h) refl refl
-act_reads key n (act.Release (Some erase.Quick)) k h w p =
-    act_is _ key n None (act.Release (Some erase.Quick)) (rw (number_of-decimal n (number_fits n h)) refl) refl refl (key_is key k) (number_is n h) refl refl
 act_reads key n (act.Act does.Test) k h w p =
     act_is _ key n None (act.Act does.Test) (rw (number_of-decimal n (number_fits n h)) refl) refl refl (key_is key k) (number_is n h) refl refl
 act_reads key n c k h w p =
@@ -134,12 +132,8 @@ act_reads_at key n v (act.SetPool pool) k h g w p =
     act_is _ key n (Some v) (act.SetPool pool) (rw (number_of-decimal n (number_fits n h), number_of-decimal v (number_fits v g)) refl) refl refl (key_is key k) (number_is n h) (ap (option_map Some) (number_is v g)) (rw (name_is pool p) refl)
 act_reads_at key n v (act.Deploy image) k h g w p =
     act_is _ key n (Some v) (act.Deploy image) (rw (number_of-decimal n (number_fits n h), number_of-decimal v (number_fits v g)) refl) refl refl (key_is key k) (number_is n h) (ap (option_map Some) (number_is v g)) (rw (name_is image p) refl)
-act_reads_at key n v (act.Release None) k h g w p =
-    act_is _ key n (Some v) (act.Release None) (rw (number_of-decimal n (number_fits n h), number_of-decimal v (number_fits v g)) refl) refl refl (key_is key k) (number_is n h) (ap (option_map Some) (number_is v g)) refl
 act_reads_at key n v (act.Release (Some erase.Full)) k h g w p =
     act_is _ key n (Some v) (act.Release (Some erase.Full)) (rw (number_of-decimal n (number_fits n h), number_of-decimal v (number_fits v g)) refl) refl refl (key_is key k) (number_is n h) (ap (option_map Some) (number_is v g)) refl
-act_reads_at key n v (act.Release (Some erase.Quick)) k h g w p =
-    act_is _ key n (Some v) (act.Release (Some erase.Quick)) (rw (number_of-decimal n (number_fits n h), number_of-decimal v (number_fits v g)) refl) refl refl (key_is key k) (number_is n h) (ap (option_map Some) (number_is v g)) refl
 act_reads_at key n v (act.Act does.Test) k h g w p =
     act_is _ key n (Some v) (act.Act does.Test) (rw (number_of-decimal n (number_fits n h), number_of-decimal v (number_fits v g)) refl) refl refl (key_is key k) (number_is n h) (ap (option_map Some) (number_is v g)) refl
 act_reads_at key n v c k h g w p =
@@ -188,6 +182,104 @@ command_reads key (hall.AddMachine mac arch pool (Some uuid)) k w p i = record {
 }
 command_reads key (hall.OnMachine n None c) k w p i = act_reads key n c k w.0 w.2 p
 command_reads key (hall.OnMachine n (Some v) c) k w p i = act_reads_at key n v c k w.0 w.1 w.2 p
+
+-- ---- sizes
+
+-- the word of each command is short
+machine_word_fits : (k : MachineKind) → length (machine_word k) ≤ 64
+unfolding machine_word act_text
+machine_word_fits (done.Act does.Test) = lit≤ tt
+machine_word_fits k = lit≤ tt
+
+kind_word_fits : (k : CommandKind) → length (kind_word k) ≤ 64
+unfolding kind_word
+kind_word_fits (kind.OnMachine k) = machine_word_fits k
+kind_word_fits k = lit≤ tt
+
+own_fits : (c : MachineCommand) → IsMachineCommand c → HasNames c → total (own_members c) ≤ 1000
+unfolding erase_text
+own_fits (act.AddInterface mac) w p = omega (arith, text_fits (codes "mac") (mac_text mac) 64 (lit≤ tt) (mac_fits mac w))
+own_fits (act.RemoveInterface mac) w p = omega (arith, text_fits (codes "mac") (mac_text mac) 64 (lit≤ tt) (mac_fits mac w))
+own_fits (act.SetPool pool) w p = omega (arith, text_fits (codes "pool") pool 32 (lit≤ tt) (name_fits pool p))
+own_fits (act.Commission tests) w p = omega (arith, truth_fits (codes "tests") tests (lit≤ tt))
+own_fits (act.Deploy image) w p = omega (arith, text_fits (codes "image") image 32 (lit≤ tt) (name_fits image p))
+own_fits (act.Release None) w p = omega (arith, truth_fits (codes "erase") false (lit≤ tt))
+own_fits (act.Release (Some erase.Full)) w p = omega (arith, truth_fits (codes "erase") true (lit≤ tt))
+own_fits (act.Release (Some erase.Quick)) w p = omega (arith, text_fits (codes "erase") (codes "quick") 5 (lit≤ tt) (lit≤ tt))
+own_fits c w p = lit≤ tt
+
+version_fits : (version : Option ℕ) → IfSome version IsNumber → total (member_if (codes "version") (option_map count version)) ≤ 68
+version_fits None h = lit≤ tt
+version_fits (Some v) h = omega (arith, count_fits (codes "version") v (lit≤ tt) h)
+
+uuid_member_fits : (uuid : Option (List ℕ)) → total (member_if (codes "uuid") (option_map uuid_data uuid)) ≤ 500
+uuid_member_fits None = lit≤ tt
+uuid_member_fits (Some uuid) = omega (arith, text_fits (codes "uuid") (hyphenated_text lower uuid) 64 (lit≤ tt) (uuid_fits uuid))
+
+kind_fits : (k : CommandKind) → member_size (command_member k) ≤ 438
+kind_fits k = text_fits (codes "command") (kind_word k) 64 (lit≤ tt) (kind_word_fits k)
+
+members_fit : (c : HallCommand) → IsCommand c → HasParts c → total (members_of c) ≤ 8000
+unfolding members_of
+members_fit (hall.AddOperator operator role digest) w p =
+    omega (
+      arith,
+      kind_fits kind.AddOperator,
+      text_fits (codes "digest") (encode_lower digest) 64 (lit≤ tt) (digest_fits digest w),
+      text_fits (codes "operator") operator 32 (lit≤ tt) (name_fits operator p),
+      text_fits (codes "role") (role_text role) 64 (lit≤ tt) (role_fits role),
+    )
+members_fit (hall.DisableOperator operator) w p =
+    omega (arith, kind_fits kind.DisableOperator, text_fits (codes "operator") operator 32 (lit≤ tt) (name_fits operator p))
+members_fit (hall.AddPool pool) w p = omega (arith, kind_fits kind.AddPool, text_fits (codes "pool") pool 32 (lit≤ tt) (name_fits pool p))
+members_fit (hall.Grant pool operator) w p =
+    omega (
+      arith,
+      kind_fits kind.Grant,
+      text_fits (codes "operator") operator 32 (lit≤ tt) (name_fits operator p.1),
+      text_fits (codes "pool") pool 32 (lit≤ tt) (name_fits pool p.0),
+    )
+members_fit (hall.AddImage image) w p =
+    omega (
+      arith,
+      kind_fits kind.AddImage,
+      text_fits (codes "arch") (arch_text image.arch) 64 (lit≤ tt) (arch_fits image.arch),
+      args_fit image.args (recursion_from_All IsWord image.args p.1.words) p.1.few,
+      text_fits (codes "image") image.name 32 (lit≤ tt) (name_fits image.name p.0),
+      text_fits (codes "initrd") image.initrd 128 (lit≤ tt) (uri_fits image.initrd p.1.initrd),
+      text_fits (codes "kernel") image.kernel 128 (lit≤ tt) (uri_fits image.kernel p.1.kernel),
+    )
+members_fit (hall.DeleteImage image) w p = omega (arith, kind_fits kind.DeleteImage, text_fits (codes "image") image 32 (lit≤ tt) (name_fits image p))
+members_fit (hall.SetLive image) w p = omega (arith, kind_fits kind.SetLive, text_fits (codes "image") image 32 (lit≤ tt) (name_fits image p))
+members_fit (hall.AddMachine mac arch pool uuid) w p =
+    omega (
+      arith,
+      kind_fits kind.AddMachine,
+      text_fits (codes "arch") (arch_text arch) 64 (lit≤ tt) (arch_fits arch),
+      text_fits (codes "mac") (mac_text mac) 64 (lit≤ tt) (mac_fits mac w.0),
+      text_fits (codes "pool") pool 32 (lit≤ tt) (name_fits pool p),
+      uuid_member_fits uuid,
+    )
+members_fit (hall.OnMachine machine version c) w p =
+    omega (
+      arith,
+      kind_fits (kind.OnMachine (machine_kind c)),
+      count_fits (codes "machine") machine (lit≤ tt) w.0,
+      own_fits c w.2 p,
+      total-append (own_members c) (member_if (codes "version") (option_map count version)),
+      version_fits version w.1,
+    )
+
+-- the text of a request with a command is short
+pub short-request_text : (key : List ℕ) (c : HallCommand) → IsCommand c → HasParts c → length (request_text key c) ≤ 16384
+unfolding request_text
+short-request_text key c w p =
+    omega (
+      arith,
+      object_fits ((codes "key", uuid_data key) ∷ members_of c),
+      text_fits (codes "key") (hyphenated_text lower key) 64 (lit≤ tt) (uuid_fits key),
+      members_fit c w p,
+    )
 
 -- ---- the text of a request
 

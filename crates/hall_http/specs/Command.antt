@@ -1,12 +1,47 @@
--- What the bodies of requests say: commands with their keys, the progress of boots, the outcomes of orders.
-use Rattle.std.specs.Prelude.{ℕ, List, [], ◌∷◌, Option, Some, None, Bool, codes, if◌then◌else◌}
-use Rattle.serde_json.specs.Data.{Data}
-use Rattle.hall_types.specs.{declared.kinds.{Outcome.Outcome, Progress.Progress}, Image.BootImage}
-use Rattle.hall_events.specs.{declared.{command.{HallCommand.HallCommand, MachineCommand.MachineCommand}, kind.{CommandKind.{CommandKind, TheVariants.{AddOperator, DisableOperator, AddPool, Grant, AddImage, DeleteImage, SetLive, AddMachine, OnMachine}}, MachineKind.MachineKind}}, Kind.kind_with_word}
+-- What the bodies of requests say: commands with their keys and exactly the members of their kinds, the progress of boots,
+-- the outcomes of orders.
+use Rattle.std.specs.Prelude.{ℕ, List, [], ◌∷◌, Option, Some, None, Bool, true, not, codes, if◌then◌else◌, IsTrue, IsUtf8}
+use Rattle.pxe_vendor.specs.Blank.{is_blank}
+use Rattle.hall_events.specs.Command.{kind_with_word, request_text}
 use Rattle.hall_events.specs.declared.command.HallCommand.TheVariants as command
 use Rattle.hall_events.specs.declared.command.MachineCommand.TheVariants as machine
-use Rattle.hall_events.specs.declared.kind.MachineKind.TheVariants as kind
-use Rattle.hall_http.specs.{declared.command.KeyedCommand.KeyedCommand, Body.{data_of, fits}, Members.{common_members, own_members, optional_members}, Member.{text_at, number_at, name_at, uri_at, key_at, version_at, mac_at, digest_at, uuid_at, arch_at, role_at, tests_at, erase_at, words_at, progress_at, outcome_at}, Steps.◌>>=◌, Value.image_of}
+use Rattle.hall_events.specs.declared.command.MachineKind.TheVariants as kind
+use Rattle.hall_http.specs.{Prelude.{Data, Outcome, Progress, BootImage, IsImage, IsName, AreOctets, HallCommand, MachineCommand, CommandKind, AddOperator, DisableOperator, AddPool, Grant, AddImage, DeleteImage, SetLive, AddMachine, OnMachine, MachineKind, IsCommand}, declared.command.KeyedCommand.KeyedCommand, Body.{data_of, fits}, Member.{text_at, number_at, name_at, uri_at, key_at, version_at, mac_at, digest_at, uuid_at, arch_at, role_at, tests_at, erase_at, words_at, progress_at, outcome_at}, Steps.◌>>=◌, Value.image_of}
+
+-- ---- members
+
+-- what each command must have
+abbrev pub common_members : CommandKind → List (List ℕ)
+common_members (OnMachine kind) = codes "key" ∷ codes "command" ∷ codes "machine" ∷ []
+common_members other = codes "key" ∷ codes "command" ∷ []
+
+-- what a command on a machine must have besides
+abbrev pub machine_members : MachineKind → List (List ℕ)
+machine_members kind.AddInterface = codes "mac" ∷ []
+machine_members kind.RemoveInterface = codes "mac" ∷ []
+machine_members kind.SetPool = codes "pool" ∷ []
+machine_members kind.Commission = codes "tests" ∷ []
+machine_members kind.Deploy = codes "image" ∷ []
+machine_members kind.Release = codes "erase" ∷ []
+machine_members other = []
+
+-- what a command must have besides
+abbrev pub own_members : CommandKind → List (List ℕ)
+own_members AddOperator = codes "operator" ∷ codes "role" ∷ codes "digest" ∷ []
+own_members DisableOperator = codes "operator" ∷ []
+own_members AddPool = codes "pool" ∷ []
+own_members Grant = codes "pool" ∷ codes "operator" ∷ []
+own_members AddImage = codes "image" ∷ codes "arch" ∷ codes "kernel" ∷ codes "initrd" ∷ codes "args" ∷ []
+own_members DeleteImage = codes "image" ∷ []
+own_members SetLive = codes "image" ∷ []
+own_members AddMachine = codes "mac" ∷ codes "arch" ∷ codes "pool" ∷ []
+own_members (OnMachine kind) = machine_members kind
+
+-- what a command may have
+abbrev pub optional_members : CommandKind → List (List ℕ)
+optional_members AddMachine = codes "uuid" ∷ []
+optional_members (OnMachine kind) = codes "version" ∷ []
+optional_members other = []
 
 -- ---- commands to the hall
 
@@ -150,3 +185,41 @@ unfoldable pub outcome_in : List ℕ → Option Outcome
 outcome_in body = do
   json ← data_of body
   if is_sole (codes "outcome") json then outcome_at json else None
+
+-- ---- which commands the text of a request can bring
+
+-- a pool and an image are named by names
+abbrev pub HasNames : MachineCommand → Type 0
+HasNames (machine.SetPool pool) = IsName pool
+HasNames (machine.Deploy image) = IsName image
+HasNames other = Unit {0}
+
+-- the texts of a command are of their kinds
+abbrev pub HasParts : HallCommand → Type 0
+HasParts (command.AddOperator operator role digest) = IsName operator
+HasParts (command.DisableOperator operator) = IsName operator
+HasParts (command.AddPool pool) = IsName pool
+HasParts (command.Grant pool operator) = IsName pool × IsName operator
+HasParts (command.AddImage image) = IsName image.name × IsImage image
+HasParts (command.DeleteImage image) = IsName image
+HasParts (command.SetLive image) = IsName image
+HasParts (command.AddMachine mac arch pool uuid) = IsName pool
+HasParts (command.OnMachine machine version c) = HasNames c
+
+-- 16 octets that are all 0 or all 255 identify no machine
+abbrev pub identifies : Option (List ℕ) → Bool
+identifies None = true
+identifies (Some octets) = not (is_blank octets)
+
+-- a UUID that a command brings identifies a machine
+abbrev pub is_identified : HallCommand → Bool
+is_identified (command.AddMachine mac arch pool uuid) = identifies uuid
+is_identified other = true
+
+-- a command that a request can bring: octets and numbers are in their ranges, and its text is UTF-8
+pub record IsSendableCommand (key : List ℕ) (c : HallCommand) : Type 0 where
+  pub sixteen : AreOctets 16 key
+  pub whole : IsCommand c
+  pub parts : HasParts c
+  pub identity : IsTrue (is_identified c)
+  pub text : IsUtf8 (request_text key c)

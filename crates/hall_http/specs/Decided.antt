@@ -1,8 +1,6 @@
 -- Whether further octets can change what a request asks for.
 use Rattle.std.specs.Prelude.{◌≤◌, ◌⊎◌, ℕ, List, ◌++◌, map, length, Result, IfOk}
-use Rattle.httparse.specs.{Grammar.{RequestHead, ReadsRequest, NeverHasRequest, EndsInTarget}, Spans.{RequestExceeds, name_and_value}}
-use Rattle.hall_events.specs.declared.event.Event.{Event}
-use Rattle.hall_http.specs.{declared.fault.HttpFault.HttpFault, Demand.{demand_of, body_size}, Fields.FieldPair, Head.HasNoHead, Request.{front, after_head, IsEvent}}
+use Rattle.hall_http.specs.{Prelude.{RequestHead, ReadsRequest, NeverHasRequest, EndsInTarget, RequestExceeds, name_and_value, Event}, declared.fault.HttpFault.HttpFault, Demand.{demand_of, body_size}, Fields.FieldPair, Head.HasNoHead, Request.{front, after_head, IsEvent}}
 
 -- each event or fault of the octets is that of them with any octets after them
 abbrev pub IsDecided : List ℕ → Type 0

@@ -1,8 +1,6 @@
 -- Laws of numbers in fields and targets, for the proofs of callers: decimal digits are read as the number that they write.
 use Rattle.std.{proofs.{Common.{◌≡◌, ◌<◌, ◌≤◌, ◌^◌, ℕ, List, Bool, true, false, length, refl, arith}, lemmas.{Bool.{and_parts, and_from, le-leb, leb-true, false_from_ne_true, eqb-true}, Fmt.{decimal_nonempty, digits_value-decimal, digits_decimal, length-decimal-le, first_decimal}, Str.Parse.{IsNumeralModel, IsDigitsTest, numerals_by_fold}}}, specs.{Prelude.{decimal, nat_le, ◌==◌, ◌||◌, not, Some, Ok, slice_index}, List.list_all, Char.is_ascii_digit}}
-use Rattle.hall_types.specs.Number.{IsNumber, number_of_text}
-use Rattle.hall_http.specs.{BodyLaws.number_is, Answer.◌>>=◌, Fields.{length_of, within_limit}}
-use Rattle.pxe_vendor.specs.Digits.{decimal_after, decimal_value}
+use Rattle.hall_http.specs.{Prelude.{IsNumber, number_of_text, decimal_after, decimal_value}, BodyLaws.number_is, Answer.◌>>=◌, Fields.{length_of, within_limit}}
 
 digits_test : IsDigitsTest (λ ds. list_all is_ascii_digit ds ≡ true)
 digits_test = record {

@@ -1,7 +1,6 @@
 -- What a request asks for, as far as its head says it.
 use Rattle.std.specs.Prelude.{ℕ, List, Result, Ok, Err, ok_or, bytes_eq, if◌then◌else◌}
-use Rattle.hall_types.specs.{Number.number_of_text, Octets.octets_of_text}
-use Rattle.hall_http.specs.{declared.{demand.Demand.Demand, fault.HttpFault.{HttpFault, TheVariants.{BadRequest, NoRoute, WrongMethod}}, resource.Resource.{Resource, TheVariants.{Script, Report, Orders, Order, Machines, Machine, Commands}}}, Answer.◌>>=◌, Fields.{FieldPair, body_length, bearer}, Resource.{resource_of, method_of}, Target.{segment, address_of}}
+use Rattle.hall_http.specs.{Prelude.{number_of_text, octets_of_text}, declared.{demand.Demand.Demand, fault.HttpFault.{HttpFault, TheVariants.{BadRequest, NoRoute, WrongMethod}}, resource.Resource.{Resource, TheVariants.{Script, Report, Orders, Order, Machines, Machine, Commands}}}, Answer.◌>>=◌, Fields.{FieldPair, body_length, bearer}, Resource.{resource_of, method_of}, Target.{segment, address_of}}
 use Rattle.hall_http.specs.declared.demand.Demand.TheVariants as demand
 
 -- the second segment of /ipxe/{mac}, /orders/{number} and /machines/{id}, and those of /report/{number}/{token}

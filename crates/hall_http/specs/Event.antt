@@ -1,8 +1,7 @@
 -- The event that a request makes.
 use Rattle.std.specs.Prelude.{ℕ, List, Option, Result, Ok, Err, ok_or, nat_le, length, take, if◌then◌else◌}
-use Rattle.hall_events.specs.declared.event.Event.{Event}
 use Rattle.hall_events.specs.declared.event.Event.TheVariants as event
-use Rattle.hall_http.specs.{Command.{command_in, progress_in, outcome_in}, declared.{demand.Demand.Demand, fault.HttpFault.{HttpFault, TheVariants.BadRequest}}, Answer.◌>>=◌, Demand.demand_of, Fields.FieldPair}
+use Rattle.hall_http.specs.{Prelude.Event, Command.{command_in, progress_in, outcome_in}, declared.{demand.Demand.Demand, fault.HttpFault.{HttpFault, TheVariants.BadRequest}}, Answer.◌>>=◌, Demand.demand_of, Fields.FieldPair}
 use Rattle.hall_http.specs.declared.demand.Demand.TheVariants as demand
 
 -- the body: so many octets of what follows the head

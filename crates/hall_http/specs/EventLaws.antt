@@ -1,10 +1,8 @@
 -- Laws of events, for the proofs of callers: what the desk makes of the heads that an operator's client sends.
-use Rattle.std.{proofs.{Common.{◌≡◌, ◌+◌, ◌^◌, ◌<◌, ℕ, suc, Bool, true, false, List, [], ◌∷◌, ◌++◌, Option, length, refl, ap, ◌∙◌, arith, take, drop, length-append}, lemmas.{Bool.{and_parts, le-leb, leb-true, lt-ltb, ltb-true, false_from_ne_true, eqb-true}, Fmt.decimal_nonempty}, Math.Seq.take-length}, specs.{Prelude.{codes, cond, decimal, nat_le, nat_lt, not, ◌==◌, Ok}, List.{list_all, position_or_len}, Char.is_ascii_digit}}
-use Rattle.matchit.specs.Seek.{has_slash}
-use Rattle.hall_types.specs.Number.{IsNumber}
-use Rattle.hall_events.specs.{Command.request_text, declared.command.HallCommand.HallCommand}
+use Rattle.std.{proofs.{Common.{◌≡◌, ◌+◌, ◌^◌, ◌<◌, ℕ, suc, Bool, true, false, List, [], ◌∷◌, ◌++◌, Option, length, refl, ap, subst, ◌∙◌, arith, take, drop, length-append}, lemmas.{Bool.{and_parts, le-leb, leb-true, lt-ltb, ltb-true, false_from_ne_true, eqb-true}, Fmt.decimal_nonempty, List.append-nil}, Math.Seq.take-length}, specs.{Prelude.{codes, cond, decimal, nat_le, nat_lt, not, ◌==◌, Ok}, List.{list_all, position_or_len}, Char.is_ascii_digit}}
+use Rattle.hall_events.specs.Command.{request_text}
 use Rattle.hall_events.specs.declared.event.Event.TheVariants as event
-use Rattle.hall_http.specs.{BodyLaws.command_in-request_text, Sendable.IsSendableCommand, Answer.◌>>=◌, DecimalLaws.{digits-decimal, number_of_text-decimal}, Demand.{demand_of, demand_for}, Event.{event_of_demand, event_of_parts}, Fields.{FieldPair, body_length, bearer}, Resource.IsSegment, Target.{segment, slash_index}}
+use Rattle.hall_http.specs.{Prelude.{has_slash, IsNumber, HallCommand}, BodyLaws.command_in-request_text, Command.IsSendableCommand, Answer.◌>>=◌, DecimalLaws.{digits-decimal, number_of_text-decimal}, Demand.{demand_of, demand_for}, Event.{event_of_demand, event_of_parts}, Fields.{FieldPair, body_length, bearer}, Resource.IsSegment, Target.{segment, slash_index}}
 use Rattle.hall_http.specs.declared.demand.Demand.TheVariants as demand
 use Rattle.hall_http.specs.ResourceLaws as route
 
@@ -40,32 +38,24 @@ no_slash (digit ∷ digits) h =
     let low = leb-true 48 digit (and_parts (nat_le 48 digit) (nat_le digit 57) both.0).0 in
     rw (false_from_ne_true (digit == 47) (λ e. omega (arith, low, eqb-true digit 47 e)), no_slash digits both.1) refl
 
--- where the first slash stands
-slash_at : (front rest : List ℕ) → has_slash front ≡ false → position_or_len (λ octet. octet == 47) (front ++ 47 ∷ rest) ≡ length front
-slash_at [] rest h = refl
-slash_at (x ∷ front) rest h = by (x == 47) (slash_at front rest) h
+-- a text without a slash is passed over
+slash_after : (front rest : List ℕ) → has_slash front ≡ false → position_or_len (λ octet. octet == 47) rest ≡ 0 → position_or_len (λ octet. octet == 47) (front ++ rest) ≡ length front
+slash_after [] rest h at = at
+slash_after (x ∷ front) rest h at = by (x == 47) (λ none. slash_after front rest none at) h
   where
-    by : (b : Bool) → (has_slash front ≡ false → position_or_len (λ octet. octet == 47) (front ++ 47 ∷ rest) ≡ length front) → cond b true (has_slash front) ≡ false
-        → cond (not b) (1 + position_or_len (λ octet. octet == 47) (front ++ 47 ∷ rest)) 0 ≡ suc (length front)
+    by : (b : Bool) → (has_slash front ≡ false → position_or_len (λ octet. octet == 47) (front ++ rest) ≡ length front) → cond b true (has_slash front) ≡ false
+        → cond (not b) (1 + position_or_len (λ octet. octet == 47) (front ++ rest)) 0 ≡ suc (length front)
     by true later h = absurd cc
     by false later h = omega (arith, later h)
 
 slash_index_is : (front rest : List ℕ) → has_slash front ≡ false → slash_index (front ++ 47 ∷ rest) ≡ length front
-slash_index_is front rest h = rw (slash_at front rest h, lt-ltb (length front) (length (front ++ 47 ∷ rest)) (omega (arith, length-append front (47 ∷ rest)))) refl
+slash_index_is front rest h = rw (slash_after front (47 ∷ rest) h refl, lt-ltb (length front) (length (front ++ 47 ∷ rest)) (omega (arith, length-append front (47 ∷ rest)))) refl
 
-no_position : (text : List ℕ) → has_slash text ≡ false → position_or_len (λ octet. octet == 47) text ≡ length text
-no_position [] h = refl
-no_position (x ∷ text) h = by (x == 47) (no_position text) h
-  where
-    by : (b : Bool) → (has_slash text ≡ false → position_or_len (λ octet. octet == 47) text ≡ length text) → cond b true (has_slash text) ≡ false
-        → cond (not b) (1 + position_or_len (λ octet. octet == 47) text) 0 ≡ suc (length text)
-    by true later h = absurd cc
-    by false later h = omega (arith, later h)
-
--- a text without a slash is passed over
 no_slash_index : (text : List ℕ) → has_slash text ≡ false → slash_index text ≡ length text
 no_slash_index text h =
-    rw (no_position text h, false_from_ne_true (nat_lt (length text) (length text)) (λ e. omega (arith, ltb-true (length text) (length text) e))) refl
+    let passed : position_or_len (λ octet. octet == 47) text ≡ length text =
+    subst (λ (all : List ℕ). position_or_len (λ octet. octet == 47) all ≡ length text) (append-nil text) (slash_after text [] h refl) in
+    rw (passed, false_from_ne_true (nat_lt (length text) (length text)) (λ e. omega (arith, ltb-true (length text) (length text) e))) refl
 
 machine_segment : (digits : List ℕ) → has_slash digits ≡ false → segment 2 (codes "/machines/" ++ digits) ≡ digits
 machine_segment digits h =

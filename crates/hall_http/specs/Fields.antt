@@ -1,8 +1,6 @@
 -- What the fields of a request's head say (RFC 9110 sections 8.6 and 11.6.2; RFC 9112 section 6).
 use Rattle.std.specs.{Prelude.{ℕ, ◌+◌, List, [], ◌∷◌, Option, Some, None, option_and_then, Result, Ok, Err, codes, length, take, drop, nat_le, nat_eq, ◌&&◌, Bool, if◌then◌else◌}, List.list_all, Str.str_eq_ignore_ascii_case, Char.is_ascii_digit}
-use Rattle.sha2.specs.Sha256.{sha256}
-use Rattle.pxe_vendor.specs.Digits.{decimal_value}
-use Rattle.hall_http.specs.{declared.fault.HttpFault.{HttpFault, TheVariants.{BadRequest, NeedLength, TooLarge}}, Answer.◌>>=◌}
+use Rattle.hall_http.specs.{Prelude.{sha256, decimal_value}, declared.fault.HttpFault.{HttpFault, TheVariants.{BadRequest, NeedLength, TooLarge}}, Answer.◌>>=◌}
 
 -- a field: its name and its value
 abbrev pub FieldPair : Type 0

@@ -1,7 +1,6 @@
 -- Whether octets begin with the head of a request (RFC 9112 sections 2 to 5), in the words of `httparse`.
 use Rattle.std.specs.Prelude.{◌<◌, ◌≤◌, ◌⊎◌, ℕ, List, length}
-use Rattle.httparse.specs.{declared.spans.{HeaderSpan.HeaderSpan, RequestSpans.RequestSpans}, Grammar.{RequestHead, ReadsRequest, MayBecomeRequest}, Spans.{IsRequestAt, IsRequestWithin, RequestOverflows, RequestExceeds}}
-use Rattle.hall_http.specs.declared.head.Look.{Look, TheVariants.{Head, Open, Never}}
+use Rattle.hall_http.specs.{Prelude.{HeaderSpan, RequestSpans, RequestHead, ReadsRequest, MayBecomeRequest, IsRequestAt, IsRequestWithin, RequestOverflows, RequestExceeds}, declared.head.Look.{Look, TheVariants.{Head, Open, Never}}}
 
 -- no head at the front has so few fields
 abbrev pub HasNoHead : List ℕ → ℕ → Type 0

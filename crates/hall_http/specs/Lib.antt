@@ -1,3 +1,4 @@
+pub mod Prelude
 pub mod Noted
 pub mod Response
 pub mod ResponseLaws
@@ -17,8 +18,6 @@ pub mod Body
 pub mod BodyLaws
 pub mod Command
 pub mod Member
-pub mod Members
-pub mod Sendable
 pub mod SizeLaws
 pub mod Steps
 pub mod Value

@@ -1,10 +1,6 @@
 -- The values of an object's members, where they are of the kind that is asked for.
 use Rattle.std.specs.Prelude.{ℕ, List, Option, Bool, option_and_then, codes}
-use Rattle.pxe_vendor.specs.{MacText.mac_of, Arch.arch_in, declared.arch.Arch.Arch}
-use Rattle.serde_json.specs.{Data.Data, Find.{get, as_str, as_bool, as_array}}
-use Rattle.uuid.specs.Text.{parsed}
-use Rattle.hall_types.specs.{Name.name_of, Octets.octets_of_text, Kinds.{role_of_text, progress_of_text, outcome_of_text}, declared.kinds.{Erase.Erase, Outcome.Outcome, Progress.Progress, Role.Role}}
-use Rattle.hall_http.specs.Value.{number_of, version_of, uuid_of, erase_of, uri_of, words_of}
+use Rattle.hall_http.specs.{Prelude.{mac_of, arch_in, Arch, Data, get, as_str, as_bool, as_array, parsed, name_of, octets_of_text, role_of_text, progress_of_text, outcome_of_text, Erase, Outcome, Progress, Role}, Value.{number_of, version_of, uuid_of, erase_of, uri_of, words_of}}
 
 abbrev pub text_at : List ℕ → Data → Option (List ℕ)
 text_at name json = option_and_then as_str (get name json)

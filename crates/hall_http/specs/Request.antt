@@ -1,8 +1,6 @@
 -- The event or the first fault of a request's octets.
 use Rattle.std.specs.Prelude.{◌≡◌, ◌<◌, ◌≤◌, ℕ, List, Result, Err, length, take, drop, map}
-use Rattle.httparse.specs.{Grammar.{RequestHead, ReadsRequest, print_request}, Spans.name_and_value}
-use Rattle.hall_events.specs.declared.event.Event.{Event}
-use Rattle.hall_http.specs.{declared.fault.HttpFault.{HttpFault, TheVariants.BadRequest}, Answer.Answers, Event.event_of_parts, Fields.FieldPair}
+use Rattle.hall_http.specs.{Prelude.{RequestHead, ReadsRequest, print_request, name_and_value, Event}, declared.fault.HttpFault.{HttpFault, TheVariants.BadRequest}, Answer.Answers, Event.event_of_parts, Fields.FieldPair}
 
 -- a head stands in the first 8,192 octets
 abbrev pub front : List ℕ → List ℕ

@@ -1,7 +1,6 @@
 -- What a request's target names, in the words of `matchit`.
 use Rattle.std.specs.Prelude.{◌≡◌, ◌≢◌, false, ℕ, List, [], ◌∷◌, codes, fold, Option, Some, None, Result, Ok, Err}
-use Rattle.matchit.specs.{Rows.RowsOf, Route.{Scan, parse_route}, Order.placed, Router.{RouteOf, route_from}, Seek.{first, has_slash}, declared.error.InsertError.InsertError}
-use Rattle.hall_http.specs.declared.resource.Resource.{Resource, TheVariants.{Script, Report, Orders, Order, Machines, Machine, Commands}}
+use Rattle.hall_http.specs.{Prelude.{RowsOf, Scan, parse_route, placed, RouteOf, route_from, first, has_slash, InsertError}, declared.resource.Resource.{Resource, TheVariants.{Script, Report, Orders, Order, Machines, Machine, Commands}}}
 
 -- the hall's routes, each with what it leads to
 abbrev pub route_table : List (List ℕ × Resource)
@@ -37,13 +36,10 @@ resource_of target = value_of (first routes target)
 
 -- the one method that a resource has
 abbrev pub method_of : Resource → List ℕ
-method_of Script = codes "GET"
 method_of Report = codes "POST"
-method_of Orders = codes "GET"
 method_of Order = codes "POST"
-method_of Machines = codes "GET"
-method_of Machine = codes "GET"
 method_of Commands = codes "POST"
+method_of other = codes "GET"
 
 -- a segment of a target: it isn't empty and has no slash
 pub record IsSegment (text : List ℕ) : Type 0 where

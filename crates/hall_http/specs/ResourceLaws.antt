@@ -1,7 +1,7 @@
 -- Laws of targets, for the proofs of callers: what the router finds for those that are asked for most.
 use Rattle.std.{proofs.Common.{◌≡◌, ◌⊎◌, ◌-◌, ◌++◌, ℕ, zero, suc, Bool, true, false, List, [], ◌∷◌, length, Option, Some, None, refl, ap, arith, ◌∙◌, inl, inr}, specs.Prelude.{codes, cond, ◌==◌}}
-use Rattle.matchit.{specs.{Rows.{RowsOf, param_token, catch_all_token}, Seek.{seek, param_step, has_slash, or_else, own, step}, Router.RouteOf}, proofs.OnLiterals.matchit_on_literals}
-use Rattle.hall_http.specs.{declared.resource.Resource.{Resource, TheVariants.{Script, Orders, Machines, Machine, Commands}}, Resource.{routes, resource_of, value_of, IsSegment}}
+use Rattle.matchit.{specs.Seek.{seek, param_step}, proofs.OnLiterals.matchit_on_literals}
+use Rattle.hall_http.specs.{Prelude.{RowsOf, param_token, catch_all_token, has_slash, or_else, own, step, RouteOf}, declared.resource.Resource.{Resource, TheVariants.{Script, Orders, Machines, Machine, Commands}}, Resource.{routes, resource_of, value_of, IsSegment}}
 
 module _ {K : Type 0} where
   abbrev no_rows : RowsOf K
@@ -62,44 +62,27 @@ module _ {K : Type 0} where
   goes_on key rs b path found =
       ap (λ (x : Option K). or_else x (or_else (seek ((param_step (step param_token rs) (b ∷ path)).0 - 1) (param_step (step param_token rs) (b ∷ path)).1 path) (own (step catch_all_token rs)))) found
 
-ipxe : (tail : List ℕ) → IsSegment tail → resource_of (47 ∷ 105 ∷ 112 ∷ 120 ∷ 101 ∷ 47 ∷ tail) ≡ Some Script
-unfolding matchit_on_literals routes
-ipxe tail h =
-    let key : RouteOf Resource = record { pattern = codes "/ipxe/" ++ (param_token ∷ []); text = codes "/ipxe/{mac}"; names = (7, 10) ∷ []; value = Script } in
-    let one = step 47 routes in
-    let two = step 105 one in
-    let three = step 112 two in
-    let four = step 120 three in
-    let five = step 101 four in
-    ap value_of (
-    goes_on key routes 47 (105 ∷ 112 ∷ 120 ∷ 101 ∷ 47 ∷ tail) (goes_on key one 105 (112 ∷ 120 ∷ 101 ∷ 47 ∷ tail) (goes_on key two 112 (120 ∷ 101 ∷ 47 ∷ tail)
-    (goes_on key three 120 (101 ∷ 47 ∷ tail) (goes_on key four 101 (47 ∷ tail) (goes_on key five 47 tail (last_param key tail h))))))
-    )
+  -- likewise of several octets
+  abbrev after : List ℕ → RowsOf K → RowsOf K
+  after [] rs = rs
+  after (b ∷ front) rs = after front (step b rs)
+
+  goes_along : (key : K) (front : List ℕ) (rs : RowsOf K) (path : List ℕ) → seek 0 (after front rs) path ≡ Some key → seek 0 rs (front ++ path) ≡ Some key
+  goes_along key [] rs path found = found
+  goes_along key (b ∷ front) rs path found = goes_on key rs b (front ++ path) (goes_along key front (step b rs) path found)
 
 pub script_is : (target tail : List ℕ) → target ≡ codes "/ipxe/" ++ tail → IsSegment tail → resource_of target ≡ Some Script
-script_is target tail e h = ap resource_of e ∙ ipxe tail h
+unfolding matchit_on_literals routes
+script_is target tail e h =
+    let key : RouteOf Resource = record { pattern = codes "/ipxe/" ++ (param_token ∷ []); text = codes "/ipxe/{mac}"; names = (7, 10) ∷ []; value = Script } in
+    ap resource_of e ∙ ap value_of (goes_along key (codes "/ipxe/") routes tail (last_param key tail h))
 
 -- a machine's number follows `/machines/`
 pub machine_is : (tail : List ℕ) → IsSegment tail → resource_of (codes "/machines/" ++ tail) ≡ Some Machine
 unfolding matchit_on_literals routes
 machine_is tail h =
     let key : RouteOf Resource = record { pattern = codes "/machines/" ++ (param_token ∷ []); text = codes "/machines/{id}"; names = (11, 13) ∷ []; value = Machine } in
-    let one = step 47 routes in
-    let two = step 109 one in
-    let three = step 97 two in
-    let four = step 99 three in
-    let five = step 104 four in
-    let six = step 105 five in
-    let seven = step 110 six in
-    let eight = step 101 seven in
-    let nine = step 115 eight in
-    ap value_of (
-    goes_on key routes 47 (109 ∷ 97 ∷ 99 ∷ 104 ∷ 105 ∷ 110 ∷ 101 ∷ 115 ∷ 47 ∷ tail) (goes_on key one 109 (97 ∷ 99 ∷ 104 ∷ 105 ∷ 110 ∷ 101 ∷ 115 ∷ 47 ∷ tail)
-    (goes_on key two 97 (99 ∷ 104 ∷ 105 ∷ 110 ∷ 101 ∷ 115 ∷ 47 ∷ tail) (goes_on key three 99 (104 ∷ 105 ∷ 110 ∷ 101 ∷ 115 ∷ 47 ∷ tail)
-    (goes_on key four 104 (105 ∷ 110 ∷ 101 ∷ 115 ∷ 47 ∷ tail) (goes_on key five 105 (110 ∷ 101 ∷ 115 ∷ 47 ∷ tail)
-    (goes_on key six 110 (101 ∷ 115 ∷ 47 ∷ tail) (goes_on key seven 101 (115 ∷ 47 ∷ tail)
-    (goes_on key eight 115 (47 ∷ tail) (goes_on key nine 47 tail (last_param key tail h))))))))))
-    )
+    ap value_of (goes_along key (codes "/machines/") routes tail (last_param key tail h))
 
 pub commands : resource_of (codes "/commands") ≡ Some Commands
 unfolding matchit_on_literals routes

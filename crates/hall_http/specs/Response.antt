@@ -1,7 +1,6 @@
 -- Responses: status line, fields and body (RFC 9112 section 4; RFC 9110 sections 8.3, 8.6 and 15; RFC 4918 section 11.3 for 423).
 use Rattle.std.specs.{Prelude.{ℕ, ◌==◌, List, [], ◌∷◌, ◌++◌, codes, length, decimal, unwrap_or, IsTrue}, List.list_any}
-use Rattle.http.specs.StatusCode.{reason_phrase}
-use Rattle.hall_events.specs.{Reply.{Content, stored, boot_file, nothing}, declared.reply.{Reply.{Reply, TheVariants.{Http, File, Nothing}}, BodyKind.{BodyKind, TheVariants.{Text, Json}}}}
+use Rattle.hall_http.specs.Prelude.{reason_phrase, Content, stored, boot_file, nothing, Reply, Http, BodyKind, Text, Json}
 
 -- the statuses of responses
 abbrev pub statuses : List ℕ
@@ -39,14 +38,12 @@ response status kind body = status_line status ++ type_line (kind_text kind) ++ 
 -- the octets of an answer by HTTP
 abbrev pub response_of : Reply → List ℕ
 response_of (Http status kind body) = response status kind body
-response_of (File file) = []
-response_of Nothing = []
+response_of other = []
 
 -- an answer by HTTP with one of these statuses
 abbrev pub IsResponse : Reply → Type 0
 IsResponse (Http status kind body) = IsStatus status
-IsResponse (File file) = ⊥
-IsResponse Nothing = ⊥
+IsResponse other = ⊥
 
 -- what is answered by HTTP; an answer that a receipt keeps has its status
 abbrev pub HasResponse : Content → Type 0

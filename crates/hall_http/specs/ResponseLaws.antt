@@ -1,8 +1,8 @@
 -- Laws of responses, for the proofs of callers: their octets say the status, the kind and the body, and each answer by HTTP has a response.
 use Rattle.std.{proofs.{Common.{◌≡◌, ◌<◌, ◌≤◌, ◌^◌, ℕ, List, [], ◌∷◌, ◌++◌, length, get_or, refl, sym, ap, ◌∙◌, arith, append_assoc}, lemmas.{List.append_cancel_left, Fmt.{decimal_is_IsNumeral, decimal_injective}}}, specs.{Prelude.{codes, decimal}, Char.digit_value, Str.Parse.AllDigits}}
-use Rattle.hall_types.specs.{Hall.Schema, Refusal.{refusal_row, refusal_status}, declared.refusal.Refusal.{Refusal, TheVariants.BadRequest}}
-use Rattle.hall_events.specs.{Reply.{Content, script, refused, counted, repeated, machine_is, machine_gone, done, waiting_orders, machine_list, one_machine, stored, boot_file, nothing, reply_of}, declared.reply.BodyKind.{BodyKind, TheVariants.{Text, Json}}}
-use Rattle.hall_http.specs.Response.{phrase_of, kind_text, status_line, type_line, length_line, last_lines, response, IsStatus, IsResponse, HasResponse}
+use Rattle.hall_types.specs.{Refusal.refusal_row, declared.refusal.Refusal.TheVariants.BadRequest}
+use Rattle.hall_events.specs.Reply.{reply_of}
+use Rattle.hall_http.specs.{Prelude.{Schema, refusal_status, Refusal, Content, refused, stored, boot_file, nothing, BodyKind, Text, Json}, Response.{phrase_of, kind_text, status_line, type_line, length_line, last_lines, response, IsStatus, IsResponse, HasResponse}}
 
 -- ---- what the octets say
 
@@ -76,16 +76,8 @@ refusal_has_status refusal = refl
 
 pub answer_has_response : (schema : Schema) (content : Content) → HasResponse content → IsResponse (reply_of schema content)
 unfolding reply_of
-answer_has_response schema (script commands) h = refl
 answer_has_response schema (refused refusal) h = refusal_has_status refusal
-answer_has_response schema counted h = refl
-answer_has_response schema repeated h = refl
-answer_has_response schema (machine_is id status version) h = refl
-answer_has_response schema (machine_gone id) h = refl
-answer_has_response schema done h = refl
-answer_has_response schema (waiting_orders orders) h = refl
-answer_has_response schema (machine_list machines) h = refl
-answer_has_response schema (one_machine listed) h = refl
 answer_has_response schema (stored status body) h = h
 answer_has_response schema (boot_file file) h = absurd h
 answer_has_response schema nothing h = absurd h
+answer_has_response schema other h = refl

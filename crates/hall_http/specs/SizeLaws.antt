@@ -1,20 +1,20 @@
--- Laws of sizes: the text of a request with a command has at most 16,384 octets.
+-- Laws of sizes: how many octets the texts of members and objects have.
 use Rattle.std.{proofs.{Common.{◌≡◌, ◌+◌, ◌*◌, ◌/◌, ◌%◌, ◌<◌, ◌⊎◌, inl, inr, sym, ◌≤◌, ℕ, Bool, true, false, cond, List, [], ◌∷◌, ◌++◌, Option, Some, None, map, length, refl, ap, subst, ◌∙◌, arith, length-append, lit≤}, lemmas.{Bool.{and_parts, and_from, agree_below_at, leb-true, ltb-true, or_left, cases_lt, false≢true}, Fmt.length-decimal-le, List.Elements.recursion_from_All}}, specs.{Prelude.{codes, option_map, nat_eq, nat_lt, nat_le, ◌&&◌, IfSome}, Char.{digit_char, is_ascii_lowercase}, List.{list_all, AllByRecursion, starts_with}, Ordering.{nat_cmp, match_ordering}, Cmp.Lexicographic.slice_cmp, declared.cmp.Ordering.{Ordering, TheVariants.{Less, Equal, Greater}}}}
-use Rattle.hex.{specs.Hex.{encode_lower, lower_digits}, proofs.HexLemmas.length-encode_with}
-use Rattle.uuid.{specs.Text.{lower, hyphenated_text}, proofs.TextLemmas.by_index_length}
-use Rattle.pxe_vendor.specs.{MacText.mac_text, MacLaws.{IsMacText-mac_text, length-IsMacText}, Arch.arch_text, declared.arch.Arch.{Arch, TheVariants.{Bios, Uefi32, Uefi64, Arm64}}}
-use Rattle.json.{specs.Print.{escape_byte, escape_letter, escape, quoted}, proofs.Printed.Strings.escape_byte_plain}
-use Rattle.serde_json.specs.{Data.{Data, boolean, string, array, Members, no_members, member, put}, View.items_of, Written.{comma_if, compact_text, items_text, members_text}}
-use Rattle.ipxe_script.specs.Word.{is_first_octet, is_word_octet, is_word, is_uri, IsWord, IsUri}
-use Rattle.hall_types.specs.{Kinds.{role_text, erase_text}, Name.{IsName, is_name, is_name_octet}, Number.IsNumber, Octets.AreOctets, Act.act_text, declared.kinds.Role.{Role, TheVariants.{Admin, User, Power}}}
+use Rattle.pxe_vendor.specs.Arch.{arch_text}
+use Rattle.json.specs.Print.{escape_byte}
+use Rattle.ipxe_script.specs.Word.{is_first_octet, is_word_octet, is_word, is_uri}
+use Rattle.hall_types.specs.{Kinds.{role_text, erase_text}, Name.is_name, Act.act_text}
 use Rattle.hall_types.specs.declared.kinds.Erase.TheVariants as erase
 use Rattle.hall_types.specs.declared.act.Act.TheVariants as does
-use Rattle.hall_events.specs.{Object.{Member, put_all, object_of, member_if, count}, Command.{request_text, members_of, own_members, command_member, machine_kind, uuid_data, IsCommand, IsMachineCommand}, declared.{command.{HallCommand.HallCommand, MachineCommand.MachineCommand}, kind.{CommandKind.CommandKind, MachineKind.MachineKind}}, Kind.{kind_word, machine_word}}
+use Rattle.hall_events.specs.{Object.count, Command.{request_text, members_of, kind_word, machine_word}}
 use Rattle.hall_events.specs.declared.command.HallCommand.TheVariants as hall
 use Rattle.hall_events.specs.declared.command.MachineCommand.TheVariants as act
-use Rattle.hall_events.specs.declared.kind.CommandKind.TheVariants as kind
-use Rattle.hall_events.specs.declared.kind.MachineKind.TheVariants as done
-use Rattle.hall_http.specs.Sendable.{HasNames, HasParts}
+use Rattle.hall_events.specs.declared.command.CommandKind.TheVariants as kind
+use Rattle.hall_events.specs.declared.command.MachineKind.TheVariants as done
+use Rattle.hex.proofs.HexLemmas.{length-encode_with}
+use Rattle.uuid.proofs.TextLemmas.{by_index_length}
+use Rattle.json.proofs.Printed.Strings.{escape_byte_plain}
+use Rattle.hall_http.specs.{Prelude.{encode_lower, lower_digits, lower, hyphenated_text, mac_text, IsMacText-mac_text, length-IsMacText, Arch, Bios, escape_letter, escape, quoted, Data, boolean, string, array, Members, no_members, member, put, items_of, comma_if, compact_text, items_text, members_text, IsWord, IsUri, IsName, is_name_octet, IsNumber, AreOctets, Role, Admin, Member, put_all, object_of, member_if, own_members, command_member, machine_kind, uuid_data, IsCommand, IsMachineCommand, HallCommand, MachineCommand, CommandKind, MachineKind}, Command.{HasNames, HasParts}}
 
 -- ---- texts
 
@@ -97,10 +97,10 @@ words_fit later (word ∷ words) h =
 -- ---- objects
 
 -- what a member takes
-abbrev member_size : Member → ℕ
+abbrev pub member_size : Member → ℕ
 member_size m = length (quoted m.0) + length (compact_text m.1) + 2
 
-abbrev total : List Member → ℕ
+abbrev pub total : List Member → ℕ
 total [] = 0
 total (m ∷ ms) = member_size m + total ms
 
@@ -135,152 +135,53 @@ put_all_total : (ms : List Member) (old : Members) → members_total (put_all ms
 put_all_total [] old = omega arith
 put_all_total (m ∷ ms) old = omega (arith, put_all_total ms (put m.0 m.1 old), put_total m.0 m.1 old)
 
-object_fits : (ms : List Member) → length (compact_text (object_of ms)) ≤ total ms + 2
+pub object_fits : (ms : List Member) → length (compact_text (object_of ms)) ≤ total ms + 2
 object_fits ms = omega (arith, members_text_fits false (put_all ms no_members), put_all_total ms no_members)
 
-total-append : (ms more : List Member) → total (ms ++ more) ≡ total ms + total more
+pub total-append : (ms more : List Member) → total (ms ++ more) ≡ total ms + total more
 total-append [] more = omega arith
 total-append (m ∷ ms) more = omega (arith, total-append ms more)
 
--- ---- the texts of a command
+-- ---- the texts of members
 
 -- a member with a short name
-text_fits : (name text : List ℕ) (n : ℕ) → length name ≤ 8 → length text ≤ n → member_size (name, string text) ≤ 6 * n + 54
+pub text_fits : (name text : List ℕ) (n : ℕ) → length name ≤ 8 → length text ≤ n → member_size (name, string text) ≤ 6 * n + 54
 text_fits name text n a b = omega (arith, quoted_fits name 8 a, quoted_fits text n b)
 
-count_fits : (name : List ℕ) (n : ℕ) → length name ≤ 8 → IsNumber n → member_size (name, count n) ≤ 68
+pub count_fits : (name : List ℕ) (n : ℕ) → length name ≤ 8 → IsNumber n → member_size (name, count n) ≤ 68
 count_fits name n a h = omega (arith, quoted_fits name 8 a, length-decimal-le 16 n (omega arith) (omega arith) (omega arith))
 
-truth_fits : (name : List ℕ) (b : Bool) → length name ≤ 8 → member_size (name, boolean b) ≤ 57
+pub truth_fits : (name : List ℕ) (b : Bool) → length name ≤ 8 → member_size (name, boolean b) ≤ 57
 truth_fits name true a = omega (arith, quoted_fits name 8 a)
 truth_fits name false a = omega (arith, quoted_fits name 8 a)
 
-name_fits : (name : List ℕ) → IsName name → length name ≤ 32
+pub name_fits : (name : List ℕ) → IsName name → length name ≤ 32
 unfolding is_name
 name_fits [] h = absurd cc
 name_fits (first ∷ others) h = omega (arith, leb-true (length others) 31 (and_parts (is_ascii_lowercase first && list_all is_name_octet others) (nat_le (length others) 31) h).1)
 
-uri_fits : (uri : List ℕ) → IsUri uri → length uri ≤ 128
+pub uri_fits : (uri : List ℕ) → IsUri uri → length uri ≤ 128
 unfolding is_uri
 uri_fits uri h = (short_word uri (and_parts (is_word uri) (starts_with nat_eq uri (codes "http://")) h).0).short
 
-uuid_fits : (uuid : List ℕ) → length (hyphenated_text lower uuid) ≤ 64
+pub uuid_fits : (uuid : List ℕ) → length (hyphenated_text lower uuid) ≤ 64
 uuid_fits uuid = let size : length (hyphenated_text lower uuid) ≡ 36 = by_index_length 36 _ in omega (arith, size)
 
-mac_fits : (mac : List ℕ) → AreOctets 6 mac → length (mac_text mac) ≤ 64
+pub mac_fits : (mac : List ℕ) → AreOctets 6 mac → length (mac_text mac) ≤ 64
 mac_fits mac h = omega (arith, length-IsMacText (mac_text mac) mac (IsMacText-mac_text mac h.0 h.1))
 
-digest_fits : (digest : List ℕ) → AreOctets 32 digest → length (encode_lower digest) ≤ 64
+pub digest_fits : (digest : List ℕ) → AreOctets 32 digest → length (encode_lower digest) ≤ 64
 digest_fits digest h = omega (arith, length-encode_with lower_digits digest, h.0)
 
-arch_fits : (a : Arch) → length (arch_text a) ≤ 64
+pub arch_fits : (a : Arch) → length (arch_text a) ≤ 64
 unfolding arch_text
 arch_fits Bios = lit≤ tt
-arch_fits Uefi32 = lit≤ tt
-arch_fits Uefi64 = lit≤ tt
-arch_fits Arm64 = lit≤ tt
+arch_fits other = lit≤ tt
 
-role_fits : (r : Role) → length (role_text r) ≤ 64
+pub role_fits : (r : Role) → length (role_text r) ≤ 64
 unfolding role_text
 role_fits Admin = lit≤ tt
-role_fits User = lit≤ tt
-role_fits Power = lit≤ tt
+role_fits other = lit≤ tt
 
-machine_word_fits : (k : MachineKind) → length (machine_word k) ≤ 64
-unfolding machine_word act_text
-machine_word_fits done.AddInterface = lit≤ tt
-machine_word_fits (done.Act does.Test) = lit≤ tt
-machine_word_fits k = lit≤ tt
-
-kind_word_fits : (k : CommandKind) → length (kind_word k) ≤ 64
-unfolding kind_word
-kind_word_fits (kind.OnMachine k) = machine_word_fits k
-kind_word_fits k = lit≤ tt
-
-args_fit : (words : List (List ℕ)) → AllByRecursion IsWord words → length words ≤ 24 → member_size (codes "args", array (items_of (map string words))) ≤ 3300
+pub args_fit : (words : List (List ℕ)) → AllByRecursion IsWord words → length words ≤ 24 → member_size (codes "args", array (items_of (map string words))) ≤ 3300
 args_fit words h few = omega (arith, quoted_fits (codes "args") 4 (lit≤ tt), words_fit false words h, few)
-
-own_fits : (c : MachineCommand) → IsMachineCommand c → HasNames c → total (own_members c) ≤ 1000
-unfolding erase_text
-own_fits (act.AddInterface mac) w p = omega (arith, text_fits (codes "mac") (mac_text mac) 64 (lit≤ tt) (mac_fits mac w))
-own_fits (act.RemoveInterface mac) w p = omega (arith, text_fits (codes "mac") (mac_text mac) 64 (lit≤ tt) (mac_fits mac w))
-own_fits (act.SetPool pool) w p = omega (arith, text_fits (codes "pool") pool 32 (lit≤ tt) (name_fits pool p))
-own_fits (act.Commission tests) w p = omega (arith, truth_fits (codes "tests") tests (lit≤ tt))
-own_fits (act.Deploy image) w p = omega (arith, text_fits (codes "image") image 32 (lit≤ tt) (name_fits image p))
-own_fits (act.Release None) w p = omega (arith, truth_fits (codes "erase") false (lit≤ tt))
-own_fits (act.Release (Some erase.Full)) w p = omega (arith, truth_fits (codes "erase") true (lit≤ tt))
-own_fits (act.Release (Some erase.Quick)) w p = omega (arith, text_fits (codes "erase") (codes "quick") 5 (lit≤ tt) (lit≤ tt))
-own_fits c w p = lit≤ tt
-
-version_fits : (version : Option ℕ) → IfSome version IsNumber → total (member_if (codes "version") (option_map count version)) ≤ 68
-version_fits None h = lit≤ tt
-version_fits (Some v) h = omega (arith, count_fits (codes "version") v (lit≤ tt) h)
-
-uuid_member_fits : (uuid : Option (List ℕ)) → total (member_if (codes "uuid") (option_map uuid_data uuid)) ≤ 500
-uuid_member_fits None = lit≤ tt
-uuid_member_fits (Some uuid) = omega (arith, text_fits (codes "uuid") (hyphenated_text lower uuid) 64 (lit≤ tt) (uuid_fits uuid))
-
-kind_fits : (k : CommandKind) → member_size (command_member k) ≤ 438
-kind_fits k = text_fits (codes "command") (kind_word k) 64 (lit≤ tt) (kind_word_fits k)
-
-members_fit : (c : HallCommand) → IsCommand c → HasParts c → total (members_of c) ≤ 8000
-unfolding members_of
-members_fit (hall.AddOperator operator role digest) w p =
-    omega (
-      arith,
-      kind_fits kind.AddOperator,
-      text_fits (codes "digest") (encode_lower digest) 64 (lit≤ tt) (digest_fits digest w),
-      text_fits (codes "operator") operator 32 (lit≤ tt) (name_fits operator p),
-      text_fits (codes "role") (role_text role) 64 (lit≤ tt) (role_fits role),
-    )
-members_fit (hall.DisableOperator operator) w p =
-    omega (arith, kind_fits kind.DisableOperator, text_fits (codes "operator") operator 32 (lit≤ tt) (name_fits operator p))
-members_fit (hall.AddPool pool) w p = omega (arith, kind_fits kind.AddPool, text_fits (codes "pool") pool 32 (lit≤ tt) (name_fits pool p))
-members_fit (hall.Grant pool operator) w p =
-    omega (
-      arith,
-      kind_fits kind.Grant,
-      text_fits (codes "operator") operator 32 (lit≤ tt) (name_fits operator p.1),
-      text_fits (codes "pool") pool 32 (lit≤ tt) (name_fits pool p.0),
-    )
-members_fit (hall.AddImage image) w p =
-    omega (
-      arith,
-      kind_fits kind.AddImage,
-      text_fits (codes "arch") (arch_text image.arch) 64 (lit≤ tt) (arch_fits image.arch),
-      args_fit image.args (recursion_from_All IsWord image.args p.1.words) p.1.few,
-      text_fits (codes "image") image.name 32 (lit≤ tt) (name_fits image.name p.0),
-      text_fits (codes "initrd") image.initrd 128 (lit≤ tt) (uri_fits image.initrd p.1.initrd),
-      text_fits (codes "kernel") image.kernel 128 (lit≤ tt) (uri_fits image.kernel p.1.kernel),
-    )
-members_fit (hall.DeleteImage image) w p = omega (arith, kind_fits kind.DeleteImage, text_fits (codes "image") image 32 (lit≤ tt) (name_fits image p))
-members_fit (hall.SetLive image) w p = omega (arith, kind_fits kind.SetLive, text_fits (codes "image") image 32 (lit≤ tt) (name_fits image p))
-members_fit (hall.AddMachine mac arch pool uuid) w p =
-    omega (
-      arith,
-      kind_fits kind.AddMachine,
-      text_fits (codes "arch") (arch_text arch) 64 (lit≤ tt) (arch_fits arch),
-      text_fits (codes "mac") (mac_text mac) 64 (lit≤ tt) (mac_fits mac w.0),
-      text_fits (codes "pool") pool 32 (lit≤ tt) (name_fits pool p),
-      uuid_member_fits uuid,
-    )
-members_fit (hall.OnMachine machine version c) w p =
-    omega (
-      arith,
-      kind_fits (kind.OnMachine (machine_kind c)),
-      count_fits (codes "machine") machine (lit≤ tt) w.0,
-      own_fits c w.2 p,
-      total-append (own_members c) (member_if (codes "version") (option_map count version)),
-      version_fits version w.1,
-    )
-
--- the text of a request with a command is short
-pub short-request_text : (key : List ℕ) (c : HallCommand) → IsCommand c → HasParts c → length (request_text key c) ≤ 16384
-unfolding request_text
-short-request_text key c w p =
-    omega (
-      arith,
-      object_fits ((codes "key", uuid_data key) ∷ members_of c),
-      text_fits (codes "key") (hyphenated_text lower key) 64 (lit≤ tt) (uuid_fits key),
-      members_fit c w p,
-    )

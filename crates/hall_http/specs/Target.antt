@@ -1,6 +1,6 @@
 -- What the segments of a request's target mean (RFC 3986 section 3.3).
 use Rattle.std.specs.Prelude.{ℕ, zero, suc, ◌+◌, List, ◌∷◌, Option, length, take, drop, position, unwrap_or, ◌==◌, ◌&&◌, ◌||◌, Bool, false, if◌then◌else◌}
-use Rattle.pxe_vendor.specs.MacText.{mac_of}
+use Rattle.hall_http.specs.Prelude.{mac_of}
 
 -- where the first slash stands, or the end
 abbrev pub slash_index : List ℕ → ℕ

@@ -1,10 +1,7 @@
 -- What the values of a command's members mean.
 use Rattle.std.specs.Prelude.{ℕ, List, [], ◌∷◌, Option, Some, None, option_and_then, option_map, codes, bytes_eq, nat_le, length, true, false, not, ◌&&◌, if◌then◌else◌}
-use Rattle.uuid.specs.Text.{parsed}
-use Rattle.serde_json.specs.{Data.{Data, null, boolean, string, Items, no_items, item}, Find.{as_str, as_number, as_u64}}
 use Rattle.ipxe_script.specs.Word.{is_word, is_uri}
-use Rattle.hall_types.specs.{Image.{BootImage, has_hall_word}, Kinds.erase_of_text, Number.number_in, Uuid.unless_blank, declared.kinds.Erase.{Erase, TheVariants.Full}}
-use Rattle.hall_http.specs.Steps.{◌>>=◌}
+use Rattle.hall_http.specs.{Prelude.{parsed, Data, null, boolean, string, Items, no_items, item, as_str, as_number, as_u64, BootImage, has_hall_word, erase_of_text, number_in, unless_blank, Erase, Full}, Steps.◌>>=◌}
 
 -- a number of 64 bits, written without a point and without an exponent
 abbrev pub count_of : Data → Option ℕ

@@ -1,13 +1,12 @@
 //! Bodies as JSON values.
 ghost use Rattle.std.specs.Prelude.{◌≡◌, IfOk, option_copied, option_map};
-ghost use Rattle.serde_json.specs.View.{view};
-ghost use Rattle.hall_http.specs.Body.{data_of, text_of};
+ghost use Rattle.hall_http.specs.{Prelude.view, Body.{data_of, text_of}};
 
 use serde_json::Value;
 use std::alloc::{AllocError, Global};
 
-// The octets, if they are UTF-8.
-fn text_of(octets: &[u8]) -> Option<&str>
+/// The octets, if they are UTF-8.
+pub fn text_of(octets: &[u8]) -> Option<&str>
     ensures { option_copied result ≡ text_of octets.now }
 {
     match std::str::from_utf8(octets) {

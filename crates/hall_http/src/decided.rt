@@ -1,7 +1,6 @@
 //! Whether further octets can change what a request asks for.
 ghost use Rattle.std.specs.Prelude.{◌≡◌, ◌↔◌, IfOk, IsTrue, length, map, All};
-ghost use Rattle.httparse.specs.Spans.{IsHeaderWithin, header_bytes};
-ghost use Rattle.hall_http.specs.Decided.{Ends, IsDecided, IsReady};
+ghost use Rattle.hall_http.specs.{Prelude.{IsHeaderWithin, header_bytes}, Decided.{Ends, IsDecided, IsReady}};
 
 use crate::demand::demand_of;
 use crate::fault::HttpFault;

@@ -1,7 +1,6 @@
 //! What a request asks for, as far as its head says it.
 ghost use Rattle.std.specs.Prelude.{◌≡◌, length, map, All};
-ghost use Rattle.httparse.specs.Spans.{IsHeaderWithin, header_bytes};
-ghost use Rattle.hall_http.specs.{Answer.Answers, Demand.{address_in, number_in, token_in, script_demand, report_demand, order_demand, machine_demand, command_demand, demand_for, demand_of, with_method, body_size}};
+ghost use Rattle.hall_http.specs.{Prelude.{IsHeaderWithin, header_bytes}, Answer.Answers, Demand.{address_in, number_in, token_in, script_demand, report_demand, order_demand, machine_demand, command_demand, demand_for, demand_of, with_method, body_size}};
 
 use crate::fault::HttpFault;
 use crate::fields::{bearer, body_length};
@@ -60,8 +59,7 @@ impl Demand {
 fn address_in(alloc: Global, target: &[u8]) -> Result<MacAddress, HttpFault>
     ensures { Answers result (address_in target.now) }
 {
-    let address = address_of(alloc, second_segment(target))?;
-    address.ok_or(HttpFault::BadRequest)
+    address_of(alloc, second_segment(target))?.ok_or(HttpFault::BadRequest)
 }
 
 fn number_in(target: &[u8]) -> Result<Number, HttpFault>
@@ -97,13 +95,10 @@ fn order_demand(target: &[u8], front: &[u8], headers: &[HeaderSpan]) -> Result<D
     requires { All (IsHeaderWithin (length front.now)) headers.now }
     ensures { result ≡ order_demand target.now (map (header_bytes front.now) headers.now) }
 {
-    let order = number_in(target)?;
-    let size = body_length(front, headers)?;
-    let bearer = bearer(front, headers);
     Ok(Demand::OrderAnswer {
-        bearer,
-        order,
-        size,
+        order: number_in(target)?,
+        size: body_length(front, headers)?,
+        bearer: bearer(front, headers),
     })
 }
 

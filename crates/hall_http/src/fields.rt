@@ -1,7 +1,6 @@
 //! What the fields of a head say.
 ghost use Rattle.std.specs.{Prelude.{◌≡◌, ◌≤◌, ◌&&◌, nat_le, true, length, map, All, option_copied}, List.list_all, Char.is_ascii_digit, Str.str_eq_ignore_ascii_case};
-ghost use Rattle.httparse.specs.Spans.{IsHeaderWithin, header_bytes};
-ghost use Rattle.hall_http.specs.Fields.{count, first_value, is_length, length_of, within_limit, has_plain_body, body_length, is_visible, is_bearer_token, has_bearer_token, bearer_digest, bearer};
+ghost use Rattle.hall_http.specs.{Prelude.{IsHeaderWithin, header_bytes}, Fields.{count, first_value, is_length, length_of, within_limit, has_plain_body, body_length, is_visible, is_bearer_token, has_bearer_token, bearer_digest, bearer}};
 
 use crate::fault::HttpFault;
 use hall_types::Digest;
@@ -136,6 +135,5 @@ pub(crate) fn bearer(front: &[u8], headers: &[HeaderSpan]) -> Option<Digest>
     requires { All (IsHeaderWithin (length front.now)) headers.now }
     ensures { result ≡ bearer (map (header_bytes front.now) headers.now) }
 {
-    let text = first_value(front, headers, "authorization")?;
-    bearer_digest(text)
+    bearer_digest(first_value(front, headers, "authorization")?)
 }

@@ -1,7 +1,6 @@
 //! The head of a request.
 ghost use Rattle.std.specs.Prelude.{◌≡◌, ◌≤◌, length, IfSome, IfNone};
-ghost use Rattle.httparse.specs.Spans.{IsRequestWithin};
-ghost use Rattle.hall_http.specs.Head.{HasHead, HasNoHead, FindsHead};
+ghost use Rattle.hall_http.specs.{Prelude.IsRequestWithin, Head.{HasHead, HasNoHead, FindsHead}};
 
 use httparse::spans::{HeaderSpan, RequestSpans, parse_request};
 use httparse::{Error, Status};

@@ -1,7 +1,6 @@
 //! The image that a command adds.
 ghost use Rattle.std.specs.Prelude.{◌≡◌, IfOk};
-ghost use Rattle.serde_json.specs.View.{view};
-ghost use Rattle.hall_http.specs.{Command.image_at, Value.image_of};
+ghost use Rattle.hall_http.specs.{Prelude.view, Command.image_at, Value.image_of};
 
 use crate::member::{arch_at, name_at, uri_at, words_at};
 use hall_types::{Image, Name};

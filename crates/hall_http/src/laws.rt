@@ -1,9 +1,7 @@
 //! What holds of responses.
 ghost use Rattle.std.specs.Prelude.{◌≡◌, ◌<◌, ◌^◌, ℕ, List, length};
-ghost use Rattle.hall_types.specs.{Hall.Schema, declared.refusal.Refusal.Refusal};
 ghost use Rattle.hall_events.specs.Reply as said;
-ghost use Rattle.hall_events.specs.{Reply.{Content, reply_of}, declared.reply.BodyKind.BodyKind};
-ghost use Rattle.hall_http.specs.Response.{response, response_of, HasResponse, IsResponse};
+ghost use Rattle.hall_http.specs.{Prelude.{Schema, Refusal, Content, reply_of, BodyKind}, Response.{response, response_of, HasResponse, IsResponse}};
 
 use crate::response::UNAVAILABLE;
 

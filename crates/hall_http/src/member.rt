@@ -1,9 +1,8 @@
 //! The values of an object's members, where they are of the kind that is asked for.
 ghost use Rattle.std.specs.Prelude.{◌≡◌, IfOk, option_copied, option_map};
-ghost use Rattle.serde_json.specs.View.{view};
-ghost use Rattle.hall_http.specs.Member.{text_at, number_at, name_at, uri_at, key_at, version_at, mac_at, digest_at, uuid_at, arch_at, role_at, tests_at, erase_at, words_at, progress_at, outcome_at};
+ghost use Rattle.hall_http.specs.{Prelude.view, Member.{text_at, number_at, name_at, uri_at, key_at, version_at, mac_at, digest_at, uuid_at, arch_at, role_at, tests_at, erase_at, words_at, progress_at, outcome_at}};
 
-use crate::value::{erase_of, number_of, parsed, uri_of, uuid_of, version_of, words_of};
+use crate::value::{erase_of, number_of, uri_of, uuid_octets, uuid_of, version_of, words_of};
 use hall_types::{
     Digest, Erase, MacAddress, MachineUuid, Name, Number, Outcome, Progress, RequestKey, Role,
     Version,
@@ -22,8 +21,7 @@ pub(crate) fn text_at<'j>(json: &'j Value, name: &str) -> Option<&'j str>
 pub(crate) fn number_at(json: &Value, name: &str) -> Option<Number>
     ensures { result ≡ number_at name.now (view json.now) }
 {
-    let value = json.get(name)?;
-    number_of(value)
+    number_of(json.get(name)?)
 }
 
 pub(crate) fn name_at(json: &Value, name: &str) -> Option<Name>
@@ -44,8 +42,7 @@ pub(crate) fn uri_at(alloc: Global, json: &Value, name: &str) -> Result<Option<U
 pub(crate) fn key_at(json: &Value) -> Option<RequestKey>
     ensures { result ≡ key_at (view json.now) }
 {
-    let text = text_at(json, "key")?;
-    let octets = parsed(text)?;
+    let octets = uuid_octets(text_at(json, "key")?)?;
     Some(RequestKey::from(octets))
 }
 
@@ -94,8 +91,7 @@ pub(crate) fn tests_at(json: &Value) -> Option<bool>
 pub(crate) fn erase_at(json: &Value) -> Option<Option<Erase>>
     ensures { result ≡ erase_at (view json.now) }
 {
-    let value = json.get("erase")?;
-    erase_of(value)
+    erase_of(json.get("erase")?)
 }
 
 pub(crate) fn words_at(alloc: Global, json: &Value) -> Result<Option<Vec<Word>>, AllocError>

@@ -1,7 +1,6 @@
 //! The event that a request makes.
 ghost use Rattle.std.specs.{Prelude.{◌≡◌, length, map, All}, Result.result_map_both};
-ghost use Rattle.httparse.specs.Spans.{IsHeaderWithin, header_bytes};
-ghost use Rattle.hall_http.specs.{Answer.Answers, Event.{body_of, event_of_demand, event_of_parts}, Request.IsEvent};
+ghost use Rattle.hall_http.specs.{Prelude.{IsHeaderWithin, header_bytes}, Answer.Answers, Event.{body_of, event_of_demand, event_of_parts}, Request.IsEvent};
 ghost use Rattle.hall_http.specs.Event as made;
 
 use crate::command::{KeyedCommand, command_in};
@@ -36,11 +35,10 @@ fn report_event(
     ensures { Answers result (made.report_event boot token size after.now) }
 {
     let body = body_of(size, after)?;
-    let progress = progress_in(alloc, body)?.ok_or(HttpFault::BadRequest)?;
     Ok(Event::Report {
         boot,
         token,
-        progress,
+        progress: progress_in(alloc, body)?.ok_or(HttpFault::BadRequest)?,
     })
 }
 
@@ -54,11 +52,10 @@ fn answer_event(
     ensures { Answers result (made.answer_event bearer order size after.now) }
 {
     let body = body_of(size, after)?;
-    let outcome = outcome_in(alloc, body)?.ok_or(HttpFault::BadRequest)?;
     Ok(Event::OrderAnswer {
         bearer,
         order,
-        outcome,
+        outcome: outcome_in(alloc, body)?.ok_or(HttpFault::BadRequest)?,
     })
 }
 

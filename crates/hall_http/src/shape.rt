@@ -1,7 +1,6 @@
 //! Which members an object has.
 ghost use Rattle.std.specs.{Prelude.{◌≡◌, ◌||◌, is_some, option_map}, List.list_all};
-ghost use Rattle.serde_json.specs.{Find.as_object, View.{view, members_view}};
-ghost use Rattle.hall_http.specs.Body.{texts, names_of, is_among, is_allowed, has_all, has_only, fits};
+ghost use Rattle.hall_http.specs.{Prelude.{as_object, view, members_view}, Body.{texts, names_of, is_among, is_allowed, has_all, has_only, fits}};
 
 use serde_json::{Map, Value};
 

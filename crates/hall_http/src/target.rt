@@ -1,7 +1,6 @@
 //! What the segments of a target mean.
 ghost use Rattle.std.specs.Prelude.{◌≡◌, ◌≤◌, ◌<◌, ◌+◌, ◌==◌, IfOk, IfSome, length, drop, position};
-ghost use Rattle.hall_types.specs.{Number.number_of_text, Octets.octets_of_text};
-ghost use Rattle.hall_http.specs.Target.{slash_index, segment, is_coded_colon, begins_with_coded_colon, with_colons, address_of};
+ghost use Rattle.hall_http.specs.{Prelude.{number_of_text, octets_of_text}, Target.{slash_index, segment, is_coded_colon, begins_with_coded_colon, with_colons, address_of}};
 
 use crate::slices::suffix;
 use hall_types::{MacAddress, Number, Token};
@@ -101,8 +100,7 @@ pub(crate) fn address_of(alloc: Global, text: &[u8]) -> Result<Option<MacAddress
 pub(crate) fn number_of(text: &[u8]) -> Option<Number>
     ensures { result ≡ number_of_text text.now }
 {
-    let number = numeral(text)?;
-    Number::new(number).ok()
+    Number::new(numeral(text)?).ok()
 }
 
 /// The token of a boot that a segment says.

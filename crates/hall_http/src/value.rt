@@ -1,10 +1,6 @@
 //! What the values of a command's members mean.
 ghost use Rattle.std.specs.Prelude.{◌≡◌, IfOk, option_map};
-ghost use Rattle.uuid.specs.Text.{parsed};
-ghost use Rattle.serde_json.specs.View.{view, items_view};
-ghost use Rattle.hall_types.specs.Kinds.{erase_of_text};
-ghost use Rattle.pxe_vendor.specs.Arch.{arch_in};
-ghost use Rattle.hall_http.specs.Value.{count_of, number_of, version_of, uuid_of_text, uuid_of_value, uuid_of, erase_of, erase_of_word, word_of, uri_of, words_of};
+ghost use Rattle.hall_http.specs.{Prelude.{parsed, view, items_view, erase_of_text, arch_in}, Value.{count_of, number_of, version_of, uuid_of_text, uuid_of_value, uuid_of, erase_of, erase_of_word, word_of, uri_of, words_of}};
 
 use hall_types::{Erase, MachineUuid, Number, Version};
 use ipxe_script::{Uri, Word, WordFault};
@@ -16,15 +12,13 @@ use uuid::Uuid;
 pub(crate) fn number_of(value: &Value) -> Option<Number>
     ensures { result ≡ number_of (view value.now) }
 {
-    let n = value.as_u64()?;
-    Number::new(n).ok()
+    Number::new(value.as_u64()?).ok()
 }
 
 fn version_number(value: &Value) -> Option<Version>
     ensures { result ≡ number_of (view value.now) }
 {
-    let n = value.as_u64()?;
-    Version::new(n).ok()
+    Version::new(value.as_u64()?).ok()
 }
 
 // The version that a member says, where it is there.
@@ -37,8 +31,8 @@ pub(crate) fn version_of(member: Option<&Value>) -> Option<Option<Version>>
     }
 }
 
-// The octets of a UUID, in one of its four spellings.
-pub(crate) fn parsed(text: &str) -> Option<[u8; 16]>
+/// The octets of a UUID, in one of its four spellings.
+pub fn uuid_octets(text: &str) -> Option<[u8; 16]>
     ensures { result ≡ parsed text.now }
 {
     match Uuid::parse_str(text) {
@@ -50,8 +44,7 @@ pub(crate) fn parsed(text: &str) -> Option<[u8; 16]>
 fn uuid_of_text(text: &str) -> Option<MachineUuid>
     ensures { result ≡ uuid_of_text text.now }
 {
-    let octets = parsed(text)?;
-    MachineUuid::identifying(octets)
+    MachineUuid::identifying(uuid_octets(text)?)
 }
 
 fn uuid_of_value(value: &Value) -> Option<Option<MachineUuid>>

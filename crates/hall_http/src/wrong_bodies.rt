@@ -1,12 +1,11 @@
 //! Why a body says no command, for a log.
 use crate::body::value_of;
-use crate::command::kind_at;
+use crate::command::{common_members, kind_at, optional_members, own_members};
 use crate::image::image_at;
 use crate::member::{
     arch_at, digest_at, erase_at, key_at, mac_at, name_at, number_at, role_at, tests_at, uri_at,
     uuid_at, version_at, words_at,
 };
-use crate::members::{common_members, optional_members, own_members};
 use crate::shape::has_only;
 use hall_events::CommandKind;
 use serde_json::Value;
@@ -26,12 +25,7 @@ pub enum BodyFault {
 }
 
 fn first_missing(json: &Value, names: &[&'static str]) -> Option<&'static str> {
-    for name in names {
-        if json.get(*name).is_none() {
-            return Some(*name);
-        }
-    }
-    None
+    names.iter().copied().find(|name| json.get(*name).is_none())
 }
 
 fn is_there<T: Drop>(value: Option<T>) -> bool {
@@ -76,14 +70,14 @@ fn bad_member(
     json: &Value,
     kind: CommandKind,
 ) -> Result<Option<&'static str>, AllocError> {
-    if let Some(name) = first_bad(alloc, json, common_members(kind))? {
-        return Ok(Some(name));
-    }
-    if let Some(name) = first_bad(alloc, json, own_members(kind))? {
-        return Ok(Some(name));
-    }
-    if let Some(name) = first_bad(alloc, json, optional_members(kind))? {
-        return Ok(Some(name));
+    for names in [
+        common_members(kind),
+        own_members(kind),
+        optional_members(kind),
+    ] {
+        if let Some(name) = first_bad(alloc, json, names)? {
+            return Ok(Some(name));
+        }
     }
     // Words that are good each for itself may be too many, or begin `hall.`.
     if matches!(kind, CommandKind::AddImage) && !is_there(image_at(alloc, json)?) {
@@ -104,10 +98,7 @@ fn fault_in(alloc: Global, json: &Value) -> Result<Option<BodyFault>, AllocError
     if !has_only(json, common, own, optional_members(kind)) {
         return Ok(Some(BodyFault::Other(kind)));
     }
-    match bad_member(alloc, json, kind)? {
-        Some(name) => Ok(Some(BodyFault::Bad(kind, name))),
-        None => Ok(None),
-    }
+    Ok(bad_member(alloc, json, kind)?.map(|name| BodyFault::Bad(kind, name)))
 }
 
 /// Why a body says no command: nothing where it says one. Its names are the desk's own, and no octet of

@@ -1,13 +1,11 @@
 -- What each decision answers: a refusal that writes nothing, a script to who asked for one, or something else.
-use Rattle.std.{proofs.{Common.{◌≡◌, ◌∙◌, ℕ, Bool, true, false, List, [], refl, sym, ap, subst, inl, inr}, lemmas.{Bool.false≢true, Option.none-some}}, specs.Prelude.{map, Option, Some, None, Ok, Err}}
-use Rattle.pxe_vendor.specs.{Place.Site, declared.clients.Client.Client}
+use Rattle.std.{proofs.{Common.{◌≡◌, ◌≢◌, ◌∙◌, ℕ, Bool, true, false, List, [], refl, sym, ap, subst, inl, inr}, lemmas.{Bool.false≢true, Option.none-some}}, specs.Prelude.{map, Option, Some, None, Ok, Err}}
 use Rattle.ipxe_script.specs.declared.command.Command.{Command as Line}
-use Rattle.hall_types.specs.{Hall.{Hall, applied}, declared.{change.RowWrite.RowWrite, operator.Operator.Operator, port.Port.Port, refusal.Refusal.Refusal}, Lookup.waiting, Rows.{at, listed as rows_of}}
-use Rattle.hall_events.specs.{Reply.{Content, machine_list, nothing, refused, script, waiting_orders}, declared.{event.Event.Event, command.HallCommand.HallCommand}}
+use Rattle.hall_types.specs.Rows.{at, listed as rows_of}
 use Rattle.hall_events.specs.declared.event.Event.TheVariants as event
-use Rattle.boot_desk.specs.{Fetch.{Fetched, fetched}, FrameEvent.{frame_decision, frame_view}, OrderAnswer.answered, Report.{Judged, reported}, Sound.IsSound, SoundLaws.some_is, Views.{order_view, report_view, view_at}, declared.{fault.Verdict.TheVariants.{Counted, Repeat}, frames.Decision.{Decision as FrameDecision, TheVariants.{Loader, Enlist}}, views.BootView.BootView}}
-use Rattle.desk_command.specs.{Command.{command_decision, sender, with_receipt}, DecisionLaws.command_cases, Effect.{Effect, effect}, View.command_view}
-use Rattle.hall_laws.{specs.{Decision.{Decided, decision_of, listed_of, framed, given, given_if, judged, listed_if, commanded, refuses, says, may_see_orders, may_answer, may_see_machines}, EffectLaws.{SaysDone, effect_says}, Laws.{IsFrame, RefusesWithoutChange, ScriptIsAsked}, Past.{AtEachStep, WasAnswered}, Refusing.IsRefusal, Step.{IsRun, IsStep, Step}, Writes.is_done, WritesLaws.{listed_cases, role_cases}}, proofs.{Effects.decided, Frame.run_split}}
+use Rattle.boot_desk.specs.{Fetch.fetched, FrameEvent.frame_decision, OrderAnswer.answered, Report.reported, declared.frames.Decision.Decision as FrameDecision}
+use Rattle.desk_command.specs.{Command.{command_decision, with_receipt}, Effect.{Effect, effect}, View.command_view}
+use Rattle.hall_laws.{specs.{Prelude.{Site, Client, Hall, applied, RowWrite, Operator, Port, Refusal, waiting, Content, machine_list, nothing, refused, script, waiting_orders, Event, HallCommand, Fetched, frame_view, Judged, IsSound, some_is, order_view, report_view, view_at, Counted, Repeat, Loader, Enlist, BootView, sender, command_cases}, Decision.{Decided, decision_of, listed_of, framed, given, given_if, judged, listed_if, commanded, refuses, says, may_see_orders, may_answer, may_see_machines}, CommandLaws.{SaysDone, effect_says}, Laws.{IsFrame, RefusesWithoutChange, ScriptIsAsked}, Past.{AtEachStep, IsAccepted, WasAnswered}, Refusing.IsRefusal, Step.{IsRun, IsStep, Step}, Writes.is_done, WritesLaws.{listed_cases, role_cases}}, proofs.{Effects.decided, Frame.run_split}}
 
 -- ---- what is answered
 
@@ -126,6 +124,19 @@ leaves_hall s content (inr missed) answer none = missed.after
 pub keeps_hall : (s : Step) (content : Content) → IsStep s → s.answer ≡ Some content → IsRefusal content → s.after ≡ s.before
 keeps_hall s content step answer refusal =
     leaves_hall s content step answer (λ is. keeps s.arrival.site s.before s.arrival.event s.arrival.moment s.arrival.fresh (subst IsRefusal is refusal))
+
+-- a command that changes the hall is accepted
+pub was_accepted : (s : Step) {bearer : Option (List ℕ)} {operator key : List ℕ} {command : HallCommand} {content : Content} {by : Operator} → IsStep s → sender s.before bearer ≡ Some by → by.name ≡ operator
+    → WasAnswered s (event.Command bearer key command) content → s.after ≢ s.before → IsAccepted operator key command content s
+was_accepted s {bearer = bearer} {content = content} {by = by} step known named answered changes = record {
+  bearer = bearer;
+  by = by;
+  known = known;
+  named = named;
+  answered = answered;
+  accepted = λ refusal. changes (keeps_hall s content step answered.answer refusal);
+  changes = changes;
+}
 
 silent_leaves : (s : Step) (content : Content) → s.answer ≡ Some content → IsFrame s.arrival.event → content ≡ nothing → IsStep s → s.after ≡ s.before
 silent_leaves s content answer frame is step =

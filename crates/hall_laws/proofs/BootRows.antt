@@ -1,10 +1,9 @@
 -- Where each boot's row comes from that there is after a step, and which report counted at it.
 use Rattle.std.{proofs.{Common.{◌≡◌, ℕ, List, sym, ap, ◌∙◌, inl, inr}, lemmas.Option.none-some}, specs.Prelude.{Some, true, false, not, ◌==◌}}
-use Rattle.hall_types.specs.{Hall.Hall, Kinds.stage_after, Rows.{at, put}, RowLaws.{at-put-same, put_cases, where_found}, declared.{boot.Boot.Boot, change.RowWrite.RowWrite, kinds.Progress.Progress, machine.Machine.Machine}}
-use Rattle.hall_events.specs.{Reply.{Content, counted}, declared.event.Event.Event}
+use Rattle.hall_types.specs.Rows.{at, put}
 use Rattle.hall_events.specs.declared.event.Event.TheVariants as event
-use Rattle.boot_desk.specs.{Fetch.{booted, new_boot}, SoundLaws.some_is}
-use Rattle.hall_laws.{specs.{Step.Step, HallLaws.boots_first, Writes.{CauseOf, First, IsIssuing, IsReported, boot_first, is_command, nothing_first, order_first}}, proofs.Effects.{Effect, StepDoes, decided, did, edits, enters, goes, idles, issues, leaves, makes, missed, notes}}
+use Rattle.boot_desk.specs.Fetch.{booted}
+use Rattle.hall_laws.{specs.{Prelude.{Hall, stage_after, at-put-same, put_cases, where_found, Boot, RowWrite, Progress, Machine, Content, counted, Event, new_boot, some_is}, Step.Step, HallLaws.boots_first, Writes.{CauseOf, First, IsIssuing, IsReported, boot_first, is_command, nothing_first, order_first}}, proofs.Effects.{Effect, StepDoes, decided, did, edits, enters, goes, idles, issues, leaves, makes, missed, notes}}
 
 -- it is as it was, it is issued now, or it was reported now
 pub data BootWas (h : Hall) (e : Event) (fresh : List ℕ) (content : Content) (g : Hall) (n : ℕ) (b : Boot) : Type 0 where

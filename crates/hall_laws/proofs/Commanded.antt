@@ -1,14 +1,10 @@
 -- An entry that a command made: the command was accepted, and its operator was who may.
 use Rattle.std.{proofs.{Common.{◌≡◌, ℕ, List, refl, sym, ap, ◌∙◌, inl, inr}, lemmas.Slice.Eq.bytes_eq-Decides}, specs.Prelude.{Option, Some, None, true}}
-use Rattle.hall_types.specs.{Rows.at, declared.{change.RowWrite.RowWrite, kinds.Erase.Erase, machine.Machine.Machine, operator.Operator.Operator}}
-use Rattle.hall_events.specs.{Reply.Content, declared.{command.{HallCommand.TheVariants.OnMachine, MachineCommand.MachineCommand}, event.Event.Event}}
+use Rattle.hall_types.specs.Rows.{at}
 use Rattle.hall_events.specs.declared.command.MachineCommand.TheVariants as on
 use Rattle.hall_events.specs.declared.event.Event.TheVariants as event
-use Rattle.life_cycle.specs.{Permission.{is_owner, is_owner_in, permission_for, who_acts}, declared.{action.Action.Action, signal.Signal.TheVariants.By}}
 use Rattle.life_cycle.specs.declared.action.Action.TheVariants as act
-use Rattle.boot_desk.specs.Sound.{IsSound}
-use Rattle.desk_command.specs.Causes.{action_of}
-use Rattle.hall_laws.{specs.{Step.{IsStep, Step}, Writes.{CauseOf, First, IsCommanded, IsEntering, boot_first, nothing_first, order_first}, Laws.IsByOwner, Past.IsAccepted}, proofs.{AnswerLemmas.keeps_hall, MachineRows.is_changed}}
+use Rattle.hall_laws.{specs.{Prelude.{RowWrite, Erase, Machine, Operator, Content, OnMachine, MachineCommand, Event, is_owner, is_owner_in, permission_for, who_acts, Action, By, IsSound, action_of}, Step.{IsStep, Step}, Writes.{CauseOf, First, IsCommanded, IsEntering, boot_first, nothing_first, order_first}, Laws.IsByOwner, Past.IsAccepted}, proofs.{AnswerLemmas.was_accepted, MachineRows.is_changed}}
 
 same_action : (a b : Action) → By a ≡ By b → a ≡ b
 same_action a b e = cc
@@ -29,15 +25,9 @@ by_command s e moment rows content x action signal = by x.first x.cause
 pub accepts : (s : Step) → IsStep s → IsSound s.before → (moment : ℕ) (rows : List RowWrite) (content : Content) (x : IsEntering s.before s.arrival.event moment rows content) (id : ℕ) (m : Machine)
     → id ≡ x.machine.id → m ≡ x.new.machine → at s.after.machines id ≡ Some m → s.answer ≡ Some content
     → (c : IsCommanded s.before s.arrival.event x.machine x.entering x.signal) → IsAccepted c.operator.name c.key (OnMachine id c.version c.command) content s
-accepts s step sound moment rows content x id m same its is answer c = record {
-  bearer = c.bearer;
-  by = c.operator;
-  known = c.sender_is;
-  named = refl;
-  answered = record { event = c.event_is ∙ ap (λ n. event.Command c.bearer c.key (OnMachine n c.version c.command)) (sym same); answer = answer };
-  accepted = λ refusal. is_changed s sound s.arrival.event moment rows content x id m same its is (keeps_hall s content step answer refusal);
-  changes = is_changed s sound s.arrival.event moment rows content x id m same its is;
-}
+accepts s step sound moment rows content x id m same its is answer c =
+    was_accepted s step c.sender_is refl (record { event = c.event_is ∙ ap (λ n. event.Command c.bearer c.key (OnMachine n c.version c.command)) (sym same); answer = answer })
+    (is_changed s sound s.arrival.event moment rows content x id m same its is)
 
 owner_named : (o : Operator) (m : Machine) → is_owner o m ≡ true → m.owner ≡ Some o.name
 owner_named o m = by m.owner

@@ -1,20 +1,17 @@
 -- What tables hold, by computation.
-use Rattle.std.{proofs.Common.{◌≡◌, ℕ, true, List, [], ◌∷◌, refl, sym, ap, ◌∙◌, map, length}, specs.{FinMap.{get-entries, entries-insert, len-empty, len-entries}, Str.bytes_eq}}
+use Rattle.std.{proofs.{Common.{◌≡◌, ℕ, true, List, [], refl, sym, ap, ◌∙◌, map, length}, lemmas.List.nil_from_length}, specs.{FinMap.{get-entries, entries-insert, len-empty, len-entries}, Str.bytes_eq}}
 use Rattle.std.specs.FinMap as finite
-use Rattle.hall_types.specs.{RowLaws.{same-key, same_text}, Rows.{Keys, Rows, at, put, no_rows, listed, size, texts}}
+use Rattle.hall_laws.specs.Prelude.{same-key, same_text, Keys, Rows}
+use Rattle.hall_types.specs.Rows.{at, put, no_rows, listed, size, texts}
 
 -- the rows with their keys, in order
 abbrev pub entries : {K X : Type 0} {keys : Keys K} → Rows keys X → List (K × X)
 entries rows = finite.entries rows.map
 
-none_in : {A : Type 0} (es : List A) → length es ≡ 0 → es ≡ []
-none_in [] e = refl
-none_in (x ∷ es) e = cc
-
 module _ {K X : Type 0} {keys : Keys K} where
   pub entries-none : (none : Rows keys X) → none ≡ no_rows → entries none ≡ []
   unfolding no_rows
-  entries-none none is = none_in _ (ap (λ (rows : Rows keys X). length (entries rows)) is ∙ (sym (len-entries finite.empty) ∙ len-empty keys.cmp X))
+  entries-none none is = nil_from_length _ (ap (λ (rows : Rows keys X). length (entries rows)) is ∙ (sym (len-entries finite.empty) ∙ len-empty keys.cmp X))
 
   pub entries-put : (rows : Rows keys X) (key : K) (row : X) → entries (put key row rows) ≡ finite.put keys.cmp key row (entries rows)
   unfolding put

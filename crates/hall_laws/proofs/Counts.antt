@@ -1,10 +1,10 @@
 -- Each boot is reported started at most once, before all else, and has at most one verdict.
 use Rattle.std.{proofs.{Common.{◌≡◌, ◌+◌, ◌≤◌, ℕ, List, [], ◌∷◌, ◌++◌, refl, sym, ap, subst, ◌∙◌, inl, inr, arith}, lemmas.Bool.both_ways}, specs.Prelude.{Some, Bool, true, false, is_some}}
-use Rattle.hall_types.specs.{Hall.Hall, Kinds.stage_after, Rows.at, declared.{boot.Boot.Boot, kinds.{Progress.Progress, Stage.Stage}}}
+use Rattle.hall_types.specs.Rows.{at}
 use Rattle.hall_types.specs.declared.kinds.Progress.TheVariants as report
 use Rattle.hall_types.specs.declared.kinds.Stage.TheVariants as stage
-use Rattle.boot_desk.specs.{EntryLaws.next_is, Fetch.is_offered, Promises.Takes, Sound.IsSound, SoundLaws.some_is}
-use Rattle.hall_laws.{specs.{Step.{IsStep, Step}, Laws.{CountsAny, CountsStartedFirst, CountsVerdict, CountsVerdictOnce}, Past.{CountsReport, SomeOf}}, proofs.{BootRows.{BootWas, CountedAt, boot_was, counted_report, issued_now, reported_now, same_boot}, Effects.{StepDoes, decided, did, missed, step_does}, Frame.{none_from, some_of_more}, NumbersOnceLemmas.boot_grows}}
+use Rattle.boot_desk.specs.EntryLaws.{next_is}
+use Rattle.hall_laws.{specs.{Prelude.{Hall, stage_after, Boot, Progress, Stage, is_offered, Takes, IsSound, some_is}, Step.{IsStep, Step}, Laws.{CountsAny, CountsStartedFirst, CountsVerdict, CountsVerdictOnce}, Past.{CountsReport, SomeOf}}, proofs.{BootRows.{BootWas, CountedAt, boot_was, counted_report, issued_now, reported_now, same_boot}, Effects.{StepDoes, decided, did, missed, step_does}, Frame.{none_from, some_of_more}, NumbersOnceLemmas.boot_grows}}
 
 -- the boot is done or failed
 abbrev is_verdict : Stage → Bool

@@ -1,11 +1,9 @@
 -- Machines stay, unless they are deleted.
-use Rattle.std.proofs.{Common.{◌≡◌, ◌⊎◌, ◌∙◌, ◌==◌, ℕ, Bool, true, false, List, Some, None, inl, inr, refl, sym, ap, subst, arith}, lemmas.Bool.Decides.nat_tests}
-use Rattle.hall_types.specs.{Hall.Hall, RowLaws.{at-gone-other, at-gone-same, at-put-other, at-put-same}, Rows.{Rows, at, gone, numbers, put}, declared.machine.Machine.Machine}
-use Rattle.hall_events.specs.declared.command.HallCommand.TheVariants.{OnMachine}
+use Rattle.std.proofs.{Common.{◌≡◌, ◌⊎◌, ◌∙◌, ◌==◌, ℕ, Bool, true, false, List, Some, None, inl, inr, refl, sym, ap, subst, arith}, lemmas.{Bool.Decides.nat_tests, Option.none-some}}
+use Rattle.hall_types.specs.Rows.{at, numbers, put}
 use Rattle.hall_events.specs.declared.command.MachineCommand.TheVariants as on
 use Rattle.hall_events.specs.declared.event.Event.TheVariants as event
-use Rattle.boot_desk.specs.Sound.{IsSound}
-use Rattle.hall_laws.{specs.{Step.{IsStep, Step}, Laws.{IsDeleted, KeepsMachines}}, proofs.{AnswerLemmas.keeps_hall, Effects.{Effect, decided, did, edits, enters, goes, idles, issues, leaves, makes, missed, notes, step_does, StepDoes}}}
+use Rattle.hall_laws.{specs.{Prelude.{Hall, at-gone-other, at-gone-same, at-put-other, at-put-same, Rows, gone, Machine, OnMachine, IsSound}, Step.{IsStep, Step}, Laws.{IsDeleted, KeepsMachines}}, proofs.{AnswerLemmas.was_accepted, Effects.{Effect, decided, did, edits, enters, goes, idles, issues, leaves, makes, missed, notes, step_does, StepDoes}}}
 
 abbrev Stays : Rows numbers Machine → ℕ → Type 0
 Stays machines id = (k : Machine) × (at machines id ≡ Some k)
@@ -27,9 +25,6 @@ still_there machines n x id m there = elim (same_or_not id n) [
 has_still : (g : Rows numbers Machine) (machines : Rows numbers Machine) (id : ℕ) → g ≡ machines → Stays machines id → Stays g id
 has_still g machines id same stays = (stays.0, ap (λ rows. at rows id) same ∙ stays.1)
 
-none_some : (m : Machine) → None ≡ Some m → ⊥
-none_some m is = cc
-
 pub keeps_machines : (past : List Step) (s : Step) → IsStep s → IsSound s.before → KeepsMachines past s
 keeps_machines past s is sound id m there = by_does (step_does s is sound)
   where
@@ -45,21 +40,13 @@ keeps_machines past s is sound id m there = by_does (step_does s is sound)
       | inr apart ↦ inl (has_still s.after.machines (gone gone_id s.before.machines) id has.machines (m, at-gone-other s.before.machines gone_id id apart ∙ there))
       | inl same ↦
           let none : at s.after.machines id ≡ None = ap (λ rows. at rows id) has.machines ∙ subst (λ k. at (gone gone_id s.before.machines) k ≡ None) (sym same) (at-gone-same s.before.machines gone_id) in
-          let moved : s.after ≡ s.before → ⊥ = λ stays. none_some m (sym none ∙ ap (λ (h : Hall). at h.machines id) stays ∙ there) in
+          let moved : s.after ≡ s.before → ⊥ = λ stays. none-some m (sym none ∙ ap (λ (h : Hall). at h.machines id) stays ∙ there) in
           inr (record {
             operator = d.operator.name;
             key = d.key;
             version = d.version;
             content = (decided s).content;
-            accepted = record {
-              bearer = d.bearer;
-              by = d.operator;
-              known = d.sender_is;
-              named = refl;
-              answered = record { event = d.event_is ∙ ap (λ n. event.Command d.bearer d.key (OnMachine n d.version on.Delete)) (sym same); answer = answer };
-              accepted = λ refusal. moved (keeps_hall s (decided s).content is answer refusal);
-              changes = moved;
-            };
+            accepted = was_accepted s is d.sender_is refl (record { event = d.event_is ∙ ap (λ n. event.Command d.bearer d.key (OnMachine n d.version on.Delete)) (sym same); answer = answer }) moved;
           })
     ]
 

@@ -1,15 +1,13 @@
 -- A script that deploys is given after a deploy, and boots the image that this deploy named.
 use Rattle.std.{proofs.{Common.{◌≡◌, ℕ, List, [], ◌∷◌, ◌++◌, refl, sym, ap, subst, ◌∙◌}, lemmas.Option.none-some}, specs.Prelude.{Option, Some, Ok}}
-use Rattle.ipxe_script.specs.{Purpose.IsDeploying, Script.{IsScript, spelling}, declared.command.Command.Command}
-use Rattle.hall_types.specs.{Hall.{Hall, new_hall, second}, Image.BootImage, Rows.at, declared.{change.RowWrite.RowWrite, machine.Machine.Machine, status.Status.{Status, TheVariants.{Deploying, New}}}}
+use Rattle.ipxe_script.specs.declared.command.Command.{Command}
+use Rattle.hall_types.specs.Rows.{at}
 use Rattle.hall_types.specs.declared.kinds.Purpose.TheVariants as purpose
-use Rattle.hall_events.specs.{Reply.Content, declared.command.{MachineCommand.MachineCommand}}
 use Rattle.hall_events.specs.declared.command.MachineCommand.TheVariants as on
-use Rattle.life_cycle.specs.{Entering.{keeps_owner, kept}, EnteringLaws.entered-image, PermissionLaws.owner_deploys, StepLaws.ways_to_deploying, declared.action.Action.Action}
+use Rattle.life_cycle.specs.Entering.{keeps_owner}
 use Rattle.life_cycle.specs.declared.action.Action.TheVariants as act
-use Rattle.boot_desk.specs.{Fetch.fetched, Purposes.{HasNoHallWords, IsWork}, Sound.IsSound, SoundLaws.{some_is, some_of}, Texts.work_script, Views.{row_at, view_of}, declared.views.BootView.BootView}
-use Rattle.desk_command.specs.Effect.{prepared}
-use Rattle.hall_laws.{specs.{Step.{IsStep, IsTypedStep, Step}, Writes.{IsCommanded, IsEntering}, Laws.{DeploysRightly, IsByOwner, IsDeploy}, Past.{IsEntry, Last}}, proofs.{Commanded.{by_command, by_owner, deploy}, Effects.{StepDoes, decided, did, missed, step_does}, Enterings.new_status, Forgetting.no_machines, Frame.{last_kept, last_new}, Images.{ImagesMove, image_before, image_stays, images_move, same_images}, MachineRows.{IsSettled, MachineWas, has_entered, is_entry, machine_was, no_entry, settled_same, was_made, was_settled}, Scripts.{HasWholeRows, given_script, machine_there, new_rows, rows_step, view_words, was_given}}}
+use Rattle.boot_desk.specs.{Fetch.fetched, Texts.work_script}
+use Rattle.hall_laws.{specs.{Prelude.{IsDeploying, IsScript, spelling, Hall, new_hall, second, BootImage, RowWrite, Machine, Status, Deploying, New, Content, MachineCommand, kept, entered-image, owner_deploys, ways_to_deploying, Action, HasNoHallWords, IsWork, IsSound, some_is, some_of, row_at, view_of, BootView, prepared}, Step.{IsStep, IsTypedStep, Step}, Writes.{IsCommanded, IsEntering}, Laws.{DeploysRightly, IsByOwner, IsDeploy}, Past.{IsEntry, Last}}, proofs.{Commanded.{by_command, by_owner, deploy}, Effects.{StepDoes, decided, did, missed, step_does}, Enterings.new_status, Forgetting.no_machines, Frame.{last_kept, last_new}, Images.{ImagesMove, image_before, image_stays, images_move, same_images}, MachineRows.{IsSettled, MachineWas, has_entered, is_entry, machine_was, no_entry, settled_same, was_made, was_settled}, Scripts.{HasWholeRows, given_script, machine_there, new_rows, rows_step, view_words, was_given}}}
 
 -- the machine's last entry was a deploy with its image, which is recorded as it was then
 pub record WasDeployed (past : List Step) (h : Hall) (id : ℕ) (m : Machine) : Type 0 where

@@ -1,11 +1,9 @@
 -- What a step does to the machines, the boots, the orders and the last numbers.
 use Rattle.std.{specs.Prelude.{◌≡◌, ℕ, not, ◌==◌, true, List, [], ◌∷◌, Some, None}, proofs.Common.{refl, sym, ap, subst, inl, inr, ◌∙◌}}
-use Rattle.hall_types.specs.{ChangeLaws.applied_append, Hall.{Hall, applied}, Kinds.stage_after, Number.next_number, Rows.{Rows, gone, numbers, put, rows_where}, declared.{boot.Boot.Boot, change.RowWrite.RowWrite, machine.Machine.Machine, number.Numbers.Numbers, order.Order.Order}, Machine.blank_machine}
+use Rattle.hall_types.specs.Rows.{numbers, put}
 use Rattle.hall_types.specs.declared.change.RowWrite.TheVariants as write
-use Rattle.hall_events.specs.{Reply.{Content, counted}, declared.event.Event.Event}
-use Rattle.boot_desk.specs.{EntryLaws.cleared, Fetch.{booted, new_boot}, Following.machine_row, OrderAnswer.{idle, stage_for}, Sound.IsSound}
-use Rattle.desk_command.specs.Command.{receipt_of}
-use Rattle.hall_laws.specs.{Decision.{Decided, decision_of}, Step.{IsStep, Step}, HallLaws.{applied_entry, boots_first, entered_hall, last_queued, orders_first, queued}, Writes.{EditsInterfaces, IsOfNoMachine, IsDeleting, IsEditing, IsEntering, IsIdled, IsIssuing, IsNoted, AsksForMachine, Writes, WritesAll, edits_machine, ends_waiting, enters_status, is_command, issues_boot, machine_goes, makes_machine, notes_report, with_receipt, withdrawn_at, without_receipt, writes_aside, writes_nothing}, WritesLaws.decision_writes}
+use Rattle.boot_desk.specs.Fetch.{booted}
+use Rattle.hall_laws.specs.{Prelude.{applied_append, Hall, applied, stage_after, next_number, Rows, gone, rows_where, Boot, RowWrite, Machine, Numbers, Order, blank_machine, Content, counted, Event, cleared, new_boot, idle, stage_for, IsSound, receipt_of}, Decision.{Decided, decision_of}, Step.{IsStep, Step}, HallLaws.{applied_entry, aside_hall, boots_first, edited_hall, entered_hall, last_queued, orders_first, queued}, Writes.{IsDeleting, IsEditing, IsEntering, IsIdled, IsIssuing, IsNoted, AsksForMachine, Writes, WritesAll, edits_machine, ends_waiting, enters_status, is_command, issues_boot, machine_goes, makes_machine, notes_report, with_receipt, withdrawn_at, without_receipt, writes_aside, writes_nothing}, WritesLaws.decision_writes}
 
 -- the hall's machines, boots, orders and last numbers are these
 pub record Has (g : Hall) (of_machines : Rows numbers Machine) (of_boots : Rows numbers Boot) (of_orders : Rows numbers Order) (of_last : Numbers) : Type 0 where
@@ -53,26 +51,11 @@ module _ (h : Hall) (e : Event) (moment : ℕ) (fresh : List ℕ) (content : Con
   rows_effect rows (ends_waiting x) =
       idles rows x (has_by (applied rows h) _ _ _ _ _ (ap (λ ws. applied ws h) x.rows_are) (record { machines = refl; boots = refl; orders = refl; last = refl }))
   rows_effect rows (edits_machine by x) =
-      edits by rows x (has_by (applied rows h) _ _ _ _ _ (ap (λ ws. applied ws h) x.rows_are) (after x.interfaces x.edits))
-    where
-      after : (ws : List RowWrite) → EditsInterfaces h x.machine ws → Has (applied (machine_row x.machine x.after ∷ ws) h) (put x.after.id x.after h.machines) h.boots h.orders h.last
-      after [] fit = record { machines = refl; boots = refl; orders = refl; last = refl }
-      after (write.PutInterface i ∷ []) fit = record { machines = refl; boots = refl; orders = refl; last = refl }
-      after (write.InterfaceGone mac ∷ []) fit = record { machines = refl; boots = refl; orders = refl; last = refl }
-      after other fit = absurd fit
+      edits by rows x (has_by (applied rows h) _ _ _ _ _ (ap (λ ws. applied ws h) x.rows_are ∙ edited_hall h x.machine x.after x.interfaces x.edits) (record { machines = refl; boots = refl; orders = refl; last = refl }))
   rows_effect rows (machine_goes id by is) =
       goes (ap is_command by.event_is) id by (has_by (applied rows h) _ _ _ _ _ (ap (λ ws. applied ws h) is) (record { machines = refl; boots = refl; orders = refl; last = refl }))
   rows_effect rows (writes_aside by x) =
-      leaves (λ its. by) (has_by (applied rows h) _ _ _ _ _ (ap (λ ws. applied ws h) x.rows_are) (after x.row x.aside))
-    where
-      after : (row : RowWrite) → IsOfNoMachine row h e → Has (applied (row ∷ []) h) h.machines h.boots h.orders h.last
-      after (write.PutOperator o) aside = record { machines = refl; boots = refl; orders = refl; last = refl }
-      after (write.PutPool p) aside = record { machines = refl; boots = refl; orders = refl; last = refl }
-      after (write.PutMember m) aside = record { machines = refl; boots = refl; orders = refl; last = refl }
-      after (write.PutImage i) aside = record { machines = refl; boots = refl; orders = refl; last = refl }
-      after (write.ImageGone name) aside = record { machines = refl; boots = refl; orders = refl; last = refl }
-      after (write.PutLive l) aside = record { machines = refl; boots = refl; orders = refl; last = refl }
-      after other aside = absurd aside
+      leaves (λ its. by) (has_by (applied rows h) _ _ _ _ _ (ap (λ ws. applied ws h) x.rows_are ∙ aside_hall h e x.row x.aside) (record { machines = refl; boots = refl; orders = refl; last = refl }))
 
   -- an effect is one on each hall with the same four tables
   effect_on : (g g' : Hall) → g'.machines ≡ g.machines → g'.boots ≡ g.boots → g'.orders ≡ g.orders → g'.last ≡ g.last → Effect h e moment fresh content g → Effect h e moment fresh content g'

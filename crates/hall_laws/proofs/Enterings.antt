@@ -1,13 +1,10 @@
 -- What a machine that enters a status keeps, and what the last numbers are then.
 use Rattle.std.{proofs.Common.{◌≡◌, ◌≢◌, ◌≤◌, ◌+◌, ℕ, List, refl, sym, ap, ◌∙◌, inl, inr, arith}, specs.Prelude.{Option, Some, None}}
-use Rattle.hall_types.specs.{Hall.Hall, declared.{change.RowWrite.RowWrite, machine.Machine.Machine, number.Numbers.Numbers, operator.Operator.Operator, order.Order.Order, status.Status.Status}}
-use Rattle.hall_events.specs.{Reply.Content, declared.{command.MachineCommand.MachineCommand, event.Event.Event}}
 use Rattle.hall_types.specs.declared.act.Act.TheVariants as does
 use Rattle.hall_events.specs.declared.command.MachineCommand.TheVariants as on
-use Rattle.life_cycle.specs.{Entering.boot_after, EnteringLaws.{entered-boot, entered-id, entered-numbers, entered-order-queued, entered-status}, StepLaws.steps_change_status}
-use Rattle.boot_desk.specs.{EntryLaws.next_is, Sound.IsSound}
-use Rattle.desk_command.specs.Effect.{prepared}
-use Rattle.hall_laws.specs.{HallLaws.last_queued, Writes.{CauseOf, First, IsEntering, boot_first, nothing_first, order_first}}
+use Rattle.life_cycle.specs.Entering.{boot_after}
+use Rattle.boot_desk.specs.EntryLaws.{next_is}
+use Rattle.hall_laws.specs.{Prelude.{Hall, RowWrite, Machine, Numbers, Operator, Order, Status, Content, MachineCommand, Event, entered-boot, entered-id, entered-numbers, entered-order-queued, entered-status, steps_change_status, IsSound, prepared}, HallLaws.last_queued, Writes.{CauseOf, First, IsEntering, boot_first, nothing_first, order_first}}
 
 -- the command sets neither the number, nor the status, nor the boot, nor what is remembered
 record SameWork (m n : Machine) : Type 0 where

@@ -1,9 +1,7 @@
 -- Each entry of a machine is its making, or a row of the table.
 use Rattle.std.{proofs.Common.{◌≡◌, ◌⊎◌, ℕ, List, refl, sym, ap, ◌∙◌, inl, inr}, specs.Prelude.Some}
-use Rattle.hall_types.specs.{Hall.Hall, Rows.at, declared.{change.RowWrite.RowWrite, machine.Machine.Machine}}
-use Rattle.hall_events.specs.Reply.{Content, counted}
-use Rattle.boot_desk.specs.Sound.{IsSound}
-use Rattle.hall_laws.{specs.{Step.{IsStep, Step}, Writes.{CauseOf, First, IsEntering, boot_first, nothing_first, order_first}, Laws.{EntersByTable, IsMade, IsSignalled, TakesRow, by_answer, by_command, by_deadline, by_fourth_boot, by_report}}, proofs.{Commanded.accepts, Effects.{StepDoes, decided, did, missed, step_does}, Enterings.new_status, MachineRows.{MachineWas, has_entered, machine_was, was_made, was_settled}}}
+use Rattle.hall_types.specs.Rows.{at}
+use Rattle.hall_laws.{specs.{Prelude.{Hall, RowWrite, Machine, Content, counted, IsSound}, Step.{IsStep, Step}, Writes.{CauseOf, First, IsEntering, boot_first, nothing_first, order_first}, Laws.{EntersByTable, IsMade, IsSignalled, TakesRow, by_answer, by_command, by_deadline, by_fourth_boot, by_report}}, proofs.{Commanded.accepts, Effects.{StepDoes, decided, did, missed, step_does}, Enterings.new_status, MachineRows.{MachineWas, has_entered, machine_was, was_made, was_settled}}}
 
 -- the row that an entry took
 pub row_taken : (s : Step) → IsStep s → IsSound s.before → (rows : List RowWrite) (content : Content) (x : IsEntering s.before s.arrival.event s.arrival.moment rows content) (id : ℕ) (m : Machine)

@@ -1,9 +1,7 @@
 -- Why a script that erases in the first schema is given after a release with full erasing.
 use Rattle.std.proofs.Common.{◌≡◌, ℕ, List, subst}
-use Rattle.ipxe_script.specs.{Purpose.IsErasing, Script.{IsScript, spelling}, declared.command.Command.Command}
-use Rattle.hall_types.specs.declared.kinds.Erase.{Erase}
-use Rattle.boot_desk.specs.Purposes.{ErasesBy}
-use Rattle.hall_laws.{specs.{Step.Step, Laws.{ErasesRightly, GivesScripts, IsReleaseErasing, IsRightlyErased}, Past.{AtEachStep, IsEntry}, FirstErasing.{ErasesFully, IsFullyErased}, FirstSchema.{plain, without_kind}}, proofs.{PlainScripts.{erasing_before, names_no_kind}, PlainSteps.{IsTwin, entry_back, entry_to, machine_at, release_full, release_to, text_of}, Twins.{AreTwins, asks_at, last_like, like_to, twins_like, twins_of}}}
+use Rattle.ipxe_script.specs.declared.command.Command.{Command}
+use Rattle.hall_laws.{specs.{Prelude.{IsErasing, IsScript, spelling, Erase, ErasesBy}, Step.Step, Laws.{ErasesRightly, GivesScripts, IsReleaseErasing, IsRightlyErased}, Past.{AtEachStep, IsEntry}, FirstErasing.{ErasesFully, IsFullyErased}, FirstSchema.{plain, without_kind}}, proofs.{PlainScripts.{erasing_before, names_no_kind}, PlainSteps.{IsTwin, entry_back, entry_to, machine_at, release_full, release_to, text_of}, Twins.{AreTwins, asks_at, last_like, like_to, twins_like, twins_of}}}
 
 fully : (past_whole past : List Step) (w s : Step) → AreTwins past_whole past → IsTwin w s → (mac : List ℕ) (commands whole : List Command) → commands ≡ plain whole
     → IsScript whole → IsRightlyErased mac whole past_whole w.before → IsFullyErased mac commands past s.before

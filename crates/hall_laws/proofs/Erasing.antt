@@ -1,14 +1,12 @@
 -- A script that erases is given after a release that erases.
 use Rattle.std.{proofs.{Common.{◌≡◌, ℕ, List, [], ◌∷◌, ◌++◌, refl, sym, ap, subst, ◌∙◌}, lemmas.Option.none-some}, specs.Prelude.{Option, Some, Ok}}
-use Rattle.ipxe_script.specs.{Purpose.IsErasing, Script.{IsScript, spelling}, declared.command.Command.Command}
-use Rattle.hall_types.specs.{Hall.{Hall, new_hall, second}, Rows.at, declared.{change.RowWrite.RowWrite, kinds.Erase.Erase, machine.Machine.Machine, status.Status.{Status, TheVariants.{DiskErasing, New}}}}
-use Rattle.hall_events.specs.{Reply.Content, declared.command.{MachineCommand.MachineCommand}}
+use Rattle.ipxe_script.specs.declared.command.Command.{Command}
+use Rattle.hall_types.specs.Rows.{at}
 use Rattle.hall_events.specs.declared.command.MachineCommand.TheVariants as on
-use Rattle.life_cycle.specs.{Entering.{keeps_erase, kept}, EnteringLaws.entered-erase, PermissionLaws.owner_releases_erasing, StepLaws.ways_to_disk_erasing, declared.action.Action.Action}
+use Rattle.life_cycle.specs.Entering.{keeps_erase}
 use Rattle.life_cycle.specs.declared.action.Action.TheVariants as act
-use Rattle.boot_desk.specs.{Fetch.fetched, Purposes.{ErasesBy, HasNoHallWords}, Sound.IsSound, SoundLaws.some_is, Views.view_of, declared.views.BootView.BootView}
-use Rattle.desk_command.specs.Effect.{prepared}
-use Rattle.hall_laws.{specs.{Step.{IsStep, IsTypedStep, Step}, Writes.{IsCommanded, IsEntering}, Laws.{ErasesRightly, IsByOwner, IsReleaseErasing}, Past.{IsEntry, Last}}, proofs.{Commanded.{by_command, by_owner, release_erasing}, Effects.{StepDoes, decided, did, missed, step_does}, Enterings.new_status, Forgetting.no_machines, Frame.{last_kept, last_new}, MachineRows.{IsSettled, MachineWas, has_entered, is_entry, machine_was, no_entry, settled_same, was_made, was_settled}, Scripts.{HasWholeRows, given_script, machine_there, new_rows, rows_step, view_words, was_given}}}
+use Rattle.boot_desk.specs.Fetch.{fetched}
+use Rattle.hall_laws.{specs.{Prelude.{IsErasing, IsScript, spelling, Hall, new_hall, second, RowWrite, Erase, Machine, Status, DiskErasing, New, Content, MachineCommand, kept, entered-erase, owner_releases_erasing, ways_to_disk_erasing, Action, ErasesBy, HasNoHallWords, IsSound, some_is, view_of, BootView, prepared}, Step.{IsStep, IsTypedStep, Step}, Writes.{IsCommanded, IsEntering}, Laws.{ErasesRightly, IsByOwner, IsReleaseErasing}, Past.{IsEntry, Last}}, proofs.{Commanded.{by_command, by_owner, release_erasing}, Effects.{StepDoes, decided, did, missed, step_does}, Enterings.new_status, Forgetting.no_machines, Frame.{last_kept, last_new}, MachineRows.{IsSettled, MachineWas, has_entered, is_entry, machine_was, no_entry, settled_same, was_made, was_settled}, Scripts.{HasWholeRows, given_script, machine_there, new_rows, rows_step, view_words, was_given}}}
 
 -- the machine's last entry was a release that erases, of the kind that its row has
 abbrev pub Released : List Step → ℕ → Machine → Type 0

@@ -1,11 +1,10 @@
 -- The laws of erasing aren't empty: their premises hold of the day in the first schema, and of what comes after.
 use Rattle.std.{proofs.Common.{◌∷◌, [], arith, refl}, specs.Prelude.{None, Some, drop}}
-use Rattle.ipxe_script.specs.{Purpose.IsErasing, Script.spelling}
-use Rattle.hall_types.specs.{Kinds.purpose_text, declared.kinds.Erase.TheVariants.Full}
+use Rattle.hall_types.specs.Kinds.{purpose_text}
 use Rattle.hall_types.specs.declared.kinds.Purpose.TheVariants as purpose
 use Rattle.hall_types.specs.declared.kinds.Stage.TheVariants as stage
 use Rattle.boot_desk.specs.Texts.{work_script}
-use Rattle.hall_laws.{specs.{Laws.{AreTyped, GivesText}, FirstSchema.plain, Worked.mac, WorkedLaws.{plain_typed, the_image, typed, worked_purpose}}, proofs.{Day.erase_script, FirstDay.{erase_given, first_day, first_erase_booted}}}
+use Rattle.hall_laws.{specs.{Prelude.{IsErasing, spelling, Full}, Laws.{AreTyped, GivesText}, FirstSchema.plain, Worked.mac, WorkedLaws.{plain_typed, the_image, typed, worked_purpose}}, proofs.{Day.erase_script, FirstDay.{erase_given, first_day, first_erase_booted}}}
 
 -- what the day's arrivals bring is of its type
 first_day_is_typed : AreTyped first_day

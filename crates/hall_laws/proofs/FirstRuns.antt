@@ -1,18 +1,12 @@
 -- Why a run from a new hall of the first schema is one of the second, once its last hall is carried over.
 use Rattle.std.{proofs.{Common.{◌≡◌, ℕ, List, [], ◌∷◌, ◌++◌, refl, sym, ap, subst, ◌∙◌, inl, inr}, lemmas.Option.none-some}, specs.List.AllByRecursion}
-use Rattle.hall_types.specs.Hall.{Hall, first, new_hall, second}
-use Rattle.boot_desk.specs.Sound.{IsSound}
-use Rattle.hall_laws.{specs.{Migration.{Continues, IsMigrated}, Step.{Arrival, IsRun, IsStep, IsTyped, Step}, Laws.AreTyped, FirstSchema.{AllKeepFull, ArePlain, AsksQuick, IsFirstRun, IsForgotten, KeepsNoKind, NeverAsksQuick, NoneAsksQuick, StepKeepsFull, StepKeepsNoKind}}, proofs.{Forgetting.{carried_again, carried_only, no_kinds, no_machines}, Sparing.{AllSpare, all_keep_full, step_spares}, Twins.AreTwins}}
-
-not_both : first ≡ second → ⊥
-not_both e = cc
+use Rattle.hall_laws.{specs.{Prelude.{Hall, new_hall, second, IsSound}, Migration.{Continues, IsMigrated}, Step.{Arrival, IsRun, IsStep, IsTyped, Step}, Laws.AreTyped, FirstSchema.{AllKeepFull, ArePlain, AsksQuick, IsFirstRun, IsForgotten, KeepsNoKind, NeverAsksQuick, NoneAsksQuick, StepKeepsFull, StepKeepsNoKind}}, proofs.{Forgetting.{carried_again, carried_only, no_kinds, no_machines}, Frame.{KeepSound, not_migrated}, Sparing.{AllSpare, all_keep_full, step_spares}, Twins.AreTwins}}
 
 -- ---- runs
 
 continues_on : (h next end : Hall) → Continues h next → Continues next end → Continues h end
 continues_on h next end (inl same) more = subst (λ (x : Hall). Continues x end) same more
-continues_on h next end (inr migrated) (inl same) = inr (subst (IsMigrated h) (sym same) migrated)
-continues_on h next end (inr migrated) (inr again) = absurd (not_both (sym again.was ∙ ap (λ (x : Hall). x.schema) migrated.others))
+continues_on h next end (inr migrated) more = inr (subst (IsMigrated h) (sym (not_migrated next end more (ap (λ (x : Hall). x.schema) migrated.others))) migrated)
 
 pub run_append : (steps more : List Step) (h next end : Hall) → IsRun h steps next → IsRun next more end → IsRun h (steps ++ more) end
 run_append [] [] h next end run on = continues_on h next end run on
@@ -44,20 +38,14 @@ pub record IsWhole (x : Hall) (steps : List Step) (end : Hall) : Type 0 where
   pub holds : SparesAll last
   pub forgotten : IsForgotten last end
 
--- sound halls of the second schema stay so at each step
-abbrev pub KeepSound : Type 0
-KeepSound = (s : Step) → IsStep s → IsSound s.before → s.before.schema ≡ second → IsSound s.after × (s.after.schema ≡ second)
-
 module _ (keep : KeepSound) where
   step_holds : (s : Step) → IsStep s → NeverAsksQuick s → SparesAll s.before → SparesAll s.after
   step_holds s step asks holds =
       let next = keep s step holds.sound holds.in_second in
       record { sound = next.0; in_second = next.1; spare = step_spares s step asks holds.sound holds.spare }
 
-  -- a hall of the second schema isn't carried over
   goes_on : (h next : Hall) → SparesAll h → Continues h next → SparesAll next
-  goes_on h next holds (inl same) = subst SparesAll (sym same) holds
-  goes_on h next holds (inr migrated) = absurd (not_both (sym migrated.was ∙ holds.in_second))
+  goes_on h next holds on = subst SparesAll (sym (not_migrated h next on holds.in_second)) holds
 
   pub run_holds : (steps : List Step) (h end : Hall) → NoneAsksQuick steps → SparesAll h → IsRun h steps end → AllByRecursion StepKeepsFull steps × AllKeepFull end
   run_holds [] h end asks holds run = (tt, full_in end (goes_on h end holds run))
@@ -107,10 +95,9 @@ next_is x end next steps w migrated = sym (carried_only end w.last next (carried
 
 pub typed_whole : (whole steps : List Step) → ArePlain whole steps → AreTyped steps → AreTyped whole
 typed_whole [] [] plain typed = tt
-typed_whole [] (s ∷ steps) plain typed = absurd plain
-typed_whole (w ∷ whole) [] plain typed = absurd plain
 typed_whole (w ∷ whole) (s ∷ steps) plain typed =
     (subst (λ (a : Arrival). IsTyped a.site a.event a.fresh) plain.0.same typed.0, typed_whole whole steps plain.1 typed.1)
+typed_whole whole steps plain typed = absurd plain
 
 pub typed_append : (steps more : List Step) → AreTyped steps → AreTyped more → AreTyped (steps ++ more)
 typed_append [] more typed also = also

@@ -1,7 +1,7 @@
 -- Steps of the first schema beside those of the second.
-use Rattle.std.{proofs.Common.{List, [], ◌∷◌, refl, inl}, specs.Prelude.{⊤, Some, map}}
-use Rattle.hall_types.specs.Hall.{Hall, applied}
-use Rattle.hall_laws.{specs.{Decision.{Decided, decision_of}, Step.{Arrival, IsStep, Step}, FirstSchema.{AllKeepFull, AsksQuick, IsFirstRun, IsFirstStep, IsForgotten, KeepsFull, first_content}}, proofs.{Forgetting.{carried_again, first_row, rows_forgotten}, MachineWrites.{RowsAre, applied_are}}}
+use Rattle.std.{proofs.Common.{◌≡◌, Bool, true, false, List, [], ◌∷◌, refl, sym, ap, ◌∙◌, inl}, specs.Prelude.{Some, map}}
+use Rattle.hall_events.specs.declared.event.Event.TheVariants.{Command}
+use Rattle.hall_laws.{specs.{Prelude.{Hall, applied, Quick, OnMachine, Release, Event}, Decision.{Decided, decision_of}, Step.{Arrival, IsStep, Step}, FirstSchema.{AllKeepFull, AsksQuick, IsFirstRun, IsFirstStep, IsForgotten, KeepsFull, first_content}}, proofs.{Forgetting.{carried_again, first_row, rows_forgotten}, MachineWrites.{RowsAre, applied_are}}}
 
 -- the step in which this came, and was decided so
 abbrev pub whole_step : Hall → Arrival → Decided → Step
@@ -51,15 +51,23 @@ abbrev pub first_end : Hall → List (Arrival × Decided) → Hall
 first_end h [] = h
 first_end h (d ∷ more) = first_end (first_step h d.0 d.1).after more
 
+-- a release that erases quickly is asked for
+abbrev pub asks_quick : Event → Bool
+asks_quick (Command bearer key (OnMachine id version (Release (Some Quick)))) = true
+asks_quick other = false
+
+not_quick : (e : Event) → asks_quick e ≡ false → AsksQuick e → ⊥
+not_quick e never asks = let both : false ≡ true = sym never ∙ ap asks_quick asks.4 in cc
+
 -- each was decided so in the second schema, doesn't ask for quick erasing, and writes machines that keep `full`, where they keep a kind
-abbrev pub AreDecided : Hall → List (Arrival × Decided) → Type 0
-AreDecided x [] = ⊤
-AreDecided x (d ∷ more) =
-    IsStep (whole_step x d.0 d.1) × (AsksQuick d.0.event → ⊥) × RowsAre KeepsFull d.1.rows × AreDecided (whole_step x d.0 d.1).after more
+pub data AreDecided : Hall → List (Arrival × Decided) → Type 0 where
+  decided_all : {x : Hall} → AreDecided x []
+  decides : {x : Hall} {d : Arrival × Decided} {more : List (Arrival × Decided)} → IsStep (whole_step x d.0 d.1) → asks_quick d.0.event ≡ false → RowsAre KeepsFull d.1.rows
+      → AreDecided (whole_step x d.0 d.1).after more → AreDecided x (d ∷ more)
 
 pub first_runs : (came : List (Arrival × Decided)) (x h : Hall) → IsPair x h → AreDecided x came
     → IsFirstRun h (first_steps h came) (first_end h came) × IsPair (whole_end x came) (first_end h came)
-first_runs [] x h pair are = (refl, pair)
-first_runs (d ∷ more) x h pair are =
-    let rest = first_runs more (whole_step x d.0 d.1).after (first_step h d.0 d.1).after (next_pair x h d.1 are.2 pair) are.3 in
-    ((refl, first_is x h d.0 d.1 pair are.1 are.0, rest.0), rest.1)
+first_runs [] x h pair decided_all = (refl, pair)
+first_runs (d ∷ more) x h pair (decides is never full are) =
+    let rest = first_runs more (whole_step x d.0 d.1).after (first_step h d.0 d.1).after (next_pair x h d.1 full pair) are in
+    ((refl, first_is x h d.0 d.1 pair (not_quick d.0.event never) is, rest.0), rest.1)

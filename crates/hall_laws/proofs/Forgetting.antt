@@ -1,9 +1,8 @@
 -- Why carrying a hall over is the inverse of forgetting.
 use Rattle.std.{proofs.{Common.{◌≡◌, ℕ, List, [], ◌∷◌, refl, sym, ap, ◌∙◌}, lemmas.Option.none-some}, specs.Prelude.{Bool, true, false, Option, Some, None, map, option_map, if◌then◌else◌}}
-use Rattle.hall_types.specs.{Hall.{Hall, Schema, applied, first, new_hall, second, written}, Rows.{Rows, at, gone, numbers, put, same_key}, RowLaws.{at-gone, at-no_rows, at-put, same_rows}, declared.{change.RowWrite.RowWrite, kinds.Erase.Erase, machine.Machine.Machine}}
+use Rattle.hall_types.specs.Rows.{at, numbers, put}
 use Rattle.hall_types.specs.declared.change.RowWrite.TheVariants as write
-use Rattle.boot_desk.specs.SoundLaws.{some_is}
-use Rattle.hall_laws.specs.{Migration.{IsMigrated, with_kind}, FirstSchema.{AllKeepFull, IsForgotten, KeepsFull, KeepsNoKind, without_kind}}
+use Rattle.hall_laws.specs.{Prelude.{Hall, Schema, applied, first, new_hall, second, written, Rows, gone, same_key, at-gone, at-no_rows, at-put, same_rows, RowWrite, Erase, Machine, some_is}, Migration.{IsMigrated, with_kind}, FirstSchema.{AllKeepFull, IsForgotten, KeepsFull, KeepsNoKind, without_kind}}
 
 -- ---- carrying over
 

@@ -1,8 +1,6 @@
 -- Laws of the past from an invariant: what holds of the past and the hall is kept by each step, and gives the law at each step.
 use Rattle.std.{proofs.Common.{◌≡◌, ◌⊎◌, ℕ, List, [], ◌∷◌, ◌++◌, refl, sym, ap, subst, ◌∙◌, inl, inr, append_assoc, append-nil}, specs.List.AllByRecursion}
-use Rattle.hall_types.specs.Hall.{Hall, first, new_hall, second}
-use Rattle.boot_desk.specs.Sound.{IsSound}
-use Rattle.hall_laws.specs.{Migration.Continues, Step.{IsRun, IsStep, Step}, Laws.Always, Past.{AtEachStep, Last, NoneOf, SomeOf}}
+use Rattle.hall_laws.specs.{Prelude.{Hall, first, new_hall, second, IsSound}, Migration.Continues, Step.{IsRun, IsStep, Step}, Laws.Always, Past.{AtEachStep, Last, NoneOf, SomeOf}}
 
 -- ---- steps of a past
 
@@ -51,6 +49,11 @@ last_kept P past s not_so l = record {
 abbrev pub KeepSound : Type 0
 KeepSound = (s : Step) → IsStep s → IsSound s.before → s.before.schema ≡ second → IsSound s.after × (s.after.schema ≡ second)
 
+-- a hall of the second schema isn't migrated
+pub not_migrated : (h next : Hall) → Continues h next → h.schema ≡ second → next ≡ h
+not_migrated h next (inl same) in_second = same
+not_migrated h next (inr migrated) in_second = absurd (let apart : first ≡ second = sym migrated.was ∙ in_second in cc)
+
 pub run_split : (past later : List Step) (s : Step) (h end : Hall) → IsRun h (past ++ (s ∷ later)) end → IsRun h past s.before × IsStep s
 run_split [] later s h end run = (run.0, run.1)
 run_split (x ∷ past) later s h end run = let rest = run_split past later s x.after end run.2 in ((run.0, run.1, rest.0), rest.1)
@@ -63,13 +66,8 @@ module _ (keep : KeepSound) (Given : Step → Type 0) (I : List Step → Hall �
     in_second : h.schema ≡ second
     holds : I past h
 
-  -- a hall of the second schema isn't migrated
   goes_on : (past : List Step) (h next : Hall) → Holds past h → Continues h next → Holds past next
-  goes_on past h next start (inl same) = subst (Holds past) (sym same) start
-  goes_on past h next start (inr migrated) = absurd (not_both (sym migrated.was ∙ start.in_second))
-    where
-      not_both : first ≡ second → ⊥
-      not_both e = cc
+  goes_on past h next start on = subst (Holds past) (sym (not_migrated h next on start.in_second)) start
 
   all_split : (past later : List Step) (s : Step) → AllByRecursion Given (past ++ (s ∷ later)) → AllByRecursion Given past × Given s
   all_split [] later s all = (tt, all.0)
@@ -115,6 +113,13 @@ module _ (keep : KeepSound) (I : List Step → Hall → Type 0) (keeps : (past :
   pub always : ((h : Hall) → I [] h) → (P : List Step → Step → Type 0) → ((past : List Step) (s : Step) → IsStep s → IsSound s.before → I past s.before → P past s) → Always P
   always start P gives h end steps sound in_second =
       at_each keep (λ s. Unit {0}) I (λ past s given. keeps past s) P (λ past s given. gives past s) steps h end (anything steps) sound in_second (start h)
+
+-- sound halls of the second schema stay so in each run
+pub run_end : KeepSound → (h end : Hall) (steps : List Step) → IsRun h steps end → IsSound h → h.schema ≡ second → IsSound end × (end.schema ≡ second)
+run_end keep h end steps run sound in_second =
+    let it = run_holds keep (λ s. Unit {0}) (λ past h. Unit {0}) (λ past s given is sound later old. tt) [] steps h end (anything steps)
+    (record { sound = sound; in_second = in_second; holds = tt }) run in
+    (it.sound, it.in_second)
 
 -- a law of each step by itself
 pub at_step : KeepSound → (P : List Step → Step → Type 0) → ((past : List Step) (s : Step) → IsStep s → IsSound s.before → P past s) → Always P

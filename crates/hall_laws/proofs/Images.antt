@@ -1,13 +1,9 @@
 -- The images of a hall after a step.
 use Rattle.std.{proofs.{Common.{◌≡◌, ℕ, List, [], ◌∷◌, refl, sym, ap, subst, ◌∙◌}, lemmas.Option.none-some}, specs.Prelude.{Option, Some, None, false}}
-use Rattle.hall_types.specs.{ChangeLaws.applied_append, Hall.{Hall, applied}, Image.BootImage, Lookup.is_image_used, LookupLaws.image_unused, Rows.{at, gone, put}, RowLaws.{at-gone-other, at-put-other, gone_found}, declared.{change.RowWrite.RowWrite, machine.Machine.Machine}}
+use Rattle.hall_types.specs.Rows.{at, put}
 use Rattle.hall_types.specs.declared.change.RowWrite.TheVariants as write
-use Rattle.hall_store.specs.Rules.{Keeps}
-use Rattle.hall_events.specs.{Reply.Content, declared.{command.{HallCommand.TheVariants.{AddImage, OnMachine}, MachineCommand.MachineCommand}, event.Event.Event}}
 use Rattle.hall_events.specs.declared.event.Event.TheVariants as event
-use Rattle.boot_desk.specs.Following.{machine_row}
-use Rattle.desk_command.specs.Command.{receipt_of}
-use Rattle.hall_laws.specs.{Decision.Decided, HallLaws.applied_entry, Writes.{EditsInterfaces, IsOfNoMachine, Writes, WritesAll, edits_machine, ends_waiting, enters_status, issues_boot, machine_goes, makes_machine, notes_report, with_receipt, withdrawn_at, without_receipt, writes_aside, writes_nothing}}
+use Rattle.hall_laws.specs.{Prelude.{applied_append, Hall, applied, BootImage, is_image_used, image_unused, gone, at-gone-other, at-put-other, gone_found, RowWrite, Machine, Keeps, Content, AddImage, OnMachine, MachineCommand, Event, receipt_of}, Decision.Decided, HallLaws.{applied_entry, edited_hall}, Writes.{IsOfNoMachine, Writes, WritesAll, edits_machine, ends_waiting, enters_status, issues_boot, machine_goes, makes_machine, notes_report, with_receipt, withdrawn_at, without_receipt, writes_aside, writes_nothing}}
 
 -- the images are as before, but for one that a command brings, or one that goes
 pub data ImagesMove (h : Hall) (e : Event) (g : Hall) : Type 0 where
@@ -43,13 +39,7 @@ module _ (h : Hall) (e : Event) (moment : ℕ) (fresh : List ℕ) where
       by (enters_status x) = as_rows _ x.rows_are (same_images (ap (λ (g : Hall). g.images) (applied_entry h x.first x.machine (withdrawn_at h x.machine x.first) x.new)))
       by (notes_report x) = as_rows _ x.rows_are (same_images refl)
       by (ends_waiting x) = as_rows _ x.rows_are (same_images refl)
-      by (edits_machine command x) = as_rows _ x.rows_are (after x.interfaces x.edits)
-        where
-          after : (ws : List RowWrite) → EditsInterfaces h x.machine ws → ImagesMove h e (applied (machine_row x.machine x.after ∷ ws) h)
-          after [] fit = same_images refl
-          after (write.PutInterface i ∷ []) fit = same_images refl
-          after (write.InterfaceGone mac ∷ []) fit = same_images refl
-          after other fit = absurd fit
+      by (edits_machine command x) = as_rows _ x.rows_are (same_images (ap (λ (g : Hall). g.images) (edited_hall h x.machine x.after x.interfaces x.edits)))
       by (machine_goes id deletes is) = as_rows _ is (same_images refl)
       by (writes_aside command x) = as_rows _ x.rows_are (by_aside x.row x.aside x.keeps)
 

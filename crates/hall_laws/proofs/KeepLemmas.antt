@@ -1,13 +1,10 @@
 -- Each row that a decision writes keeps the tables' rules.
 use Rattle.std.{specs.Prelude.{◌≡◌, ◌++◌, ℕ, ◌==◌, Bool, true, false, List, [], ◌∷◌, Option, Some, None, is_some}, proofs.{Common.{refl, sym, ap, subst, inl, inr, arith, ◌∙◌}, lemmas.{Bool.{eqb-true, eqb-false}, Option.none-some}}}
-use Rattle.hall_types.specs.{ChangeLaws.applied_append, Hall.{Hall, applied, pair, written}, Kinds.stage_after, Lookup.{HasRow, HasRowIf}, Number.next_number, Rows.{Rows, at, numbers, put}, RowLaws.{at-put-other, at-put-same, put_cases}, declared.{boot.Boot.Boot, change.RowWrite.RowWrite, kinds.{OrderStage.{TheVariants.Withdrawn, OrderStage}, Stage.Stage}, machine.Machine.Machine, order.Order.Order}}
+use Rattle.hall_types.specs.Rows.{at, numbers, put}
 use Rattle.hall_types.specs.declared.change.RowWrite.TheVariants as write
-use Rattle.hall_store.specs.Rules.{AllKeep, KeepsBoots, KeepsMachines, KeepsOrders}
-use Rattle.hall_events.specs.{Reply.Content, declared.event.Event.Event}
-use Rattle.life_cycle.specs.EnteringLaws.{entered-id, entered-order-queued}
-use Rattle.boot_desk.specs.{EntryLaws.{cleared, next_is}, Fetch.{booted, new_boot}, Following.{entry_rows, machine_row, queued_rows}, OrderAnswer.{idle, stage_for}, Sound.IsSound, SoundLaws.{has-put, operators_stay, some_is}, Views.row_at}
-use Rattle.desk_command.specs.Command.{receipt_of}
-use Rattle.hall_laws.specs.{Decision.Decided, HallLaws.{applied_entry, boots_first, entered_hall, orders_first, same_receipts}, Writes.{CauseOf, EditsInterfaces, First, IsEditing, IsEntering, IsIdled, IsIssuing, IsMaking, IsNoted, Writes, WritesAll, boot_first, edits_machine, ends_waiting, enters_status, first_rows, issues_boot, machine_goes, makes_machine, notes_report, nothing_first, order_first, with_receipt, withdrawn_at, without_receipt, writes_aside, writes_nothing}}
+use Rattle.hall_store.specs.Rules.{KeepsMachines}
+use Rattle.boot_desk.specs.{EntryLaws.next_is, Fetch.booted}
+use Rattle.hall_laws.specs.{Prelude.{applied_append, Hall, applied, pair, written, stage_after, HasRow, HasRowIf, next_number, Rows, at-put-other, at-put-same, put_cases, Boot, RowWrite, Withdrawn, OrderStage, Stage, Machine, Order, AllKeep, KeepsBoots, KeepsOrders, Content, Event, entered-id, entered-order-queued, cleared, new_boot, entry_rows, machine_row, queued_rows, idle, stage_for, IsSound, has-put, operators_stay, some_is, row_at, receipt_of}, Decision.Decided, HallLaws.{applied_entry, boots_first, entered_hall, orders_first, same_receipts}, Writes.{CauseOf, EditsInterfaces, First, IsEditing, IsEntering, IsIdled, IsIssuing, IsMaking, IsNoted, Writes, WritesAll, boot_first, edits_machine, ends_waiting, enters_status, first_rows, issues_boot, machine_goes, makes_machine, notes_report, nothing_first, order_first, with_receipt, withdrawn_at, without_receipt, writes_aside, writes_nothing}}
 
 -- what a hall's machines refer to is recorded, and no two have one UUID
 record AreReferred (g : Hall) : Type 0 where
@@ -172,9 +169,6 @@ module _ (h : Hall) (s : IsSound h) where
   editing_keep rows x r =
       subst (λ ws. AllKeep ws h) (sym x.rows_are) (by x.interfaces x.edits (subst AreReferred (ap (λ ws. applied ws h) x.rows_are) r))
     where
-      same_id : x.after.id ≡ x.machine.id
-      same_id = ap (λ (m : Machine). m.id) x.same
-
       by : (ws : List RowWrite) → EditsInterfaces h x.machine ws → AreReferred (applied (machine_row x.machine x.after ∷ ws) h) → AllKeep (machine_row x.machine x.after ∷ ws) h
       by [] edits r = (machine_fits h (applied (machine_row x.machine x.after ∷ []) h) x.after r refl refl refl refl, tt)
       by (write.PutInterface i ∷ []) edits r = (

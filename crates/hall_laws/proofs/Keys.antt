@@ -1,13 +1,11 @@
 -- A request key stands for one command of its operator.
 use Rattle.std.{proofs.{Common.{◌≡◌, ℕ, List, [], ◌∷◌, ◌++◌, refl, sym, ap, subst, ◌∙◌, inl, inr}, lemmas.{Bool.both_ways, Option.none-some, Slice.Eq.bytes_eq-Decides}}, specs.{Prelude.{Option, Some, None, Bool, true, false, Ok, Err, if◌then◌else◌}, Str.bytes_eq}}
-use Rattle.pxe_vendor.specs.Place.{Site}
-use Rattle.hall_types.specs.{ChangeLaws.applied_append, Hall.{Hall, applied, pair, second}, Rows.{at, put}, RowLaws.{at-put-other, at-put-same}, declared.{change.RowWrite.RowWrite, operator.Operator.Operator, receipt.Receipt.Receipt, refusal.Refusal.TheVariants.{KeyReused, UnknownToken}}}
+use Rattle.hall_types.specs.Rows.{at, put}
 use Rattle.hall_types.specs.declared.change.RowWrite.TheVariants as write
-use Rattle.hall_events.specs.{Command.command_text, Reply.{Content, done, machine_gone, machine_is, reply_of, stored}, declared.command.HallCommand.HallCommand}
+use Rattle.hall_events.specs.Reply.{reply_of}
 use Rattle.hall_events.specs.declared.event.Event.TheVariants as event
-use Rattle.boot_desk.specs.{Sound.IsSound, SoundLaws.some_is}
-use Rattle.desk_command.specs.{Command.{body_of, command_decision, keyed, of_sender, receipt_of, repeated, sender}, Effect.Effect}
-use Rattle.hall_laws.{specs.{Decision.{Decided, commanded, decision_of}, Step.{IsStep, Step}, HallLaws.same_receipts, Writes.{LeavesReceipt, Writes, WritesAll, is_command, is_done, with_receipt, without_receipt}, Laws.{AcceptsKey, AcceptsOnce, AcceptsWithOk, HasStatus, IsAnsweredAgain, RepeatsFirst, disabled, first_again, reused}, Past.{IsAccepted, SomeOf}}, proofs.{AnswerLemmas.came_so, Effects.{StepDoes, decided, did, missed, step_does}, Frame.{none_from, some_of_more}}}
+use Rattle.desk_command.specs.{Command.{command_decision, repeated}, Effect.Effect}
+use Rattle.hall_laws.{specs.{Prelude.{Site, applied_append, Hall, applied, pair, second, at-put-other, at-put-same, RowWrite, Operator, Receipt, KeyReused, UnknownToken, command_text, Content, done, machine_gone, machine_is, stored, HallCommand, IsSound, some_is, body_of, keyed, of_sender, receipt_of, sender}, Decision.{Decided, commanded, decision_of}, Step.{IsStep, Step}, HallLaws.same_receipts, Writes.{LeavesReceipt, Writes, WritesAll, is_command, is_done, with_receipt, without_receipt}, Laws.{AcceptsKey, AcceptsOnce, AcceptsWithOk, HasStatus, IsAnsweredAgain, RepeatsFirst, disabled, first_again, reused}, Past.{IsAccepted, SomeOf}}, proofs.{AnswerLemmas.came_so, Effects.{StepDoes, decided, did, missed, step_does}, Frame.{none_from, some_of_more}}}
 
 -- ---- the receipts after a step
 

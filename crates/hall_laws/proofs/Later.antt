@@ -1,7 +1,6 @@
 -- Why each law of the past holds once a hall was carried over, with the steps of the first schema in the past.
 use Rattle.std.proofs.Common.{ℕ, List, [], ◌∷◌, ◌++◌, ap, sym, ◌∙◌, append_assoc}
-use Rattle.hall_types.specs.declared.boot.Boot.{Boot}
-use Rattle.hall_laws.{specs.{Step.Step, Laws.{AcceptsKey, AcceptsOnce, AnswersAccepted, CountsAnswerOnce, CountsAny, CountsOwnBoot, CountsSome, CountsStartedFirst, CountsVerdict, CountsVerdictOnce, DeploysRightly, ErasesRightly, IsDeploy, IsReleaseErasing, MakesBoot, MakesMachine, MakesOrder, NumbersOnce, RepeatsFirst, Withdraws}, Past.{AtEachStep, IsAccepted, IsEntry, IsIssue, IsOtherEntry, IsOwnBoot, IssuesFor}, Later.After}, proofs.{PlainSteps.{accepted_back, accepted_to, any_back, boot_back, deploy_to, entry_back, entry_to, issue_to, issues_back, issues_to, machine_back, order_back, other_entry_back, release_to, some_back as some_answer_back, verdict_back, withdraws_back}, Twins.{AreLike, AreTwins, last_like, like_append, like_to, none_like, some_back, some_to, twins_like}}}
+use Rattle.hall_laws.{specs.{Prelude.Boot, Step.Step, Laws.{AcceptsKey, AcceptsOnce, AnswersAccepted, CountsAnswerOnce, CountsAny, CountsOwnBoot, CountsSome, CountsStartedFirst, CountsVerdict, CountsVerdictOnce, DeploysRightly, ErasesRightly, IsDeploy, IsReleaseErasing, MakesBoot, MakesMachine, MakesOrder, NumbersOnce, RepeatsFirst, Withdraws}, Past.{AtEachStep, IsAccepted, IsEntry, IsIssue, IsOtherEntry, IsOwnBoot, IssuesFor}, Later.After}, proofs.{PlainSteps.{accepted_back, accepted_to, any_back, boot_back, deploy_to, entry_back, entry_to, issue_to, issues_back, issues_to, machine_back, order_back, other_entry_back, release_to, some_back as some_answer_back, verdict_back, withdraws_back}, Twins.{AreLike, AreTwins, last_like, like_append, like_to, none_like, some_back, some_to, twins_like}}}
 
 -- ---- each law, from a past to one that is like it
 

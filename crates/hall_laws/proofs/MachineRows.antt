@@ -1,9 +1,8 @@
 -- Where each machine's row comes from that there is after a step.
 use Rattle.std.{proofs.Common.{◌≡◌, ◌≢◌, ◌+◌, ℕ, List, refl, sym, ap, subst, ◌∙◌, inl, inr, arith}, specs.Prelude.{Option, Some, None, is_some}}
-use Rattle.hall_types.specs.{Hall.Hall, Rows.{at, put}, RowLaws.{gone_found, put_cases}, declared.{change.RowWrite.RowWrite, machine.Machine.Machine}, Machine.blank_machine}
-use Rattle.hall_events.specs.{Reply.Content, declared.event.Event.Event}
-use Rattle.boot_desk.specs.{EntryLaws.next_is, Fetch.booted, OrderAnswer.idle, Sound.IsSound, SoundLaws.some_is}
-use Rattle.hall_laws.{specs.{Step.Step, Writes.{IsEntering, AsksForMachine}, Past.IsEntry}, proofs.{Effects.{Effect, edits, enters, goes, idles, issues, leaves, makes, notes}, Enterings.{new_changes, new_id}}}
+use Rattle.hall_types.specs.Rows.{at, put}
+use Rattle.boot_desk.specs.{EntryLaws.next_is, Fetch.booted}
+use Rattle.hall_laws.{specs.{Prelude.{Hall, gone_found, put_cases, RowWrite, Machine, blank_machine, Content, Event, idle, IsSound, some_is}, Step.Step, Writes.{IsEntering, AsksForMachine}, Past.IsEntry}, proofs.{Effects.{Effect, edits, enters, goes, idles, issues, leaves, makes, notes}, Enterings.{new_changes, new_id}}}
 
 -- the machine's status, image and kind of erasing are as before
 pub record IsSettled (k m : Machine) : Type 0 where

@@ -1,6 +1,7 @@
 -- What holds of each machine of a hall, after rows are written.
 use Rattle.std.{proofs.Common.{◌≡◌, ℕ, List, [], ◌∷◌, ◌++◌, sym, subst, inl, inr}, specs.{Prelude.{⊤, Some}, List.AllByRecursion}}
-use Rattle.hall_types.specs.{Hall.{Hall, applied, written}, Rows.at, RowLaws.{gone_found, put_cases}, declared.{change.RowWrite.RowWrite, machine.Machine.Machine}}
+use Rattle.hall_laws.specs.Prelude.{Hall, applied, written, gone_found, put_cases, RowWrite, Machine}
+use Rattle.hall_types.specs.Rows.{at}
 use Rattle.hall_types.specs.declared.change.RowWrite.TheVariants as write
 
 module _ (P : Machine → Type 0) where

@@ -1,9 +1,8 @@
 -- No number is issued twice.
 use Rattle.std.{proofs.{Common.{◌≡◌, ◌≤◌, ◌+◌, ℕ, List, [], ◌∷◌, ◌++◌, sym, ap, ◌∙◌, inl, inr, arith}, lemmas.Option.none-some}, specs.Prelude.{Option, Some, None, is_some}}
-use Rattle.hall_types.specs.{Hall.Hall, Rows.at, declared.number.Numbers.Numbers}
-use Rattle.hall_events.specs.{Reply.Content, declared.event.Event.Event}
-use Rattle.boot_desk.specs.{EntryLaws.next_is, Sound.IsSound}
-use Rattle.hall_laws.{specs.{Step.{IsStep, Step}, Laws.{MakesBoot, MakesMachine, MakesOrder, NumbersOnce}, Past.SomeOf}, proofs.{BootRows.{BootWas, boot_was, issued_now, reported_now, same_boot}, Effects.{Effect, StepDoes, decided, did, edits, enters, goes, idles, issues, leaves, makes, missed, notes, step_does}, Enterings.{last_boot_same, last_machine_same, last_order_grows}, Frame.{none_from, some_of_more}, MachineRows.{MachineWas, has_entered, machine_was, was_made, was_settled}, OrderRows.{OrderNow, order_now, queued_order, same_order, settled_order}}}
+use Rattle.hall_types.specs.Rows.{at}
+use Rattle.boot_desk.specs.EntryLaws.{next_is}
+use Rattle.hall_laws.{specs.{Prelude.{Hall, Numbers, Content, Event, IsSound}, Step.{IsStep, Step}, Laws.{MakesBoot, MakesMachine, MakesOrder, NumbersOnce}, Past.SomeOf}, proofs.{BootRows.{BootWas, boot_was, issued_now, reported_now, same_boot}, Effects.{Effect, StepDoes, decided, did, edits, enters, goes, idles, issues, leaves, makes, missed, notes, step_does}, Enterings.{last_boot_same, last_machine_same, last_order_grows}, Frame.{none_from, some_of_more}, MachineRows.{MachineWas, has_entered, machine_was, was_made, was_settled}, OrderRows.{OrderNow, order_now, queued_order, same_order, settled_order}}}
 
 -- ---- the last numbers grow
 

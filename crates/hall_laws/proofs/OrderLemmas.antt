@@ -1,11 +1,9 @@
 -- Orders are queued at entries, one waits for each machine, and an answer counts once.
 use Rattle.std.{proofs.{Common.{◌≡◌, ◌≤◌, ◌⊎◌, ℕ, List, [], ◌∷◌, ◌++◌, refl, sym, ap, subst, ◌∙◌, inl, inr, arith}, lemmas.{Bool.both_ways, Option.none-some}}, specs.Prelude.{Option, Some, None, true, false, is_some}}
-use Rattle.hall_types.specs.{Hall.Hall, Lookup.waits, Rows.{at, put}, RowLaws.{at-put-other, at-put-same}, declared.{kinds.{OrderStage.TheVariants.Waiting, Outcome.Outcome}, machine.Machine.Machine, order.Order.Order}}
-use Rattle.hall_events.specs.{Reply.{Content, counted}, declared.event.Event.Event}
+use Rattle.hall_types.specs.Rows.{at, put}
 use Rattle.hall_events.specs.declared.event.Event.TheVariants as event
-use Rattle.life_cycle.specs.{EnteringLaws.{IsQueued, entered-id, entered-order-queued}, declared.step.Step.Step as TableStep}
-use Rattle.boot_desk.specs.{EntryLaws.cleared, OrderAnswer.stage_for, Sound.IsSound, SoundLaws.some_is}
-use Rattle.hall_laws.{specs.{Step.{IsStep, Step}, HallLaws.{orders_first, queued}, Writes.{CauseOf, First, IsOrderAnswered, boot_first, is_command, nothing_first, order_first, withdrawn_at}, Laws.{CountsAnswerOnce, CountsSome, IsQueuedAtEntry, QueuesAtEntries, WaitsForOne, WaitsNoMore, Withdraws}, Past.{CountsAnswer, SomeOf}}, proofs.{Effects.{Effect, StepDoes, decided, did, edits, enters, goes, idles, issues, leaves, makes, missed, notes, step_does}, Enterings.{new_id, queued_number}, Entries.row_taken, Frame.{none_from, some_of_more}, MachineRows.is_entry, NumbersOnceLemmas.order_grows, OrderRows.{OrderNow, not_waiting, order_now, queued_order, same_order, settled_order}}}
+use Rattle.life_cycle.specs.declared.step.Step.{Step as TableStep}
+use Rattle.hall_laws.{specs.{Prelude.{Hall, waits, at-put-other, at-put-same, Waiting, Outcome, Machine, Order, Content, counted, Event, IsQueued, entered-id, entered-order-queued, cleared, stage_for, IsSound, some_is}, Step.{IsStep, Step}, HallLaws.{orders_first, queued}, Writes.{CauseOf, First, IsOrderAnswered, boot_first, is_command, nothing_first, order_first, withdrawn_at}, Laws.{CountsAnswerOnce, CountsSome, IsQueuedAtEntry, QueuesAtEntries, WaitsForOne, WaitsNoMore, Withdraws}, Past.{CountsAnswer, SomeOf}}, proofs.{Effects.{Effect, StepDoes, decided, did, edits, enters, goes, idles, issues, leaves, makes, missed, notes, step_does}, Enterings.{new_id, queued_number}, Entries.row_taken, Frame.{none_from, some_of_more}, MachineRows.is_entry, NumbersOnceLemmas.order_grows, OrderRows.{OrderNow, not_waiting, order_now, queued_order, same_order, settled_order}}}
 
 -- ---- one waits
 

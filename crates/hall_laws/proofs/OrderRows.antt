@@ -1,11 +1,8 @@
 -- Where each order comes from that there is after a machine entered a status, and after each step.
 use Rattle.std.{proofs.Common.{◌≡◌, ◌+◌, ℕ, List, refl, sym, ap, ◌∙◌, inl, inr}, specs.Prelude.{Option, Some, None, false, not, ◌==◌}}
-use Rattle.hall_types.specs.{Hall.Hall, Lookup.waits, Rows.{Rows, at, numbers, put}, RowLaws.{put_cases, where_found}, declared.{change.RowWrite.RowWrite, kinds.{OrderStage.TheVariants.Withdrawn, Outcome.Outcome}, order.Order.Order}}
+use Rattle.hall_types.specs.Rows.{at, numbers, put}
 use Rattle.hall_types.specs.declared.kinds.Outcome.TheVariants as outcome
-use Rattle.hall_events.specs.{Reply.Content, declared.event.Event.Event}
-use Rattle.life_cycle.specs.declared.entering.Entered.{Entered}
-use Rattle.boot_desk.specs.{EntryLaws.cleared, OrderAnswer.stage_for, Sound.IsSound, Views.row_at}
-use Rattle.hall_laws.{specs.{HallLaws.{orders_first, queued}, Writes.{CauseOf, First, IsEntering, boot_first, nothing_first, order_first, withdrawn_at}}, proofs.{Effects.{Effect, edits, enters, goes, idles, issues, leaves, makes, notes}, Enterings.queued_number}}
+use Rattle.hall_laws.{specs.{Prelude.{Hall, waits, Rows, put_cases, where_found, RowWrite, Withdrawn, Outcome, Order, Content, Event, Entered, cleared, stage_for, IsSound, row_at}, HallLaws.{orders_first, queued}, Writes.{CauseOf, First, IsEntering, boot_first, nothing_first, order_first, withdrawn_at}}, proofs.{Effects.{Effect, edits, enters, goes, idles, issues, leaves, makes, notes}, Enterings.queued_number}}
 
 -- it is queued now, it is as it was, it is withdrawn now, or it is answered now
 pub data OrderWas (h : Hall) (first : First) (new : Entered) (n : ℕ) (o : Order) : Type 0 where

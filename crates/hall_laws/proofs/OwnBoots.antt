@@ -1,10 +1,9 @@
 -- A machine's current boot is its own boot, so a report that counts is of its machine's own boot.
 use Rattle.std.{proofs.{Common.{◌≡◌, ◌≤◌, ℕ, List, [], ◌∷◌, ◌++◌, refl, sym, ap, subst, ◌∙◌, inl, inr, arith}, lemmas.Option.none-some}, specs.Prelude.{Option, Some, None, is_some}}
-use Rattle.hall_types.specs.{Hall.{Hall, new_hall, second}, Rows.{at, put}, RowLaws.{at-put-same, gone_found, put_cases}, declared.{boot.Boot.Boot, machine.Machine.Machine, status.Status.{Status, TheVariants.{EnteringRescue, Rescue}}}}
-use Rattle.hall_events.specs.Reply.{Content}
+use Rattle.hall_types.specs.Rows.{at, put}
 use Rattle.life_cycle.specs.Entering.{boot_after}
-use Rattle.boot_desk.specs.{EntryLaws.next_is, Fetch.{booted, new_boot}, OrderAnswer.idle, Sound.IsSound, SoundLaws.some_is, Views.row_at}
-use Rattle.hall_laws.{specs.{Step.{IsStep, Step}, Laws.CountsOwnBoot, Past.{IsIssue, IsOtherEntry, IsOwnBoot, IssuesFor}}, proofs.{BootRows.{BootWas, boot_was, counted_report, issued_now, reported_now, same_boot}, Effects.{Effect, StepDoes, decided, did, edits, enters, goes, idles, issues, leaves, makes, missed, notes, step_does}, Enterings.{new_boot_is, new_id, new_status}, Forgetting.no_machines, Frame.{last_kept, last_new, none_append}, MachineRows.no_entry}}
+use Rattle.boot_desk.specs.{EntryLaws.next_is, Fetch.booted}
+use Rattle.hall_laws.{specs.{Prelude.{Hall, new_hall, second, at-put-same, gone_found, put_cases, Boot, Machine, Status, EnteringRescue, Rescue, Content, new_boot, idle, IsSound, some_is, row_at}, Step.{IsStep, Step}, Laws.CountsOwnBoot, Past.{IsIssue, IsOtherEntry, IsOwnBoot, IssuesFor}}, proofs.{BootRows.{BootWas, boot_was, counted_report, issued_now, reported_now, same_boot}, Effects.{Effect, StepDoes, decided, did, edits, enters, goes, idles, issues, leaves, makes, missed, notes, step_does}, Enterings.{new_boot_is, new_id, new_status}, Forgetting.no_machines, Frame.{last_kept, last_new, none_append}, MachineRows.no_entry}}
 
 -- the boot with this number is the machine's own boot, and its row has the token that was issued
 pub record Own (past : List Step) (h : Hall) (id n : ℕ) : Type 0 where

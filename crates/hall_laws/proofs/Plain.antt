@@ -2,11 +2,10 @@
 use Rattle.std.{proofs.{Common.{◌≡◌, ℕ, List, [], ◌∷◌, ◌++◌, refl, ap, ◌∙◌}, lemmas.{Bool.{both_ways, or_parts, Decides.Decides-eqb}, List.Elements.filter-append, Slice.Eq.starts_is}}, specs.Prelude.{Bool, true, false, not, filter, drop, Option, Some, None, codes, map, if◌then◌else◌}}
 use Rattle.ipxe_script.specs.Word.{is_hall_word}
 use Rattle.ipxe_script.specs.declared.command.Command.TheVariants as line
-use Rattle.hall_types.specs.{Image.{BootImage, has_hall_word}, declared.{boot.Boot.Boot, kinds.{Erase.Erase, Purpose.Purpose}}, Hall.first}
 use Rattle.hall_types.specs.declared.kinds.Purpose.TheVariants as purpose
-use Rattle.hall_events.specs.{Object.list_object, Reply.{ListedMachine, machine_data, machine_list, ok, one_machine, reply_of}}
-use Rattle.boot_desk.specs.Texts.{desk_arguments, work_script}
-use Rattle.hall_laws.specs.FirstSchema.{first_content, names_kind, plain, plain_listed}
+use Rattle.hall_events.specs.Reply.{machine_data, reply_of}
+use Rattle.boot_desk.specs.Texts.{work_script}
+use Rattle.hall_laws.specs.{Prelude.{BootImage, has_hall_word, Boot, Erase, Purpose, first, list_object, ListedMachine, machine_list, ok, one_machine, desk_arguments}, FirstSchema.{first_content, names_kind, plain, plain_listed}}
 
 abbrev pub is_other : List ℕ → Bool
 is_other word = not (names_kind word)

@@ -1,10 +1,9 @@
 -- What the text of a plain script has a kernel do.
-use Rattle.std.{proofs.{Common.{◌≡◌, ℕ, zero, suc, ◌+◌, ◌≤◌, ◌⊎◌, true, List, [], ◌∷◌, ◌++◌, refl, sym, subst, inl, inr, arith}, lemmas.{Bool.false≢true, List.{length-map, Elements.{All-contains, All-contains_itself, All-filter, All-map, All-weaker, filter_passes}, Filters.length-filter_both}}}, specs.Prelude.{Any, Bool, false, Contains, not, filter, length, codes}}
-use Rattle.ipxe_script.specs.{Purpose.{HasKernelWord, IsArgument, IsErasing, IsKernelWith}, PurposeLaws.{HasKernelWord-spelling, IsArgument-hall}, Script.{IsLine, IsScript, spelling}, Word.IsWord, declared.command.{Command.Command, TheConstants.{MAX_COMMANDS, MAX_WORDS}}}
+use Rattle.std.{proofs.{Common.{◌≡◌, ℕ, suc, ◌+◌, ◌≤◌, true, List, [], ◌∷◌, ◌++◌, refl, sym, subst, inl, inr, arith}, lemmas.{Bool.false≢true, List.{length-map, Elements.{All-contains, All-contains_itself, All-filter, All-map, All-weaker, filter_passes}, Filters.length-filter_both}}}, specs.Prelude.{Any, Bool, false, Contains, not, filter, length, codes}}
+use Rattle.ipxe_script.specs.declared.command.Command.{Command}
 use Rattle.ipxe_script.specs.declared.command.Command.TheVariants as line
-use Rattle.hall_types.specs.{Kinds.erase_text, declared.kinds.Erase.Erase}
-use Rattle.boot_desk.specs.Purposes.{ErasesBy}
-use Rattle.hall_laws.{specs.FirstSchema.{names_kind, plain, plain_command}, proofs.Plain.is_other}
+use Rattle.hall_types.specs.Kinds.{erase_text}
+use Rattle.hall_laws.{specs.{Prelude.{HasKernelWord, IsArgument, IsErasing, IsKernelWith, Any-cases, Any-here, Any-nil, Any-there, HasKernelWord-spelling, IsArgument-hall, IsLine, IsScript, spelling, IsWord, MAX_COMMANDS, MAX_WORDS, Erase, ErasesBy}, FirstSchema.{names_kind, plain, plain_command}}, proofs.Plain.is_other}
 
 -- ---- it is a script
 
@@ -33,19 +32,6 @@ script_plain commands is = record {
 
 -- ---- an argument of a plain kernel was one before, and names no kind
 
-any_nil : {A : Type 0} (P : A → Type 0) → Any P [] → ⊥
-any_nil P h = omega (arith, h.2)
-
-any_here : {A : Type 0} (P : A → Type 0) (x : A) (xs : List A) → P x → Any P (x ∷ xs)
-any_here P x xs h = (0, x, omega arith, refl, h)
-
-any_there : {A : Type 0} (P : A → Type 0) (x : A) (xs : List A) → Any P xs → Any P (x ∷ xs)
-any_there P x xs h = (suc h.0, h.1, omega (arith, h.2), h.3, h.4)
-
-any_cases : {A : Type 0} (P : A → Type 0) (x : A) (xs : List A) → Any P (x ∷ xs) → P x ⊎ Any P xs
-any_cases P x xs (zero, y, lt, e, h) = inl (subst P (sym e) h)
-any_cases P x xs (suc k, y, lt, e, h) = inr (k, y, omega arith, e, h)
-
 argument_before : (word : List ℕ) (command : Command) → IsKernelWith word (plain_command command) → IsKernelWith word command × (is_other word ≡ true)
 argument_before word (line.Kernel uri args) h = (
   All-contains (Contains args) (filter is_other args) word (All-filter is_other (Contains args) args (All-contains_itself args)) h,
@@ -54,10 +40,10 @@ argument_before word (line.Kernel uri args) h = (
 argument_before word other h = absurd h
 
 kernel_before : (word : List ℕ) (commands : List Command) → Any (IsKernelWith word) (plain commands) → Any (IsKernelWith word) commands × (is_other word ≡ true)
-kernel_before word [] h = absurd (any_nil (IsKernelWith word) h)
-kernel_before word (command ∷ commands) h = elim (any_cases (IsKernelWith word) (plain_command command) (plain commands) h) [
-  | inl here ↦ let its = argument_before word command here in (any_here (IsKernelWith word) command commands its.0, its.1)
-  | inr there ↦ let its = kernel_before word commands there in (any_there (IsKernelWith word) command commands its.0, its.1)
+kernel_before word [] h = absurd (Any-nil (IsKernelWith word) h)
+kernel_before word (command ∷ commands) h = elim (Any-cases (IsKernelWith word) (plain_command command) (plain commands) h) [
+  | inl here ↦ let its = argument_before word command here in (Any-here (IsKernelWith word) command commands its.0, its.1)
+  | inr there ↦ let its = kernel_before word commands there in (Any-there (IsKernelWith word) command commands its.0, its.1)
 ]
 
 -- ---- so is a word of its text

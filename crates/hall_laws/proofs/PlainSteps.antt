@@ -1,11 +1,8 @@
 -- What a step of the first schema shares with that of the second.
 use Rattle.std.{proofs.{Common.{◌≡◌, ◌≢◌, ℕ, List, true, refl, sym, ap, subst, ◌∙◌, inl, inr}, lemmas.Option.none-some}, specs.Prelude.{Option, Some, None, option_map}}
 use Rattle.ipxe_script.specs.declared.command.Command.{Command}
-use Rattle.hall_types.specs.{Hall.{Hall, applied, first}, Rows.{Rows, at, numbers}, RowLaws.same_rows, declared.{boot.Boot.Boot, change.RowWrite.RowWrite, kinds.{Erase.{Erase, TheVariants.{Full, Quick}}, Progress.Progress}, machine.Machine.Machine}, Image.BootImage}
-use Rattle.hall_events.specs.{Reply.{Content, counted, done, machine_gone, machine_is, script}, declared.{command.{HallCommand.{HallCommand, TheVariants.OnMachine}, MachineCommand.{MachineCommand, TheVariants.{Deploy, Release}}}, event.Event.Event}}
-use Rattle.boot_desk.specs.{Sound.IsSound, SoundLaws.some_is}
-use Rattle.desk_command.specs.Command.{sender}
-use Rattle.hall_laws.{specs.{Decision.{Decided, decision_of}, Migration.IsMigrated, Refusing.IsRefusal, Step.{Arrival, IsStep, Step}, Writes.{WritesAll, is_command, is_done, with_receipt, without_receipt}, WritesLaws.decision_writes, Laws.{CountsAny, CountsSome, CountsVerdict, GivesText, IsByOwner, IsDeploy, IsMachineAt, IsReleaseErasing, MakesBoot, MakesMachine, MakesOrder, Withdraws}, Past.{CountsReport, IsAccepted, IsEntry, IsIssue, IsOtherEntry, IsRescueEntry, IssuesFor, WasAnswered}, FirstSchema.{AllKeepFull, IsForgotten, IsPlain, NeverAsksQuick, first_content, plain, without_kind}}, proofs.Forgetting.{carried_again, carried_only}}
+use Rattle.hall_types.specs.Rows.{at, numbers}
+use Rattle.hall_laws.{specs.{Prelude.{Hall, applied, first, Rows, same_rows, Boot, RowWrite, Erase, Full, Quick, Progress, Machine, BootImage, Content, counted, done, machine_gone, machine_is, script, HallCommand, OnMachine, MachineCommand, Deploy, Release, Event, IsSound, some_is, sender}, Decision.{Decided, decision_of}, Migration.IsMigrated, Step.{Arrival, IsStep, Step}, Writes.{WritesAll, is_command, is_done, with_receipt, without_receipt}, WritesLaws.decision_writes, Laws.{CountsAny, CountsSome, CountsVerdict, GivesText, IsByOwner, IsDeploy, IsMachineAt, IsReleaseErasing, MakesBoot, MakesMachine, MakesOrder, Withdraws}, Past.{CountsReport, IsAccepted, IsEntry, IsIssue, IsOtherEntry, IsRescueEntry, IssuesFor, WasAnswered}, FirstSchema.{AllKeepFull, IsForgotten, IsPlain, NeverAsksQuick, first_content, plain, without_kind}}, proofs.{AnswerLemmas.was_accepted, Forgetting.{carried_again, carried_only}, Scripts.same_script}}
 
 -- ---- halls
 
@@ -76,15 +73,9 @@ record IsScriptOf (c : Content) (commands : List Command) : Type 0 where
   is : c ≡ script whole
   its : commands ≡ plain whole
 
-same_script : (one other : List Command) → script one ≡ script other → one ≡ other
-same_script one other is = cc
-
 script_of : (c : Content) (commands : List Command) → first_content c ≡ script commands → IsScriptOf c commands
 script_of (script whole) commands is = record { whole = whole; is = refl; its = sym (same_script (plain whole) commands is) }
 script_of other commands is = cc
-
-refusal_after : (c : Content) → IsRefusal c → IsRefusal (first_content c)
-refusal_after c is = (is.0, ap first_content is.1)
 
 counted_before : (c : Content) → first_content c ≡ counted → c ≡ counted
 counted_before counted is = refl
@@ -273,15 +264,9 @@ module _ (w s : Step) (t : IsTwin w s) where
       a = answer_of w.answer c (sym t.plain.answer ∙ is.answered.answer)
 
       before : IsAccepted operator key command a.content w
-      before = record {
-        bearer = is.bearer;
-        by = is.by;
-        known = sym (same_sender w.before s.before t.plain.before is.bearer) ∙ is.known;
-        named = is.named;
-        answered = record { event = event_back _ is.answered.event; answer = a.is };
-        accepted = λ refusal. is.accepted (subst IsRefusal a.its (refusal_after a.content refusal));
-        changes = changes_back is.changes;
-      }
+      before =
+          was_accepted w t.step (sym (same_sender w.before s.before t.plain.before is.bearer) ∙ is.known) is.named (record { event = event_back _ is.answered.event; answer = a.is })
+          (changes_back is.changes)
 
   by_owner_to : (id : ℕ) (command : MachineCommand) → IsByOwner id command w → IsByOwner id command s
   by_owner_to id command is = record {

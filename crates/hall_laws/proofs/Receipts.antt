@@ -1,13 +1,12 @@
 -- A command that is answered by the status 200 was accepted, now or before.
 use Rattle.std.{proofs.{Common.{◌≡◌, ℕ, List, [], ◌∷◌, ◌++◌, refl, sym, ap, subst, ◌∙◌}, lemmas.Option.none-some}, specs.Prelude.{◌≢◌, ◌==◌, Option, Some, None, Bool, true, false, Ok, Err, if◌then◌else◌}}
-use Rattle.hall_types.specs.{Hall.{Hall, applied, new_hall, pair, second}, Refusal.{refusal_row, refusal_status}, Rows.{at, no_rows, pairs, put, same_key}, RowLaws.{at-no_rows, at-put, at-put-same, key-same}, declared.{change.RowWrite.RowWrite, operator.Operator.Operator, receipt.Receipt.Receipt, refusal.Refusal.Refusal}}
+use Rattle.hall_types.specs.{Refusal.refusal_row, Rows.{at, no_rows, pairs, put}}
 use Rattle.hall_types.specs.declared.change.RowWrite.TheVariants as write
 use Rattle.hall_types.specs.declared.refusal.Refusal.TheVariants as cause
-use Rattle.hall_events.specs.{Command.command_text, Reply.{Content, refused, reply_of, stored}, declared.command.HallCommand.HallCommand}
+use Rattle.hall_events.specs.Reply.{reply_of}
 use Rattle.hall_events.specs.declared.event.Event.TheVariants as event
-use Rattle.boot_desk.specs.{Sound.IsSound, SoundLaws.some_is}
-use Rattle.desk_command.specs.{Command.{command_decision, receipt_of, sender, with_receipt as receipted}, DecisionLaws.command_cases, Effect.{Effect, effect}, View.command_view}
-use Rattle.hall_laws.{specs.{Decision.{Decided, commanded, decision_of}, Step.{IsStep, Step}, Writes.{LeavesReceipt, WritesAll, is_command, is_done, with_receipt, without_receipt}, Laws.{AnswersAccepted, HasStatus, WasAccepted}, Past.{IsAccepted, SomeOf}}, proofs.{AnswerLemmas.{CameSo, came_so}, Effects.{StepDoes, decided, did, missed, step_does}, Frame.{some_before, some_now}, Keys.{ReceiptsMove, command_of, new_key, receipt_put, receipts_move, same_keys, stored_same}}}
+use Rattle.desk_command.specs.{Command.{command_decision, with_receipt as receipted}, Effect.{Effect, effect}, View.command_view}
+use Rattle.hall_laws.{specs.{Prelude.{Hall, applied, new_hall, pair, second, refusal_status, same_key, at-no_rows, at-put, at-put-same, key-same, RowWrite, Operator, Receipt, Refusal, command_text, Content, refused, stored, HallCommand, IsSound, some_is, receipt_of, sender, command_cases}, Decision.{Decided, commanded, decision_of}, Step.{IsStep, Step}, Writes.{LeavesReceipt, WritesAll, is_command, is_done, with_receipt, without_receipt}, Laws.{AnswersAccepted, HasStatus, WasAccepted}, Past.{IsAccepted, SomeOf}}, proofs.{AnswerLemmas.{CameSo, came_so, was_accepted}, Effects.{StepDoes, decided, did, missed, step_does}, Frame.{some_before, some_now}, Keys.{ReceiptsMove, command_of, new_key, receipt_put, receipts_move, same_keys, stored_same}}}
 
 -- ---- statuses
 
@@ -26,52 +25,31 @@ IsOk content = HasStatus 200 (reply_of second content)
 
 -- ---- where each receipt comes from
 
--- an accepted command left the receipt
-pub record IsOfAccepted (past : List Step) (at_key : List (List ℕ)) (r : Receipt) : Type 0 where
+-- the receipt of a command that is done
+pub record IsReceiptOf (at_key : List (List ℕ)) (r : Receipt) : Type 0 where
   pub name : List ℕ
   pub key : List ℕ
   pub at_is : at_key ≡ pair name key
   pub operator : Operator
   pub command : HallCommand
   pub content : Content
-  pub accepted : SomeOf (IsAccepted name key command content) past
   pub says : is_done content ≡ true
   pub is : r ≡ receipt_of operator key command content
+
+-- an accepted command left the receipt
+abbrev pub IsOfAccepted : List Step → List (List ℕ) → Receipt → Type 0
+IsOfAccepted past at_key r = (x : IsReceiptOf at_key r) × SomeOf (IsAccepted x.name x.key x.command x.content) past
 
 abbrev pub AllOfAccepted : List Step → Hall → Type 0
 AllOfAccepted past h = (at_key : List (List ℕ)) (r : Receipt) → at h.receipts at_key ≡ Some r → IsOfAccepted past at_key r
 
 later : (past : List Step) (s : Step) (at_key : List (List ℕ)) (r : Receipt) → IsOfAccepted past at_key r → IsOfAccepted (past ++ (s ∷ [])) at_key r
-later past s at_key r it = record {
-  name = it.name;
-  key = it.key;
-  at_is = it.at_is;
-  operator = it.operator;
-  command = it.command;
-  content = it.content;
-  accepted = some_before (IsAccepted it.name it.key it.command it.content) past s it.accepted;
-  says = it.says;
-  is = it.is;
-}
+later past s at_key r it = (it.0, some_before (IsAccepted it.0.name it.0.key it.0.command it.0.content) past s it.1)
 
 -- the hall is another once a receipt stands where none was
 moved : (s : Step) (at_key : List (List ℕ)) (r : Receipt) → at s.before.receipts at_key ≡ None → s.after.receipts ≡ put at_key r s.before.receipts → s.after ≡ s.before → ⊥
 moved s at_key r new move same =
     none-some r (sym new ∙ (ap (λ (h : Hall). at h.receipts at_key) (sym same) ∙ (ap (λ rows. at rows at_key) move ∙ at-put-same s.before.receipts at_key r)))
-
--- a command that leaves a receipt is accepted
-left_accepted : (s : Step) (own : List RowWrite) → s.answer ≡ Some (decided s).content → (x : LeavesReceipt s.before s.arrival.event own (decided s))
-    → s.after.receipts ≡ put (pair x.operator.name x.key) (receipt_of x.operator x.key x.command (decided s).content) s.before.receipts
-    → IsAccepted x.operator.name x.key x.command (decided s).content s
-left_accepted s own answer x move = record {
-  bearer = x.bearer;
-  by = x.operator;
-  known = x.sender_is;
-  named = refl;
-  answered = record { event = x.event_is; answer = answer };
-  accepted = λ refusal. let e = sym (ap is_done refusal.1) ∙ x.says in cc;
-  changes = moved s (pair x.operator.name x.key) (receipt_of x.operator x.key x.command (decided s).content) x.new move;
-}
 
 pub receipts_step : (past : List Step) (s : Step) → IsStep s → IsSound s.before → IsSound s.after → AllOfAccepted past s.before → AllOfAccepted (past ++ (s ∷ [])) s.after
 receipts_step past s step sound after_sound old at_key r there = by (step_does s step sound)
@@ -87,17 +65,20 @@ receipts_step past s step sound after_sound old at_key r there = by (step_does s
         is_put = sym (at-put s.before.receipts (pair x.operator.name x.key) left at_key) ∙ (sym (ap (λ rows. at rows at_key) move) ∙ there)
 
         by_key : (b : Bool) → same_key pairs at_key (pair x.operator.name x.key) ≡ b → IsOfAccepted (past ++ (s ∷ [])) at_key r
-        by_key true same = record {
-          name = x.operator.name;
-          key = x.key;
-          at_is = key-same pairs at_key (pair x.operator.name x.key) same;
-          operator = x.operator;
-          command = x.command;
-          content = (decided s).content;
-          accepted = some_now (IsAccepted x.operator.name x.key x.command (decided s).content) past s (left_accepted s own answer x move);
-          says = x.says;
-          is = sym (some_is left r (subst (λ b. (if b then Some left else at s.before.receipts at_key) ≡ Some r) same is_put));
-        }
+        by_key true same = (
+          record {
+            name = x.operator.name;
+            key = x.key;
+            at_is = key-same pairs at_key (pair x.operator.name x.key) same;
+            operator = x.operator;
+            command = x.command;
+            content = (decided s).content;
+            says = x.says;
+            is = sym (some_is left r (subst (λ b. (if b then Some left else at s.before.receipts at_key) ≡ Some r) same is_put));
+          },
+          some_now (IsAccepted x.operator.name x.key x.command (decided s).content) past s
+              (was_accepted s step x.sender_is refl (record { event = x.event_is; answer = answer }) (moved s (pair x.operator.name x.key) left x.new move)),
+        )
         by_key false other = later past s at_key r (old at_key r (subst (λ b. (if b then Some left else at s.before.receipts at_key) ≡ Some r) other is_put))
 
     by_move : s.answer ≡ Some (decided s).content → ReceiptsMove s (decided s) → IsOfAccepted (past ++ (s ∷ [])) at_key r
@@ -157,15 +138,7 @@ answers_accepted past s step sound old operator key its ok = by (step_does s ste
       first = record {
         command = its.command;
         content = its.content;
-        accepted = some_now (IsAccepted operator key its.command its.content) past s (record {
-          bearer = its.bearer;
-          by = its.by;
-          known = its.known;
-          named = its.named;
-          answered = its.answered;
-          accepted = λ refusal. refused_not_ok refusal.0 (subst IsOk refusal.1 ok);
-          changes = changes;
-        });
+        accepted = some_now (IsAccepted operator key its.command its.content) past s (was_accepted s step its.known its.named its.answered changes);
       };
       command = refl;
       answer = refl;
@@ -173,7 +146,7 @@ answers_accepted past s step sound old operator key its ok = by (step_does s ste
 
     before : IsAgain s.before its.by.name key its.command (commanded (command_decision s.before its.bearer key its.command s.arrival.moment)) → WasAccepted operator key past s its
     before again =
-        let left = old (pair its.by.name key) again.receipt again.there in
+        let (left, accepted) = old (pair its.by.name key) again.receipt again.there in
         let at_is = left.at_is in
         let same_name : left.name ≡ its.by.name = cc in
         let name : left.name ≡ operator = same_name ∙ its.named in
@@ -183,7 +156,7 @@ answers_accepted past s step sound old operator key its ok = by (step_does s ste
             command = left.command;
             content = left.content;
             accepted = some_before (IsAccepted operator key left.command left.content) past s
-                (subst (λ n. SomeOf (IsAccepted n key left.command left.content) past) name (subst (λ k. SomeOf (IsAccepted left.name k left.command left.content) past) own left.accepted));
+                (subst (λ n. SomeOf (IsAccepted n key left.command left.content) past) name (subst (λ k. SomeOf (IsAccepted left.name k left.command left.content) past) own accepted));
           };
           command = sym again.text ∙ ap (λ (r : Receipt). r.command) left.is;
           answer =

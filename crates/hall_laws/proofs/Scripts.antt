@@ -1,12 +1,10 @@
 -- A script is given to the machine at the address that asks, from rows of their types.
 use Rattle.std.{proofs.{Common.{◌≡◌, ◌≤◌, ℕ, List, [], ◌∷◌, ◌++◌, refl, sym, ap, subst, ◌∙◌, inl, inr, arith}, lemmas.Option.none-some}, specs.Prelude.{Option, Some, None, Ok, Err}}
-use Rattle.pxe_vendor.specs.Place.{Site}
-use Rattle.ipxe_script.specs.{Script.IsScript, declared.command.Command.Command}
-use Rattle.hall_types.specs.{Hall.{Hall, applied, new_hall, second}, Image.{BootImage, IsImage}, Kinds.arch_number, Number.max_number, Rows.{at, numbers, texts}, RowLaws.{at-no_rows, gone_found, put_cases}, declared.{boot.Boot.Boot, change.RowWrite.RowWrite, image.Live.Live, machine.{Interface.Interface, Machine.Machine}, number.Numbers.Numbers, status.Status.TheVariants.Deployed}}
-use Rattle.hall_events.specs.{Reply.{Content, script}, declared.event.Event.Event}
+use Rattle.ipxe_script.specs.declared.command.Command.{Command}
+use Rattle.hall_types.specs.{Kinds.arch_number, Rows.{at, numbers, texts}}
 use Rattle.hall_events.specs.declared.event.Event.TheVariants as event
-use Rattle.boot_desk.specs.{Fetch.{Fetched, fetched}, Purposes.HasNoHallWords, Sound.IsSound, Texts.local_script, Views.{image_named, interface_view, machine_view, row_at, view_of}, declared.views.BootView.BootView, WholeScripts.{IsBoot, IsWholeView, fetched_is_script, number_in_range}}
-use Rattle.hall_laws.{specs.{Decision.{Decided, decision_of, given, given_if}, Step.{IsStep, IsTypedStep, Step}, Laws.{BootsLocally, GivesScripts, IsMachineAt}, Past.WasAnswered}, proofs.{AnswerLemmas.came_so, BootRows.{BootWas, boot_was, issued_now, reported_now, same_boot}, Effects.{Effect, StepDoes, decided, did, edits, enters, goes, idles, issues, leaves, makes, missed, notes, step_does}, Enterings.last_boot_same, Images.{image_goes, images_move, ImagesMove, new_image, same_images}}}
+use Rattle.boot_desk.specs.{Fetch.fetched, Texts.local_script, Views.machine_view}
+use Rattle.hall_laws.{specs.{Prelude.{Site, IsScript, Hall, applied, new_hall, second, BootImage, IsImage, max_number, at-no_rows, gone_found, put_cases, Boot, RowWrite, Live, Interface, Machine, Numbers, Deployed, Content, script, Event, Fetched, HasNoHallWords, IsSound, image_named, interface_view, row_at, view_of, BootView, IsBoot, IsWholeView, fetched_is_script, number_in_range}, Decision.{Decided, decision_of, given, given_if}, Step.{IsStep, IsTypedStep, Step}, Laws.{BootsLocally, GivesScripts, IsMachineAt}, Past.WasAnswered}, proofs.{AnswerLemmas.came_so, BootRows.{BootWas, boot_was, issued_now, reported_now, same_boot}, Effects.{Effect, StepDoes, decided, did, edits, enters, goes, idles, issues, leaves, makes, missed, notes, step_does}, Enterings.last_boot_same, Images.{image_goes, images_move, ImagesMove, new_image, same_images}}}
 
 -- the machine that is given a script
 pub record IsGiven (site : Site) (h : Hall) (mac : List ℕ) (moment : ℕ) (fresh : List ℕ) (commands : List Command) : Type 0 where
@@ -15,7 +13,7 @@ pub record IsGiven (site : Site) (h : Hall) (mac : List ℕ) (moment : ℕ) (fre
   pub rows : List RowWrite
   pub is : fetched site.host (view_of h machine) moment fresh ≡ Ok (rows, commands)
 
-same_script : (a b : List Command) → script a ≡ script b → a ≡ b
+pub same_script : (a b : List Command) → script a ≡ script b → a ≡ b
 same_script a b e = cc
 
 ok_same : (rows : List RowWrite) (a b : List Command) → a ≡ b → ◌≡◌ {A = Fetched} (Ok (rows, a)) (Ok (rows, b))

@@ -1,14 +1,11 @@
 -- A sound hall of the second schema stays one at every step.
-use Rattle.std.{specs.Prelude.{◌≡◌, ℕ, List, [], ◌∷◌, Option, Some, None, Ok, Err, map}, proofs.Common.{refl, sym, ap, subst, inl, inr, ◌∙◌}}
+use Rattle.std.{specs.Prelude.{◌≡◌, ℕ, List, Option, Some, None, Ok, Err, map}, proofs.Common.{refl, sym, ap, subst, inl, inr, ◌∙◌}}
 use Rattle.ipxe_script.specs.declared.command.Command.{Command}
-use Rattle.pxe_vendor.specs.{Place.Site, declared.clients.Client.Client}
-use Rattle.hall_types.specs.{Hall.{Hall, applied, first, second, written}, Lookup.{next_expired, waiting}, LookupLaws.{next_expired-is, row_cases}, Rows.{at, listed as rows_of}, declared.{change.RowWrite.RowWrite, kinds.{Outcome.Outcome, Progress.Progress}, machine.{Interface.Interface, Machine.Machine}, port.Port.Port}}
-use Rattle.hall_types.specs.declared.change.RowWrite.TheVariants as write
-use Rattle.hall_events.specs.{Reply.{Content, machine_list, waiting_orders}, declared.{command.HallCommand.HallCommand, event.Event.Event}}
+use Rattle.hall_types.specs.Rows.{at, listed as rows_of}
 use Rattle.hall_events.specs.declared.event.Event.TheVariants as event
-use Rattle.boot_desk.specs.{Expiry.swept, Fetch.{Fetched, fetched}, FrameEvent.{enlisted, frame_decision, frame_view}, OrderAnswer.answered, Report.{Judged, reported}, Sound.IsSound, Views.{interface_view, machine_view, order_view, report_view, view_of}, declared.{fault.Verdict.Verdict, frames.Decision.{Decision as FrameDecision, TheVariants.{Enlist}}}}
-use Rattle.desk_command.specs.{Command.{command_decision, sender}, Effect.Effect}
-use Rattle.hall_laws.specs.{Decision.{Decided, commanded, decision_of, framed, given, given_if, judged, listed_if, listed_of, may_answer, may_see_machines, may_see_orders, says}, Migration.Continues, Step.{IsRun, IsStep, Step}, WritesLaws.{listed_cases, role_cases}}
+use Rattle.boot_desk.specs.{Expiry.swept, Fetch.fetched, FrameEvent.frame_decision, OrderAnswer.answered, Report.reported, Views.machine_view, declared.frames.Decision.Decision as FrameDecision}
+use Rattle.desk_command.specs.{Command.command_decision, Effect.Effect}
+use Rattle.hall_laws.specs.{Prelude.{Site, Client, applied_schema, Hall, applied, second, next_expired, waiting, next_expired-is, row_cases, RowWrite, Outcome, Progress, Interface, Machine, Port, Content, machine_list, waiting_orders, HallCommand, Event, Fetched, enlisted, frame_view, Judged, IsSound, interface_view, order_view, report_view, view_of, Verdict, Enlist, sender}, Decision.{Decided, commanded, decision_of, framed, given, given_if, judged, listed_if, listed_of, may_answer, may_see_machines, may_see_orders, says}, Step.{IsStep, Step}, WritesLaws.{listed_cases, role_cases}}
 
 -- what the decisions' own laws say of sound halls
 pub record KeepSound : Type 0 where
@@ -27,16 +24,6 @@ pub record KeepSound : Type 0 where
 
 abbrev Keeps : Hall → Decided → Type 0
 Keeps h d = IsSound (applied d.rows h)
-
--- ---- the schema
-
-schema_written : (w : RowWrite) (h : Hall) → (written w h).schema ≡ h.schema
-schema_written (write.PutOperator o) h = refl
-schema_written other h = refl
-
-pub schema_stays : (rows : List RowWrite) (h : Hall) → (applied rows h).schema ≡ h.schema
-schema_stays [] h = refl
-schema_stays (w ∷ ws) h = schema_stays ws (written w h) ∙ schema_written w h
 
 module _ (k : KeepSound) where
   -- ---- decisions
@@ -92,27 +79,12 @@ module _ (k : KeepSound) where
       command_keeps site h s moment fresh in_second bearer key command (command_decision h bearer key command moment) refl
   decision_keeps site h event.Quiet moment fresh s in_second = quiet_keeps site h s moment fresh (next_expired h moment) refl
 
-  -- ---- steps and runs
+  -- ---- steps
 
   pub step_keeps : (x : Step) → IsStep x → IsSound x.before → x.before.schema ≡ second → IsSound x.after × (x.after.schema ≡ second)
   step_keeps x (inl came) s in_second =
       let rows = (decision_of x.arrival.site x.before x.arrival.event x.arrival.moment x.arrival.fresh).rows in (
         subst IsSound (sym came.after) (decision_keeps x.arrival.site x.before x.arrival.event x.arrival.moment x.arrival.fresh s in_second),
-        ap (λ (h : Hall). h.schema) came.after ∙ schema_stays rows x.before ∙ in_second,
+        ap (λ (h : Hall). h.schema) came.after ∙ applied_schema rows x.before ∙ in_second,
       )
   step_keeps x (inr missed) s in_second = (subst IsSound (sym missed.after) s, ap (λ (h : Hall). h.schema) missed.after ∙ in_second)
-
-  -- a hall of the second schema isn't migrated
-  goes_on : (h next : Hall) → Continues h next → IsSound h → h.schema ≡ second → IsSound next × (next.schema ≡ second)
-  goes_on h next (inl same) s in_second = (subst IsSound (sym same) s, ap (λ (h : Hall). h.schema) same ∙ in_second)
-  goes_on h next (inr migrated) s in_second = absurd (not_both (sym migrated.was ∙ in_second))
-    where
-      not_both : first ≡ second → ⊥
-      not_both e = cc
-
-  pub run_keeps : (h end : Hall) (steps : List Step) → IsRun h steps end → IsSound h → h.schema ≡ second → IsSound end × (end.schema ≡ second)
-  run_keeps h end [] run s in_second = goes_on h end run s in_second
-  run_keeps h end (x ∷ steps) run s in_second =
-      let here = goes_on h x.before run.0 s in_second in
-      let next = step_keeps x run.1 here.0 here.1 in
-      run_keeps x.after end steps run.2 next.0 next.1

@@ -1,15 +1,11 @@
 -- Why no machine keeps the kind `quick` where no release asks for it.
 use Rattle.std.{proofs.{Common.{◌≡◌, ◌≢◌, ℕ, List, [], ◌∷◌, ◌++◌, refl, sym, ap, subst, ◌∙◌, inl, inr}, lemmas.Option.none-some}, specs.Prelude.{Bool, true, false, Option, Some, None, is_some, if◌then◌else◌}}
-use Rattle.hall_types.specs.{Hall.{Hall, Schema, second}, declared.{change.RowWrite.RowWrite, kinds.Erase.{Erase, TheVariants.{Full, Quick}}, machine.Machine.Machine, number.Numbers.Numbers, operator.Operator.Operator, order.Order.Order}}
 use Rattle.hall_types.specs.declared.change.RowWrite.TheVariants as write
-use Rattle.hall_events.specs.{Reply.Content, declared.{command.{HallCommand.TheVariants.OnMachine, MachineCommand.MachineCommand}, event.Event.Event}}
 use Rattle.hall_types.specs.declared.act.Act.TheVariants as does
 use Rattle.hall_events.specs.declared.command.MachineCommand.TheVariants as on
 use Rattle.hall_events.specs.declared.event.Event.TheVariants as event
-use Rattle.life_cycle.specs.{Entering.{keeps_erase, kept}, EnteringLaws.entered-erase}
-use Rattle.boot_desk.specs.{Following.{entry_rows, queued_rows, withdrawn_row}, Sound.{IsSound, KeepsErase}}
-use Rattle.desk_command.specs.{Command.receipt_of, Effect.prepared}
-use Rattle.hall_laws.{specs.{Decision.{Decided, decision_of}, Step.{IsStep, Step}, Writes.{CauseOf, EditsInterfaces, First, IsEntering, IsOfNoMachine, Writes, WritesAll, boot_first, edits_machine, ends_waiting, enters_status, first_rows, issues_boot, machine_goes, makes_machine, notes_report, nothing_first, order_first, with_receipt, withdrawn_at, without_receipt, writes_aside, writes_nothing}, WritesLaws.decision_writes, FirstSchema.{AllKeepFull, AsksQuick, NeverAsksQuick}}, proofs.MachineWrites.{EachIs, RowIs, RowsAre, applied_are, rows_append}}
+use Rattle.life_cycle.specs.Entering.{keeps_erase}
+use Rattle.hall_laws.{specs.{Prelude.{Hall, Schema, second, RowWrite, Erase, Full, Quick, Machine, Numbers, Operator, Order, Content, OnMachine, MachineCommand, Event, kept, entered-erase, entry_rows, queued_rows, withdrawn_row, IsSound, KeepsErase, receipt_of, prepared}, Decision.{Decided, decision_of}, Step.{IsStep, Step}, Writes.{CauseOf, EditsInterfaces, First, IsEntering, IsOfNoMachine, Writes, WritesAll, boot_first, edits_machine, ends_waiting, enters_status, first_rows, issues_boot, machine_goes, makes_machine, notes_report, nothing_first, order_first, with_receipt, withdrawn_at, without_receipt, writes_aside, writes_nothing}, WritesLaws.decision_writes, FirstSchema.{AllKeepFull, AsksQuick, NeverAsksQuick}}, proofs.MachineWrites.{EachIs, RowIs, RowsAre, applied_are, rows_append}}
 
 -- the kind isn't `quick`
 abbrev Spares : Option Erase → Type 0

@@ -11,9 +11,8 @@ AreTwins whole steps = ⊥
 
 pub twins_plain : (whole steps : List Step) → AreTwins whole steps → ArePlain whole steps
 twins_plain [] [] t = tt
-twins_plain [] (s ∷ steps) t = absurd t
-twins_plain (w ∷ whole) [] t = absurd t
 twins_plain (w ∷ whole) (s ∷ steps) t = (t.0.plain, twins_plain whole steps t.1)
+twins_plain whole steps t = absurd t
 
 -- the twins of a step and of the steps before it
 pub record HasTwins (whole past : List Step) (s : Step) : Type 0 where
@@ -40,10 +39,9 @@ twins_of (w ∷ whole) (p ∷ past) s later t =
     }
 
 pub asks_at : (earlier : List Step) (w : Step) (later steps : List Step) → AreTwins (earlier ++ (w ∷ later)) steps → NeverAsksQuick w
-asks_at [] w later [] t = absurd t
 asks_at [] w later (s ∷ steps) t = t.0.asks
-asks_at (e ∷ earlier) w later [] t = absurd t
 asks_at (e ∷ earlier) w later (s ∷ steps) t = asks_at earlier w later steps t.1
+asks_at earlier w later steps t = absurd t
 
 -- ---- steps of the first schema, and then some of the second
 
@@ -62,16 +60,14 @@ like_itself (s ∷ steps) = (inr refl, like_itself steps)
 
 pub twins_like : (whole steps : List Step) → AreTwins whole steps → AreLike whole steps
 twins_like [] [] t = tt
-twins_like [] (s ∷ steps) t = absurd t
-twins_like (w ∷ whole) [] t = absurd t
 twins_like (w ∷ whole) (s ∷ steps) t = (inl t.0, twins_like whole steps t.1)
+twins_like whole steps t = absurd t
 
 -- the same steps may come afterwards
 pub like_append : (whole steps more : List Step) → AreLike whole steps → AreLike (whole ++ more) (steps ++ more)
 like_append [] [] more like = like_itself more
-like_append [] (s ∷ steps) more like = absurd like
-like_append (w ∷ whole) [] more like = absurd like
 like_append (w ∷ whole) (s ∷ steps) more like = (like.0, like_append whole steps more like.1)
+like_append whole steps more like = absurd like
 
 -- ---- what holds of a step of the second schema holds of its twin
 
@@ -102,9 +98,8 @@ module _ (P : Step → Type 0) (back : (w s : Step) → IsTwin w s → P s → P
 
   pub none_like : (whole steps : List Step) → AreLike whole steps → NoneOf P whole → NoneOf P steps
   none_like [] [] like none = tt
-  none_like [] (s ∷ steps) like none = absurd like
-  none_like (w ∷ whole) [] like none = absurd like
   none_like (w ∷ whole) (s ∷ steps) like none = (λ p. none.0 (like_back w s like.0 p), none_like whole steps like.1 none.1)
+  none_like whole steps like none = absurd like
 
 -- ---- the last step that is one
 
@@ -116,13 +111,11 @@ module _ (P : Step → Type 0) (to : (w s : Step) → IsTwin w s → P w → P s
     pub later_like : AreLike later last.later
 
   last_at : (earlier : List Step) (w : Step) (later past : List Step) → AreLike (earlier ++ (w ∷ later)) past → P w → NoneOf P later → HasLast w later past
-  last_at [] w later [] like is none = absurd like
   last_at [] w later (s ∷ past) like is none = record {
     last = record { earlier = []; step = s; later = past; are = refl; is = like_to P to w s like.0 is; none_later = none_like P back later past like.1 none };
     like = like.0;
     later_like = like.1;
   }
-  last_at (e ∷ earlier) w later [] like is none = absurd like
   last_at (e ∷ earlier) w later (p ∷ past) like is none =
       let rest = last_at earlier w later past like.1 is none in
       record {
@@ -137,6 +130,7 @@ module _ (P : Step → Type 0) (to : (w s : Step) → IsTwin w s → P w → P s
         like = rest.like;
         later_like = rest.later_like;
       }
+  last_at earlier w later past like is none = absurd like
 
   pub last_like : (whole past : List Step) → AreLike whole past → (l : Last P whole) → HasLast l.step l.later past
   last_like whole past like l = last_at l.earlier l.step l.later past (subst (λ (steps : List Step). AreLike steps past) l.are like) l.is l.none_later

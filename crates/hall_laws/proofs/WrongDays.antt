@@ -1,15 +1,12 @@
 -- What a wrong hall would do: the day up to some step, and then one step that the model doesn't make. Each breaks a law.
 use Rattle.std.{proofs.{Common.{◌≡◌, ◌≢◌, ◌⊎◌, ◌∙◌, ℕ, List, [], ◌∷◌, ◌++◌, Some, None, refl, sym, ap, subst, inl, inr, arith}, lemmas.Option.none-some}, specs.{Prelude.codes, List.AllByRecursion}}
-use Rattle.pxe_vendor.specs.declared.arch.Arch.TheVariants.{Uefi64}
-use Rattle.hall_types.specs.{Hall.{Hall, second}, RowLaws.{at-put-same, at-gone-same}, Rows.{at, numbers, texts}, declared.{boot.Boot.Boot, change.RowWrite.TheVariants.{MachineGone, PutMachine, PutOrder, PutPool}, kinds.{OrderStage.TheVariants.{Waiting, Done as Ended}, Outcome.TheVariants.Done as Turned, Progress.TheVariants.{Done, Started}}, machine.{Interface.Interface, Machine.Machine}, operator.Pool.Pool, refusal.Refusal.TheVariants.{KeyReused, UnknownToken}, status.Status.TheVariants.{Commissioning, Deployed, Deploying, DiskErasing, New, Ready}}, Machine.blank_machine}
+use Rattle.hall_laws.{specs.{Prelude.{Uefi64, Hall, second, at-put-same, at-gone-same, Boot, MachineGone, PutMachine, PutOrder, PutPool, Waiting, Done, Started, Interface, Machine, Pool, KeyReused, UnknownToken, Commissioning, Deployed, Deploying, DiskErasing, New, Ready, blank_machine, Content, counted, done, machine_is, nothing, refused, script, stored, Signal, some_is, sender}, Refusing.IsRefusal, Step.Step, Laws.{AcceptsOnce, AcceptsWithOk, AlwaysWaitsForOne, AnswersAccepted, BootsLocally, CountsAnswerOnce, CountsOwnBoot, CountsStartedFirst, CountsVerdictOnce, DeploysRightly, EntersByTable, ErasesRightly, HasStatus, IsDeleted, IsMachineAt, IsSignalled, KeepsMachines, NumbersOnce, QueuesAtEntries, RefusesWithoutChange, RepeatsFirst, ScriptIsAsked, WaitsNoMore, by_answer, by_command, by_deadline, by_fourth_boot, by_report}, Past.{AtEachStep, IsAccepted}, Worked.{ada, boot, came, command, mac, order, start, token}}, proofs.{Computing.computed, Day.{adds, boot_started, booted, booted_locally, commission_booted, commission_done, commissioned, deploy_script, deployed, erase_script, image_added, image_live, machine_added, made, new_machine, order_done, pow, power_added, ready, until_deployed}, DayLaws.{accepts, gives_deploying, gives_erasing, makes_machine}, FirstSteps.whole_step as step}}
+use Rattle.hall_types.specs.{Rows.{at, numbers, texts}, declared.kinds.{OrderStage.TheVariants.Done as Ended, Outcome.TheVariants.Done as Turned}}
 use Rattle.hall_types.specs.declared.kinds.Purpose.TheVariants as purpose
 use Rattle.hall_types.specs.declared.kinds.Stage.TheVariants as stage
-use Rattle.hall_events.specs.Reply.{counted, done, machine_is, nothing, refused, reply_of, script, stored}
+use Rattle.hall_events.specs.Reply.{reply_of}
 use Rattle.hall_events.specs.declared.event.Event.TheVariants as event
-use Rattle.life_cycle.specs.declared.signal.Signal.{Signal}
-use Rattle.boot_desk.specs.{SoundLaws.some_is, Texts.{hold_script, local_script}}
-use Rattle.desk_command.specs.Command.{sender}
-use Rattle.hall_laws.{specs.{Step.Step, Laws.{AcceptsOnce, AcceptsWithOk, AlwaysWaitsForOne, AnswersAccepted, BootsLocally, CountsAnswerOnce, CountsOwnBoot, CountsStartedFirst, CountsVerdictOnce, DeploysRightly, EntersByTable, ErasesRightly, HasStatus, IsDeleted, IsMachineAt, IsSignalled, KeepsMachines, NumbersOnce, QueuesAtEntries, RefusesWithoutChange, RepeatsFirst, ScriptIsAsked, WaitsNoMore, by_answer, by_command, by_deadline, by_fourth_boot, by_report}, Past.{AtEachStep, IsAccepted}, Worked.{ada, boot, came, command, mac, order, start, token}}, proofs.{Computing.computed, Day.{adds, boot_started, booted, booted_locally, commission_booted, commission_done, commissioned, deploy_script, deployed, erase_script, image_added, image_live, machine_added, made, new_machine, order_done, pow, power_added, ready, until_deployed}, DayLaws.{accepts, gives_deploying, gives_erasing, makes_machine}, FirstSteps.whole_step as step}}
+use Rattle.boot_desk.specs.Texts.{hold_script, local_script}
 
 -- what is a law of the steps up to one, and then that one, holds of it
 last : (P : List Step → Step → Type 0) (past : List Step) (s : Step) → AtEachStep P (past ++ (s ∷ [])) → P past s
@@ -17,11 +14,11 @@ last P past s law = law past s [] refl
 
 -- ---- scripts
 
-asks : IsMachineAt booted_locally.before mac deployed
+asks : IsMachineAt booted_locally.step.before mac deployed
 unfolding texts numbers
 asks = record { interface = record { mac = mac; machine = 1 }; recorded = simp (computed); found = simp (computed) }
 
-ready_asks : IsMachineAt commission_done.after mac ready
+ready_asks : IsMachineAt commission_done.step.after mac ready
 unfolding texts numbers
 ready_asks = record { interface = record { mac = mac; machine = 1 }; recorded = simp (computed); found = simp (computed) }
 
@@ -30,8 +27,8 @@ one_machine h m n one other =
     some_is m n (sym one.found ∙ ap (λ (i : Interface). at h.machines i.machine) (some_is one.interface other.interface (sym one.recorded ∙ other.recorded)) ∙ other.found)
 
 -- a script is given at a quiet moment
-script_unasked : AtEachStep ScriptIsAsked (until_deployed ++ (step booted_locally.before (came event.Quiet) (made (script erase_script) []) ∷ [])) → ⊥
-script_unasked law = let e = (last ScriptIsAsked until_deployed (step booted_locally.before (came event.Quiet) (made (script erase_script) [])) law erase_script refl).1.event in cc
+script_unasked : AtEachStep ScriptIsAsked (until_deployed ++ (step booted_locally.step.before (came event.Quiet) (made (script erase_script) []) ∷ [])) → ⊥
+script_unasked law = let e = (last ScriptIsAsked until_deployed (step booted_locally.step.before (came event.Quiet) (made (script erase_script) [])) law erase_script refl).1.event in cc
 
 not_held : script hold_script ≡ script (local_script Uefi64) → ⊥
 unfolding hold_script local_script
@@ -39,7 +36,7 @@ not_held e = cc
 
 -- a Deployed machine is told to hold
 abbrev held : Step
-held = step booted_locally.before (came (event.Script mac)) (made (script hold_script) [])
+held = step booted_locally.step.before (came (event.Script mac)) (made (script hold_script) [])
 
 deployed_machine_is_held : AtEachStep BootsLocally (until_deployed ++ (held ∷ [])) → ⊥
 deployed_machine_is_held law =
@@ -47,31 +44,31 @@ deployed_machine_is_held law =
 
 -- a Deployed machine is told to erase its disks
 abbrev erased : Step
-erased = step booted_locally.before (came (event.Script mac)) (made (script erase_script) [])
+erased = step booted_locally.step.before (came (event.Script mac)) (made (script erase_script) [])
 
 deployed_machine_is_erased : AtEachStep ErasesRightly (until_deployed ++ (erased ∷ [])) → ⊥
 deployed_machine_is_erased law =
     let right = last ErasesRightly until_deployed erased law mac erase_script (record { event = refl; answer = refl }) gives_erasing.2 in
-    let apart : Deployed ≡ DiskErasing = ap (λ (m : Machine). m.status) (one_machine booted_locally.before deployed right.machine asks right.asks) ∙ right.status in
+    let apart : Deployed ≡ DiskErasing = ap (λ (m : Machine). m.status) (one_machine booted_locally.step.before deployed right.machine asks right.asks) ∙ right.status in
     cc
 
 abbrev until_commissioned : List Step
-until_commissioned = image_added ∷ image_live ∷ power_added ∷ machine_added ∷ commissioned ∷ []
+until_commissioned = image_added.step ∷ image_live.step ∷ power_added.step ∷ machine_added.step ∷ commissioned.step ∷ []
 
 abbrev until_booted : List Step
-until_booted = until_commissioned ++ order_done ∷ commission_booted ∷ []
+until_booted = until_commissioned ++ order_done.step ∷ commission_booted.step ∷ []
 
 abbrev until_ready : List Step
-until_ready = until_booted ++ boot_started ∷ commission_done ∷ []
+until_ready = until_booted ++ boot_started.step ∷ commission_done.step ∷ []
 
 -- a machine that is Ready is told to write an image to its disk
 abbrev overwritten : Step
-overwritten = step commission_done.after (came (event.Script mac)) (made (script deploy_script) [])
+overwritten = step commission_done.step.after (came (event.Script mac)) (made (script deploy_script) [])
 
 ready_machine_is_deployed : AtEachStep DeploysRightly (until_ready ++ (overwritten ∷ [])) → ⊥
 ready_machine_is_deployed law =
     let right = last DeploysRightly until_ready overwritten law mac deploy_script (record { event = refl; answer = refl }) gives_deploying.2 in
-    let apart : Ready ≡ Deploying = ap (λ (m : Machine). m.status) (one_machine commission_done.after ready right.machine ready_asks right.asks) ∙ right.status in
+    let apart : Ready ≡ Deploying = ap (λ (m : Machine). m.status) (one_machine commission_done.step.after ready right.machine ready_asks right.asks) ∙ right.status in
     cc
 
 -- ---- reports
@@ -94,7 +91,7 @@ in_all P steps earlier later s all are = by earlier (subst (AllByRecursion P) ar
 
 -- a report with another token counts
 abbrev other_token : Step
-other_token = step commission_booted.after (came (event.Report 1 (8 ∷ []) Started)) (made counted [])
+other_token = step commission_booted.step.after (came (event.Report 1 (8 ∷ []) Started)) (made counted [])
 
 report_with_other_token : AtEachStep CountsOwnBoot (until_booted ++ (other_token ∷ [])) → ⊥
 report_with_other_token law =
@@ -111,7 +108,7 @@ report_with_other_token law =
 
 -- a report that a boot has started counts after it was done
 abbrev started_late : Step
-started_late = step commission_done.after (came (event.Report 1 token Started)) (made counted [])
+started_late = step commission_done.step.after (came (event.Report 1 token Started)) (made counted [])
 
 started_after_done : AtEachStep CountsStartedFirst (until_ready ++ (started_late ∷ [])) → ⊥
 started_after_done law =
@@ -119,7 +116,7 @@ started_after_done law =
 
 -- a verdict counts twice
 abbrev done_twice : Step
-done_twice = step commission_done.after (came (event.Report 1 token Done)) (made counted [])
+done_twice = step commission_done.step.after (came (event.Report 1 token Done)) (made counted [])
 
 verdict_twice : AtEachStep CountsVerdictOnce (until_ready ++ (done_twice ∷ [])) → ⊥
 verdict_twice law =
@@ -129,7 +126,7 @@ verdict_twice law =
 
 -- a machine goes, and another one is given its number
 abbrev gone : Step
-gone = step commission_done.after (came event.Quiet) (made nothing (MachineGone 1 ∷ []))
+gone = step commission_done.step.after (came event.Quiet) (made nothing (MachineGone 1 ∷ []))
 
 abbrev number_again : Step
 number_again = step gone.after (command 9 adds) (made (machine_is 1 New 1) (PutMachine new_machine None ∷ []))
@@ -137,14 +134,14 @@ number_again = step gone.after (command 9 adds) (made (machine_is 1 New 1) (PutM
 number_twice : AtEachStep NumbersOnce (until_ready ++ gone ∷ number_again ∷ []) → ⊥
 number_twice law =
     let none = (law (until_ready ++ (gone ∷ [])) number_again [] refl).machines 1
-    (new_machine, at-gone-same commission_done.after.machines 1, at-put-same gone.after.machines 1 new_machine) in
+    (new_machine, at-gone-same commission_done.step.after.machines 1, at-put-same gone.after.machines 1 new_machine) in
     none.1.1.1.0 makes_machine
 
 -- ---- entries
 
 -- a report is refused, and its machine is Deployed
 abbrev jumps : Step
-jumps = step commission_booted.after (came (event.Report 1 token Done)) (made (refused KeyReused) (PutMachine deployed (Some 4) ∷ []))
+jumps = step commission_booted.step.after (came (event.Report 1 token Done)) (made (refused KeyReused) (PutMachine deployed (Some 4) ∷ []))
 
 was_booted : at jumps.before.machines 1 ≡ Some booted
 unfolding numbers
@@ -174,8 +171,11 @@ deployed_by_refused_report law =
 abbrev second_machine : Machine
 second_machine = blank_machine 2 Uefi64 (codes "default") None
 
+abbrev makes_second : ℕ → Content → Step
+makes_second key content = step commission_done.step.after (command key adds) (made content (PutMachine second_machine None ∷ []))
+
 abbrev acts_again : Step
-acts_again = step commission_done.after (command 4 adds) (made (machine_is 2 New 1) (PutMachine second_machine None ∷ []))
+acts_again = makes_second 4 (machine_is 2 New 1)
 
 known : sender acts_again.before (Some ada.digest) ≡ Some ada
 unfolding texts
@@ -188,20 +188,20 @@ none_before = simp (computed)
 changes : acts_again.after ≢ acts_again.before
 changes same = let e = sym (at-put-same acts_again.before.machines 2 second_machine) ∙ ap (λ (h : Hall). at h.machines 2) same ∙ none_before in cc
 
-is_accepted : IsAccepted ada.name (4 ∷ []) adds (machine_is 2 New 1) acts_again
-is_accepted = record {
+is_accepted : (key : ℕ) (content : Content) → (IsRefusal content → ⊥) → IsAccepted ada.name (key ∷ []) adds content (makes_second key content)
+is_accepted key content not_refused = record {
   bearer = Some ada.digest;
   by = ada;
   known = known;
   named = refl;
   answered = record { event = refl; answer = refl };
-  accepted = λ refusal. let e = refusal.1 in cc;
+  accepted = not_refused;
   changes = changes;
 }
 
 accepted_twice : AtEachStep AcceptsOnce (until_ready ++ (acts_again ∷ [])) → ⊥
 accepted_twice law =
-    (last AcceptsOnce until_ready acts_again law ada.name (4 ∷ []) (adds, machine_is 2 New 1, is_accepted)).1.1.1.0 (adds, machine_is 1 New 1, accepts)
+    (last AcceptsOnce until_ready acts_again law ada.name (4 ∷ []) (adds, machine_is 2 New 1, is_accepted 4 (machine_is 2 New 1) (λ refusal. let e = refusal.1 in cc))).1.1.1.0 (adds, machine_is 1 New 1, accepts)
 
 repeated_key_acts_again : AtEachStep RepeatsFirst (until_ready ++ (acts_again ∷ [])) → ⊥
 repeated_key_acts_again law =
@@ -228,7 +228,7 @@ answered_unaccepted law =
 
 -- an accepted command is answered by another status
 abbrev created : Step
-created = step commission_done.after (command 9 adds) (made (stored 201 []) (PutMachine second_machine None ∷ []))
+created = makes_second 9 (stored 201 [])
 
 other_status : HasStatus 200 (reply_of second (stored 201 [])) → ⊥
 unfolding reply_of
@@ -238,24 +238,14 @@ other_status e = by 201 200 e refl refl
     by a b same one other = omega arith
 
 accepted_with_created : AtEachStep AcceptsWithOk (until_ready ++ (created ∷ [])) → ⊥
-accepted_with_created law = other_status (last AcceptsWithOk until_ready created law ada.name (9 ∷ []) adds (stored 201 []) is_created)
-  where
-    is_created : IsAccepted ada.name (9 ∷ []) adds (stored 201 []) created
-    is_created = record {
-      bearer = Some ada.digest;
-      by = ada;
-      known = known;
-      named = refl;
-      answered = record { event = refl; answer = refl };
-      accepted = λ refusal. let e = refusal.1 in cc;
-      changes = changes;
-    }
+accepted_with_created law =
+    other_status (last AcceptsWithOk until_ready created law ada.name (9 ∷ []) adds (stored 201 []) (is_accepted 9 (stored 201 []) (λ refusal. let e = refusal.1 in cc)))
 
 -- ---- orders
 
 -- an order is queued at a quiet moment, while another one waits
 abbrev queues : Step
-queues = step commissioned.after (came event.Quiet) (made nothing (PutOrder (order 2 Waiting) ∷ []))
+queues = step commissioned.step.after (came event.Quiet) (made nothing (PutOrder (order 2 Waiting) ∷ []))
 
 abbrev quiet_after : Step
 quiet_after = step queues.after (came event.Quiet) (made nothing [])
@@ -283,23 +273,23 @@ queued_at_quiet law =
 
 -- an order that was done waits again
 abbrev waits_again : Step
-waits_again = step order_done.after (came event.Quiet) (made nothing (PutOrder (order 1 Waiting) ∷ []))
+waits_again = step order_done.step.after (came event.Quiet) (made nothing (PutOrder (order 1 Waiting) ∷ []))
 
 was_ended : at waits_again.before.orders 1 ≡ Some (order 1 Ended)
 unfolding numbers
 was_ended = simp (computed)
 
-done_order_waits : AtEachStep WaitsNoMore (until_commissioned ++ order_done ∷ waits_again ∷ []) → ⊥
+done_order_waits : AtEachStep WaitsNoMore (until_commissioned ++ order_done.step ∷ waits_again ∷ []) → ⊥
 done_order_waits law =
-    law (until_commissioned ++ (order_done ∷ [])) waits_again [] refl 1 (order 1 Ended) (order 1 Waiting) was_ended (λ waits. cc) (at-put-same waits_again.before.orders 1 (order 1 Waiting)) refl
+    law (until_commissioned ++ (order_done.step ∷ [])) waits_again [] refl 1 (order 1 Ended) (order 1 Waiting) was_ended (λ waits. cc) (at-put-same waits_again.before.orders 1 (order 1 Waiting)) refl
 
 -- an answer to an order counts twice
 abbrev answered_twice : Step
-answered_twice = step order_done.after (came (event.OrderAnswer (Some pow.digest) 1 Turned)) (made counted [])
+answered_twice = step order_done.step.after (came (event.OrderAnswer (Some pow.digest) 1 Turned)) (made counted [])
 
-answer_twice : AtEachStep CountsAnswerOnce (until_commissioned ++ order_done ∷ answered_twice ∷ []) → ⊥
+answer_twice : AtEachStep CountsAnswerOnce (until_commissioned ++ order_done.step ∷ answered_twice ∷ []) → ⊥
 answer_twice law =
-    (law (until_commissioned ++ (order_done ∷ [])) answered_twice [] refl 1 (Turned, (Some pow.digest, record { event = refl; answer = refl }))).0.1.1.1.1.1.0
+    (law (until_commissioned ++ (order_done.step ∷ [])) answered_twice [] refl 1 (Turned, (Some pow.digest, record { event = refl; answer = refl }))).0.1.1.1.1.1.0
     (Turned, (Some pow.digest, record { event = refl; answer = refl }))
 
 -- ---- machines and refusals
@@ -320,7 +310,7 @@ abbrev lab : Pool
 lab = record { name = codes "lab" }
 
 abbrev pool_made : Step
-pool_made = step commission_done.after (came (event.Orders None)) (made (refused UnknownToken) (PutPool lab ∷ []))
+pool_made = step commission_done.step.after (came (event.Orders None)) (made (refused UnknownToken) (PutPool lab ∷ []))
 
 no_lab : at pool_made.before.pools lab.name ≡ None
 unfolding texts

@@ -1,26 +1,63 @@
--- What operators' commands write.
+-- What operators' commands write, and that a command which is carried out is answered so.
 use Rattle.std.{specs.{Prelude.{◌≡◌, ◌||◌, not, ℕ, Bool, true, false, List, [], ◌∷◌, Option, Some, None, Ok, Err, is_some, option_map, if◌then◌else◌}, Str.bytes_eq}, proofs.{Common.{refl, sym, ap, inl, inr, ◌∙◌}, lemmas.{Bool.{both_ways, or_parts}, Slice.Eq.bytes_eq-Decides}}}
-use Rattle.pxe_vendor.specs.declared.arch.Arch.{Arch}
-use Rattle.hall_types.specs.{Hall.{Hall, pair}, Image.BootImage, Lookup.{is_image_used, operator_with_digest}, LookupLaws.none_listed, Number.next_number, Rows.at, declared.{change.RowWrite.RowWrite, kinds.Role.Role, machine.{Interface.Interface, Machine.Machine}, number.Numbers.Numbers, operator.Operator.Operator, refusal.Refusal.Refusal}, Machine.blank_machine}
+use Rattle.hall_laws.specs.{Prelude.{Arch, Hall, pair, BootImage, is_image_used, operator_with_digest, none_listed, next_number, RowWrite, Role, Interface, Machine, Numbers, Operator, Refusal, blank_machine, Content, done, HallCommand, AddOperator, DisableOperator, AddPool, Grant, AddImage, DeleteImage, SetLive, AddMachine, OnMachine, MachineCommand, entered, Action, By, IfOk, step_cases, entry_rows, IsSound, some_is, row_at, IsAllowed, first_none, none_is, none_mapped, unless_none, when_none, action_of, first_of, forbidden, when, sender, command_cases, machine_cases, sender_is, about, acted, added, edited, entry_effect, live_image, machine_effect, machine_effect_if, moved_to_pool, prepared, raised, step_effect, by_mac, has_member, has_pool, image_arch, CommandView}, Decision.commanded as answered, Writes.{Writes, WritesAll, edits_machine, enters_status, is_done, machine_goes, makes_machine, nothing_first, with_receipt as and_receipt, without_receipt, writes_aside, writes_nothing}}
+use Rattle.hall_types.specs.Rows.{at}
 use Rattle.hall_types.specs.declared.change.RowWrite.TheVariants as write
 use Rattle.hall_types.specs.declared.refusal.Refusal.TheVariants as cause
-use Rattle.hall_events.specs.{Reply.{Content, done}, declared.command.{HallCommand.{HallCommand, TheVariants.{AddOperator, DisableOperator, AddPool, Grant, AddImage, DeleteImage, SetLive, AddMachine, OnMachine}}, MachineCommand.MachineCommand}}
 use Rattle.hall_types.specs.declared.act.Act.TheVariants as does
 use Rattle.hall_events.specs.declared.command.MachineCommand.TheVariants as on
 use Rattle.hall_events.specs.declared.event.Event.TheVariants as event
-use Rattle.life_cycle.specs.{Entering.entered, declared.{action.Action.Action, signal.Signal.TheVariants.By}}
 use Rattle.life_cycle.specs.declared.action.Action.TheVariants as act
-use Rattle.boot_desk.specs.{DecisionLaws.{IfOk, step_cases}, Following.entry_rows, Sound.IsSound, SoundLaws.some_is, Views.row_at}
-use Rattle.desk_command.specs.{AllowedLaws.{IsAllowed, first_none, unless_none, when_none}, Causes.{action_of, causes, first_of, forbidden, when}, Command.{command_decision, sender, with_receipt}, DecisionLaws.{command_cases, machine_cases, sender_is}, Effect.{Effect, about, acted, added, disabled, edited, effect, entry_effect, live_image, machine_effect, moved_to_pool, prepared, raised, step_effect}, View.{by_mac, command_view, has_member, has_pool, image_arch, machine_view}, declared.view.CommandView.CommandView}
-use Rattle.hall_laws.specs.{Decision.commanded as answered, EffectLaws.{SaysDone, effect_says}, Writes.{Writes, WritesAll, edits_machine, enters_status, machine_goes, makes_machine, nothing_first, with_receipt as and_receipt, without_receipt, writes_aside, writes_nothing}}
+use Rattle.desk_command.specs.{Causes.causes, Command.{command_decision, with_receipt}, Effect.{Effect, disabled, effect}, View.{command_view, machine_view}}
 
-none_mapped : {X Y : Type 0} (f : X → Y) (o : Option X) → is_some (option_map f o) ≡ false → o ≡ None
-none_mapped f None is = refl
-none_mapped f (Some x) is = cc
+-- ---- answers
 
-none_is : {X : Type 0} (o : Option X) → is_some o ≡ false → o ≡ None
-none_is None is = refl
-none_is (Some x) is = cc
+-- unless it is refused, its answer is one of a command that is carried out
+abbrev pub SaysDone : Effect → Type 0
+SaysDone = IfOk (λ (d : List RowWrite × Content). is_done d.1 ≡ true)
+
+if_says : (b : Bool) (one other : Effect) → SaysDone one → SaysDone other → SaysDone (if b then one else other)
+if_says true one other says also = says
+if_says false one other says also = also
+
+acted_says : (v : CommandView) (o : Operator) (m : Machine) (command : MachineCommand) (moment : ℕ) (action : Action) → SaysDone (acted v o m command moment action)
+acted_says v o m command moment action =
+    step_cases SaysDone m (prepared command o m) (By action) moment v.numbers (step_effect v o m command moment) (entry_effect v m) (λ step. refl) (λ stays. tt) tt (λ step e leads enters. refl)
+
+machine_says : (v : CommandView) (o : Operator) (m : Machine) (command : MachineCommand) (moment : ℕ) → SaysDone (machine_effect v o m command moment)
+machine_says v o m (on.AddInterface mac) moment = refl
+machine_says v o m (on.RemoveInterface mac) moment = refl
+machine_says v o m (on.SetPool pool) moment = if_says (bytes_eq m.pool pool) _ _ refl refl
+machine_says v o m on.Delete moment = refl
+machine_says v o m (on.Act does.Lock) moment = refl
+machine_says v o m (on.Act does.Unlock) moment = refl
+machine_says v o m other moment = acted_says v o m other moment _
+
+machine_if_says : (m : Option Machine) (v : CommandView) (o : Operator) (command : MachineCommand) (moment : ℕ) → SaysDone (machine_effect_if m v o command moment)
+machine_if_says None v o command moment = tt
+machine_if_says (Some m) v o command moment = machine_says v o m command moment
+
+disabled_says : (o : Option Operator) → SaysDone (disabled o)
+disabled_says None = tt
+disabled_says (Some o) = if_says o.enabled _ _ refl refl
+
+live_says : (image : List ℕ) (arch : Option Arch) → SaysDone (live_image image arch)
+live_says image None = tt
+live_says image (Some arch) = refl
+
+added_says : (v : CommandView) (mac : List ℕ) (arch : Arch) (pool : List ℕ) (uuid : Option (List ℕ)) (id : Option ℕ) → SaysDone (added v mac arch pool uuid id)
+added_says v mac arch pool uuid None = tt
+added_says v mac arch pool uuid (Some id) = refl
+
+pub effect_says : (v : CommandView) (o : Operator) (command : HallCommand) (moment : ℕ) → SaysDone (effect v o command moment)
+unfolding effect
+effect_says v o (DisableOperator name) moment = disabled_says v.operator
+effect_says v o (SetLive image) moment = live_says image v.image
+effect_says v o (AddMachine mac arch pool uuid) moment = added_says v mac arch pool uuid (next_number v.numbers.machine)
+effect_says v o (OnMachine id version command) moment = machine_if_says v.machine v o command moment
+effect_says v o other moment = refl
+
+-- ---- writes
 
 module _ (h : Hall) (s : IsSound h) (bearer : Option (List ℕ)) (key : List ℕ) (moment : ℕ) (fresh : List ℕ) where
   -- what the effect of a command writes

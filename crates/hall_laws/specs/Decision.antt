@@ -1,13 +1,13 @@
 -- What a hall makes of an event: the rows to write, and what is answered.
 use Rattle.std.specs.Prelude.{ℕ, Bool, true, false, List, [], map, Option, Some, None, Ok, Err, if◌then◌else◌}
-use Rattle.pxe_vendor.specs.{BootFile.boot_file_of, Place.Site, declared.clients.Client.Client}
-use Rattle.hall_types.specs.{Hall.Hall, Lookup.{interfaces_of, next_expired, waiting}, Rows.{at, listed as rows_of}, declared.{change.RowWrite.RowWrite, kinds.Role.Role, machine.Machine.Machine, operator.Operator.Operator, refusal.Refusal.Refusal}}
+use Rattle.hall_laws.specs.Prelude.{boot_file_of, Site, Client, Hall, interfaces_of, next_expired, waiting, RowWrite, Role, Machine, Operator, Refusal, Content, ListedMachine, script, refused, counted, waiting_orders, machine_list, one_machine, boot_file, nothing, Event, Fetched, enlisted, frame_view, Judged, order_view, report_view, view_at, Verdict, Counted, Repeat, Loader, ScriptUrl, Enlist, Silent, BootView, sender}
+use Rattle.hall_types.specs.Rows.{at, listed as rows_of}
 use Rattle.hall_types.specs.declared.kinds.Role.TheVariants as role
 use Rattle.hall_types.specs.declared.refusal.Refusal.TheVariants as cause
-use Rattle.hall_events.specs.{Reply.{Content, ListedMachine, listed, script, refused, counted, repeated, waiting_orders, machine_list, one_machine, boot_file, nothing}, declared.event.Event.Event}
+use Rattle.hall_events.specs.Reply.{listed, repeated}
 use Rattle.hall_events.specs.declared.event.Event.TheVariants as event
-use Rattle.boot_desk.specs.{Expiry.swept, Fetch.{Fetched, fetched}, FrameEvent.{enlisted, frame_decision, frame_view}, OrderAnswer.answered, Report.{Judged, reported}, Views.{machine_view, order_view, report_view, view_at}, declared.{fault.Verdict.{Verdict, TheVariants.{Counted, Repeat}}, frames.Decision.{Decision as FrameDecision, TheVariants.{Loader, ScriptUrl, Enlist, Silent}}, views.BootView.BootView}}
-use Rattle.desk_command.specs.{Command.{command_decision, sender}, Effect.Effect}
+use Rattle.boot_desk.specs.{Expiry.swept, Fetch.fetched, FrameEvent.frame_decision, OrderAnswer.answered, Report.reported, Views.machine_view, declared.frames.Decision.Decision as FrameDecision}
+use Rattle.desk_command.specs.{Command.command_decision, Effect.Effect}
 
 -- the rows to write, and what is answered
 pub record Decided : Type 0 where

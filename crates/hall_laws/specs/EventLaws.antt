@@ -1,18 +1,24 @@
 -- What frames, script requests, reports, answers to orders and quiet moments write.
-use Rattle.std.{specs.Prelude.{◌≡◌, ℕ, List, [], Option, Some, None, Result}, proofs.Common.{refl, sym, ap, inl, inr}}
-use Rattle.pxe_vendor.specs.{Place.Site, declared.clients.Client.Client}
-use Rattle.hall_types.specs.{Hall.Hall, Lookup.next_expired, LookupLaws.{next_expired-is, row_cases}, Rows.at, declared.{change.RowWrite.RowWrite, kinds.{Outcome.Outcome, Progress.Progress}, machine.{Interface.Interface, Machine.Machine}, port.Port.Port, refusal.Refusal.Refusal}}
+use Rattle.std.{specs.Prelude.{◌≡◌, ◌++◌, ℕ, List, [], Option, Some, None, Result}, proofs.Common.{refl, sym, ap, inl, inr}}
+use Rattle.hall_laws.specs.{Prelude.{Site, Client, Hall, next_expired, next_expired-is, row_cases, RowWrite, Outcome, Progress, Interface, Machine, Port, Refusal, Content, nothing, Event, entered, Entered, Signal, Answer, Expired, FourthBoot, Counted, Enlist, fetched_cases, order_cases, report_cases, step_cases, swept_cases, Fetched, answering, entry_rows, with_entry, enlisted_as, frame_view, enlists, answered_with, stage_for, Judged, IsSound, interface_view, order_view, report_view, row_at, view_at, view_of}, Decision.{Decided, framed, given, given_if, judged as judgement}, Writes.{CauseOf, First, IsOrderAnswered, IsReported, Writes, boot_first, enters_status, first_rows, issues_boot, makes_machine, ends_waiting, notes_report, nothing_first, order_first, withdrawn_at, writes_nothing}}
+use Rattle.hall_types.specs.Rows.{at}
 use Rattle.hall_types.specs.declared.change.RowWrite.TheVariants as write
-use Rattle.hall_events.specs.{Reply.{counted as counted_answer, nothing}, declared.event.Event.Event}
+use Rattle.hall_events.specs.Reply.{counted as counted_answer}
 use Rattle.hall_events.specs.declared.event.Event.TheVariants as event
-use Rattle.life_cycle.specs.declared.{signal.Signal.TheVariants.{Answer, Expired, FourthBoot, Report}}
-use Rattle.boot_desk.specs.{declared.{fault.Verdict.TheVariants.Counted, frames.Decision.{Decision as FrameDecision, TheVariants.{Enlist}}}, DecisionLaws.{fetched_cases, order_cases, report_cases, step_cases, swept_cases}, Expiry.swept, Fetch.{Fetched, fetched}, Following.{answering, followed, with_entry}, FrameEvent.{enlisted_as, frame_decision, frame_view, new_machine}, NewMachineLaws.enlists, OrderAnswer.{answered, answered_with, stage_for}, Report.{Judged, reported}, Sound.IsSound, Texts.hold_script, Views.{interface_view, machine_view, order_view, report_view, row_at, view_at, view_of}}
-use Rattle.hall_laws.specs.{Decision.{Decided, framed, given, given_if, judged as judgement}, Writes.{IsOrderAnswered, IsReported, Writes, boot_first, enters_status, first_rows, issues_boot, makes_machine, ends_waiting, notes_report, nothing_first, order_first, writes_nothing}}
+use Rattle.life_cycle.specs.{Table.step_of, declared.{signal.Signal.TheVariants.Report, step.Step.Step}}
+use Rattle.boot_desk.specs.{declared.frames.Decision.Decision as FrameDecision, Expiry.swept, Fetch.fetched, Following.followed, FrameEvent.{frame_decision, new_machine}, OrderAnswer.answered, Report.reported, Texts.hold_script, Views.machine_view}
 
 abbrev pub Decides : Hall → Event → ℕ → List ℕ → Decided → Type 0
 Decides h e moment fresh d = Writes h e moment fresh d.rows d.content
 
 module _ (h : Hall) (s : IsSound h) (moment : ℕ) (fresh : List ℕ) where
+  -- a machine enters its status as it is
+  enters_itself : (e : Event) (content : Content) (m : Machine) (signal : Signal) (first : First) (step : Step) (new : Entered) → at h.machines m.id ≡ Some m
+      → CauseOf h e moment content m m signal first → step_of m signal ≡ Some step → entered m step moment h.last ≡ Some new
+      → Writes h e moment fresh (first_rows first ++ entry_rows m (withdrawn_at h m first) new) content
+  enters_itself e content m signal first step new found cause leads enters =
+      enters_status (record { machine = m; entering = m; signal = signal; first = first; step = step; new = new; found = found; cause = cause; leads = leads; enters = enters; rows_are = refl })
+
   -- ---- frames
 
   pub frame_writes : (site : Site) (port : Port) (client : Client) → Decides h (event.Frame port client) moment fresh (framed (frame_decision (frame_view h client) port client) site h client)
@@ -47,19 +53,8 @@ module _ (h : Hall) (s : IsSound h) (moment : ℕ) (fresh : List ℕ) where
         (λ not_offered fourth.
         step_cases (λ (r : Result (List RowWrite) Refusal). Gives (answering hold_script r)) m m FourthBoot moment h.last (followed [] (view_of h m) moment) (with_entry [] m (row_at h.orders m.waiting)) (λ step. refl)
         (λ stays. writes_nothing (λ e. cc) refl) (writes_nothing (λ e. cc) refl)
-        (λ step new leads is. enters_status (record {
-          machine = m;
-          entering = m;
-          signal = FourthBoot;
-          first = nothing_first;
-          step = step;
-          new = new;
-          found = was;
-          cause = inr (refl, inr (record { mac = mac; interface = i; recorded = recorded; its = its; not_offered = not_offered; event_is = refl; answer = refl; fourth = fourth; signal_is = refl }));
-          leads = leads;
-          enters = is;
-          rows_are = refl;
-        })))
+        (λ step new leads is. enters_itself _ _ m FourthBoot nothing_first step new was
+        (inr (refl, inr (record { mac = mac; interface = i; recorded = recorded; its = its; not_offered = not_offered; event_is = refl; answer = refl; fourth = fourth; signal_is = refl }))) leads is))
         (λ p image number works image_is few next. issues_boot (record {
           machine = m;
           number = number;
@@ -89,19 +84,8 @@ module _ (h : Hall) (s : IsSound h) (moment : ℕ) (fresh : List ℕ) where
       by None is = writes_nothing (λ e. cc) refl
       by (Some m) is =
           swept_cases (view_of h m) moment (λ rows. Writes h event.Quiet moment fresh rows nothing) (writes_nothing (λ e. cc) refl)
-          (λ due step new leads enters. enters_status (record {
-            machine = m;
-            entering = m;
-            signal = Expired;
-            first = nothing_first;
-            step = step;
-            new = new;
-            found = (next_expired-is h s.keyed.machines moment m is).recorded;
-            cause = inr (refl, inl (record { event_is = refl; due = due; signal_is = refl }));
-            leads = leads;
-            enters = enters;
-            rows_are = refl;
-          }))
+          (λ due step new leads enters. enters_itself _ _ m Expired nothing_first step new (next_expired-is h s.keyed.machines moment m is).recorded
+          (inr (refl, inl (record { event_is = refl; due = due; signal_is = refl }))) leads enters)
 
   -- ---- reports
 
@@ -122,19 +106,7 @@ module _ (h : Hall) (s : IsSound h) (moment : ℕ) (fresh : List ℕ) where
       step_cases (λ (r : Result (List RowWrite) Refusal). Reports (answering Counted r)) m m (Report progress) moment h.last
       (followed (first_rows (boot_first b progress)) (view_of h m) moment) (with_entry (first_rows (boot_first b progress)) m (row_at h.orders m.waiting)) (λ step. refl)
       (λ stays. notes_report (record { machine = m; boot = b; progress = progress; found = was; cause = cause; stays = stays; rows_are = refl })) (writes_nothing (λ e. cc) refl)
-      (λ step new leads is. enters_status (record {
-        machine = m;
-        entering = m;
-        signal = Report progress;
-        first = boot_first b progress;
-        step = step;
-        new = new;
-        found = was;
-        cause = (refl, refl, cause);
-        leads = leads;
-        enters = is;
-        rows_are = refl;
-      })))
+      (λ step new leads is. enters_itself _ _ m (Report progress) (boot_first b progress) step new was (refl, refl, cause) leads is))
     where
       Reports : Judged → Type 0
       Reports j = Decides h (event.Report number token progress) moment fresh (judgement j)
@@ -155,19 +127,7 @@ module _ (h : Hall) (s : IsSound h) (moment : ℕ) (fresh : List ℕ) where
       step_cases Answers m m (Answer outcome) moment h.last
       (answered_with (write.PutOrder (record o { stage = stage_for outcome })) (view_of h m) moment) (λ e. answering Counted (with_entry (first_rows (order_first o outcome)) m None e)) (λ step. refl)
       (λ stays. ends_waiting (record { machine = m; order = o; outcome = outcome; found = was; cause = cause; stays = stays; rows_are = refl })) (writes_nothing (λ e. cc) refl)
-      (λ step new leads is. enters_status (record {
-        machine = m;
-        entering = m;
-        signal = Answer outcome;
-        first = order_first o outcome;
-        step = step;
-        new = new;
-        found = was;
-        cause = (refl, refl, cause);
-        leads = leads;
-        enters = is;
-        rows_are = refl;
-      })))
+      (λ step new leads is. enters_itself _ _ m (Answer outcome) (order_first o outcome) step new was (refl, refl, cause) leads is))
     where
       Answers : Judged → Type 0
       Answers j = Decides h (event.OrderAnswer bearer number outcome) moment fresh (judgement j)

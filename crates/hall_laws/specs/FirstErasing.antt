@@ -1,9 +1,7 @@
 -- What a script that erases disks answers in the first schema.
 use Rattle.std.specs.Prelude.{◌≡◌, ℕ, List}
-use Rattle.ipxe_script.specs.{Purpose.IsErasing, Script.spelling, declared.command.Command.Command}
-use Rattle.hall_types.specs.{Hall.Hall, declared.{kinds.Erase.{Erase, TheVariants.Full}, machine.Machine.Machine, status.Status.TheVariants.DiskErasing}}
-use Rattle.boot_desk.specs.Purposes.{ErasesBy}
-use Rattle.hall_laws.specs.{Step.Step, Laws.{GivesText, IsMachineAt, IsReleaseErasing}, Past.{IsEntry, Last}}
+use Rattle.ipxe_script.specs.declared.command.Command.{Command}
+use Rattle.hall_laws.specs.{Prelude.{IsErasing, spelling, Hall, Erase, Full, Machine, DiskErasing, ErasesBy}, Step.Step, Laws.{GivesText, IsMachineAt, IsReleaseErasing}, Past.{IsEntry, Last}}
 
 -- the machine is in Disk erasing, its last entry was an accepted release with full erasing, by the operator who was its owner just
 -- before, and the script names no kind of erasing

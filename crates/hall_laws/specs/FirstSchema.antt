@@ -1,11 +1,10 @@
 -- Halls of the first schema, which knows one kind of erasing and doesn't keep it: what they are to halls of the second, and their runs.
 use Rattle.std.specs.{Prelude.{◌≡◌, ⊤, ℕ, Bool, not, nat_eq, List, [], ◌∷◌, map, filter, Option, Some, None, option_map, codes, if◌then◌else◌}, List.{AllByRecursion, starts_with}}
-use Rattle.ipxe_script.specs.declared.command.Command.{Command, TheVariants.Kernel}
-use Rattle.hall_types.specs.{Hall.{Hall, first, second}, Rows.at, declared.{kinds.Erase.TheVariants.{Full, Quick}, machine.Machine.Machine}}
-use Rattle.hall_events.specs.{Reply.{Content, ListedMachine, machine_list, one_machine, script}, declared.{command.{HallCommand.TheVariants.OnMachine, MachineCommand.TheVariants.Release}, event.Event.Event}}
+use Rattle.ipxe_script.specs.declared.command.Command.{Command}
+use Rattle.hall_types.specs.Rows.{at}
 use Rattle.hall_events.specs.declared.event.Event.TheVariants as event
 use Rattle.life_cycle.specs.Entering.{keeps_erase}
-use Rattle.hall_laws.specs.{Migration.IsMigrated, Step.{IsStep, Step}}
+use Rattle.hall_laws.specs.{Prelude.{Kernel, Hall, first, second, Full, Quick, Machine, Content, ListedMachine, machine_list, one_machine, script, OnMachine, Release, Event}, Migration.IsMigrated, Step.{IsStep, Step}}
 
 -- ---- halls
 

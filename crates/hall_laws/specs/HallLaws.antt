@@ -1,11 +1,8 @@
 -- What a hall is after a decision's rows.
 use Rattle.std.{specs.Prelude.{◌≡◌, ◌++◌, ℕ, List, [], ◌∷◌, Option, Some, None}, proofs.Common.{refl, sym, ap, subst}}
-use Rattle.hall_types.specs.{Hall.{Hall, applied}, Kinds.stage_after, Rows.{Rows, numbers, put}, declared.{boot.Boot.Boot, change.RowWrite.RowWrite, machine.Machine.Machine, number.Numbers.Numbers, order.Order.Order}}
+use Rattle.hall_types.specs.Rows.{numbers, put}
 use Rattle.hall_types.specs.declared.change.RowWrite.TheVariants as write
-use Rattle.hall_events.specs.{Reply.Content, declared.event.Event.Event}
-use Rattle.life_cycle.specs.declared.entering.Entered.{Entered}
-use Rattle.boot_desk.specs.{EntryLaws.cleared, Following.{entry_rows, machine_row}, OrderAnswer.stage_for}
-use Rattle.hall_laws.specs.Writes.{EditsInterfaces, First, IsOfNoMachine, Writes, boot_first, edits_machine, ends_waiting, enters_status, first_rows, issues_boot, machine_goes, makes_machine, notes_report, nothing_first, order_first, withdrawn_at, writes_aside, writes_nothing}
+use Rattle.hall_laws.specs.{Prelude.{Hall, applied, written, stage_after, Rows, Boot, RowWrite, Machine, Numbers, Order, Content, Event, Entered, cleared, entry_rows, machine_row, stage_for}, Writes.{EditsInterfaces, First, IsOfNoMachine, Writes, boot_first, edits_machine, ends_waiting, enters_status, first_rows, issues_boot, machine_goes, makes_machine, notes_report, nothing_first, order_first, withdrawn_at, writes_aside, writes_nothing}}
 
 -- the boots after what is written first
 abbrev pub boots_first : First → Rows numbers Boot → Rows numbers Boot
@@ -56,27 +53,31 @@ applied_entry h first m withdrawn new = by first withdrawn new.order
     by (order_first a outcome) (Some o) None = refl
     by (order_first a outcome) (Some o) (Some q) = refl
 
+-- a machine that is edited changes no table but those of machines and interfaces
+pub edited_hall : (h : Hall) (m after : Machine) (ws : List RowWrite) → EditsInterfaces h m ws
+    → applied (machine_row m after ∷ ws) h ≡ record h { machines = put after.id after h.machines; interfaces = (applied ws h).interfaces }
+edited_hall h m after [] edits = refl
+edited_hall h m after (write.PutInterface i ∷ []) edits = refl
+edited_hall h m after (write.InterfaceGone mac ∷ []) edits = refl
+edited_hall h m after other edits = absurd edits
+
+-- a row of no machine changes none of what machines have, no receipt and no last number
+pub aside_hall : (h : Hall) (e : Event) (row : RowWrite) → IsOfNoMachine row h e
+    → written row h ≡ record (written row h) { machines = h.machines; interfaces = h.interfaces; boots = h.boots; orders = h.orders; receipts = h.receipts; last = h.last }
+aside_hall h e (write.PutOperator o) aside = refl
+aside_hall h e (write.PutPool p) aside = refl
+aside_hall h e (write.PutMember m) aside = refl
+aside_hall h e (write.PutImage i) aside = refl
+aside_hall h e (write.ImageGone name) aside = refl
+aside_hall h e (write.PutLive l) aside = refl
+aside_hall h e other aside = absurd aside
+
 -- none of the ways writes a receipt
 pub same_receipts : (h : Hall) (e : Event) (moment : ℕ) (fresh : List ℕ) (rows : List RowWrite) (content : Content) → Writes h e moment fresh rows content → (applied rows h).receipts ≡ h.receipts
 same_receipts h e moment fresh rows content w = after w
   where
     At : List RowWrite → Type 0
     At ws = (applied ws h).receipts ≡ h.receipts
-
-    by_edit : (m after : Machine) (ws : List RowWrite) → EditsInterfaces h m ws → At (machine_row m after ∷ ws)
-    by_edit m after [] edits = refl
-    by_edit m after (write.PutInterface i ∷ []) edits = refl
-    by_edit m after (write.InterfaceGone mac ∷ []) edits = refl
-    by_edit m after other edits = absurd edits
-
-    by_aside : (row : RowWrite) → IsOfNoMachine row h e → At (row ∷ [])
-    by_aside (write.PutOperator o) aside = refl
-    by_aside (write.PutPool p) aside = refl
-    by_aside (write.PutMember m) aside = refl
-    by_aside (write.PutImage i) aside = refl
-    by_aside (write.ImageGone name) aside = refl
-    by_aside (write.PutLive l) aside = refl
-    by_aside other aside = absurd aside
 
     after : Writes h e moment fresh rows content → At rows
     after (writes_nothing quiet is) = subst At (sym is) refl
@@ -85,6 +86,6 @@ same_receipts h e moment fresh rows content w = after w
     after (enters_status x) = subst At (sym x.rows_are) (ap (λ (g : Hall). g.receipts) (applied_entry h x.first x.machine (withdrawn_at h x.machine x.first) x.new))
     after (notes_report x) = subst At (sym x.rows_are) refl
     after (ends_waiting x) = subst At (sym x.rows_are) refl
-    after (edits_machine by x) = subst At (sym x.rows_are) (by_edit x.machine x.after x.interfaces x.edits)
+    after (edits_machine by x) = subst At (sym x.rows_are) (ap (λ (g : Hall). g.receipts) (edited_hall h x.machine x.after x.interfaces x.edits))
     after (machine_goes id by is) = subst At (sym is) refl
-    after (writes_aside by x) = subst At (sym x.rows_are) (by_aside x.row x.aside)
+    after (writes_aside by x) = subst At (sym x.rows_are) (ap (λ (g : Hall). g.receipts) (aside_hall h e x.row x.aside))

@@ -1,8 +1,6 @@
 -- What holds of each step of a hall of the second schema, also where it was carried over from the first.
 use Rattle.std.specs.Prelude.{List, ◌++◌}
-use Rattle.hall_types.specs.Hall.{Hall}
-use Rattle.boot_desk.specs.Sound.{IsSound}
-use Rattle.hall_laws.specs.{Step.Step, Laws.{AcceptsOnce, AcceptsWithOk, AlwaysWaitsForOne, AnswersAccepted, AreTyped, BootsLocally, CountsAnswerOnce, CountsOwnBoot, CountsStartedFirst, CountsVerdictOnce, DeploysRightly, EntersByTable, ErasesRightly, GivesScripts, KeepsMachines, NumbersOnce, QueuesAtEntries, RefusesWithoutChange, RepeatsFirst, ScriptIsAsked, WaitsForOne, WaitsNoMore}, Past.AtEachStep}
+use Rattle.hall_laws.specs.{Prelude.{Hall, IsSound}, Step.Step, Laws.{AcceptsOnce, AcceptsWithOk, AlwaysWaitsForOne, AnswersAccepted, AreTyped, BootsLocally, CountsAnswerOnce, CountsOwnBoot, CountsStartedFirst, CountsVerdictOnce, DeploysRightly, EntersByTable, ErasesRightly, GivesScripts, KeepsMachines, NumbersOnce, QueuesAtEntries, RefusesWithoutChange, RepeatsFirst, ScriptIsAsked, WaitsForOne, WaitsNoMore}, Past.AtEachStep}
 
 -- a law of a step whose past is these steps of the first schema and then some of the second
 abbrev pub After : List Step → (List Step → Step → Type 0) → List Step → Step → Type 0

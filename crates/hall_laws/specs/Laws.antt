@@ -1,17 +1,15 @@
 -- The laws of the past, each for a step with the steps before it.
 use Rattle.std.specs.{Prelude.{◌≡◌, ◌≢◌, ◌⊎◌, ℕ, false, true, List, [], ◌∷◌, ◌++◌, Option, Some, None}, List.AllByRecursion}
-use Rattle.pxe_vendor.specs.declared.clients.Client.{Client}
-use Rattle.hall_types.specs.{declared.{port.Port.Port, boot.Boot.Boot, kinds.{Erase.Erase, OrderStage.TheVariants.{Waiting, Withdrawn}, Outcome.Outcome, Progress.Progress}, machine.{Interface.Interface, Machine.Machine}, operator.Operator.Operator, order.Order.Order, refusal.Refusal.TheVariants.{KeyReused, UnknownToken}, status.Status.TheVariants.{Deployed, Deploying, DiskErasing}}, Hall.{Hall, new_hall, second}, Image.BootImage, Rows.at}
-use Rattle.ipxe_script.specs.{Purpose.{IsDeploying, IsErasing}, Script.{IsScript, spelling}, declared.command.Command.Command}
+use Rattle.hall_types.specs.Rows.{at}
+use Rattle.ipxe_script.specs.declared.command.Command.{Command}
 use Rattle.hall_types.specs.declared.kinds.Progress.TheVariants as report
 use Rattle.hall_types.specs.declared.kinds.Purpose.TheVariants as purpose
-use Rattle.hall_events.specs.{Command.command_text, Reply.{Content, counted, nothing, refused, reply_of, script}, declared.{command.{HallCommand.{HallCommand, TheVariants.OnMachine}, MachineCommand.MachineCommand}, event.Event.Event, reply.Reply.{Reply, TheVariants.Http}}}
+use Rattle.hall_events.specs.Reply.{reply_of}
 use Rattle.hall_events.specs.declared.command.MachineCommand.TheVariants as on
 use Rattle.hall_events.specs.declared.event.Event.TheVariants as event
-use Rattle.life_cycle.specs.{Table.step_of, declared.{action.Action.Action, signal.Signal.{Signal, TheVariants.{Answer, By, Expired, FourthBoot, Report}}, step.Step.Step as TableStep}}
-use Rattle.boot_desk.specs.{Expiry.is_due, Fetch.{is_fourth, offered_boot}, Purposes.ErasesBy, Sound.IsSound, Views.row_at, Texts.{hold_script, local_script, work_script}}
-use Rattle.desk_command.specs.{Causes.action_of, Command.sender}
-use Rattle.hall_laws.specs.{Refusing.IsRefusal, Step.{IsRun, IsTypedStep, Step}, Writes.AsksForMachine, Past.{AtEachStep, CountsAnswer, CountsReport, IsAccepted, IsEntry, IsOwnBoot, Last, NoneOf, SomeOf, WasAnswered}}
+use Rattle.life_cycle.specs.{Table.step_of, declared.{signal.Signal.TheVariants.Report, step.Step.Step as TableStep}}
+use Rattle.boot_desk.specs.Texts.{hold_script, local_script, work_script}
+use Rattle.hall_laws.specs.{Prelude.{Client, Port, Boot, Erase, Waiting, Withdrawn, Outcome, Progress, Interface, Machine, Operator, Order, KeyReused, UnknownToken, Deployed, Deploying, DiskErasing, Hall, new_hall, second, BootImage, IsDeploying, IsErasing, IsScript, spelling, command_text, Content, counted, nothing, refused, script, HallCommand, OnMachine, MachineCommand, Event, Reply, Http, Action, Signal, Answer, By, Expired, FourthBoot, is_due, is_fourth, offered_boot, ErasesBy, IsSound, row_at, action_of, sender}, Refusing.IsRefusal, Step.{IsRun, IsTypedStep, Step}, Writes.AsksForMachine, Past.{AtEachStep, CountsAnswer, CountsReport, IsAccepted, IsEntry, IsOwnBoot, Last, NoneOf, SomeOf, WasAnswered}}
 
 -- ---- scripts
 

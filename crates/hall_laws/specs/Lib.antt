@@ -1,5 +1,5 @@
+pub mod Prelude
 pub mod Decision
-pub mod EffectLaws
 pub mod Migration
 pub mod Refusing
 pub mod Step

@@ -1,6 +1,7 @@
 -- How a hall of the first schema is carried over to the second.
 use Rattle.std.specs.Prelude.{◌≡◌, ◌⊎◌, ℕ, Some, option_map, if◌then◌else◌}
-use Rattle.hall_types.specs.{Rows.at, Hall.{Hall, first, second}, declared.{kinds.Erase.TheVariants.Full, machine.Machine.Machine}}
+use Rattle.hall_laws.specs.Prelude.{Hall, first, second, Full, Machine}
+use Rattle.hall_types.specs.Rows.{at}
 use Rattle.life_cycle.specs.Entering.{keeps_erase}
 
 -- in Disk erasing and Failed disk erasing all disks are erased in full, the one kind that the first schema knows

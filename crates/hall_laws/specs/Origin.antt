@@ -1,7 +1,6 @@
 -- Where the history of a hall of the second schema begins.
 use Rattle.std.specs.Prelude.{◌≡◌, ℕ, List, []}
-use Rattle.hall_types.specs.Hall.{Hall, first, new_hall, second}
-use Rattle.hall_laws.specs.{Migration.IsMigrated, Step.Step, FirstSchema.IsFirstRun}
+use Rattle.hall_laws.specs.{Prelude.{Hall, first, new_hall, second}, Migration.IsMigrated, Step.Step, FirstSchema.IsFirstRun}
 
 -- the name of the first admin and the digest of its token
 pub data Origin : Type 0 where

@@ -1,10 +1,8 @@
 -- What a past says: read off the arrivals, the answers and the halls between, never from a column that says it.
 use Rattle.std.specs.{Prelude.{◌≡◌, ◌≢◌, ◌⊎◌, ℕ, List, [], ◌∷◌, ◌++◌, Option, Some, None}, List.AllByRecursion}
-use Rattle.hall_types.specs.{Rows.at, declared.{boot.Boot.Boot, kinds.{Outcome.Outcome, Progress.Progress}, machine.Machine.Machine, operator.Operator.Operator, status.Status.TheVariants.{EnteringRescue, Rescue}}}
-use Rattle.hall_events.specs.{Reply.{Content, counted}, declared.{command.HallCommand.HallCommand, event.Event.Event}}
+use Rattle.hall_types.specs.Rows.{at}
 use Rattle.hall_events.specs.declared.event.Event.TheVariants as event
-use Rattle.desk_command.specs.Command.{sender}
-use Rattle.hall_laws.specs.{Refusing.IsRefusal, Step.Step}
+use Rattle.hall_laws.specs.{Prelude.{Boot, Outcome, Progress, Machine, Operator, EnteringRescue, Rescue, Content, counted, HallCommand, Event, sender}, Refusing.IsRefusal, Step.Step}
 
 -- ---- steps of a past
 

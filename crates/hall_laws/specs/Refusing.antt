@@ -1,7 +1,6 @@
 -- Answers that refuse.
-use Rattle.hall_types.specs.declared.refusal.Refusal.{Refusal}
-use Rattle.hall_events.specs.Reply.{Content, refused}
 use Rattle.std.specs.Prelude.{◌≡◌}
+use Rattle.hall_laws.specs.Prelude.{Refusal, Content, refused}
 
 -- the answer refuses for some cause
 abbrev pub IsRefusal : Content → Type 0

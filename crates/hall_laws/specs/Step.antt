@@ -1,9 +1,7 @@
 -- The model: one step for each event, and runs of steps.
 use Rattle.std.specs.Prelude.{◌≡◌, ◌⊎◌, ℕ, IsTrue, List, [], ◌∷◌, Option, Some, None}
-use Rattle.pxe_vendor.specs.Place.{Site, is_host}
-use Rattle.hall_types.specs.{Hall.{Hall, applied}, Octets.AreOctets}
-use Rattle.hall_events.specs.{Event.BringsImage, Reply.Content, declared.event.Event.Event}
-use Rattle.hall_laws.specs.{Decision.decision_of, Migration.Continues}
+use Rattle.pxe_vendor.specs.Place.{is_host}
+use Rattle.hall_laws.specs.{Prelude.{Site, Hall, applied, AreOctets, BringsImage, Content, Event}, Decision.decision_of, Migration.Continues}
 
 -- an event, with the place that was served, the moment and the fresh octets that it came with
 pub record Arrival : Type 0 where

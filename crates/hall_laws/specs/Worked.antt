@@ -1,10 +1,7 @@
 -- What worked days are made of: one administrator, one image, one machine at one place.
 use Rattle.std.specs.Prelude.{ℕ, List, [], ◌∷◌, true, Some, codes}
-use Rattle.pxe_vendor.specs.{Place.Site, declared.arch.Arch.TheVariants.Uefi64}
-use Rattle.hall_types.specs.{Hall.{Hall, new_hall, second}, Image.BootImage, declared.{boot.Boot.Boot, change.RowWrite.{RowWrite, TheVariants.{PutNumbers, PutReceipt}}, kinds.{OrderKind.TheVariants.Cycle, OrderStage.OrderStage, Purpose.Purpose, Role.TheVariants.Admin, Stage.Stage}, operator.Operator.Operator, order.Order.Order}}
-use Rattle.hall_events.specs.{Reply.Content, declared.{command.HallCommand.HallCommand, event.Event.{Event, TheVariants.Command}}}
-use Rattle.desk_command.specs.Command.{receipt_of}
-use Rattle.hall_laws.specs.Step.{Arrival}
+use Rattle.hall_events.specs.declared.event.Event.TheVariants.{Command}
+use Rattle.hall_laws.specs.{Prelude.{Site, Uefi64, Hall, new_hall, second, BootImage, Boot, RowWrite, PutNumbers, PutReceipt, Cycle, OrderStage, Purpose, Admin, Stage, Operator, Order, Content, HallCommand, Event, receipt_of}, Step.Arrival}
 
 -- ---- who and what there is
 

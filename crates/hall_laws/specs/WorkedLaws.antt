@@ -1,12 +1,11 @@
 -- What comes on a worked day is of its type, and its scripts of work are scripts.
 use Rattle.std.{proofs.{Common.{◌≡◌, ◌<◌, ◌≤◌, ◌++◌, ◌∙◌, ℕ, zero, suc, Bool, false, true, List, [], ◌∷◌, Option, slice_index, refl, sym, ap, subst, arith}, lemmas.{Bool.or_parts, List.Elements.All-from_recursion}}, specs.{Prelude.{codes, map}, List.{AllByRecursion, list_any}}}
 use Rattle.pxe_vendor.specs.Place.{is_host}
-use Rattle.ipxe_script.specs.{Purpose.HasKernelWord, PurposeLaws.{HasKernelWord-boot, IsArgument-hall}, Script.{IsScript, spelling}, Word.{IsWord, is_first_octet, is_uri, is_word, is_word_octet}}
-use Rattle.hall_types.specs.{Image.{BootImage, IsImage}, Kinds.purpose_text, Number.max_number, Octets.AreOctets, declared.kinds.{Erase.Erase, Purpose.Purpose, Stage.Stage}}
-use Rattle.hall_events.specs.{Event.BringsImage, declared.{command.HallCommand.TheVariants.AddImage, event.Event.Event}}
+use Rattle.ipxe_script.specs.Word.{is_first_octet, is_uri, is_word, is_word_octet}
+use Rattle.hall_types.specs.Kinds.{purpose_text}
 use Rattle.hall_events.specs.declared.event.Event.TheVariants as event
-use Rattle.boot_desk.specs.{Texts.{desk_arguments, work_script}, WholeScripts.work_is_script}
-use Rattle.hall_laws.specs.{Laws.AreTyped, Step.{Arrival, IsTyped, Step}, Worked.{boot, came, host, live, site, token}}
+use Rattle.boot_desk.specs.Texts.{work_script}
+use Rattle.hall_laws.specs.{Prelude.{HasKernelWord, HasKernelWord-boot, IsArgument-hall, IsScript, spelling, IsWord, BootImage, IsImage, max_number, AreOctets, Erase, Purpose, Stage, BringsImage, AddImage, Event, desk_arguments, work_is_script}, Laws.AreTyped, Step.{Arrival, IsTyped, Step}, Worked.{boot, came, host, live, site, token}}
 
 all_octets : (its : List ℕ) → AllByRecursion (λ octet. octet < 256) its → (i : ℕ) → slice_index its i < 256
 all_octets [] are i = omega arith

@@ -1,16 +1,12 @@
 -- What a decision writes into a hall: each decision writes in one of these ways.
 use Rattle.std.specs.Prelude.{◌≡◌, ◌≢◌, ◌⊎◌, ⊤, ℕ, Bool, true, false, List, [], ◌∷◌, ◌++◌, Option, Some, None}
-use Rattle.pxe_vendor.specs.declared.{arch.Arch.Arch, clients.Client.Client}
-use Rattle.hall_types.specs.{Hall.{Hall, pair}, Kinds.stage_after, Number.next_number, Rows.at, declared.{boot.Boot.Boot, change.RowWrite.RowWrite, kinds.{OrderStage.TheVariants.Waiting, Outcome.Outcome, Progress.Progress, Purpose.Purpose}, machine.{Interface.Interface, Machine.Machine}, operator.Operator.Operator, order.Order.Order, port.Port.Port}, Machine.blank_machine}
+use Rattle.hall_types.specs.Rows.{at}
 use Rattle.hall_types.specs.declared.change.RowWrite.TheVariants as write
-use Rattle.hall_store.specs.Rules.{IsFree, Keeps}
-use Rattle.hall_events.specs.{Reply.{Content, counted, done, machine_gone, machine_is, script}, declared.{command.{HallCommand.{HallCommand, TheVariants.{AddImage, AddMachine, OnMachine}}, MachineCommand.MachineCommand}, event.Event.Event}}
 use Rattle.hall_events.specs.declared.command.MachineCommand.TheVariants as on
 use Rattle.hall_events.specs.declared.event.Event.TheVariants as event
-use Rattle.life_cycle.specs.{Entering.entered, Permission.{permission_for, who_acts}, Table.step_of, declared.{action.Action.Action, entering.Entered.Entered, signal.Signal.{Signal, TheVariants.{Answer, By, Expired, FourthBoot, Report}}, step.Step.Step}}
-use Rattle.boot_desk.specs.{declared.class.ScriptClass.TheVariants.Work, Class.class_of, Expiry.is_due, Fetch.{booted, is_fourth, new_boot, offered_boot}, Following.{entry_rows, machine_row}, OrderAnswer.{idle, stage_for}, Promises.Takes, Texts.hold_script, Views.row_at}
-use Rattle.desk_command.specs.{Causes.action_of, Command.{receipt_of, sender}, Effect.prepared}
-use Rattle.hall_laws.specs.Decision.{Decided}
+use Rattle.life_cycle.specs.{Table.step_of, declared.{signal.Signal.TheVariants.Report, step.Step.Step}}
+use Rattle.boot_desk.specs.{Fetch.booted, Texts.hold_script}
+use Rattle.hall_laws.specs.{Prelude.{Arch, Client, Hall, pair, stage_after, next_number, Boot, RowWrite, Waiting, Outcome, Progress, Purpose, Interface, Machine, Operator, Order, Port, blank_machine, IsFree, Keeps, Content, counted, done, machine_gone, machine_is, script, HallCommand, AddImage, AddMachine, OnMachine, MachineCommand, Event, entered, permission_for, who_acts, Action, Entered, Signal, Answer, By, Expired, FourthBoot, Work, class_of, is_due, is_fourth, new_boot, offered_boot, entry_rows, machine_row, idle, stage_for, Takes, row_at, action_of, receipt_of, sender, prepared}, Decision.Decided}
 
 -- ---- why a machine takes a step of the table
 

@@ -1,13 +1,10 @@
 -- What each decision writes.
 use Rattle.std.{specs.Prelude.{ℕ, Bool, true, false, List, Option, Some, None, map, if◌then◌else◌}, proofs.Common.refl}
-use Rattle.pxe_vendor.specs.Place.{Site}
-use Rattle.hall_types.specs.{Hall.Hall, Lookup.waiting, Rows.{at, listed as rows_of}, declared.{kinds.Role.Role, machine.Machine.Machine, operator.Operator.Operator, refusal.Refusal.Refusal}}
+use Rattle.hall_types.specs.Rows.{at, listed as rows_of}
 use Rattle.hall_types.specs.declared.refusal.Refusal.TheVariants as cause
-use Rattle.hall_events.specs.{Reply.{machine_list, one_machine, waiting_orders}, declared.event.Event.Event}
 use Rattle.hall_events.specs.declared.event.Event.TheVariants as event
-use Rattle.boot_desk.specs.{OrderAnswer.answered, Sound.IsSound, Views.order_view}
-use Rattle.desk_command.specs.Command.{sender}
-use Rattle.hall_laws.specs.{Decision.{Decided, decision_of, if_role, judged, listed_if, listed_of, may_answer, may_see_machines, may_see_orders, refuses, says}, CommandLaws.command_writes, EventLaws.{Decides, answer_writes, frame_writes, quiet_writes, report_writes, script_writes}, Writes.{WritesAll, without_receipt, writes_nothing}}
+use Rattle.boot_desk.specs.OrderAnswer.{answered}
+use Rattle.hall_laws.specs.{Prelude.{Site, Hall, waiting, Role, Machine, Operator, Refusal, machine_list, one_machine, waiting_orders, Event, IsSound, order_view, sender}, Decision.{Decided, decision_of, if_role, judged, listed_if, listed_of, may_answer, may_see_machines, may_see_orders, refuses, says}, CommandLaws.command_writes, EventLaws.{Decides, answer_writes, frame_writes, quiet_writes, report_writes, script_writes}, Writes.{WritesAll, without_receipt, writes_nothing}}
 
 -- an operator that may not ask is refused
 pub role_cases : (P : Decided → Type 0) → ((why : Refusal) → P (refuses why)) → (may : Role → Bool) (o : Option Operator) (d : Decided) → P d → P (if_role may o d)

@@ -1,9 +1,6 @@
 //! Laws of halls of the first schema, and of their runs.
 ghost use Rattle.std.specs.{Prelude.{◌≡◌, ℕ, false, List, ◌++◌, Option, Some, None}, List.AllByRecursion};
-ghost use Rattle.hall_types.specs.{Hall.{Hall, first, new_hall, second}, Image.{BootImage, has_hall_word}, declared.{boot.Boot.Boot, kinds.{Erase.Erase, Purpose.Purpose}}};
-ghost use Rattle.hall_events.specs.Reply.{Content, ListedMachine, machine_list, one_machine, reply_of};
-ghost use Rattle.boot_desk.specs.{Sound.IsSound, Texts.work_script};
-ghost use Rattle.hall_laws.specs.{Migration.IsMigrated, Step.{Arrival, IsRun, Step}, Laws.AreTyped, Past.AtEachStep, FirstErasing.ErasesFully, FirstSchema.{AllKeepFull, ArePlain, AsksQuick, IsFirstRun, IsFirstStep, IsForgotten, KeepsNoKind, NoneAsksQuick, StepKeepsFull, StepKeepsNoKind, first_content, plain}, Later.KeepsLaws, Origin.{BeginsWith, Origin, first_steps}};
+ghost use Rattle.hall_laws.specs.{Prelude.{Hall, first, new_hall, second, BootImage, has_hall_word, Boot, Erase, Purpose, Content, ListedMachine, machine_list, one_machine, reply_of, IsSound, work_script}, Migration.IsMigrated, Step.{Arrival, IsRun, Step}, Laws.AreTyped, Past.AtEachStep, FirstErasing.ErasesFully, FirstSchema.{AllKeepFull, ArePlain, AsksQuick, IsFirstRun, IsFirstStep, IsForgotten, KeepsNoKind, NoneAsksQuick, StepKeepsFull, StepKeepsNoKind, first_content, plain}, Later.KeepsLaws, Origin.{BeginsWith, Origin, first_steps}};
 
 use crate::past::{
     deploying_is_commanded, entries_by_table, erasing_is_released, local_boots, machines_stay,

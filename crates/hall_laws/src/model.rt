@@ -1,9 +1,6 @@
 //! Laws of the model.
 ghost use Rattle.std.specs.Prelude.{◌≡◌, ℕ, List, [], Some};
-ghost use Rattle.pxe_vendor.specs.{Place.Site, declared.clients.Client.Client};
-ghost use Rattle.hall_types.specs.{Hall.Hall, declared.port.Port.Port};
-ghost use Rattle.hall_events.specs.{Reply.{Content, nothing}, declared.event.Event.{Event, TheVariants.Frame}};
-ghost use Rattle.hall_laws.specs.{Decision.decision_of, Refusing.IsRefusal, Step.{IsStep, Step}};
+ghost use Rattle.hall_laws.specs.{Prelude.{Site, Client, Hall, Port, Content, nothing, Event, Frame}, Decision.decision_of, Refusing.IsRefusal, Step.{IsStep, Step}};
 
 /// Every refusal of a request, and every silence to a frame, writes no row, and the step of a refusal leaves the hall as
 /// it was.

@@ -1,8 +1,6 @@
 //! The laws of the past.
 ghost use Rattle.std.specs.Prelude.{◌≡◌, ℕ, List};
-ghost use Rattle.hall_types.specs.Hall.{Hall, new_hall, second};
-ghost use Rattle.boot_desk.specs.Sound.{IsSound};
-ghost use Rattle.hall_laws.specs.{Step.{IsRun, Step}, Laws.{AcceptsOnce, AcceptsWithOk, Always, AlwaysFromNew, AlwaysWaitsForOne, AnswersAccepted, BootsLocally, CountsAnswerOnce, CountsOwnBoot, CountsStartedFirst, CountsVerdictOnce, DeploysRightly, EntersByTable, ErasesRightly, GivesScripts, KeepsMachines, NumbersOnce, QueuesAtEntries, RefusesWithoutChange, RepeatsFirst, ScriptIsAsked, WaitsForOne, WaitsNoMore}, Past.AtEachStep};
+ghost use Rattle.hall_laws.specs.{Prelude.{Hall, new_hall, second, IsSound}, Step.{IsRun, Step}, Laws.{AcceptsOnce, AcceptsWithOk, Always, AlwaysFromNew, AlwaysWaitsForOne, AnswersAccepted, BootsLocally, CountsAnswerOnce, CountsOwnBoot, CountsStartedFirst, CountsVerdictOnce, DeploysRightly, EntersByTable, ErasesRightly, GivesScripts, KeepsMachines, NumbersOnce, QueuesAtEntries, RefusesWithoutChange, RepeatsFirst, ScriptIsAsked, WaitsForOne, WaitsNoMore}, Past.AtEachStep};
 
 use crate::model::refusals_change_nothing;
 use crate::steps::steps_keep_halls_sound;

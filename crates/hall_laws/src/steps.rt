@@ -1,11 +1,6 @@
 //! Laws of every step of the model.
 ghost use Rattle.std.specs.Prelude.{◌≡◌, ℕ, List};
-ghost use Rattle.pxe_vendor.specs.Place.{Site};
-ghost use Rattle.hall_types.specs.Hall.{Hall, applied, new_hall, second};
-ghost use Rattle.hall_store.specs.Rules.{AllKeep};
-ghost use Rattle.hall_events.specs.declared.event.Event.{Event};
-ghost use Rattle.boot_desk.specs.Sound.{IsSound};
-ghost use Rattle.hall_laws.specs.{Decision.decision_of, Step.{IsRun, IsStep, Step}};
+ghost use Rattle.hall_laws.specs.{Prelude.{Site, Hall, applied, new_hall, second, AllKeep, Event, IsSound}, Decision.decision_of, Step.{IsRun, IsStep, Step}};
 
 use boot_desk::{decisions_keep_halls_sound, new_halls_are_sound};
 use desk_command::commands_keep_halls_sound;

@@ -1,9 +1,8 @@
 -- Records in turn, as a writer has written them.
-use Rattle.std.{proofs.{Common.{◌≡◌, ◌≢◌, ◌<◌, ◌+◌, ◌==◌, ℕ, false, List, [], ◌∷◌, ◌++◌, Option, Some, None, Result, Ok, Err, OnOk, filter, length, take, get_or, refl, sym, ap, subst, ◌∙◌}, lemmas.{List.{flat_map_more, take_more}, Str.{IsUtf8-append, IsUtf8-nil}}}, specs.{List.flat_map, Result.is_err, Io.KnownBytes.Appends, declared.{alloc.Global.Global, vec.Vec.Vec}}}
-use Rattle.csv.specs.{Records.AllText, Writing.{default_writer, fields_written, has_written, row_text, text_written, writer_pending, writer_setup, writer_under}, declared.writer.Writer.Writer}
+use Rattle.std.{proofs.{Common.{◌≡◌, ◌≢◌, ◌<◌, ◌+◌, ℕ, false, List, [], ◌∷◌, ◌++◌, Option, Some, None, Result, Ok, Err, OnOk, length, take, get_or, refl, sym, ap, subst, ◌∙◌}, lemmas.{List.{flat_map_more, take_more}, Str.{IsUtf8-append, IsUtf8-nil}}}, specs.{List.flat_map, Result.is_err, Io.KnownBytes.Appends, declared.{alloc.Global.Global, vec.Vec.Vec}}}
+use Rattle.csv.specs.Records.{AllText}
 use Rattle.csv.specs.declared.writer.QuoteStyle.TheVariants as style
-use Rattle.hall_types.specs.declared.machine.{Interface.Interface, Machine.Machine}
-use Rattle.hall_report.{specs.Export.{HasWritten, machine_fields, record_text}, proofs.TextLemmas.record_is_text}
+use Rattle.hall_report.{specs.{Prelude.{default_writer, fields_written, has_written, row_text, text_written, writer_pending, writer_setup, writer_under, Writer, Machine}, Export.{HasWritten, record_text}}, proofs.TextLemmas.record_is_text}
 
 abbrev Octets : Type 0
 Octets = Vec ℕ Global
@@ -54,12 +53,3 @@ machine_written w f head one ms i m inside at is has =
     (ap (λ (last : List ℕ). (head ++ flat_map f (take i ms)) ++ last) is
     ∙ flat_map_more f head (take i ms) m
     ∙ ap (λ (all : List Machine). head ++ flat_map f all) (sym (take_more ms i m inside ∙ ap (λ (x : Machine). take i ms ++ x ∷ []) (sym at)))) has
-
--- machines with the interfaces that are theirs in either of two lists
-pub machines_same : (ms : List Machine) (xs ys : List Interface) → ((id : ℕ) → filter (λ i. i.machine == id) ys ≡ filter (λ i. i.machine == id) xs)
-    → flat_map (λ m. record_text (machine_fields m (filter (λ i. i.machine == m.id) ys))) ms
-    ≡ flat_map (λ m. record_text (machine_fields m (filter (λ i. i.machine == m.id) xs))) ms
-machines_same [] xs ys same = refl
-machines_same (m ∷ ms) xs ys same =
-    ap (λ (own : List Interface). record_text (machine_fields m own) ++ flat_map (λ m. record_text (machine_fields m (filter (λ i. i.machine == m.id) ys))) ms) (same m.id)
-    ∙ ap (λ (later : List ℕ). record_text (machine_fields m (filter (λ i. i.machine == m.id) xs)) ++ later) (machines_same ms xs ys same)

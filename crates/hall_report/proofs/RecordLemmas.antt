@@ -1,6 +1,7 @@
 -- All records of a text, as a list.
 use Rattle.std.proofs.{Common.{◌≡◌, ◌≤◌, ◌<◌, ◌+◌, ◌==◌, ℕ, zero, suc, Bool, true, false, if◌then◌else◌, List, [], ◌∷◌, length, Option, Some, None, refl, sym, ap, arith, ◌∙◌}, lemmas.Bool.false≢true}
-use Rattle.csv.specs.{Machine.{Read, after_end, ends_at_end, ends_with, field_after, fields_after, in_field, is_end, next_record, start_field, start_record, step}, Reading.{Reached, default_config, records, records_from}, declared.parser.{Action.Action, State.State}}
+use Rattle.hall_report.specs.Prelude.{Read, after_end, ends_at_end, ends_with, field_after, fields_after, in_field, is_end, start_field, start_record, step, default_config, records, Action, State}
+use Rattle.csv.specs.{Machine.next_record, Reading.{Reached, records_from}}
 use Rattle.csv.specs.declared.parser.Action.TheVariants as act
 use Rattle.csv.specs.declared.parser.State.TheVariants as st
 

@@ -1,7 +1,6 @@
 -- The rows of an import, one after the other.
 use Rattle.std.proofs.Common.{◌≡◌, ◌<◌, ◌+◌, ℕ, List, [], ◌∷◌, ◌++◌, Some, Result, Ok, Err, length, drop, map, get_or, refl, sym, ap, ◌∙◌, append_assoc, add-one, drop-cons, suc}
-use Rattle.csv.specs.Records.{Row, fields_of}
-use Rattle.hall_report.specs.{Import.{row_of, rows_from, with_ok}, declared.{fault.ImportFault.ImportFault, row.ImportRow.ImportRow}}
+use Rattle.hall_report.specs.{Prelude.{Row, fields_of}, Import.{row_of, rows_from, with_ok}, declared.{fault.ImportFault.ImportFault, row.ImportRow.ImportRow}}
 
 regrouped : (rows : List ImportRow) (row : ImportRow) (later : Result (List ImportRow) ImportFault)
     → with_ok (λ more. (rows ++ row ∷ []) ++ more) later ≡ with_ok (λ more. rows ++ more) (with_ok (λ more. row ∷ more) later)

@@ -1,8 +1,8 @@
 -- A record of texts is a text: quotes are put between characters only.
 use Rattle.std.{proofs.{Common.{◌≡◌, ◌≤◌, ◌<◌, ◌+◌, ◌/◌, ◌%◌, ◌==◌, ◌&&◌, ℕ, Bool, true, false, if◌then◌else◌, cond, List, [], ◌∷◌, ◌++◌, refl, ap, subst, arith, ltb}, lemmas.{Bool.Decides.nat_tests, Str.{IsUtf8-append, IsUtf8-nil, IsUtf8-encode, encode_ascii}}}, specs.Prelude.IsUtf8}
 use lib.Utf8.{encode, encodes, scalar, scalars, low_scalar}
-use Rattle.csv.specs.{Records.AllText, Writing.{default_writer, escaped, field_text, fields_text, is_blank, quoted, needs_quotes}}
-use Rattle.hall_report.specs.Export.{record_text}
+use Rattle.csv.specs.{Records.AllText, Writing.{escaped, fields_text}}
+use Rattle.hall_report.specs.{Prelude.{default_writer, field_text, is_blank, quoted, needs_quotes}, Export.record_text}
 
 -- ---- a field between quotes
 

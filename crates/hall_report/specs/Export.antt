@@ -1,9 +1,6 @@
 -- The export of a hall's machines, in comma-separated values (RFC 4180).
 use Rattle.std.specs.{Prelude.{◌≡◌, ℕ, false, List, [], ◌∷◌, ◌++◌, Option, Some, None, option_map, codes, IsUtf8}, Fmt.decimal, List.flat_map, declared.{alloc.Global.Global, vec.Vec.Vec}}
-use Rattle.csv.specs.{Writing.{default_writer, fields_written, has_written, row_text, text_written, writer_setup}, declared.writer.Writer.Writer}
-use Rattle.pxe_vendor.specs.Arch.{arch_text}
-use Rattle.hall_types.specs.{Hall.Hall, Lookup.interfaces_of, Rows.listed, Status.status_text, declared.machine.{Interface.Interface, Machine.Machine}}
-use Rattle.hall_report.specs.Lines.{macs_text, uuid_text, yes_no}
+use Rattle.hall_report.specs.{Prelude.{default_writer, fields_written, has_written, row_text, text_written, writer_setup, Writer, arch_text, Hall, interfaces_of, listed, status_text, Interface, Machine}, Lines.{macs_text, uuid_text, yes_no}}
 
 -- a record's text, ended by LF, with quotes round the fields that need them (RFC 4180 section 2)
 unfoldable pub record_text : List (List ℕ) → List ℕ

@@ -1,16 +1,8 @@
 -- Files of new machines, in comma-separated values (RFC 4180).
-use Rattle.std.specs.{Prelude.{◌≡◌, ◌≢◌, ℕ, ◌+◌, ◌==◌, Bool, true, false, ◌&&◌, List, [], ◌∷◌, length, Option, Some, None, option_and_then, option_map, Result, Ok, Err, bytes_eq, codes, if◌then◌else◌}, Str.is_utf8}
-use Rattle.csv.specs.{Reading.{default_config, records, strip_bom}, Records.field_at}
-use Rattle.uuid.specs.Text.{parsed}
-use Rattle.pxe_vendor.specs.{MacText.mac_of, Arch.arch_in, declared.arch.Arch.Arch}
-use Rattle.hall_types.specs.{Name.name_of, Uuid.unless_blank}
-use Rattle.hall_report.specs.{Steps.◌>>=◌, declared.{fault.ImportFault.{ImportFault, TheVariants.{BadHeader, BadRow, Memory}}, row.ImportRow.ImportRow}}
+use Rattle.std.specs.Prelude.{◌≡◌, ◌≢◌, ℕ, ◌+◌, ◌==◌, Bool, true, false, ◌&&◌, List, [], ◌∷◌, length, Option, Some, None, option_and_then, option_map, Result, Ok, Err, bytes_eq, codes, if◌then◌else◌}
+use Rattle.hall_report.specs.{Prelude.{default_config, records, strip_bom, field_at, parsed, mac_of, arch_in, Arch, name_of, unless_blank, text_of, ◌>>=◌}, declared.{fault.ImportFault.{ImportFault, TheVariants.{BadHeader, BadRow, Memory}}, row.ImportRow.ImportRow}}
 
 -- ---- fields
-
--- the octets, if they are UTF-8
-abbrev pub text_of : List ℕ → Option (List ℕ)
-text_of octets = if is_utf8 octets then Some octets else None
 
 -- the text of the field at a column, from 0 on
 abbrev pub text_at : ℕ → List (List ℕ) → Option (List ℕ)

@@ -1,10 +1,6 @@
 -- The texts of reports, line by line.
 use Rattle.std.specs.{Prelude.{◌≡◌, ℕ, Bool, true, false, List, [], ◌∷◌, ◌++◌, Option, Some, None, option_map, codes, sum_by}, Fmt.decimal, List.{flat_map, join_by}}
-use Rattle.uuid.specs.Text.{hyphenated_text, lower}
-use Rattle.pxe_vendor.specs.{MacText.mac_text, Arch.arch_text}
-use Rattle.hall_types.specs.{Hall.Hall, Kinds.{erase_text, order_kind_text}, Lookup.{interfaces_of, waiting}, Rows.at, Status.status_text, declared.{machine.{Interface.Interface, Machine.Machine}, order.Order.Order}}
-use Rattle.hall_store.specs.{Counts.AreCounts, declared.count.Count.Count}
-use Rattle.hall_report.specs.Columns.{in_left, in_right, space}
+use Rattle.hall_report.specs.{Prelude.{hyphenated_text, lower, mac_text, arch_text, Hall, erase_text, order_kind_text, interfaces_of, waiting, at, status_text, Interface, Machine, Order, AreCounts, Count}, Columns.{in_left, in_right, space}}
 
 -- the octet that ends a line
 abbrev pub line_feed : ℕ

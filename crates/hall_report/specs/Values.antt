@@ -1,7 +1,6 @@
 -- The values of an operator's words.
 use Rattle.std.specs.Prelude.{ℕ, nat_le, List, Option, Some, None, option_and_then, option_map, bytes_eq, codes, if◌then◌else◌}
-use Rattle.pxe_vendor.specs.Digits.{numeral}
-use Rattle.hall_report.specs.declared.values.What.{What}
+use Rattle.hall_report.specs.{Prelude.numeral, declared.values.What.What}
 use Rattle.hall_report.specs.declared.values.What.TheVariants as what
 
 abbrev count_in : ℕ → Option ℕ

@@ -1,7 +1,6 @@
 //! How many machines each pool has in each status.
 ghost use Rattle.std.specs.{Prelude.{◌≡◌, ◌≢◌, ◌++◌, IfErr, IfOk, OnOk, string_bytes, sum_by}, Fmt.decimal};
-ghost use Rattle.hall_store.specs.Reading.{Reads};
-ghost use Rattle.hall_report.specs.Lines.{IsHallText, count_line, counts_text, table_line, total_line};
+ghost use Rattle.hall_report.specs.{Prelude.Reads, Lines.{IsHallText, count_line, counts_text, table_line, total_line}};
 
 use crate::columns::{digits, push_left, push_right};
 use crate::fault::ReportFault;

@@ -1,8 +1,6 @@
 //! The export of all machines.
 ghost use Rattle.std.specs.{Prelude.{◌≡◌, ◌≢◌, ◌==◌, ◌++◌, List, ℕ, filter, option_map, IfErr, IfOk, OnOk, string_bytes}, List.{flat_map, Sorted.IsNonDecreasingBy}};
-ghost use Rattle.csv.specs.Records.{AllText, fields_of};
-ghost use Rattle.hall_store.specs.Reading.{Reads};
-ghost use Rattle.hall_report.specs.{Lines.uuid_text, Export.{HasWritten, export_text, hardware_fields, header, holder_fields, machine_fields, or_empty, record_text}};
+ghost use Rattle.hall_report.specs.{Prelude.{AllText, fields_of, Reads}, Lines.uuid_text, Export.{HasWritten, export_text, hardware_fields, header, holder_fields, machine_fields, or_empty, record_text}};
 
 use crate::columns::digits;
 use crate::fault::ReportFault;

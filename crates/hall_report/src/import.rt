@@ -1,7 +1,6 @@
 //! The import of new machines.
 ghost use Rattle.std.specs.Prelude.{◌≡◌, IfOk, map, codes};
-ghost use Rattle.csv.specs.{Reading.{default_config, records, strip_bom}, Records.{field_at, fields_of}};
-ghost use Rattle.hall_report.specs.Import.{Answers, import_in, import_of, is_field, is_header, with_ok};
+ghost use Rattle.hall_report.specs.{Prelude.{default_config, records, strip_bom, field_at, fields_of}, Import.{Answers, import_in, import_of, is_field, is_header, with_ok}};
 
 use crate::fault::ImportFault;
 use crate::row::{FIELDS, ImportRow, rows_of};

@@ -1,8 +1,6 @@
 //! A machine, field by field.
 ghost use Rattle.std.specs.{Prelude.{◌≡◌, ◌++◌, Some, None, IfErr, IfOk, OnOk, codes, option_map, string_bytes}, Fmt.decimal};
-ghost use Rattle.hall_types.specs.{Hall.Hall, Kinds.erase_text};
-ghost use Rattle.hall_store.specs.Reading.{Reads};
-ghost use Rattle.hall_report.specs.Lines.{field_line, hardware_lines, holder_lines, machine_lines, machine_text, macs_if, or_dash, state_lines, uuid_text};
+ghost use Rattle.hall_report.specs.{Prelude.{Hall, erase_text, Reads}, Lines.{field_line, hardware_lines, holder_lines, machine_lines, machine_text, macs_if, or_dash, state_lines, uuid_text}};
 
 use crate::columns::digits;
 use crate::fault::ReportFault;

@@ -1,7 +1,6 @@
 //! The texts of a machine's members.
 ghost use Rattle.std.specs.{Prelude.{◌≡◌, ◌∷◌, ◌++◌, [], IfOk, OnOk, string_bytes}, List.flat_map};
-ghost use Rattle.pxe_vendor.specs.MacText.{mac_text};
-ghost use Rattle.hall_report.specs.Lines.{macs_text, uuid_text, yes_no};
+ghost use Rattle.hall_report.specs.{Prelude.mac_text, Lines.{macs_text, uuid_text, yes_no}};
 
 use hall_types::{Interface, MacAddress, MachineUuid};
 use std::alloc::{AllocError, Global};

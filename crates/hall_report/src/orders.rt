@@ -1,7 +1,6 @@
 //! The queue of power orders.
 ghost use Rattle.std.specs.{Prelude.{◌≡◌, ◌≢◌, ◌++◌, IfErr, IfOk, OnOk, string_bytes}, Fmt.decimal, List.flat_map};
-ghost use Rattle.hall_store.specs.Reading.{Reads};
-ghost use Rattle.hall_report.specs.{Columns.in_right, Lines.{order_line, order_text}};
+ghost use Rattle.hall_report.specs.{Prelude.Reads, Columns.in_right, Lines.{order_line, order_text}};
 
 use crate::columns::{digits, push_right};
 use crate::fault::ReportFault;

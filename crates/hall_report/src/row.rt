@@ -1,15 +1,13 @@
 //! The rows of an import.
 ghost use Rattle.std.specs.Prelude.{◌≡◌, ◌==◌, ◌∷◌, ◌++◌, [], map, OnOk, option_copied};
-ghost use Rattle.csv.specs.Records.{fields_of};
-ghost use Rattle.uuid.specs.Text.{parsed};
-ghost use Rattle.hall_report.specs.Import.{Answers, arch_at, key_at, mac_at, pool_at, row_in, row_of, rows_from, text_at, text_of, uuid_at, uuid_of, with_ok};
+ghost use Rattle.hall_report.specs.{Prelude.fields_of, Import.{Answers, arch_at, key_at, mac_at, pool_at, row_in, row_of, rows_from, text_at, uuid_at, uuid_of, with_ok}};
 
 use crate::fault::ImportFault;
 use csv::ByteRecord;
+use hall_http::{text_of, uuid_octets};
 use hall_types::{MacAddress, MachineUuid, Name, RequestKey};
 use pxe_vendor::Arch;
 use std::alloc::{AllocError, Global};
-use uuid::Uuid;
 
 /// A machine to be added, with the key of the request that adds it.
 #[derive(Clone, Copy)]
@@ -24,31 +22,10 @@ pub struct ImportRow {
 /// How many fields a record has.
 pub(crate) const FIELDS: usize = 5;
 
-// The octets, if they are UTF-8.
-fn text_of(octets: &[u8]) -> Option<&str>
-    ensures { option_copied result ≡ text_of octets.now }
-{
-    match std::str::from_utf8(octets) {
-        Ok(text) => Some(text),
-        Err(_) => None,
-    }
-}
-
 fn text_at(values: &ByteRecord, column: usize) -> Option<&str>
     ensures { option_copied result ≡ text_at column (fields_of values.now) }
 {
-    let field = values.get(column)?;
-    text_of(field)
-}
-
-// The octets of a UUID, in one of its four spellings.
-fn parsed(text: &str) -> Option<[u8; 16]>
-    ensures { result ≡ parsed text.now }
-{
-    match Uuid::parse_str(text) {
-        Ok(uuid) => Some(uuid.into_bytes()),
-        Err(_) => None,
-    }
+    text_of(values.get(column)?)
 }
 
 fn uuid_of(text: &str) -> Option<Option<MachineUuid>>
@@ -57,15 +34,13 @@ fn uuid_of(text: &str) -> Option<Option<MachineUuid>>
     if text.is_empty() {
         return Some(None);
     }
-    let octets = parsed(text)?;
-    MachineUuid::identifying(octets).map(Some)
+    MachineUuid::identifying(uuid_octets(text)?).map(Some)
 }
 
 fn key_at(values: &ByteRecord) -> Option<RequestKey>
     ensures { result ≡ key_at (fields_of values.now) }
 {
-    let text = text_at(values, 0)?;
-    let octets = parsed(text)?;
+    let octets = uuid_octets(text_at(values, 0)?)?;
     Some(RequestKey::from(octets))
 }
 
@@ -84,31 +59,24 @@ fn arch_at(values: &ByteRecord) -> Option<Arch>
 fn uuid_at(values: &ByteRecord) -> Option<Option<MachineUuid>>
     ensures { result ≡ uuid_at (fields_of values.now) }
 {
-    let text = text_at(values, 3)?;
-    uuid_of(text)
+    uuid_of(text_at(values, 3)?)
 }
 
 fn pool_at(values: &ByteRecord) -> Option<Name>
     ensures { result ≡ pool_at (fields_of values.now) }
 {
-    let text = text_at(values, 4)?;
-    Name::new(text).ok()
+    Name::new(text_at(values, 4)?).ok()
 }
 
 fn row_in(values: &ByteRecord) -> Option<ImportRow>
     ensures { result ≡ row_in (fields_of values.now) }
 {
-    let key = key_at(values)?;
-    let mac = mac_at(values)?;
-    let arch = arch_at(values)?;
-    let uuid = uuid_at(values)?;
-    let pool = pool_at(values)?;
     Some(ImportRow {
-        key,
-        mac,
-        arch,
-        uuid,
-        pool,
+        key: key_at(values)?,
+        mac: mac_at(values)?,
+        arch: arch_at(values)?,
+        uuid: uuid_at(values)?,
+        pool: pool_at(values)?,
     })
 }
 

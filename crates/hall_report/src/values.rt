@@ -1,5 +1,5 @@
 //! The values of an operator's words: counts, what a report is about, how a log is written.
-ghost use Rattle.std.specs.{Prelude.{◌≡◌, option_map}, Result.result_ok};
+ghost use Rattle.std.specs.{Prelude.◌≡◌, Result.result_ok};
 ghost use Rattle.hall_report.specs.Values.{count_of_text, what_of_text};
 
 use pxe_vendor::numeral;
@@ -41,18 +41,7 @@ pub fn count_of(text: &str) -> Option<u64>
     ensures { result ≡ count_of_text text.now }
 {
     let count = numeral(text.as_bytes())?;
-    if count <= MAX_COUNT {
-        Some(count)
-    } else {
-        None
-    }
-}
-
-fn machine_of(text: &str) -> Option<What>
-    ensures { result ≡ option_map What.Machine (count_of_text text.now) }
-{
-    let id = count_of(text)?;
-    Some(What::Machine(id))
+    (count <= MAX_COUNT).then_some(count)
 }
 
 impl FromStr for What {
@@ -64,7 +53,7 @@ impl FromStr for What {
         match text {
             "hall" => Ok(What::Hall),
             "orders" => Ok(What::Orders),
-            _ => machine_of(text).ok_or(BadWhat),
+            _ => count_of(text).map(What::Machine).ok_or(BadWhat),
         }
     }
 }

@@ -6,14 +6,6 @@ use Rattle.hall_sql.specs.Expiring.{PutsNoEarlier, earliest_of}
 
 -- ---- what is written
 
-written_schema : (w : RowWrite) (h : Hall) → (written w h).schema ≡ h.schema
-written_schema (PutMachine m was) h = refl
-written_schema w h = refl
-
-pub applied_schema : (ws : List RowWrite) (h : Hall) → (applied ws h).schema ≡ h.schema
-applied_schema [] h = refl
-applied_schema (w ∷ ws) h = applied_schema ws (written w h) ∙ written_schema w h
-
 written_earliest : (earliest : ℕ) (w : RowWrite) (h : Hall) → IsEarliest earliest h.machines → PutsNoEarlier earliest w → IsEarliest earliest (written w h).machines
 written_earliest earliest (PutMachine m was) h is puts = put_earliest earliest h.machines is m puts
 written_earliest earliest (MachineGone id) h is puts = gone_earliest earliest h.machines is id

@@ -2,13 +2,10 @@
 use Rattle.sql_schema.specs.Words.{Error, Held, state, HasCleanDisk, Hall, applied, next_expired, if_due, RowWrite, Machine, IsHeld, IsTableRead, back_held, leaves_more, leaves_on, AllByRecursion, settles}
 use Rattle.std.proofs.Common.{◌≡◌, ◌≤◌, ◌<◌, None, Option, List, ◌∷◌, false, Bool, true, not, ℕ, Ok, Err, Result, IsTrue, refl, sym, ap, subst, ◌∙◌, arith}
 use Rattle.sqlite_trees.specs.declared.store.Store as trees
+use Rattle.hall_types.specs.ChangeLaws.{applied_schema}
 use Rattle.hall_store.specs.{Expiry.IsEarliest, ExpiryLaws.{first_due, lower_earliest, none_due}, Store.{IsWrite, ReadsBy}, declared.store.Unavailable.Unavailable}
 use Rattle.sql_writes.specs.Applying.{IsTold}
-use Rattle.hall_sql.{specs.{Expiring.{PutsNoEarlier, earliest_of}, Store.{HasHall, LeavesCommitted, Passes, StopLeaves}, declared.store.SqlStore.SqlStore}, proofs.ExpiryLemmas.{applied_earliest, applied_schema, first_earliest, machines_under}}
-
-pub is_true : (b : Bool) → not b ≡ false → IsTrue b
-is_true true e = refl
-is_true false e = cc
+use Rattle.hall_sql.{specs.{Expiring.{PutsNoEarlier, earliest_of}, Store.{HasHall, LeavesCommitted, Passes, StopLeaves}, declared.store.SqlStore.SqlStore}, proofs.ExpiryLemmas.{applied_earliest, first_earliest, machines_under}}
 
 module _ {S : Type 0} (g : trees.Ghosts S) where
   -- a call that is refused leaves the store the hall, if the connection has it or had it at its last commit

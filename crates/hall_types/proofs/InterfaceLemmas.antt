@@ -1,5 +1,5 @@
 -- Interfaces sorted by machine: those of one machine stand together.
-use Rattle.std.{proofs.{Common.{◌≡◌, ◌<◌, ◌+◌, ℕ, suc, Bool, true, false, List, [], ◌∷◌, ◌++◌, length, get_or, refl, sym, ap, subst, ◌∙◌, arith}, lemmas.{Bool.Decides.nat_tests, List.{take-append-drop, append-nil, get_or-take, get_or-drop, length-take, length-drop, Elements.filter-append}}}, specs.{Prelude.{filter, take, drop, cond, leb, ltb, not, Result, Ok, Err, OnOk, ◌==◌, ◌&&◌}, Ordering.{is_lt, nat_cmp}, List.Sorted.{IsPartitionPoint, IsStableByKey, ties}}}
+use Rattle.std.{proofs.{Common.{◌≡◌, ◌<◌, ◌+◌, ℕ, suc, Bool, true, false, List, [], ◌∷◌, ◌++◌, length, get_or, refl, sym, ap, subst, ◌∙◌, arith}, lemmas.{Bool.Decides.nat_tests, List.{take-append-drop, append-nil, get_or-take, get_or-drop, length-take, length-drop, Elements.{filter-append, filter_agree}}}}, specs.{Prelude.{filter, take, drop, cond, leb, ltb, not, Result, Ok, Err, OnOk, ◌==◌, ◌&&◌}, Ordering.{is_lt, nat_cmp}, List.Sorted.{IsPartitionPoint, IsStableByKey, ties}}}
 
 module _ {X : Type 0} (p : X → Bool) where
   pub filter_none : (xs : List X) → ((k : ℕ) (d : X) → k < length xs → p (get_or xs k d) ≡ false) → filter p xs ≡ []
@@ -81,11 +81,6 @@ module _ {X : Type 0} (n : X → ℕ) (id : ℕ) where
 
 -- ---- sorting
 
-filter_by : {X : Type 0} (p q : X → Bool) (xs : List X) → ((x : X) → p x ≡ q x) → filter p xs ≡ filter q xs
-filter_by p q [] same = refl
-filter_by {X = X} p q (x ∷ xs) same =
-    ap (λ (b : Bool). cond b (x ∷ filter p xs) (filter p xs)) (same x) ∙ ap (λ (ys : List X). cond (q x) (x ∷ ys) ys) (filter_by p q xs same)
-
 tie_is : (id m : ℕ) → (m == id) ≡ not (is_lt (nat_cmp id m)) && not (is_lt (nat_cmp m id))
 tie_is id m = grind (arith, nat_tests)
 
@@ -93,10 +88,6 @@ tie_is id m = grind (arith, nat_tests)
 pub same_of : {X : Type 0} (n : X → ℕ) (one : X) (xs ys : List X) → IsStableByKey n nat_cmp xs ys
     → filter (λ y. n y == n one) ys ≡ filter (λ y. n y == n one) xs
 same_of n one xs ys stable =
-    filter_by (λ y. n y == n one) (ties (λ x y. is_lt (nat_cmp (n x) (n y))) one) ys (λ y. tie_is (n one) (n y))
+    filter_agree (λ y. n y == n one) (ties (λ x y. is_lt (nat_cmp (n x) (n y))) one) (λ y. tie_is (n one) (n y)) ys
     ∙ stable one
-    ∙ sym (filter_by (λ y. n y == n one) (ties (λ x y. is_lt (nat_cmp (n x) (n y))) one) xs (λ y. tie_is (n one) (n y)))
-
-pub on_ok : {T E P Q : Type 0} (r : Result T E) → (P → Q) → OnOk r P → OnOk r Q
-on_ok (Ok value) then it = then it
-on_ok (Err error) then it = tt
+    ∙ sym (filter_agree (λ y. n y == n one) (ties (λ x y. is_lt (nat_cmp (n x) (n y))) one) (λ y. tie_is (n one) (n y)) xs)

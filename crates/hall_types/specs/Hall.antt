@@ -7,11 +7,6 @@ pub data Schema : Type 0 where
   first : Schema
   second : Schema
 
--- its number in the tables
-abbrev pub schema_number : Schema → ℕ
-schema_number first = 1
-schema_number second = 2
-
 -- operators, pools and images by name, members by pool and operator, live images by their architecture's
 -- number, interfaces by address, machines, boots and orders by number, receipts by operator and key
 pub record Hall : Type 0 where

@@ -14,113 +14,84 @@ module _ {K : Type 0} where
       by false t later rest = rest later
 
   -- a word finds a kind if and only if it is that kind's
-  exact_text : (text_of : K → List ℕ) (kinds : List K) → ((kind : K) → with_text text_of (text_of kind) kinds ≡ Some kind)
-      → (text : List ℕ) (kind : K) → (with_text text_of text kinds ≡ Some kind) ↔ (text_of kind ≡ text)
-  exact_text text_of kinds again text kind = (
+  exact_text : (text_of : K → List ℕ) (kinds : List K) (text : List ℕ) (kind : K) → with_text text_of (text_of kind) kinds ≡ Some kind
+      → (with_text text_of text kinds ≡ Some kind) ↔ (text_of kind ≡ text)
+  exact_text text_of kinds text kind again = (
     λ is. (bytes_eq-Decides (text_of kind) text).0 (found (λ kind. bytes_eq (text_of kind) text) kinds kind is),
-    λ is. ap (λ text. with_text text_of text kinds) (sym is) ∙ again kind,
+    λ is. ap (λ text. with_text text_of text kinds) (sym is) ∙ again,
   )
 
   -- a number likewise
-  exact_number : (number_of : K → ℕ) (kinds : List K) → ((kind : K) → with_number number_of (number_of kind) kinds ≡ Some kind)
-      → (number : ℕ) (kind : K) → (with_number number_of number kinds ≡ Some kind) ↔ (number_of kind ≡ number)
-  exact_number number_of kinds again number kind = (
+  exact_number : (number_of : K → ℕ) (kinds : List K) (number : ℕ) (kind : K) → with_number number_of (number_of kind) kinds ≡ Some kind
+      → (with_number number_of number kinds ≡ Some kind) ↔ (number_of kind ≡ number)
+  exact_number number_of kinds number kind again = (
     λ is. eqb-true (number_of kind) number (found (λ kind. number_of kind == number) kinds kind is),
-    λ is. ap (λ number. with_number number_of number kinds) (sym is) ∙ again kind,
+    λ is. ap (λ number. with_number number_of number kinds) (sym is) ∙ again,
   )
 
-role_again : (k : Role) → (role_of_text (role_text k) ≡ Some k) × (with_number role_number (role_number k) roles ≡ Some k)
-unfolding role_text role_number
-role_again Admin = (refl, refl)
-role_again k = (refl, refl)
-
 pub role_by_text : (text : List ℕ) (k : Role) → (role_of_text text ≡ Some k) ↔ (role_text k ≡ text)
-role_by_text = exact_text role_text roles (λ k. (role_again k).0)
-
-erase_again : (k : Erase) → (erase_of_text (erase_text k) ≡ Some k) × (with_number erase_number (erase_number k) erases ≡ Some k)
-unfolding erase_text erase_number
-erase_again Quick = (refl, refl)
-erase_again k = (refl, refl)
-
-pub erase_by_text : (text : List ℕ) (k : Erase) → (erase_of_text text ≡ Some k) ↔ (erase_text k ≡ text)
-erase_by_text = exact_text erase_text erases (λ k. (erase_again k).0)
-
-act_word : (k : Act) → act_of_text (act_text k) ≡ Some k
-unfolding act_text
-act_word act.Test = refl
-act_word k = refl
+unfolding role_text
+role_by_text text Admin = exact_text role_text roles text Admin refl
+role_by_text text k = exact_text role_text roles text k refl
 
 pub act_by_text : (text : List ℕ) (k : Act) → (act_of_text text ≡ Some k) ↔ (act_text k ≡ text)
-act_by_text = exact_text act_text acts act_word
+unfolding act_text
+act_by_text text act.Test = exact_text act_text acts text act.Test refl
+act_by_text text k = exact_text act_text acts text k refl
 
-progress_word : (k : Progress) → progress_of_text (progress_text k) ≡ Some k
-unfolding progress_text
-progress_word Started = refl
-progress_word k = refl
+pub erase_by_text : (text : List ℕ) (k : Erase) → (erase_of_text text ≡ Some k) ↔ (erase_text k ≡ text)
+unfolding erase_text
+erase_by_text text Quick = exact_text erase_text erases text Quick refl
+erase_by_text text k = exact_text erase_text erases text k refl
 
 pub progress_by_text : (text : List ℕ) (k : Progress) → (progress_of_text text ≡ Some k) ↔ (progress_text k ≡ text)
-progress_by_text = exact_text progress_text progresses progress_word
-
-outcome_word : (k : Outcome) → outcome_of_text (outcome_text k) ≡ Some k
-unfolding outcome_text
-outcome_word Done = refl
-outcome_word k = refl
+unfolding progress_text
+progress_by_text text Started = exact_text progress_text progresses text Started refl
+progress_by_text text k = exact_text progress_text progresses text k refl
 
 pub outcome_by_text : (text : List ℕ) (k : Outcome) → (outcome_of_text text ≡ Some k) ↔ (outcome_text k ≡ text)
-outcome_by_text = exact_text outcome_text outcomes outcome_word
-
-arch_found : (k : Arch) → with_number arch_number (arch_number k) archs ≡ Some k
-unfolding arch_number
-arch_found Bios = refl
-arch_found k = refl
+unfolding outcome_text
+outcome_by_text text Done = exact_text outcome_text outcomes text Done refl
+outcome_by_text text k = exact_text outcome_text outcomes text k refl
 
 pub arch_by_number : (number : ℕ) (k : Arch) → (with_number arch_number number archs ≡ Some k) ↔ (arch_number k ≡ number)
-arch_by_number = exact_number arch_number archs arch_found
+unfolding arch_number
+arch_by_number number Bios = exact_number arch_number archs number Bios refl
+arch_by_number number k = exact_number arch_number archs number k refl
 
 pub role_by_number : (number : ℕ) (k : Role) → (with_number role_number number roles ≡ Some k) ↔ (role_number k ≡ number)
-role_by_number = exact_number role_number roles (λ k. (role_again k).1)
-
-purpose_found : (k : Purpose) → with_number purpose_number (purpose_number k) purposes ≡ Some k
-unfolding purpose_number
-purpose_found Commission = refl
-purpose_found k = refl
+unfolding role_number
+role_by_number number Admin = exact_number role_number roles number Admin refl
+role_by_number number k = exact_number role_number roles number k refl
 
 pub purpose_by_number : (number : ℕ) (k : Purpose) → (with_number purpose_number number purposes ≡ Some k) ↔ (purpose_number k ≡ number)
-purpose_by_number = exact_number purpose_number purposes purpose_found
-
-stage_found : (k : Stage) → with_number stage_number (stage_number k) stages ≡ Some k
-unfolding stage_number
-stage_found Offered = refl
-stage_found k = refl
+unfolding purpose_number
+purpose_by_number number Commission = exact_number purpose_number purposes number Commission refl
+purpose_by_number number k = exact_number purpose_number purposes number k refl
 
 pub stage_by_number : (number : ℕ) (k : Stage) → (with_number stage_number number stages ≡ Some k) ↔ (stage_number k ≡ number)
-stage_by_number = exact_number stage_number stages stage_found
-
-order_kind_found : (k : OrderKind) → with_number order_kind_number (order_kind_number k) order_kinds ≡ Some k
-unfolding order_kind_number
-order_kind_found Cycle = refl
-order_kind_found k = refl
+unfolding stage_number
+stage_by_number number Offered = exact_number stage_number stages number Offered refl
+stage_by_number number k = exact_number stage_number stages number k refl
 
 pub order_kind_by_number : (number : ℕ) (k : OrderKind) → (with_number order_kind_number number order_kinds ≡ Some k) ↔ (order_kind_number k ≡ number)
-order_kind_by_number = exact_number order_kind_number order_kinds order_kind_found
-
-order_stage_found : (k : OrderStage) → with_number order_stage_number (order_stage_number k) order_stages ≡ Some k
-unfolding order_stage_number
-order_stage_found Waiting = refl
-order_stage_found k = refl
+unfolding order_kind_number
+order_kind_by_number number Cycle = exact_number order_kind_number order_kinds number Cycle refl
+order_kind_by_number number k = exact_number order_kind_number order_kinds number k refl
 
 pub order_stage_by_number : (number : ℕ) (k : OrderStage) → (with_number order_stage_number number order_stages ≡ Some k) ↔ (order_stage_number k ≡ number)
-order_stage_by_number = exact_number order_stage_number order_stages order_stage_found
+unfolding order_stage_number
+order_stage_by_number number Waiting = exact_number order_stage_number order_stages number Waiting refl
+order_stage_by_number number k = exact_number order_stage_number order_stages number k refl
 
 pub erase_by_number : (number : ℕ) (k : Erase) → (with_number erase_number number erases ≡ Some k) ↔ (erase_number k ≡ number)
-erase_by_number = exact_number erase_number erases (λ k. (erase_again k).1)
-
-status_found : (k : Status) → with_number status_number (status_number k) statuses ≡ Some k
-unfolding status_number
-status_found New = refl
-status_found k = refl
+unfolding erase_number
+erase_by_number number Quick = exact_number erase_number erases number Quick refl
+erase_by_number number k = exact_number erase_number erases number k refl
 
 pub status_by_number : (number : ℕ) (k : Status) → (with_number status_number number statuses ≡ Some k) ↔ (status_number k ≡ number)
-status_by_number = exact_number status_number statuses status_found
+unfolding status_number
+status_by_number number New = exact_number status_number statuses number New refl
+status_by_number number k = exact_number status_number statuses number k refl
 
 pub ruleset by_text = (role_by_text, act_by_text, erase_by_text, progress_by_text, outcome_by_text)

@@ -1,5 +1,5 @@
 -- What a list of all rows holds: each row once, in the order of the keys.
-use Rattle.std.{specs.{Prelude.{◌≡◌, zero, suc, List, [], ◌∷◌, Option, Some, None, Bool, true, false, ◌&&◌, if◌then◌else◌, IsTrue, map, length, Contains, filter}, List.{AllByRecursion, Sorted.IsStrictlySortedBy}, declared.cmp.Ordering.{Ordering, TheVariants.{Less, Equal, Greater}}, Ordering.{is_lt, is_eq, ordering_reverse, eq_by_cmp}, FinMap.{FinMap, find, is_sorted, entries_sorted, get-entries, len-entries, same_map, get-retain_keys, get-from_sorted, entries-from_sorted, Entries.{below_all, where_key, is_sorted-where_key, find-where_key}}}, proofs.{Math.Dec.T, Common.{refl, arith, ◌∙◌, ap, sym}}}
+use Rattle.std.{specs.{Prelude.{◌≡◌, zero, suc, List, [], ◌∷◌, Option, Some, None, Bool, true, false, ◌&&◌, if◌then◌else◌, IsTrue, map, length, Contains, filter}, List.{AllByRecursion, Sorted.IsStrictlySortedBy}, declared.cmp.Ordering.{Ordering, TheVariants.{Less, Equal, Greater}}, Ordering.{is_lt, is_eq, ordering_reverse, eq_by_cmp}, FinMap.{FinMap, find, is_sorted, entries_sorted, get-entries, len-entries, same_map, get-retain_keys, get-from_sorted, entries-from_sorted, Entries.{below_all, where_key, is_sorted-where_key, find-where_key}}}, proofs.{Math.Dec.T, Common.{refl, arith, ◌∙◌, ap, sym}, lemmas.Bool.and_parts}}
 use Rattle.std.specs.FinMap as map
 use Rattle.hall_types.specs.{Rows.{Keys, Rows, at, listed, same_key, passes, rows_where, size, how_many}, RowLaws.same-key, Keyed.StandUnder}
 
@@ -7,18 +7,9 @@ is_true : (b : Bool) → T b → IsTrue b
 is_true true h = refl
 is_true false h = absurd h
 
-left : (a b : Bool) → IsTrue (a && b) → IsTrue a
-left true b h = refl
-left false b h = h
-
-right : (a b : Bool) → IsTrue (a && b) → IsTrue b
-right true b h = h
-right false b h = cc
-
 less : (o : Ordering) → IsTrue (is_lt o) → o ≡ Less
 less Less h = refl
-less Equal h = cc
-less Greater h = cc
+less other h = cc
 
 -- a key after another one is not the same
 apart : {K : Type 0} (keys : Keys K) (key later : K) → keys.cmp key later ≡ Less → same_key keys later key ≡ false
@@ -27,7 +18,7 @@ apart keys key later below = ap is_eq (keys.total.antisymm later key ∙ ap orde
 module _ {K X : Type 0} (keys : Keys K) where
   all_below : (key : K) (es : List (K × X)) → IsTrue (below_all keys.cmp key es) → AllByRecursion (λ (e : K × X). keys.cmp key e.0 ≡ Less) es
   all_below key [] h = tt
-  all_below key (e ∷ es) h = (less (keys.cmp key e.0) (left _ _ h), all_below key es (right _ _ h))
+  all_below key (e ∷ es) h = (less (keys.cmp key e.0) (and_parts _ _ h).0, all_below key es (and_parts _ _ h).1)
 
   past : (first : K × X) (all es : List (K × X)) → AllByRecursion (λ (e : K × X). keys.cmp first.0 e.0 ≡ Less) es
       → AllByRecursion (λ (e : K × X). find keys.cmp e.0 all ≡ Some e.1) es → AllByRecursion (λ (e : K × X). find keys.cmp e.0 (first ∷ all) ≡ Some e.1) es
@@ -38,7 +29,7 @@ module _ {K X : Type 0} (keys : Keys K) where
   all_stand : (es : List (K × X)) → IsTrue (is_sorted keys.cmp es) → AllByRecursion (λ (e : K × X). find keys.cmp e.0 es ≡ Some e.1) es
   all_stand [] h = tt
   all_stand (e ∷ es) h =
-      (ap (λ b. if b then Some e.1 else find keys.cmp e.0 es) (same-key keys e.0), past e es es (all_below e.0 es (left _ _ h)) (all_stand es (right _ _ h)))
+      (ap (λ b. if b then Some e.1 else find keys.cmp e.0 es) (same-key keys e.0), past e es es (all_below e.0 es (and_parts _ _ h).0) (all_stand es (and_parts _ _ h).1))
 
   later : (row other : X) (rows : List X) → Contains rows row → Contains (other ∷ rows) row
   later row other rows found = (suc found.0, omega (arith, found.1), found.2)
@@ -69,7 +60,7 @@ module _ {K X : Type 0} (keys : Keys K) where
   unfolding IsStrictlySortedBy
   rising key_of all [] under stand sorted = tt
   rising key_of all (e ∷ es) under stand sorted =
-      (above key_of all e es under stand.0 stand.1 (all_below e.0 es (left _ _ sorted)), rising key_of all es under stand.1 (right _ _ sorted))
+      (above key_of all e es under stand.0 stand.1 (all_below e.0 es (and_parts _ _ sorted).0), rising key_of all es under stand.1 (and_parts _ _ sorted).1)
     where
       above : (key_of : X → K) (all : List (K × X)) (e : K × X) (es : List (K × X))
           → ((key : K) (row : X) → find keys.cmp key all ≡ Some row → key_of row ≡ key)

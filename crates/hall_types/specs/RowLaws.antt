@@ -1,15 +1,10 @@
 -- What is found where after each change of rows, and how many rows pass.
-use Rattle.std.{specs.{Prelude.{◌≡◌, ◌≢◌, ℕ, ◌+◌, ◌==◌, is_some, List, Option, Some, None, Bool, true, false, if◌then◌else◌, ◌⊎◌}, declared.cmp.Ordering.{Ordering, TheVariants.{Less, Equal, Greater}}, Ordering.is_eq, Cmp.{tied_itself, Lexicographic.texts_ties}, Str.bytes_eq, FinMap.{get-insert, get-remove, get-empty, get-retain_keys, len-insert, len-remove, empty_of_len, same_map}}, proofs.{Common.{refl, arith, inl, inr, ◌∙◌, ap, sym}, lemmas.Bool.{both_ways, Decides.nat_tests}}}
+use Rattle.std.{specs.{Prelude.{◌≡◌, ◌≢◌, ℕ, ◌+◌, ◌==◌, is_some, List, Option, Some, None, Bool, true, false, if◌then◌else◌, ◌⊎◌}, declared.cmp.Ordering.{Ordering, TheVariants.{Less, Equal, Greater}}, Ordering.is_eq, Cmp.{Equal-is, tied_itself, Lexicographic.texts_ties}, Str.bytes_eq, FinMap.{get-insert, get-remove, get-empty, get-retain_keys, len-insert, len-remove, empty_of_len, same_map}}, proofs.{Common.{refl, arith, inl, inr, ◌∙◌, ap, sym}, lemmas.Bool.{both_ways, Decides.nat_tests}}}
 use Rattle.std.specs.FinMap as map
 use Rattle.hall_types.specs.Rows.{Keys, numbers, texts, Rows, passes, at, put, gone, no_rows, rows_where, same_key, one_if, size, how_many}
 
-tied : (o : Ordering) → is_eq o ≡ true → o ≡ Equal
-tied Less e = cc
-tied Equal e = refl
-tied Greater e = cc
-
 pub key-same : {K : Type 0} (keys : Keys K) (one other : K) → same_key keys one other ≡ true → one ≡ other
-key-same keys one other t = keys.same one other (tied (keys.cmp one other) t)
+key-same keys one other t = keys.same one other ((Equal-is (keys.cmp one other)).0 t)
 
 pub same-key : {K : Type 0} (keys : Keys K) (key : K) → same_key keys key key ≡ true
 same-key keys key = ap is_eq (tied_itself keys.total key)

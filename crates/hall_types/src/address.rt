@@ -47,10 +47,8 @@ impl FromStr for MacAddress {
     ghost from_str_gives = { λ text result. result_ok result ≡ mac_of text };
 
     fn from_str(text: &str) -> Result<Self, BadMacAddress> {
-        match read_mac(text.as_bytes()) {
-            Some(octets) => Ok(MacAddress { octets }),
-            None => Err(BadMacAddress),
-        }
+        let octets = read_mac(text.as_bytes()).ok_or(BadMacAddress)?;
+        Ok(MacAddress { octets })
     }
 }
 

@@ -49,9 +49,7 @@ impl FromStr for Digest {
     ghost from_str_gives = { λ text result. result_ok result ≡ octets_of_text 32 text };
 
     fn from_str(text: &str) -> Result<Self, FromHexError> {
-        match <[u8; 32] as FromHex>::from_hex(text) {
-            Ok(octets) => Ok(Digest { octets }),
-            Err(error) => Err(error),
-        }
+        let octets = <[u8; 32] as FromHex>::from_hex(text)?;
+        Ok(Digest { octets })
     }
 }

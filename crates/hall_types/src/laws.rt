@@ -18,7 +18,6 @@ pub fn writes_leave_other_tables()
 
 /// A row that is put stands under its key, a row that goes is gone, and the other rows of its table are as
 /// before.
-#[tactic(auto, using(crate::proofs::WriteLemmas::is_put, crate::proofs::WriteLemmas::is_gone))]
 pub fn writes_leave_other_rows()
     ensures operators { (o : Operator) (h : Hall) → IsPut h.operators (written (PutOperator o) h).operators o.name o }
     ensures pools { (p : Pool) (h : Hall) → IsPut h.pools (written (PutPool p) h).pools p.name p }

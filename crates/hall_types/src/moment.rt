@@ -63,9 +63,7 @@ impl FromStr for Moment {
     ghost from_str_gives = { λ text result. result_ok result ≡ moment_of_text text };
 
     fn from_str(text: &str) -> Result<Self, BadMoment> {
-        match numeral(text.as_bytes()) {
-            Some(seconds) => Moment::new(seconds),
-            None => Err(BadMoment),
-        }
+        let seconds = numeral(text.as_bytes()).ok_or(BadMoment)?;
+        Moment::new(seconds)
     }
 }

@@ -84,10 +84,8 @@ impl FromStr for Number {
     ghost from_str_gives = { λ text result. result_ok result ≡ number_of_text text };
 
     fn from_str(text: &str) -> Result<Self, BadNumber> {
-        match numeral(text.as_bytes()) {
-            Some(number) => Number::new(number),
-            None => Err(BadNumber),
-        }
+        let number = numeral(text.as_bytes()).ok_or(BadNumber)?;
+        Number::new(number)
     }
 }
 

@@ -49,9 +49,7 @@ impl FromStr for Token {
     ghost from_str_gives = { λ text result. result_ok result ≡ octets_of_text 16 text };
 
     fn from_str(text: &str) -> Result<Self, FromHexError> {
-        match <[u8; 16] as FromHex>::from_hex(text) {
-            Ok(octets) => Ok(Token { octets }),
-            Err(error) => Err(error),
-        }
+        let octets = <[u8; 16] as FromHex>::from_hex(text)?;
+        Ok(Token { octets })
     }
 }

@@ -77,9 +77,7 @@ impl FromStr for Version {
     ghost from_str_gives = { λ text result. result_ok result ≡ number_of_text text };
 
     fn from_str(text: &str) -> Result<Self, BadNumber> {
-        match numeral(text.as_bytes()) {
-            Some(number) => Version::new(number),
-            None => Err(BadNumber),
-        }
+        let number = numeral(text.as_bytes()).ok_or(BadNumber)?;
+        Version::new(number)
     }
 }

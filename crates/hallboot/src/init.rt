@@ -1,5 +1,5 @@
 //! The file of a new hall is made: under another name first, so that it is whole once it has its own.
-use crate::file_faults::{looked_at, of_file};
+use crate::over_file::{looked_at, of_file};
 use desk_operations::Exit;
 use hall_report::Fault;
 use hallboot_files::{
@@ -28,7 +28,9 @@ fn making_of(rt: &HostRuntime, path: &str) -> io::Result<String> {
 }
 
 // Makes the tables of a new hall in a new file, and puts that at its path.
-fn make_whole(rt: &HostRuntime, making: &str, path: &str, asked: &Init) -> Result<(), Failure> {
+fn make(rt: &HostRuntime, path: &str, asked: &Init) -> Result<(), Failure> {
+    let name = making_of(rt, path).map_err(|error| refused(rt, path, &error))?;
+    let making = name.as_str();
     if let Err(error) = new_file(rt, making) {
         return Err(refused(rt, making, &error));
     }
@@ -36,53 +38,30 @@ fn make_whole(rt: &HostRuntime, making: &str, path: &str, asked: &Init) -> Resul
         remove_with_beside(rt, making);
         return Err(Failure::from(of_file(fault)));
     }
-    match put_in_place(rt, making, path) {
-        Ok(()) => Ok(()),
-        Err(error) => Err(refused(rt, path, &error)),
-    }
-}
-
-fn make(rt: &HostRuntime, path: &str, asked: &Init) -> Result<(), Failure> {
-    match making_of(rt, path) {
-        Ok(making) => make_whole(rt, making.as_str(), path, asked),
-        Err(error) => Err(refused(rt, path, &error)),
-    }
-}
-
-// Makes the tables of a new hall in a file that is there and has none.
-fn make_in(rt: &HostRuntime, path: &str, asked: &Init) -> Result<(), Failure> {
-    looked_at(rt, path)?;
-    match create(rt, path, asked.admin, asked.digest) {
-        Ok(()) => Ok(()),
-        Err(fault) => Err(Failure::from(of_file(fault))),
-    }
+    put_in_place(rt, making, path).map_err(|error| refused(rt, path, &error))
 }
 
 fn made_at(rt: &HostRuntime, path: &str, asked: &Init) -> Result<(), Failure> {
-    let (is_free, has_lone_log) = match (is_free(rt, path), has_lone_log(rt, path)) {
-        (Ok(is_free), Ok(has_lone_log)) => (is_free, has_lone_log),
-        (Err(error), _) | (_, Err(error)) => return Err(refused(rt, path, &error)),
-    };
-    if has_lone_log {
+    let is_free = is_free(rt, path).map_err(|error| refused(rt, path, &error))?;
+    if has_lone_log(rt, path).map_err(|error| refused(rt, path, &error))? {
         let reason = format!(in rt.alloc();
             "{path}{LOG} is there without its file: restore a copy, or move it away"
         );
         return Err(because(Fault::NotEmpty, reason));
     }
     if is_free {
-        make(rt, path, asked)
-    } else {
-        make_in(rt, path, asked)
+        return make(rt, path, asked);
     }
+    // A file is there, and has no tables.
+    looked_at(rt, path)?;
+    create(rt, path, asked.admin, asked.digest).map_err(|fault| Failure::from(of_file(fault)))
 }
 
 /// Makes the file of a new hall, for its owner alone, and says so.
 pub(crate) fn init(rt: &HostRuntime, asked: &Init) -> Result<Exit, Failure> {
     let path = asked.path.as_str();
-    match FileIdentity::at(rt, path) {
-        Ok(identity) => made_at(rt, identity.path(), asked)?,
-        Err(error) => return Err(refused(rt, path, &error)),
-    }
+    let identity = FileIdentity::at(rt, path).map_err(|error| refused(rt, path, &error))?;
+    made_at(rt, identity.path(), asked)?;
     desk_operations::write_text(&mut rt.stdout(), "hall created\n")?;
     Ok(Exit::Done)
 }

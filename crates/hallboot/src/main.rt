@@ -2,9 +2,7 @@
 //! Without a word it answers the frame on standard input.
 #![tactic(auto)]
 
-mod file_faults;
 mod init;
-mod joined;
 mod over_file;
 mod restoring;
 mod tasks;
@@ -30,15 +28,8 @@ fn fault_of_words(error: &io::Error) -> Fault {
 
 // The words of the command line.
 fn given(rt: &HostRuntime) -> Result<Vec<String>, Fault> {
-    let given = match env::args(rt) {
-        Ok(given) => given,
-        Err(error) => return Err(fault_of_words(&error)),
-    };
-    let mut words = Vec::new(rt.alloc());
-    for word in given {
-        words.push(word).map_err(|_| Fault::Memory)?;
-    }
-    Ok(words)
+    let words = env::args(rt).map_err(|error| fault_of_words(&error))?;
+    Ok(words.collect(rt.alloc())?)
 }
 
 // The exit status of a run, with its fault told on standard error.
@@ -83,12 +74,8 @@ fn tell_failure(rt: &HostRuntime, options: &Options<'_>, failure: Failure) {
     }
 }
 
-fn done(rt: &HostRuntime, options: &Options<'_>) -> Result<Exit, Failure> {
-    carry_out(rt, Job::read(rt, options)?)
-}
-
 fn status_of_task(rt: &HostRuntime, options: &Options<'_>) -> u8 {
-    match done(rt, options) {
+    match Job::read(rt, options).and_then(|job| carry_out(rt, job)) {
         Ok(exit) => exit.status(),
         Err(failure) => {
             let status = Exit::Fault(failure.fault).status();

@@ -1,14 +1,50 @@
 //! What is done over a hall's file. It is closed at the end, whatever became of the task.
-use crate::file_faults::{looked_at, of_file};
-use crate::joined::Joined;
 use desk_operations::Exit;
 use hall_report::Fault;
 use hall_store::HallStore;
-use hallboot_files::{remove_with_beside, write_copy};
+use hallboot_files::{Joining, is_foreign, remove_with_beside, write_copy};
 use hallboot_tasks::{HallSum, Suspended, carried_out, served, sum_of, tell};
 use hallboot_words::{Serving, Task};
-use sql_file::{Ended, FileFault, StoreTask, over};
-use std::io;
+use sql_file::{Ended, FileFault, StoreTask, Unjoined, one_file, over};
+use std::alloc::Global;
+use std::fs::File;
+use std::io::{self, ErrorKind, Write};
+
+pub(crate) fn of_file(fault: FileFault) -> Fault {
+    match fault {
+        FileFault::NotEmpty => Fault::NotEmpty,
+        FileFault::NotAHall => Fault::NotAHall,
+        FileFault::OtherVersion => Fault::OtherVersion,
+        FileFault::Unavailable => Fault::Unavailable,
+    }
+}
+
+/// A file of something else isn't opened, so that no log is made beside it.
+pub(crate) fn looked_at(rt: &HostRuntime, path: &str) -> Result<(), Fault> {
+    if is_foreign(rt, path) {
+        Err(Fault::Unavailable)
+    } else {
+        Ok(())
+    }
+}
+
+/// How a hall's file and its log become one file.
+pub(crate) struct Joined;
+
+fn refused(unjoined: Unjoined) -> io::Error {
+    match unjoined {
+        Unjoined::NoDatabase => io::Error::from(ErrorKind::InvalidData),
+        Unjoined::Memory => io::Error::from(ErrorKind::OutOfMemory),
+    }
+}
+
+impl Joining for Joined {
+    fn write(&self, alloc: Global, file: &[u8], log: &[u8], writer: &mut File) -> io::Result<u64> {
+        let one = one_file(alloc, file, log).map_err(refused)?;
+        writer.write_all(one.bytes())?;
+        Ok(one.bytes().len() as u64)
+    }
+}
 
 /// The hall's file, and a new one that is to have what it has.
 #[derive(Clone, Copy)]
@@ -78,21 +114,6 @@ impl<'a> StoreTask for FileTask<'a> {
     }
 }
 
-/// Where a file couldn't be closed, what was answered stands, and the user is told.
-pub(crate) fn tell_of_closing(
-    rt: &HostRuntime,
-    path: &str,
-    is_json: bool,
-    closing: Result<(), FileFault>,
-) {
-    if closing.is_err() {
-        let words = format!(in rt.alloc();
-            "{path} wasn't closed: what was answered is in it and in its log together"
-        );
-        tell(rt, is_json, words);
-    }
-}
-
 /// Does something over a hall's file.
 pub(crate) fn ended_over(
     rt: &HostRuntime,
@@ -103,14 +124,19 @@ pub(crate) fn ended_over(
     over(rt, path, FileTask { rt, doing }).map_err(of_file)
 }
 
-/// What became of it, after the user was told where the file wasn't closed.
-pub(crate) fn outcome_of(
+/// What became of it. Where the file couldn't be closed, what was answered stands, and the user is told.
+pub(crate) fn outcome_of<O: Drop>(
     rt: &HostRuntime,
     path: &str,
     is_json: bool,
-    ended: Ended<Result<Exit, Fault>>,
-) -> Result<Exit, Fault> {
-    tell_of_closing(rt, path, is_json, ended.closing);
+    ended: Ended<O>,
+) -> O {
+    if ended.closing.is_err() {
+        let words = format!(in rt.alloc();
+            "{path} wasn't closed: what was answered is in it and in its log together"
+        );
+        tell(rt, is_json, words);
+    }
     ended.outcome
 }
 

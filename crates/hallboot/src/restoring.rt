@@ -1,6 +1,5 @@
 //! Copies of a hall that isn't served, and halls that are put back from them.
-use crate::joined::Joined;
-use crate::over_file::{Copying, Doing, Found, over_file};
+use crate::over_file::{Copying, Doing, Found, Joined, over_file};
 use desk_operations::{Exit, write_text};
 use hall_report::Fault;
 use hallboot_files::{
@@ -8,7 +7,8 @@ use hallboot_files::{
     with_end, write_copy,
 };
 use hallboot_tasks::{HallSum, sum_text};
-use hallboot_words::{Backup, Failure, Restore, because, refused};
+use hallboot_words::{Failure, HallCopy, because, refused};
+use std::alloc::AllocError;
 use std::fs::File;
 use std::io::ErrorKind;
 use std::{fs, io};
@@ -29,9 +29,7 @@ fn looked(
     };
     over_file(rt, path, doing)?;
     let Found { sum, written } = found;
-    let Some(sum) = sum else {
-        return Err(Failure::from(Fault::Unavailable));
-    };
+    let sum = sum.ok_or(Failure::from(Fault::Unavailable))?;
     match (written, copying) {
         (Some(Err(error)), Some(Copying { new, .. })) => Err(refused(rt, new, &error)),
         (Some(Ok(octets)), _) => Ok((sum, octets)),
@@ -39,22 +37,22 @@ fn looked(
     }
 }
 
+// What was done with a new file, which is removed where that failed.
+fn kept<T: Drop>(rt: &HostRuntime, new: &str, done: Result<T, Failure>) -> Result<T, Failure> {
+    if done.is_err() {
+        remove_with_beside(rt, new);
+    }
+    done
+}
+
 // What a new copy amounts to. One that is no whole hall is removed.
 fn copy_sum(rt: &HostRuntime, new: &str) -> Result<HallSum, Failure> {
-    match looked(rt, new, None) {
-        Ok((sum, _)) => Ok(sum),
-        Err(failure) => {
-            remove_with_beside(rt, new);
-            Err(failure)
-        }
-    }
+    let (sum, _) = kept(rt, new, looked(rt, new, None))?;
+    Ok(sum)
 }
 
 fn put(rt: &HostRuntime, new: &str, path: &str) -> Result<(), Failure> {
-    match put_in_place(rt, new, path) {
-        Ok(()) => Ok(()),
-        Err(error) => Err(refused(rt, path, &error)),
-    }
+    put_in_place(rt, new, path).map_err(|error| refused(rt, path, &error))
 }
 
 // A path of its own beside another one.
@@ -62,22 +60,13 @@ fn path_with(rt: &HostRuntime, path: &str, end: &str) -> Result<String, Failure>
     with_end(rt.alloc(), path, end).map_err(|error| refused(rt, path, &error))
 }
 
-fn now_of(rt: &HostRuntime) -> Result<String, Failure> {
-    now_text(rt).map_err(|error| refused(rt, "the clock", &error))
-}
-
 fn without_links(rt: &HostRuntime, path: &str) -> Result<FileIdentity, Failure> {
     FileIdentity::at(rt, path).map_err(|error| refused(rt, path, &error))
 }
 
-fn print(rt: &HostRuntime, text: Result<String, std::alloc::AllocError>) -> Result<Exit, Failure> {
-    match text {
-        Ok(text) => {
-            write_text(&mut rt.stdout(), text.as_str())?;
-            Ok(Exit::Done)
-        }
-        Err(_) => Err(Failure::from(Fault::Memory)),
-    }
+fn print(rt: &HostRuntime, text: Result<String, AllocError>) -> Result<Exit, Failure> {
+    write_text(&mut rt.stdout(), text?.as_str())?;
+    Ok(Exit::Done)
 }
 
 // ---- backup
@@ -96,14 +85,12 @@ fn backed_up(rt: &HostRuntime, path: &str, new: &str, to: &str) -> Result<(HallS
 }
 
 /// Copies a hall that isn't served to one file, and says what it has. The copy before is replaced once the new one was found whole.
-pub(crate) fn backup(rt: &HostRuntime, asked: &Backup) -> Result<Exit, Failure> {
-    let (path, to) = (asked.path.as_str(), asked.to.as_str());
+pub(crate) fn backup(rt: &HostRuntime, asked: &HallCopy) -> Result<Exit, Failure> {
+    let (path, to) = (asked.path.as_str(), asked.copy.as_str());
     let hall = without_links(rt, path)?;
     let new = path_with(rt, to, ".new")?;
     let (sum, octets) = backed_up(rt, hall.path(), new.as_str(), to)?;
-    let Ok(sum) = sum_text(rt.alloc(), &sum) else {
-        return Err(Failure::from(Fault::Memory));
-    };
+    let sum = sum_text(rt.alloc(), &sum)?;
     print(
         rt,
         format!(in rt.alloc(); "copied {path} to {to}, {octets} octets: {sum}\n"),
@@ -138,9 +125,7 @@ fn of_copy(rt: &HostRuntime, from: &str, error: &io::Error) -> Failure {
 
 // A copy, and its log where there is one, can be opened.
 fn check_copy(rt: &HostRuntime, from: &str) -> Result<(), Failure> {
-    if let Err(error) = File::open(rt, from) {
-        return Err(of_copy(rt, from, &error));
-    }
+    let _copy = File::open(rt, from).map_err(|error| of_copy(rt, from, &error))?;
     let log = path_with(rt, from, LOG)?;
     match File::open(rt, log.as_str()) {
         Err(error) if error.kind() != ErrorKind::NotFound => {
@@ -180,13 +165,9 @@ fn replaced(rt: &HostRuntime, path: &str, new: &str, aside: &str) -> Result<bool
         }
         Err(error) => return Err(refused(rt, path, &error)),
     };
-    match put_aside(rt, path, aside) {
-        Ok(was_there) => {
-            put(rt, new, path)?;
-            Ok(was_there)
-        }
-        Err(error) => Err(refused(rt, path, &error)),
-    }
+    let was_there = put_aside(rt, path, aside).map_err(|error| refused(rt, path, &error))?;
+    put(rt, new, path)?;
+    Ok(was_there)
 }
 
 // The texts of what was restored, and of what was there.
@@ -196,7 +177,7 @@ fn restored_text(
     from: &str,
     sum: &HallSum,
     aside: Option<&str>,
-) -> Result<String, std::alloc::AllocError> {
+) -> Result<String, AllocError> {
     let alloc = rt.alloc();
     let sum = sum_text(alloc, sum)?;
     let moment = match changed_at(rt, from) {
@@ -210,34 +191,18 @@ fn restored_text(
     }
 }
 
-// Removes the new file where the hall's stays.
-fn replaced_or_removed(
-    rt: &HostRuntime,
-    path: &str,
-    new: &str,
-    aside: &str,
-) -> Result<bool, Failure> {
-    let done = replaced(rt, path, new, aside);
-    if done.is_err() {
-        remove_with_beside(rt, new);
-    }
-    done
-}
-
 /// Puts a copy of a hall in the place of its file, and says what it has. The copy stays as it is, and what was at the hall's path is kept
 /// under a name with the moment. Nothing is changed where the copy is no whole hall, or another program has the hall open.
-pub(crate) fn restore(rt: &HostRuntime, asked: &Restore) -> Result<Exit, Failure> {
-    let (path, from) = (asked.path.as_str(), asked.from.as_str());
-    let (hall, copy, now) = (
-        without_links(rt, path)?,
-        without_links(rt, from)?,
-        now_of(rt)?,
-    );
+pub(crate) fn restore(rt: &HostRuntime, asked: &HallCopy) -> Result<Exit, Failure> {
+    let (path, from) = (asked.path.as_str(), asked.copy.as_str());
+    let (hall, copy) = (without_links(rt, path)?, without_links(rt, from)?);
+    let now = now_text(rt).map_err(|error| refused(rt, "the clock", &error))?;
     let (hall, now) = (hall.path(), now.as_str());
     let new = path_with(rt, path_with(rt, hall, ".restored-")?.as_str(), now)?;
     let aside = path_with(rt, path_with(rt, hall, ".replaced-")?.as_str(), now)?;
     let sum = taken(rt, copy.path(), new.as_str())?;
-    let was_there = replaced_or_removed(rt, hall, new.as_str(), aside.as_str())?;
+    let replaced = replaced(rt, hall, new.as_str(), aside.as_str());
+    let was_there = kept(rt, new.as_str(), replaced)?;
     let aside = was_there.then_some(aside.as_str());
     print(rt, restored_text(rt, path, from, &sum, aside))
 }

@@ -1,7 +1,6 @@
 //! What the words ask for is done.
-use crate::file_faults::{looked_at, of_file};
 use crate::init::init;
-use crate::over_file::{Doing, ended_over, outcome_of, over_file, tell_of_closing};
+use crate::over_file::{Doing, ended_over, looked_at, of_file, outcome_of, over_file};
 use crate::restoring::{backup, restore};
 use desk_operations::{Exit, frame_run};
 use hall_report::Fault;
@@ -14,8 +13,7 @@ use sql_tables::Migrated;
 fn carry_over(rt: &HostRuntime, path: &str) -> Result<Exit, Fault> {
     looked_at(rt, path)?;
     let ended = migrate(rt, path).map_err(of_file)?;
-    tell_of_closing(rt, path, false, ended.closing);
-    let text = match ended.outcome {
+    let text = match outcome_of(rt, path, false, ended) {
         Migrated::Now => "migrated\n",
         Migrated::Already => "already\n",
     };
@@ -78,14 +76,8 @@ fn serve(rt: &HostRuntime, serving: &Serving) -> Result<Exit, Fault> {
 }
 
 fn frame(rt: &HostRuntime, asked: &Frame) -> Result<Exit, Failure> {
-    let (mut input, mut output) = (rt.stdin(), rt.stdout());
-    match frame_run(
-        rt.alloc(),
-        &mut input,
-        &mut output,
-        asked.port,
-        &asked.place,
-    ) {
+    let (mut input, mut out) = (rt.stdin(), rt.stdout());
+    match frame_run(rt.alloc(), &mut input, &mut out, asked.port, &asked.place) {
         Exit::Fault(fault) => Err(Failure::from(fault)),
         exit => Ok(exit),
     }

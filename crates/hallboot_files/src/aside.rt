@@ -1,6 +1,5 @@
 //! A hall's file is put aside, with what stands beside it.
-use crate::names::{BESIDE, with_end};
-use crate::places::sync_folder;
+use crate::places::{BESIDE, sync_folder, with_end};
 use std::io::ErrorKind;
 use std::{fs, io};
 
@@ -20,10 +19,8 @@ fn move_to(rt: &HostRuntime, from: &str, to: &str) -> io::Result<bool> {
 fn move_beside(rt: &HostRuntime, from: &str, to: &str) -> io::Result<bool> {
     let mut has_moved = false;
     for end in BESIDE {
-        let (from, to) = (
-            with_end(rt.alloc(), from, end)?,
-            with_end(rt.alloc(), to, end)?,
-        );
+        let alloc = rt.alloc();
+        let (from, to) = (with_end(alloc, from, end)?, with_end(alloc, to, end)?);
         has_moved |= move_to(rt, from.as_str(), to.as_str())?;
     }
     Ok(has_moved)

@@ -1,5 +1,5 @@
 //! What a file begins with: whether it is one of SQLite, or one whose making was cut off.
-use crate::names::{LOG, with_end};
+use crate::places::{LOG, with_end};
 use std::fs::{self, File};
 use std::io::Read;
 
@@ -11,10 +11,7 @@ const MAX_EMPTY_LOG: u64 = 41;
 
 /// Whether something stands at a path that is no file of a disk, as a folder or a device.
 pub fn is_no_file(rt: &HostRuntime, path: &str) -> bool {
-    match fs::metadata(rt, path) {
-        Ok(found) => !found.is_file(),
-        Err(_) => false,
-    }
+    fs::metadata(rt, path).is_ok_and(|found| !found.is_file())
 }
 
 // Reads the first octets of a file: how many there are.
@@ -29,10 +26,8 @@ pub fn is_foreign(rt: &HostRuntime, path: &str) -> bool {
         return true;
     }
     let mut start = [0; 16];
-    match read_start(rt, path, &mut start) {
-        Some(count) => count > 0 && start != *MAGIC,
-        None => false,
-    }
+    let count = read_start(rt, path, &mut start).unwrap_or(0);
+    count > 0 && start != *MAGIC
 }
 
 // Whether octets begin a file of which only the first octet is missing, which is written last, as 0.
@@ -51,10 +46,7 @@ fn has_empty_log(rt: &HostRuntime, path: &str) -> bool {
     let Ok(log) = with_end(rt.alloc(), path, LOG) else {
         return false;
     };
-    match fs::metadata(rt, log.as_str()) {
-        Ok(found) => found.len() <= MAX_EMPTY_LOG,
-        Err(_) => true,
-    }
+    fs::metadata(rt, log.as_str()).map_or(true, |found| found.len() <= MAX_EMPTY_LOG)
 }
 
 /// Whether the making of the file at a path was cut off: it is empty, or its first octet wasn't written yet, and no transaction is in its
@@ -64,8 +56,6 @@ pub fn is_unfinished(rt: &HostRuntime, path: &str) -> bool {
         return false;
     }
     let mut start = [0; 16];
-    match read_start(rt, path, &mut start) {
-        Some(count) => count == 0 || lacks_first(&start, count),
-        None => false,
-    }
+    let count = read_start(rt, path, &mut start);
+    count.is_some_and(|count| count == 0 || lacks_first(&start, count))
 }

@@ -1,7 +1,6 @@
 //! Copies of a hall's file, and new files in their places. A file is whole, and lasts, before it has its name.
 use crate::identity::FileIdentity;
-use crate::names::{LOG, with_end};
-use crate::places::{new_file, remove_beside, remove_with_beside, sync_folder};
+use crate::places::{LOG, new_file, remove_beside, remove_with_beside, sync_folder, with_end};
 use std::alloc::Global;
 use std::fs::{self, File};
 use std::io;
@@ -21,42 +20,21 @@ fn octets_at(rt: &HostRuntime, path: &str) -> io::Result<Vec<u8>> {
     Ok(octets)
 }
 
-// Those of a log, which may not be there.
-fn log_at(rt: &HostRuntime, path: &str) -> io::Result<Vec<u8>> {
-    match octets_at(rt, path) {
+// Those of its log, which may not be there.
+fn log_beside(rt: &HostRuntime, db: &str) -> io::Result<Vec<u8>> {
+    let path = with_end(rt.alloc(), db, LOG)?;
+    match octets_at(rt, path.as_str()) {
         Err(error) if error.kind() == ErrorKind::NotFound => Ok(Vec::new(rt.alloc())),
         read => read,
     }
 }
 
-fn log_beside(rt: &HostRuntime, db: &str) -> io::Result<Vec<u8>> {
-    let path = with_end(rt.alloc(), db, LOG)?;
-    log_at(rt, path.as_str())
-}
-
-// The octets of a hall's file, and those of its log.
-fn parts_at(rt: &HostRuntime, db: &str) -> io::Result<(Vec<u8>, Vec<u8>)> {
-    let file = octets_at(rt, db)?;
-    let log = log_beside(rt, db)?;
-    Ok((file, log))
-}
-
-// Writes what two files have to a new one, and syncs it.
-fn write_parts<J: Joining>(
-    rt: &HostRuntime,
-    joining: &J,
-    file: &[u8],
-    log: &[u8],
-    mut copy: File,
-) -> io::Result<u64> {
-    let octets = joining.write(rt.alloc(), file, log, &mut copy)?;
+// Writes what a hall's file and its log have to a new file, and syncs it.
+fn write<J: Joining>(rt: &HostRuntime, joining: &J, db: &str, mut copy: File) -> io::Result<u64> {
+    let (file, log) = (octets_at(rt, db)?, log_beside(rt, db)?);
+    let octets = joining.write(rt.alloc(), file.as_slice(), log.as_slice(), &mut copy)?;
     copy.sync_all()?;
     Ok(octets)
-}
-
-fn write<J: Joining>(rt: &HostRuntime, joining: &J, db: &str, copy: File) -> io::Result<u64> {
-    let (file, log) = parts_at(rt, db)?;
-    write_parts(rt, joining, file.as_slice(), log.as_slice(), copy)
 }
 
 /// Writes a new file that has what a hall's file and its log have, and syncs it: how many octets. Nothing is left at its path if that

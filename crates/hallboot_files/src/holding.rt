@@ -1,5 +1,5 @@
 //! A hall's file is held, so that no other program opens it.
-use crate::names::{LOG, with_end};
+use crate::places::{LOG, with_end};
 use os::RangeLock;
 use std::fs::{File, OpenOptions};
 use std::io;

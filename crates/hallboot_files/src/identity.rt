@@ -34,13 +34,11 @@ pub struct FileIdentity {
 fn end_of_links(rt: &HostRuntime, path: &str) -> io::Result<PathBuf> {
     let mut at = PathBuf::from_str(rt.alloc(), path)?;
     for _ in 0..MAX_LINKS {
-        match fs::read_link(rt, at.as_path()) {
-            Ok(target) => {
-                at.pop();
-                at.push(target.as_path())?;
-            }
-            Err(_) => break,
-        }
+        let Ok(target) = fs::read_link(rt, at.as_path()) else {
+            break;
+        };
+        at.pop();
+        at.push(target.as_path())?;
     }
     Ok(at)
 }

@@ -1,11 +1,23 @@
-//! Files are made, removed and made to last in their folder.
+//! The files beside a file of SQLite, by their names; and files that are made, removed and made to last in their folder.
 use crate::identity::folder_of;
-use crate::names::{BESIDE, with_end};
+use std::alloc::Global;
 use std::fs::{self, File, OpenOptions};
 use std::io;
 use std::io::ErrorKind;
 use std::os::unix::fs::OpenOptionsExt;
 use std::path::Path;
+
+/// The end of the name of a file's log (the file format of SQLite, section 4).
+pub const LOG: &str = "-wal";
+
+/// The ends of the names of what may stand beside a file: its log, its journal (section 3), and what SQLite's own programs know of the
+/// log.
+pub const BESIDE: [&str; 3] = [LOG, "-journal", "-shm"];
+
+/// A path with an end added to its name.
+pub fn with_end(alloc: Global, path: &str, end: &str) -> io::Result<String> {
+    Ok(format!(in alloc; "{path}{end}")?)
+}
 
 // Read and written by its owner alone.
 const OWNER_ONLY: u32 = 0o600;

@@ -1,6 +1,6 @@
 //! Who can use a file.
 use crate::identity::FileIdentity;
-use crate::names::{LOG, with_end};
+use crate::places::{LOG, with_end};
 use std::os::unix::fs::PermissionsExt;
 use std::{fs, io};
 
@@ -8,10 +8,7 @@ use std::{fs, io};
 const OTHERS: u32 = 0o077;
 
 fn is_open_to_others(rt: &HostRuntime, path: &str) -> bool {
-    match fs::metadata(rt, path) {
-        Ok(found) => found.permissions().mode() & OTHERS != 0,
-        Err(_) => false,
-    }
+    fs::metadata(rt, path).is_ok_and(|found| found.permissions().mode() & OTHERS != 0)
 }
 
 /// The hall's file, or else its log, if others than its owner can read or write it.

@@ -1,6 +1,6 @@
 //! Whether the file of a hall is still the one that was opened.
 use crate::identity::{FileIdentity, Node};
-use crate::names::{LOG, with_end};
+use crate::places::{LOG, with_end};
 use std::io::ErrorKind;
 use std::{fs, io};
 

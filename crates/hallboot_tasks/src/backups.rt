@@ -48,12 +48,12 @@ impl<'a, J: Joining> Backups<'a, J> {
             Ok(passed) => u64::try_from(passed.as_millis()).unwrap_or(u64::MAX),
             Err(_) => 0,
         };
-        match copied {
-            Ok(octets) => Some(Backup::Made {
+        Some(copied.map_or(
+            Backup::Failed,
+            |octets| Backup::Made {
                 octets,
                 milliseconds,
-            }),
-            Err(_) => Some(Backup::Failed),
-        }
+            },
+        ))
     }
 }

@@ -4,100 +4,56 @@ use crate::suspended::Suspended;
 use desk_operations::{Exit, Imported};
 use hall_desk::Desk;
 use hall_http::Noted;
-use hall_report::{Fault, What};
+use hall_report::Fault;
 use hall_store::{Cached, HallStore};
-use hall_types::{Digest, Moment};
 use hallboot_files::Joining;
-use hallboot_words::{Request, Serving, Task};
-use pxe_vendor::Place;
+use hallboot_words::{ImportTask, Request, Serving, Task};
+
+/// What came of a task, and its store.
+pub type Carried<S> = (Result<Exit, Fault>, S);
 
 fn done(task: Result<(), Fault>) -> Result<Exit, Fault> {
-    task?;
-    Ok(Exit::Done)
+    task.map(|_| Exit::Done)
 }
 
-fn request<S: HallStore>(rt: &HostRuntime, store: S, request: Request) -> (Result<Exit, Fault>, S) {
-    let Request {
-        place,
-        moment,
-        fresh,
-    } = request;
-    let mut desk = Desk::new(store, place);
+fn request<S: HallStore>(rt: &HostRuntime, store: S, request: Request) -> Carried<S> {
+    let (alloc, moment, fresh) = (rt.alloc(), request.moment, request.fresh);
+    let mut desk = Desk::new(store, request.place);
     let mut reader = Noted::new(rt.stdin());
     let mut writer = Noted::new(rt.stdout());
-    let task = desk_operations::request(
-        rt.alloc(),
-        &mut desk,
-        &mut reader,
-        &mut writer,
-        moment,
-        fresh,
-    );
+    let task = desk_operations::request(alloc, &mut desk, &mut reader, &mut writer, moment, fresh);
     (done(task), desk.into_store())
 }
 
-fn report<S: HallStore>(rt: &HostRuntime, mut store: S, what: What) -> (Result<Exit, Fault>, S) {
-    let task = desk_operations::report(rt.alloc(), &mut store, &mut rt.stdout(), what);
-    (done(task), store)
+fn import<S: HallStore>(rt: &HostRuntime, store: S, asked: ImportTask) -> Carried<S> {
+    let (octets, bearer, moment) = (asked.octets, asked.bearer, asked.moment);
+    let mut desk = Desk::new(store, asked.place);
+    let (alloc, mut out) = (rt.alloc(), rt.stdout());
+    let task = desk_operations::import(alloc, &mut desk, &mut out, &octets, bearer, moment);
+    let exit = task.map(|imported| match imported {
+        Imported::All => Exit::Done,
+        Imported::NotAll => Exit::NotAll,
+    });
+    (exit, desk.into_store())
 }
 
-fn export<S: HallStore>(rt: &HostRuntime, mut store: S) -> (Result<Exit, Fault>, S) {
-    let task = desk_operations::export(rt.alloc(), &mut store, &mut rt.stdout());
-    (done(task), store)
-}
-
-fn imported(task: Result<Imported, Fault>) -> Result<Exit, Fault> {
-    match task {
-        Ok(Imported::All) => Ok(Exit::Done),
-        Ok(Imported::NotAll) => Ok(Exit::NotAll),
-        Err(fault) => Err(fault),
-    }
-}
-
-fn import<S: HallStore>(
-    rt: &HostRuntime,
-    store: S,
-    place: Place,
-    octets: &[u8],
-    bearer: Digest,
-    moment: Moment,
-) -> (Result<Exit, Fault>, S) {
-    let mut desk = Desk::new(store, place);
-    let task = desk_operations::import(
-        rt.alloc(),
-        &mut desk,
-        &mut rt.stdout(),
-        octets,
-        bearer,
-        moment,
-    );
-    (imported(task), desk.into_store())
-}
-
-fn carried_out_over<S: HallStore>(
-    rt: &HostRuntime,
-    store: S,
-    task: Task,
-) -> (Result<Exit, Fault>, S) {
+fn carried_out_over<S: HallStore>(rt: &HostRuntime, mut store: S, task: Task) -> Carried<S> {
     match task {
         Task::Request(asked) => request(rt, store, asked),
-        Task::Report(what) => report(rt, store, what),
-        Task::Export => export(rt, store),
-        Task::Import {
-            place,
-            octets,
-            bearer,
-            moment,
-        } => import(rt, store, place, octets.as_slice(), bearer, moment),
+        Task::Report(what) => {
+            let task = desk_operations::report(rt.alloc(), &mut store, &mut rt.stdout(), what);
+            (done(task), store)
+        }
+        Task::Export => {
+            let task = desk_operations::export(rt.alloc(), &mut store, &mut rt.stdout());
+            (done(task), store)
+        }
+        Task::Import(asked) => import(rt, store, asked),
     }
 }
 
 /// Carries a task out over a store. Addresses and lists are kept in memory meanwhile.
-pub fn carried_out<S: HallStore>(
-    rt: &HostRuntime,
-    store: S,
-    task: Task,
-) -> (Result<Exit, Fault>, S) {
+pub fn carried_out<S: HallStore>(rt: &HostRuntime, store: S, task: Task) -> Carried<S> {
     match Cached::new(rt.alloc(), store) {
         Ok(cached) => {
             let (exit, cached) = carried_out_over(rt, cached, task);
@@ -115,7 +71,7 @@ pub fn served<S: HallStore, J: Joining>(
     serving: &Serving,
     suspended: &mut Suspended,
     joining: &J,
-) -> (Result<Exit, Fault>, S) {
+) -> Carried<S> {
     match Cached::new(rt.alloc(), store) {
         Ok(cached) => {
             let (task, cached) = serve(rt, cached, serving, suspended, joining);

@@ -8,7 +8,6 @@ mod notices;
 mod outlet;
 mod random_block;
 mod serving;
-mod stack;
 mod stamps;
 mod sums;
 mod suspended;

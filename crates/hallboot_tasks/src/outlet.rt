@@ -13,6 +13,9 @@ use std::io::Write;
 use std::os::fd::{AsRawFd, RawFd};
 use std::time::Duration;
 
+/// A text of a log, or want of memory for it.
+pub type Text = Result<String, AllocError>;
+
 // A pipe that takes octets takes so many at once (PIPE_BUF of Linux).
 const PIECE: usize = 4_096;
 
@@ -63,46 +66,25 @@ fn watched(rt: &HostRuntime, stream: &Stream) -> io::Result<Option<Poll>> {
     Ok(registered.is_ok().then_some(poll))
 }
 
-// A file to which lines are added; it is made where there is none.
-fn log_file(rt: &HostRuntime, path: &str) -> Result<File, Fault> {
-    match OpenOptions::new().append(true).create(true).open(rt, path) {
-        Ok(file) => Ok(file),
-        Err(error) => Err(fault_of(&error)),
-    }
-}
-
-// The line that says how many are missing before it. What was written of the last of them ends before it.
-fn broken_line(
-    alloc: Global,
-    format: LogFormat,
-    moment: Option<Moment>,
-    lost: u64,
-) -> Result<String, AllocError> {
-    let line = lost_line(alloc, format, moment, lost)?;
-    format!(in alloc; "\n{line}")
-}
-
 impl Outlet {
     fn over(rt: &HostRuntime, stream: Stream, format: LogFormat) -> Result<Outlet, Fault> {
-        let poll = match watched(rt, &stream) {
-            Ok(poll) => poll,
-            Err(error) => return Err(fault_of(&error)),
-        };
         Ok(Outlet {
+            poll: watched(rt, &stream).map_err(|error| fault_of(&error))?,
             stream,
-            poll,
             events: Events::with_capacity(rt.alloc(), 1)?,
             format,
             lost: 0,
         })
     }
 
-    /// Standard error, where the path is `-`, or a file to which lines are added, in this format.
+    /// Standard error, where the path is `-`, or a file to which lines are added, which is made where there is none, in this format.
     pub(crate) fn at(rt: &HostRuntime, path: &str, format: LogFormat) -> Result<Outlet, Fault> {
         if path == "-" {
             return Outlet::over(rt, Stream::Errors(rt.stderr()), format);
         }
-        Outlet::over(rt, Stream::File(log_file(rt, path)?), format)
+        let file = OpenOptions::new().append(true).create(true).open(rt, path);
+        let file = file.map_err(|error| fault_of(&error))?;
+        Outlet::over(rt, Stream::File(file), format)
     }
 
     /// How lines are written.
@@ -131,7 +113,7 @@ impl Outlet {
     }
 
     // Writes a text, and says whether all of it was written.
-    fn is_written(&mut self, text: Result<String, AllocError>) -> bool {
+    fn is_written(&mut self, text: Text) -> bool {
         let Ok(text) = text else {
             return false;
         };
@@ -144,14 +126,14 @@ impl Outlet {
     }
 
     /// Writes a line, or what there was no memory for, after one that says how many were lost before it, if any were.
-    pub(crate) fn write(
-        &mut self,
-        alloc: Global,
-        moment: Option<Moment>,
-        line: Result<String, AllocError>,
-    ) {
-        if self.lost > 0 && self.is_written(broken_line(alloc, self.format, moment, self.lost)) {
-            self.lost = 0;
+    pub(crate) fn write(&mut self, alloc: Global, moment: Option<Moment>, line: Text) {
+        if self.lost > 0 {
+            // What was written of the last of them ends before it.
+            let lost = lost_line(alloc, self.format, moment, self.lost);
+            let lost = lost.and_then(|lost| format!(in alloc; "\n{lost}"));
+            if self.is_written(lost) {
+                self.lost = 0;
+            }
         }
         if self.lost > 0 || !self.is_written(line) {
             self.lost = self.lost.saturating_add(1);

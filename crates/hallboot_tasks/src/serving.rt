@@ -3,7 +3,7 @@ ghost use Rattle.std.specs.Prelude.{◌≡◌};
 ghost use Rattle.hall_desk.specs.Desk.{enlists_of, store_of};
 
 use crate::backups::Backups;
-use crate::lines::{Lines, ServiceLog};
+use crate::lines::Lines;
 use crate::notices::tell;
 use crate::stamps::{Stamps, now};
 use crate::suspended::{Bound, Suspended};
@@ -12,7 +12,7 @@ use hall_desk::Desk;
 use hall_report::Fault;
 use hall_store::HallStore;
 use hallboot_files::{Joining, ServedFile};
-use hallboot_words::{BackupPlan, Serving};
+use hallboot_words::Serving;
 use pxe_vendor::{Place, PlaceFault};
 use rand::rngs::SysRng;
 use serve_sockets::{Service, Source};
@@ -32,56 +32,38 @@ enum Ended {
     Gone,
 }
 
-/// A file, how many turns are to be served over its hall, with unknown clients enlisted or not, and where its copies are put.
+/// A service, its file, and how many turns are to be served over its hall.
 #[derive(Drop)]
 struct Part<'a> {
-    path: &'a str,
+    serving: &'a Serving,
     file: ServedFile,
     turns: u64,
-    enlists: bool,
-    plan: Option<&'a BackupPlan>,
-    has_json_errors: bool,
 }
 
 // Says what became of a copy: in the log, or at standard error where there is none and it failed.
-fn tell_of_backup<L: ServiceLog>(
-    rt: &HostRuntime,
-    lines: &mut L,
-    part: &Part<'_>,
-    backup: &Backup,
-) {
+fn tell_of_backup(rt: &HostRuntime, lines: &mut Lines, serving: &Serving, backup: &Backup) {
     if lines.is_kept() {
         if let Some(moment) = now(rt) {
             lines.backed_up(moment, backup);
         }
     } else if *backup == Backup::Failed {
-        let path = part.path;
+        let path = serving.path.as_str();
         let words = format!(in rt.alloc(); "the backup of {path} failed");
-        tell(rt, part.has_json_errors, words);
-    }
-}
-
-// Makes a copy of the file, if it is time for one.
-fn back_up<J: Joining, L: ServiceLog>(
-    rt: &HostRuntime,
-    lines: &mut L,
-    part: &Part<'_>,
-    backups: &mut Backups<'_, J>,
-) {
-    if let Some(backup) = backups.made(rt, part.path) {
-        tell_of_backup(rt, lines, part, &backup);
+        tell(rt, serving.has_json_errors(), words);
     }
 }
 
 // Serves a part's turns, and says how that ended and how many turns are left.
-fn serve_part<S: HallStore, C: Source, L: ServiceLog, J: Joining>(
+fn serve_part<S: HallStore, C: Source, J: Joining>(
     rt: &HostRuntime,
     service: &mut Service<S>,
     stamps: &mut C,
-    lines: &mut L,
+    lines: &mut Lines,
     part: &mut Part<'_>,
     backups: &mut Backups<'_, J>,
 ) -> (Ended, u64) {
+    let serving = part.serving;
+    let path = serving.path.as_str();
     let mut left = part.turns;
     for _ in 0..part.turns.div_ceil(LOOK) {
         let turns = left.min(LOOK);
@@ -89,10 +71,12 @@ fn serve_part<S: HallStore, C: Source, L: ServiceLog, J: Joining>(
         if let Some(unserved) = service.serve_turns(stamps, lines, turns) {
             return (Ended::Shut, left + unserved);
         }
-        if part.file.is_gone(rt, part.path) {
+        if part.file.is_gone(rt, path) {
             return (Ended::Gone, left);
         }
-        back_up(rt, lines, part, backups);
+        if let Some(backup) = backups.made(rt, path) {
+            tell_of_backup(rt, lines, serving, &backup);
+        }
     }
     (Ended::Served, left)
 }
@@ -119,55 +103,42 @@ fn serve_over<S: HallStore, J: Joining>(
     part: &mut Part<'_>,
     joining: &J,
 ) -> ((Ended, u64), S, Bound) {
-    let Bound {
-        sockets,
-        log,
-        start,
-        backed_up,
-    } = bound;
-    let mut backups = Backups {
-        plan: part.plan,
+    let (start, last) = (bound.start, bound.backed_up);
+    let mut copies = Backups {
+        plan: part.serving.backup.as_ref(),
         joining,
-        last: backed_up,
+        last,
     };
-    let mut service = Service::new(rt.alloc(), desk_over(store, place, part.enlists), sockets);
+    let desk = desk_over(store, place, part.serving.enlists);
+    let mut service = Service::new(rt.alloc(), desk, bound.sockets);
     let mut stamps = Stamps::since(rt, start, SysRng::new(rt));
-    let mut lines = Lines::new(rt.alloc(), log);
-    let ended = serve_part(
-        rt,
-        &mut service,
-        &mut stamps,
-        &mut lines,
-        part,
-        &mut backups,
-    );
+    let mut lines = Lines::new(rt.alloc(), bound.log);
+    let ended = serve_part(rt, &mut service, &mut stamps, &mut lines, part, &mut copies);
     let (desk, sockets) = service.into_parts();
     let bound = Bound {
         sockets,
         log: lines.into_outlet(),
         start,
-        backed_up: backups.last,
+        backed_up: copies.last,
     };
     (ended, desk.into_store(), bound)
 }
 
 // A place of its own for a desk.
 fn copied(alloc: Global, place: &Place) -> Result<Place, Fault> {
-    match Place::new(alloc, place.server(), place.next(), place.host()) {
-        Ok(place) => Ok(place),
-        Err(PlaceFault::BadHost) => Err(Fault::BadInput),
-        Err(PlaceFault::Memory) => Err(Fault::Memory),
-    }
+    let copy = Place::new(alloc, place.server(), place.next(), place.host());
+    copy.map_err(|fault| match fault {
+        PlaceFault::BadHost => Fault::BadInput,
+        PlaceFault::Memory => Fault::Memory,
+    })
 }
 
 // Says how many lines of the log are missing at its end.
 fn tell_of_lost(rt: &HostRuntime, is_json: bool, bound: &Bound) {
-    if let Some(log) = &bound.log {
-        if log.lost() > 0 {
-            let lost = log.lost();
-            let words = format!(in rt.alloc(); "{lost} lines of the log were lost");
-            tell(rt, is_json, words);
-        }
+    let lost = bound.log.as_ref().map_or(0, |log| log.lost());
+    if lost > 0 {
+        let words = format!(in rt.alloc(); "{lost} lines of the log were lost");
+        tell(rt, is_json, words);
     }
 }
 
@@ -203,9 +174,7 @@ fn prepared(
     serving: &Serving,
     suspended: &mut Suspended,
 ) -> Result<(ServedFile, Place, Bound), Fault> {
-    let Ok(file) = ServedFile::at(rt, serving.path.as_str()) else {
-        return Err(Fault::Unavailable);
-    };
+    let file = ServedFile::at(rt, serving.path.as_str()).map_err(|_| Fault::Unavailable)?;
     if suspended.served_another(&file) {
         tell_of_gone(rt, serving);
         return Err(Fault::Unavailable);
@@ -228,12 +197,9 @@ pub(crate) fn serve<S: HallStore, J: Joining>(
         Err(fault) => return (Err(fault), store),
     };
     let mut part = Part {
-        path: serving.path.as_str(),
+        serving,
         file,
         turns: suspended.left(),
-        enlists: serving.enlists,
-        plan: serving.backup.as_ref(),
-        has_json_errors: serving.has_json_errors(),
     };
     let ((ended, left), store, bound) = serve_over(rt, store, place, bound, &mut part, joining);
     let outcome = told(rt, serving, ended, &bound);

@@ -1,6 +1,6 @@
 //! What a hall amounts to, for a line about a copy.
 use hall_report::Fault;
-use hall_store::{HallStore, Unavailable};
+use hall_store::HallStore;
 use hall_types::Numbers;
 use std::alloc::{AllocError, Global};
 
@@ -11,29 +11,18 @@ pub struct HallSum {
     last: Numbers,
 }
 
-fn read<S: HallStore>(store: &mut S) -> Result<HallSum, Unavailable> {
-    Ok(HallSum {
-        machines: store.machine_count()?,
-        last: store.numbers()?,
-    })
-}
-
 /// That of a store's hall.
 pub fn sum_of<S: HallStore>(store: &mut S) -> Result<HallSum, Fault> {
-    match read(store) {
-        Ok(sum) => Ok(sum),
-        Err(Unavailable) => Err(Fault::Unavailable),
-    }
+    Ok(HallSum {
+        machines: store.machine_count().map_err(|_| Fault::Unavailable)?,
+        last: store.numbers().map_err(|_| Fault::Unavailable)?,
+    })
 }
 
 /// In words, as `12 machines; last numbers: machine 14, boot 30, order 41`.
 pub fn sum_text(alloc: Global, sum: &HallSum) -> Result<String, AllocError> {
-    let machines = sum.machines;
-    let (machine, boot, order) = (
-        sum.last.machine.get(),
-        sum.last.boot.get(),
-        sum.last.order.get(),
-    );
+    let (machines, last) = (sum.machines, sum.last);
+    let (machine, boot, order) = (last.machine.get(), last.boot.get(), last.order.get());
     format!(in alloc;
         "{machines} machines; last numbers: machine {machine}, boot {boot}, order {order}"
     )

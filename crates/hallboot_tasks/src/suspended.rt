@@ -2,14 +2,15 @@
 use crate::backups::LastBackup;
 use crate::notices::object;
 use crate::outlet::Outlet;
+use crate::random_block::RandomBlock;
 use crate::serving::tell_of_gone;
-use crate::stack::reserve_stack;
 use crate::stamps::now;
 use hall_report::{Fault, LogFormat};
 use hallboot_files::ServedFile;
 use hallboot_words::{Serving, fault_of};
 use mio::Poll;
 use rand::rngs::SysRng;
+use rand_core::TryRng;
 use serve_sockets::{Addresses, BindFault, MAX_CONNECTIONS, Sockets};
 use std::io;
 use std::time::Instant;
@@ -47,17 +48,7 @@ fn bound_sockets(rt: &HostRuntime, serving: &Serving) -> Result<Sockets, Fault> 
         boot: serving.boot,
         http: serving.http,
     };
-    match Sockets::bind(rt, rt.alloc(), &addresses, MAX_CONNECTIONS) {
-        Ok(sockets) => Ok(sockets),
-        Err(fault) => Err(bind_fault(fault)),
-    }
-}
-
-fn opened_log(rt: &HostRuntime, serving: &Serving) -> Result<Option<Outlet>, Fault> {
-    match &serving.log {
-        Some(path) => Ok(Some(Outlet::at(rt, path.as_str(), serving.format)?)),
-        None => Ok(None),
-    }
+    Sockets::bind(rt, rt.alloc(), &addresses, MAX_CONNECTIONS).map_err(bind_fault)
 }
 
 // Whether there are descriptors for a connection and, beside it, for what a copy reads and writes.
@@ -68,20 +59,27 @@ fn has_room(rt: &HostRuntime) -> io::Result<()> {
     Ok(())
 }
 
-fn started(rt: &HostRuntime) -> Result<Instant, Fault> {
-    match Instant::now(rt) {
-        Ok(start) => Ok(start),
-        Err(error) => Err(fault_of(&error)),
-    }
+// How many frames of a little over 4,096 octets are had: half a MiB.
+const FRAMES: u32 = 128;
+
+// Has a frame, those below it, and then uses it once more, so that none is in the place of another.
+fn has_frames<R: TryRng>(source: &mut R, frames: u32) -> bool {
+    let mut block = RandomBlock::new();
+    let is_first = block.token(source).is_some();
+    let has_more = frames == 0 || has_frames(source, frames - 1);
+    block.token(source).is_some() && is_first && has_more
+}
+
+// Has the stack that a turn may need, so that no later turn ends the program for want of it. Where the system gives none, it ends it now.
+fn reserve_stack<R: TryRng>(source: &mut R) {
+    let _ = has_frames(source, FRAMES);
 }
 
 // When a service begins that has all that it needs, of which one is told that it is ready.
 fn ready(rt: &HostRuntime) -> Result<Instant, Fault> {
-    if let Err(error) = has_room(rt) {
-        return Err(fault_of(&error));
-    }
+    has_room(rt).map_err(|error| fault_of(&error))?;
     reserve_stack(&mut SysRng::new(rt));
-    let start = started(rt)?;
+    let start = Instant::now(rt).map_err(|error| fault_of(&error))?;
     desk_operations::write_text(&mut rt.stdout(), "hall desk ready\n")?;
     Ok(start)
 }
@@ -94,22 +92,18 @@ fn note_ready(rt: &HostRuntime, log: &mut Outlet) {
     }
 }
 
-// The log of a service, and when it begins.
-fn begun(rt: &HostRuntime, serving: &Serving) -> Result<(Option<Outlet>, Instant), Fault> {
-    let mut log = opened_log(rt, serving)?;
-    let start = ready(rt)?;
-    if let Some(log) = &mut log {
-        note_ready(rt, log);
-    }
-    Ok((log, start))
-}
-
 impl Bound {
     /// Binds the sockets and opens the log, and says that the service is ready. The fault is `Io` where there is no descriptor for a
     /// connection.
     fn new(rt: &HostRuntime, serving: &Serving) -> Result<Bound, Fault> {
         let sockets = bound_sockets(rt, serving)?;
-        let (log, start) = begun(rt, serving)?;
+        let path = serving.log.as_ref();
+        let log = path.map(|path| Outlet::at(rt, path.as_str(), serving.format));
+        let mut log = log.transpose()?;
+        let start = ready(rt)?;
+        if let Some(log) = &mut log {
+            note_ready(rt, log);
+        }
         Ok(Bound {
             sockets,
             log,
@@ -168,10 +162,9 @@ impl Suspended {
 
     /// Whether another file than this one was served before.
     pub(crate) fn served_another(&self, file: &ServedFile) -> bool {
-        match &self.file {
-            Some(before) => !before.is_same(file),
-            None => false,
-        }
+        self.file
+            .as_ref()
+            .is_some_and(|before| !before.is_same(file))
     }
 
     /// Whether the file that was served before isn't at its path any more, which is told.

@@ -1,4 +1,5 @@
 //! The line of a turn in a log.
+use crate::outlet::Text;
 use desk_lines::{Members, moment_text, stamped};
 use hall_report::LogFormat;
 use hall_types::Moment;
@@ -9,7 +10,7 @@ use std::net::SocketAddr;
 // The members of an arrival for whose words there was no memory.
 const UNWORDED: &str = "\"message\":\"-\"";
 
-fn source_text(alloc: Global, from: Option<SocketAddr>) -> Result<String, AllocError> {
+fn source_text(alloc: Global, from: Option<SocketAddr>) -> Text {
     match from {
         Some(from) => from.to_string(alloc),
         None => String::from_str(alloc, "-"),
@@ -50,7 +51,7 @@ fn source(turn: &Turn) -> Option<SocketAddr> {
     }
 }
 
-fn turn_words(alloc: Global, turn: &Turn, arrival: Option<&str>) -> Result<String, AllocError> {
+fn turn_words(alloc: Global, turn: &Turn, arrival: Option<&str>) -> Text {
     let arrival = arrival.unwrap_or("-");
     match turn {
         Turn::Unsent(_) => format!(in alloc; "{arrival}, unsent"),
@@ -66,90 +67,43 @@ fn turn_words(alloc: Global, turn: &Turn, arrival: Option<&str>) -> Result<Strin
     }
 }
 
-fn text_line(
-    alloc: Global,
-    format: LogFormat,
-    moment: Moment,
-    turn: &Turn,
-    arrival: Option<&str>,
-) -> Result<String, AllocError> {
-    let moment = moment_text(alloc, format, moment)?;
-    let from = source_text(alloc, source(turn))?;
-    let words = turn_words(alloc, turn, arrival)?;
-    format!(in alloc; "{moment} {from} {words}\n")
-}
-
-fn push_source(alloc: Global, members: &mut Members, from: SocketAddr) -> Result<(), AllocError> {
-    let address = from.ip().to_string(alloc)?;
-    members.push_text("client.ip", address.as_str())?;
-    members.push_number("client.port", u64::from(from.port()))
-}
-
-fn push_accepted(
-    alloc: Global,
-    members: &mut Members,
-    instead_of: Option<SocketAddr>,
-) -> Result<(), AllocError> {
-    members.push_text("event.action", "accepted")?;
-    match instead_of {
-        Some(other) => {
-            let other = other.to_string(alloc)?;
-            members.push_text("hall.instead_of", other.as_str())
-        }
-        None => Ok(()),
-    }
-}
-
-fn push_words(alloc: Global, members: &mut Members, turn: &Turn) -> Result<(), AllocError> {
-    let words = turn_words(alloc, turn, None)?;
-    members.push_text("message", words.as_str())
+// What a turn did, in words.
+fn push_words(members: &mut Members, turn: &Turn) {
+    let words = turn_words(members.alloc(), turn, None);
+    members.push_made("message", words);
 }
 
 // What a turn did, after where it came from.
-fn push_turn(
-    alloc: Global,
-    members: &mut Members,
-    turn: &Turn,
-    arrival: Option<&str>,
-) -> Result<(), AllocError> {
+fn push_turn(members: &mut Members, turn: &Turn, arrival: Option<&str>) {
     match turn {
         Turn::Accepted { instead_of, .. } => {
-            push_accepted(alloc, members, *instead_of)?;
-            push_words(alloc, members, turn)
+            members.push_text("event.action", "accepted");
+            if let Some(other) = instead_of {
+                let other = other.to_string(members.alloc());
+                members.push_made("hall.instead_of", other);
+            }
+            push_words(members, turn);
         }
         Turn::Closed { cause, .. } => {
-            members.push_text("event.action", "closed")?;
-            members.push_text("event.reason", close_word(*cause))?;
-            push_words(alloc, members, turn)
+            members.push_text("event.action", "closed");
+            members.push_text("event.reason", close_word(*cause));
+            push_words(members, turn);
         }
         Turn::Unsent(_) => {
-            members.push_true("hall.unsent")?;
-            members.push_members(arrival.unwrap_or(UNWORDED))
+            members.push_true("hall.unsent");
+            members.push_members(arrival.unwrap_or(UNWORDED));
         }
         _ => members.push_members(arrival.unwrap_or(UNWORDED)),
     }
 }
 
-fn push_all(
-    alloc: Global,
-    members: &mut Members,
-    turn: &Turn,
-    arrival: Option<&str>,
-) -> Result<(), AllocError> {
+fn object_line(alloc: Global, moment: Moment, turn: &Turn, arrival: Option<&str>) -> Text {
+    let mut members = stamped(alloc, Some(moment));
     if let Some(from) = source(turn) {
-        push_source(alloc, members, from)?;
+        members.push_made("client.ip", from.ip().to_string(alloc));
+        members.push_number("client.port", u64::from(from.port()));
     }
-    push_turn(alloc, members, turn, arrival)
-}
-
-fn object_line(
-    alloc: Global,
-    moment: Moment,
-    turn: &Turn,
-    arrival: Option<&str>,
-) -> Result<String, AllocError> {
-    let mut members = stamped(alloc, Some(moment))?;
-    push_all(alloc, &mut members, turn, arrival)?;
+    push_turn(&mut members, turn, arrival);
     members.into_line()
 }
 
@@ -170,7 +124,12 @@ pub fn turn_line(
     }
     let line = match format {
         LogFormat::Json => object_line(alloc, moment, turn, arrival)?,
-        LogFormat::Seconds | LogFormat::Utc => text_line(alloc, format, moment, turn, arrival)?,
+        LogFormat::Seconds | LogFormat::Utc => {
+            let moment = moment_text(alloc, format, moment)?;
+            let from = source_text(alloc, source(turn))?;
+            let words = turn_words(alloc, turn, arrival)?;
+            format!(in alloc; "{moment} {from} {words}\n")?
+        }
     };
     Ok(Some(line))
 }

@@ -34,32 +34,19 @@ pub(crate) const RESTORE_ROW: CommandRow = CommandRow {
     common: &COMMON,
 };
 
-/// A hall's file, and where a copy of it is put.
+/// A hall's file, and a copy of it.
 #[derive(Drop)]
-pub struct Backup {
+pub struct HallCopy {
     pub path: String,
-    pub to: String,
+    pub copy: String,
 }
 
-impl Backup {
-    pub(crate) fn read(options: &Options<'_>) -> Result<Backup, Wrong> {
-        let to = path(options, &TO)?;
-        let path = owned(options, &DB)?;
-        Ok(Backup { path, to })
-    }
-}
-
-/// A hall's file, and the copy that is put in its place.
-#[derive(Drop)]
-pub struct Restore {
-    pub path: String,
-    pub from: String,
-}
-
-impl Restore {
-    pub(crate) fn read(options: &Options<'_>) -> Result<Restore, Wrong> {
-        let from = path(options, &FROM)?;
-        let path = owned(options, &DB)?;
-        Ok(Restore { path, from })
+impl HallCopy {
+    // The copy is that of the option of this row.
+    pub(crate) fn read(options: &Options<'_>, row: &OptionRow) -> Result<HallCopy, Wrong> {
+        Ok(HallCopy {
+            copy: path(options, row)?,
+            path: owned(options, &DB)?,
+        })
     }
 }

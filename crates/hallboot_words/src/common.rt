@@ -1,6 +1,5 @@
 //! Options that several commands have.
 use command_rows::{OptionRow, Options, Shape, Wrong};
-use hall_types::Moment;
 use pxe_vendor::{Place, PlaceFault};
 use std::net::Ipv4Addr;
 
@@ -74,11 +73,6 @@ pub(crate) fn path(options: &Options<'_>, row: &OptionRow) -> Result<String, Wro
         return Err(options.wrong(row));
     }
     owned(options, row)
-}
-
-/// The moment of `--at`.
-pub(crate) fn moment(options: &Options<'_>) -> Result<Moment, Wrong> {
-    options.parse(&AT)
 }
 
 fn address(options: &Options<'_>, row: &OptionRow) -> Result<[u8; 4], Wrong> {

@@ -1,8 +1,8 @@
 //! Why a fault came, in words for people. It is found out afterwards, by another look at what was given, so that it may be another reason by
 //! then.
 use crate::common::DB;
+use crate::failure::octets_of;
 use crate::import::FILE;
-use crate::reading::octets_of;
 use crate::report::WHAT;
 use crate::serve::{BOOT, DISCOVER, HTTP, LOG};
 use command_rows::{OptionRow, Options};
@@ -12,40 +12,17 @@ use std::fs::{self, OpenOptions};
 use std::net::{SocketAddr, TcpListener, UdpSocket};
 use std::os::unix::fs::MetadataExt;
 
-fn refused_datagrams(rt: &HostRuntime, address: SocketAddr) -> Option<String> {
-    match UdpSocket::bind(rt, address) {
-        Ok(_) => None,
-        Err(error) => error.to_string(rt.alloc()).ok(),
-    }
-}
-
-fn refused_connections(rt: &HostRuntime, address: SocketAddr) -> Option<String> {
-    match TcpListener::bind(rt, address) {
-        Ok(_) => None,
-        Err(error) => error.to_string(rt.alloc()).ok(),
-    }
-}
-
 // Why the address of an option can't be bound, if it can't.
 fn refusal_of(rt: &HostRuntime, options: &Options<'_>, row: &OptionRow) -> Option<String> {
     let text = options.text(row)?;
     let address = text.parse::<SocketAddr>().ok()?;
     let error = if row.name == HTTP.name {
-        refused_connections(rt, address)?
+        TcpListener::bind(rt, address).err()?
     } else {
-        refused_datagrams(rt, address)?
+        UdpSocket::bind(rt, address).err()?
     };
     let name = row.name;
     format!(in rt.alloc(); "--{name} {text}: {error}").ok()
-}
-
-fn bind_reason(rt: &HostRuntime, options: &Options<'_>) -> Option<String> {
-    for row in [DISCOVER, BOOT, HTTP] {
-        if let Some(reason) = refusal_of(rt, options, &row) {
-            return Some(reason);
-        }
-    }
-    None
 }
 
 // Why a file can't be opened, or isn't one of SQLite.
@@ -59,23 +36,17 @@ fn opening_reason(rt: &HostRuntime, path: &str) -> Option<String> {
     }
 }
 
-// Why what has so many names can't be a hall's file.
-fn named_reason(rt: &HostRuntime, path: &str, links: u64) -> Option<String> {
-    if is_no_file(rt, path) {
-        return format!(in rt.alloc(); "{path} is no file").ok();
-    }
-    if links > 1 {
-        return format!(in rt.alloc();
-            "{path} has {links} names (hard links), and its log stands beside one of them"
-        ).ok();
-    }
-    opening_reason(rt, path)
-}
-
 // Why a file can't be a hall's, whatever its tables are.
 fn unfit_reason(rt: &HostRuntime, path: &str) -> Option<String> {
     match fs::metadata(rt, path) {
-        Ok(found) => named_reason(rt, path, found.nlink()),
+        Ok(_) if is_no_file(rt, path) => format!(in rt.alloc(); "{path} is no file").ok(),
+        Ok(found) if found.nlink() > 1 => {
+            let links = found.nlink();
+            format!(in rt.alloc();
+                "{path} has {links} names (hard links), and its log stands beside one of them"
+            ).ok()
+        }
+        Ok(_) => opening_reason(rt, path),
         Err(error) => format!(in rt.alloc(); "{path}: {error}").ok(),
     }
 }
@@ -115,10 +86,8 @@ fn row_reason(rt: &HostRuntime, path: &str, fault: Fault) -> Option<String> {
 
 // Why the log of a service can't be added to.
 fn log_reason(rt: &HostRuntime, path: &str) -> Option<String> {
-    match OpenOptions::new().append(true).open(rt, path) {
-        Ok(_) => None,
-        Err(error) => format!(in rt.alloc(); "--log {path}: {error}").ok(),
-    }
+    let error = OpenOptions::new().append(true).open(rt, path).err()?;
+    format!(in rt.alloc(); "--log {path}: {error}").ok()
 }
 
 // Whether the log can't be written, or what else may have failed.
@@ -144,7 +113,10 @@ pub fn reason(rt: &HostRuntime, options: &Options<'_>, fault: Fault) -> Option<S
             "the input, or a word of the command line, isn't of its form",
         )
         .ok(),
-        Fault::Bind => bind_reason(rt, options),
+        Fault::Bind => {
+            let rows = [DISCOVER, BOOT, HTTP];
+            rows.iter().find_map(|row| refusal_of(rt, options, row))
+        }
         Fault::BadHeader | Fault::BadRow => row_reason(rt, options.text(&FILE)?, fault),
         Fault::Unavailable | Fault::NotEmpty | Fault::NotAHall | Fault::OtherVersion => {
             file_reason(rt, options.text(&DB)?, fault)

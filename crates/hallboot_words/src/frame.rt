@@ -30,8 +30,10 @@ pub struct Frame {
 
 impl Frame {
     pub(crate) fn read(options: &Options<'_>) -> Result<Frame, Wrong> {
-        let port = options.choice(&ROLE, &[("discover", Port::Discover), ("boot", Port::Boot)])?;
-        let place = place(options)?;
-        Ok(Frame { port, place })
+        let ports = [("discover", Port::Discover), ("boot", Port::Boot)];
+        Ok(Frame {
+            port: options.choice(&ROLE, &ports)?,
+            place: place(options)?,
+        })
     }
 }

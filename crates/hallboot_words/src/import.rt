@@ -1,8 +1,7 @@
 //! `import`: the machines of a file are added.
-use crate::common::{AT, DB, WITH_PLACE, moment, owned, place};
-use crate::failure::Failure;
-use crate::job::Task;
-use crate::reading::{first_line, octets_of};
+use crate::common::{AT, DB, WITH_PLACE, owned, place};
+use crate::failure::{Failure, first_line, octets_of};
+use crate::job::{ImportTask, Task};
 use command_rows::{CommandRow, OptionRow, Options, Shape, Wrong};
 use hall_http::is_bearer_token;
 use hall_types::{Digest, Moment};
@@ -83,11 +82,8 @@ impl Bearer {
         match self {
             Bearer::Digest(digest) => Ok(*digest),
             Bearer::File(path) => {
-                let line = first_line(rt, path.as_str())?;
-                match digest_of(line.as_str()) {
-                    Some(digest) => Ok(digest),
-                    None => Err(Failure::from(Wrong::of(rt.alloc(), &TOKEN_FILE, None))),
-                }
+                let digest = digest_of(first_line(rt, path.as_str())?.as_str());
+                digest.ok_or_else(|| Failure::from(Wrong::of(rt.alloc(), &TOKEN_FILE, None)))
             }
         }
     }
@@ -95,15 +91,11 @@ impl Bearer {
 
 impl Import {
     pub(crate) fn read(options: &Options<'_>) -> Result<Import, Wrong> {
-        let moment = moment(options)?;
-        let place = place(options)?;
-        let bearer = Bearer::read(options)?;
-        let file = owned(options, &FILE)?;
         Ok(Import {
-            file,
-            bearer,
-            moment,
-            place,
+            moment: options.parse(&AT)?,
+            place: place(options)?,
+            bearer: Bearer::read(options)?,
+            file: owned(options, &FILE)?,
         })
     }
 
@@ -111,11 +103,11 @@ impl Import {
     pub fn task(self, rt: &HostRuntime) -> Result<Task, Failure> {
         let bearer = self.bearer.digest(rt)?;
         let octets = octets_of(rt, self.file.as_str())?;
-        Ok(Task::Import {
+        Ok(Task::Import(ImportTask {
             place: self.place,
             octets,
             bearer,
             moment: self.moment,
-        })
+        }))
     }
 }

@@ -45,13 +45,10 @@ pub struct Init {
 
 impl Init {
     pub(crate) fn read(options: &Options<'_>) -> Result<Init, Wrong> {
-        let admin = options.parse(&ADMIN)?;
-        let digest = options.parse(&DIGEST)?;
-        let path = owned(options, &DB)?;
         Ok(Init {
-            path,
-            admin,
-            digest,
+            admin: options.parse(&ADMIN)?,
+            digest: options.parse(&DIGEST)?,
+            path: owned(options, &DB)?,
         })
     }
 }

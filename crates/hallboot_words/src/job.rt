@@ -1,12 +1,12 @@
 //! What a command line asks for.
-use crate::backup::{Backup, Restore};
+use crate::backup::{FROM, HallCopy, TO};
 use crate::common::{DB, owned};
 use crate::failure::Failure;
 use crate::frame::Frame;
 use crate::import::Import;
 use crate::init::Init;
 use crate::named_files::check_files;
-use crate::report::what;
+use crate::report::WHAT;
 use crate::request::Request;
 use crate::serve::Serving;
 use command_rows::{Options, Wrong};
@@ -24,9 +24,9 @@ pub enum Job {
     /// The file of a hall is carried over from the first schema to the second.
     Migrate(String),
     /// The hall in a file is copied to another file.
-    Backup(Backup),
+    Backup(HallCopy),
     /// The hall in a file is replaced by a copy.
-    Restore(Restore),
+    Restore(HallCopy),
     /// The hall in a file is served.
     Serve(Serving),
     /// The machines of a file are imported into the hall in another one.
@@ -45,40 +45,34 @@ pub enum Task {
     /// The export is printed.
     Export,
     /// The machines of a file's octets are imported.
-    Import {
-        place: Place,
-        octets: Vec<u8>,
-        bearer: Digest,
-        moment: Moment,
-    },
+    Import(ImportTask),
 }
 
-fn request(options: &Options<'_>) -> Result<Job, Wrong> {
-    let request = Request::read(options)?;
-    Ok(Job::Over(owned(options, &DB)?, Task::Request(request)))
+/// The octets of a file of machines, who imports them, and when and where.
+#[derive(Drop)]
+pub struct ImportTask {
+    pub place: Place,
+    pub octets: Vec<u8>,
+    pub bearer: Digest,
+    pub moment: Moment,
 }
 
-fn import(options: &Options<'_>) -> Result<Job, Wrong> {
-    let import = Import::read(options)?;
-    Ok(Job::Import(owned(options, &DB)?, import))
-}
-
-fn report(options: &Options<'_>) -> Result<Job, Wrong> {
-    let what = what(options)?;
-    Ok(Job::Over(owned(options, &DB)?, Task::Report(what)))
+// A task over the hall of `--db`.
+fn over(options: &Options<'_>, task: Task) -> Result<Job, Wrong> {
+    Ok(Job::Over(owned(options, &DB)?, task))
 }
 
 fn job_of(options: &Options<'_>) -> Result<Job, Wrong> {
     Ok(match options.command() {
         Some("init") => Job::Init(Init::read(options)?),
         Some("migrate") => Job::Migrate(owned(options, &DB)?),
-        Some("request") => request(options)?,
+        Some("request") => over(options, Task::Request(Request::read(options)?))?,
         Some("serve") => Job::Serve(Serving::read(options)?),
-        Some("report") => report(options)?,
-        Some("import") => import(options)?,
-        Some("export") => Job::Over(owned(options, &DB)?, Task::Export),
-        Some("backup") => Job::Backup(Backup::read(options)?),
-        Some("restore") => Job::Restore(Restore::read(options)?),
+        Some("report") => over(options, Task::Report(options.parse(&WHAT)?))?,
+        Some("import") => Job::Import(owned(options, &DB)?, Import::read(options)?),
+        Some("export") => over(options, Task::Export)?,
+        Some("backup") => Job::Backup(HallCopy::read(options, &TO)?),
+        Some("restore") => Job::Restore(HallCopy::read(options, &FROM)?),
         _ => Job::Frame(Frame::read(options)?),
     })
 }

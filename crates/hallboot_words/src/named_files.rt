@@ -1,9 +1,8 @@
 //! The files that a command line names, and those that come to stand beside them: each is another one.
 use crate::backup::{FROM, TO};
 use crate::common::DB;
-use crate::failure::{Failure, because};
+use crate::failure::{Failure, because, fault_of};
 use crate::import::{FILE, TOKEN_FILE};
-use crate::reading::fault_of;
 use crate::serve::{BACKUP, LOG};
 use command_rows::{OptionRow, Options};
 use hall_report::Fault;
@@ -32,35 +31,33 @@ const COPY: &[&str] = &[
 // A path of an option, and the ends of all files of its own.
 #[derive(Clone, Copy)]
 struct NamedFile<'a> {
-    row: OptionRow,
+    row: &'static OptionRow,
     path: &'a str,
     ends: &'static [&'static str],
 }
 
-fn push<'a>(
-    files: &mut Vec<NamedFile<'a>>,
-    options: &Options<'a>,
-    row: OptionRow,
-    ends: &'static [&'static str],
-) -> Result<(), AllocError> {
-    if let Some(path) = options.text(&row) {
-        files.push(NamedFile { row, path, ends })?;
-    }
-    Ok(())
-}
+// The options that name files, that of the hall first.
+static NAMED: [(OptionRow, &[&str]); 7] = [
+    (DB, HALL),
+    (LOG, ALONE),
+    (BACKUP, COPY),
+    (TO, COPY),
+    (FROM, HALL),
+    (FILE, ALONE),
+    (TOKEN_FILE, ALONE),
+];
 
-// All files of a command line, that of the hall first. A log at standard error is none.
+// All files of a command line. A log at standard error is none.
 fn named_files<'a>(options: &Options<'a>) -> Result<Vec<NamedFile<'a>>, AllocError> {
     let mut files = Vec::new(options.alloc());
-    push(&mut files, options, DB, HALL)?;
-    if options.text(&LOG) != Some("-") {
-        push(&mut files, options, LOG, ALONE)?;
+    for (row, ends) in &NAMED {
+        if let Some(path) = options.text(row)
+            && (row.name != LOG.name || path != "-")
+        {
+            let ends = *ends;
+            files.push(NamedFile { row, path, ends })?;
+        }
     }
-    push(&mut files, options, BACKUP, COPY)?;
-    push(&mut files, options, TO, COPY)?;
-    push(&mut files, options, FROM, HALL)?;
-    push(&mut files, options, FILE, ALONE)?;
-    push(&mut files, options, TOKEN_FILE, ALONE)?;
     Ok(files)
 }
 
@@ -74,30 +71,20 @@ fn identities(rt: &HostRuntime, file: &NamedFile<'_>) -> io::Result<Vec<FileIden
     Ok(found)
 }
 
-// The places of the first two that are one file.
-fn shared(ones: &[FileIdentity], others: &[FileIdentity]) -> Option<(usize, usize)> {
-    for (at, one) in ones.iter().enumerate() {
-        if let Some(other) = others.iter().position(|other| one.is_same(other)) {
-            return Some((at, other));
-        }
-    }
-    None
-}
-
 // Which file of an option is one of another option's.
 fn clash_of(
     rt: &HostRuntime,
     one: &NamedFile<'_>,
     other: &NamedFile<'_>,
 ) -> io::Result<Option<(&'static str, &'static str)>> {
-    let ones = identities(rt, one)?;
-    let others = identities(rt, other)?;
-    let Some((at, other_at)) = shared(&ones, &others) else {
-        return Ok(None);
-    };
-    let end = one.ends.get(at).copied().unwrap_or("");
-    let other_end = other.ends.get(other_at).copied().unwrap_or("");
-    Ok(Some((end, other_end)))
+    let (ones, others) = (identities(rt, one)?, identities(rt, other)?);
+    for (end, one) in one.ends.iter().zip(ones.as_slice()) {
+        let mut others = other.ends.iter().zip(others.as_slice());
+        if let Some((other_end, _)) = others.find(|other| one.is_same(other.1)) {
+            return Ok(Some((*end, *other_end)));
+        }
+    }
+    Ok(None)
 }
 
 fn clash_text(

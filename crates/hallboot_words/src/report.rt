@@ -1,7 +1,6 @@
 //! `report` and `export`: what a hall has is printed.
 use crate::common::{COMMON, DB};
-use command_rows::{CommandRow, OptionRow, Options, Shape, Wrong};
-use hall_report::What;
+use command_rows::{CommandRow, OptionRow, Shape};
 
 pub(crate) const WHAT: OptionRow = OptionRow {
     name: "what",
@@ -27,8 +26,3 @@ pub(crate) const EXPORT_ROW: CommandRow = CommandRow {
     options: &[DB],
     common: &COMMON,
 };
-
-/// What the report of `--what` is about.
-pub(crate) fn what(options: &Options<'_>) -> Result<What, Wrong> {
-    options.parse(&WHAT)
-}

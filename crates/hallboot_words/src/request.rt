@@ -1,5 +1,5 @@
 //! `request`: one request on standard input is answered.
-use crate::common::{AT, DB, WITH_PLACE, moment, place};
+use crate::common::{AT, DB, WITH_PLACE, place};
 use command_rows::{CommandRow, OptionRow, Options, Wrong};
 use hall_types::{Moment, Token};
 use pxe_vendor::Place;
@@ -30,13 +30,10 @@ pub struct Request {
 
 impl Request {
     pub(crate) fn read(options: &Options<'_>) -> Result<Request, Wrong> {
-        let moment = moment(options)?;
-        let fresh = options.parse(&FRESH)?;
-        let place = place(options)?;
         Ok(Request {
-            place,
-            moment,
-            fresh,
+            moment: options.parse(&AT)?,
+            fresh: options.parse(&FRESH)?,
+            place: place(options)?,
         })
     }
 }

@@ -153,47 +153,28 @@ impl BackupPlan {
     }
 }
 
-fn socket(options: &Options<'_>, row: &OptionRow) -> Result<SocketAddr, Wrong> {
-    options.parse(row)
-}
-
 fn log_format(options: &Options<'_>) -> Result<LogFormat, Wrong> {
     let times = [("seconds", LogFormat::Seconds), ("utc", LogFormat::Utc)];
     let time = options.choice(&LOG_TIME, &times)?;
     options.choice(&LOG_FORMAT, &[("text", time), ("json", LogFormat::Json)])
 }
 
-fn log(options: &Options<'_>) -> Result<Option<String>, Wrong> {
-    if options.is_given(&LOG) {
-        Ok(Some(owned(options, &LOG)?))
-    } else {
-        Ok(None)
-    }
-}
-
 impl Serving {
     pub(crate) fn read(options: &Options<'_>) -> Result<Serving, Wrong> {
-        let format = log_format(options)?;
-        let enlists = options.choice(&ENLIST, &[("yes", true), ("no", false)])?;
-        let turns = options.value(&TURNS, |text| count_of(text))?;
-        let discover = socket(options, &DISCOVER)?;
-        let boot = socket(options, &BOOT)?;
-        let http = socket(options, &HTTP)?;
-        let place = place(options)?;
-        let backup = BackupPlan::read(options)?;
-        let log = log(options)?;
-        let path = owned(options, &DB)?;
         Ok(Serving {
-            path,
-            place,
-            discover,
-            boot,
-            http,
-            log,
-            format,
-            enlists,
-            turns,
-            backup,
+            format: log_format(options)?,
+            enlists: options.choice(&ENLIST, &[("yes", true), ("no", false)])?,
+            turns: options.value(&TURNS, |text| count_of(text))?,
+            discover: options.parse(&DISCOVER)?,
+            boot: options.parse(&BOOT)?,
+            http: options.parse(&HTTP)?,
+            place: place(options)?,
+            backup: BackupPlan::read(options)?,
+            log: options
+                .text(&LOG)
+                .map(|_| owned(options, &LOG))
+                .transpose()?,
+            path: owned(options, &DB)?,
         })
     }
 

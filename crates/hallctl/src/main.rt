@@ -4,9 +4,10 @@
 mod finding;
 
 use command_rows::Wrong;
-use finding::desk;
-use hallctl_tasks::{Desk, Host, Session};
+use finding::{DeskFault, desk};
+use hallctl_tasks::{Desk, Host, Session, TaskFault};
 use hallctl_words::{Line, LineFault, Wish, completion, read};
+use std::fmt::Display;
 use std::process::ExitCode;
 use std::{env, io};
 
@@ -16,16 +17,18 @@ const FAULT: u8 = 1;
 // The exit status of wrong usage.
 const USAGE: u8 = 2;
 
-const NO_MEMORY: &str = "memory ran out";
-
 /// Why the program ends before its task is done.
 #[derive(Drop)]
 enum EarlyEnd {
     /// The line asks for nothing, or for help.
     Line(LineFault),
-    /// What it asks for can't be done, for this reason.
-    Misused(&'static str),
-    Fault(&'static str),
+    /// A word of the command line isn't UTF-8.
+    NotText,
+    /// It isn't known which desk is asked.
+    Desk(DeskFault),
+    /// The system's clock fails.
+    Clock,
+    Task(TaskFault),
 }
 
 impl EarlyEnd {
@@ -37,72 +40,56 @@ impl EarlyEnd {
                 usage.status()
             }
             EarlyEnd::Line(LineFault::Wrong(Wrong::Text(line))) => report(rt, line.as_str(), USAGE),
-            EarlyEnd::Line(_) => report(rt, NO_MEMORY, FAULT),
-            EarlyEnd::Misused(words) => report(rt, words, USAGE),
-            EarlyEnd::Fault(words) => report(rt, words, FAULT),
+            EarlyEnd::Line(_) => report(rt, TaskFault::Memory, FAULT),
+            EarlyEnd::NotText => report(rt, "a word of the command line isn't UTF-8", USAGE),
+            EarlyEnd::Desk(fault) => report(rt, *fault, USAGE),
+            EarlyEnd::Clock => report(rt, "the system's clock fails", FAULT),
+            EarlyEnd::Task(fault) => report(rt, *fault, FAULT),
         }
     }
 }
 
-fn report(rt: &HostRuntime, words: &str, status: u8) -> u8 {
+fn report(rt: &HostRuntime, words: impl Display + Drop, status: u8) -> u8 {
     let _ = eprintln!(rt; "hallctl: {words}");
     status
 }
 
 // The words of the command line.
 fn given(rt: &HostRuntime) -> io::Result<Vec<String>> {
-    let mut words = Vec::new(rt.alloc());
-    for word in env::args(rt)? {
-        words.push(word)?;
-    }
-    Ok(words)
+    Ok(env::args(rt)?.collect(rt.alloc())?)
 }
 
 // Prints the completion of command lines for bash.
-fn complete(rt: &HostRuntime) -> Result<u8, EarlyEnd> {
-    let Ok(text) = completion(rt.alloc()) else {
-        return Err(EarlyEnd::Fault(NO_MEMORY));
-    };
-    match print!(rt; "{text}") {
-        Ok(()) => Ok(0),
-        Err(_) => Err(EarlyEnd::Fault("standard output can't be written")),
-    }
+fn complete(rt: &HostRuntime) -> Result<u8, TaskFault> {
+    let text = completion(rt.alloc()).map_err(|_| TaskFault::Memory)?;
+    print!(rt; "{text}").map_err(|_| TaskFault::Output)?;
+    Ok(0)
 }
 
 fn ask(rt: &HostRuntime, desk: &Desk, line: &Line<'_>) -> Result<u8, EarlyEnd> {
-    let Some(mut host) = Host::new(rt, &desk.address) else {
-        return Err(EarlyEnd::Fault("the system's clock fails"));
-    };
+    let mut host = Host::new(rt, &desk.address).ok_or(EarlyEnd::Clock)?;
     let mut session = Session {
         alloc: rt.alloc(),
         surroundings: &mut host,
         desk,
         line,
     };
-    match session.carry_out() {
-        Ok(end) => Ok(end.status()),
-        Err(fault) => Err(EarlyEnd::Fault(fault.words())),
-    }
+    let end = session.carry_out().map_err(EarlyEnd::Task)?;
+    Ok(end.status())
 }
 
 fn carry_out(rt: &HostRuntime, line: &Line<'_>) -> Result<u8, EarlyEnd> {
     if matches!(line.wish, Wish::Completion) {
-        return complete(rt);
+        return complete(rt).map_err(EarlyEnd::Task);
     }
-    match desk(rt, line) {
-        Ok(desk) => ask(rt, &desk, line),
-        Err(fault) => Err(EarlyEnd::Misused(fault.words())),
-    }
+    let desk = desk(rt, line).map_err(EarlyEnd::Desk)?;
+    ask(rt, &desk, line)
 }
 
 fn run(rt: &HostRuntime) -> Result<u8, EarlyEnd> {
-    let Ok(words) = given(rt) else {
-        return Err(EarlyEnd::Misused("a word of the command line isn't UTF-8"));
-    };
-    match read(rt.alloc(), words.as_slice()) {
-        Ok(line) => carry_out(rt, &line),
-        Err(fault) => Err(EarlyEnd::Line(fault)),
-    }
+    let words = given(rt).map_err(|_| EarlyEnd::NotText)?;
+    let line = read(rt.alloc(), words.as_slice()).map_err(EarlyEnd::Line)?;
+    carry_out(rt, &line)
 }
 
 fn main(rt: HostRuntime) -> ExitCode {

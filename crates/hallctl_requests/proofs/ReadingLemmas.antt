@@ -1,8 +1,6 @@
 -- What a complete head says of all octets.
 use Rattle.std.{proofs.{Common.{◌≡◌, ◌++◌, ℕ, List, length, take, drop, map, Result, Ok, Err, ap, sym, ◌∙◌, arith}, lemmas.List.take-append-drop}, specs.Prelude.IfOk}
-use Rattle.httparse.specs.{Grammar.status_code, Spans.{header_bytes, name_and_value}, declared.spans.{HeaderSpan.HeaderSpan, ResponseSpans.ResponseSpans}}
-use Rattle.hall_http.specs.{Fields.FieldPair, Request.front}
-use Rattle.hallctl_requests.specs.{declared.response.{Response.Response, ResponseFault.ResponseFault}, Response.{HasHead, IsReading, answer_of}}
+use Rattle.hallctl_requests.specs.{Prelude.{status_code, header_bytes, name_and_value, HeaderSpan, ResponseSpans, FieldPair, front}, declared.response.{Response.Response, ResponseFault.ResponseFault}, Response.{HasHead, IsReading, answer_of}}
 
 pub head_reads : (octets after : List ℕ) (headers : List HeaderSpan) (spans : ResponseSpans) (result : Result (ℕ × List ℕ) ResponseFault)
     → HasHead (front octets) headers spans → length headers ≡ 64 → after ≡ drop spans.len octets

@@ -1,10 +1,8 @@
 -- Laws of the fields that a client sends: the desk reads the body's length and the token's digest in them.
 use Rattle.std.{proofs.{Common.{◌≡◌, ◌<◌, ◌≤◌, ◌^◌, ℕ, Bool, true, false, List, [], ◌∷◌, ◌++◌, Some, map, length, reverse, refl, sym, ap, ◌∙◌, arith, append-nil}, lemmas.{Bool.{and_parts, and_from, le-leb, leb-true, or_from, false_from_ne_true, eqb-true, cond-false}, Fmt.decimal_nonempty, List.{length-reverse, reverse-append, Sums.{AllPass-from_list_all, list_all-from_AllPass}}}}, specs.{Prelude.{codes, decimal, nat_le, ◌&&◌, ◌==◌, Ok}, List.list_all, Char.is_ascii_digit}}
-use Rattle.httparse.{specs.{Grammar.{is_ows, skip_ows, trim_ows, is_value_byte}, Spans.name_and_value}, proofs.TrimLemmas.{trim_ows_space, AllPass-reverse}}
-use Rattle.sha2.specs.Sha256.{sha256}
-use Rattle.hall_events.specs.{Command.request_text, declared.command.HallCommand.HallCommand}
-use Rattle.hall_http.specs.{Answer.◌>>=◌, Fields.{is_visible, length_of, within_limit, body_length, bearer_digest, bearer}, DecimalLaws.{digits-decimal, length_is}}
-use Rattle.hallctl_requests.specs.Request.{Question, command, fields_of, IsBearerToken}
+use Rattle.httparse.proofs.TrimLemmas.{trim_ows_space, AllPass-reverse}
+use Rattle.hall_http.specs.DecimalLaws.{digits-decimal, length_is}
+use Rattle.hallctl_requests.specs.{Prelude.{is_ows, skip_ows, trim_ows, is_value_byte, name_and_value, sha256, request_text, HallCommand, ◌>>=◌, is_visible, length_of, within_limit, body_length, bearer_digest, bearer}, Request.{Question, command, fields_of, IsBearerToken}}
 
 -- ---- tests of each octet
 

@@ -1,11 +1,9 @@
 -- Laws of the head that a client sends: it is a head of at most 8,192 octets with at most 64 fields.
 use Rattle.std.{proofs.{Common.{◌≡◌, ◌+◌, ◌-◌, ◌<◌, ◌≤◌, ◌^◌, ℕ, suc, true, List, [], ◌∷◌, ◌++◌, length, refl, ap, ◌∙◌, arith, length-append, lit<, lit≤}, lemmas.{Bool.{and_parts, leb-true, lt-ltb, false_from_ne_true, eqb-true}, Fmt.{length-decimal-le, IsAscii-decimal}, List.{Elements.All-from_recursion, Sums.AllPass-from_list_all}, Str.{IsUtf8-from_ascii, IsUtf8-append}}, Math.Seq.{take-append-add, drop-append_seam}}, specs.{Prelude.{codes, decimal, take, nat_le, ◌==◌, flat_map, All, IsUtf8}, List.{AllByRecursion, list_all}}}
 use Rattle.json.proofs.Printed.Utf8.{IsUtf8-are_ascii}
-use Rattle.httparse.specs.Grammar.{Field, IsField, IsRequestHead, ReadsRequest, IsToken, print_request, print_field, is_token_byte, is_uri_byte, is_value_byte}
-use Rattle.hall_types.specs.Number.{IsNumber}
-use Rattle.hall_events.specs.Command.{request_text}
-use Rattle.hall_http.specs.{SizeLaws.short-request_text, Request.{front, after_head}, Fields.is_visible}
-use Rattle.hallctl_requests.specs.{FieldLaws.{visible_text, visible_is_value, visible-decimal, list_all_so}, Request.{Question, machines, machine, orders, command, IsAuthority, IsBearerToken, field, body_fields, fields_of, method_of, target_of, head_of, body_of, request_of}, Sendable.IsSendable}
+use Rattle.httparse.specs.Grammar.{print_request, is_token_byte}
+use Rattle.hall_http.specs.BodyLaws.{short-request_text}
+use Rattle.hallctl_requests.specs.{Prelude.{Field, IsField, IsRequestHead, ReadsRequest, IsToken, print_field, is_uri_byte, is_value_byte, IsNumber, request_text, front, after_head, is_visible}, FieldLaws.{visible_text, visible_is_value, visible-decimal, list_all_so}, Request.{Question, machines, machine, orders, command, IsAuthority, IsBearerToken, IsSendable, field, body_fields, fields_of, method_of, target_of, head_of, body_of, request_of}}
 
 -- ---- the parts of the head
 
@@ -16,7 +14,7 @@ visible_is_uri b h =
     let high = leb-true b 126 parts.1 in
     rw (lt-ltb 32 b (omega (arith, low)), false_from_ne_true (b == 127) (λ e. omega (arith, high, eqb-true b 127 e))) refl
 
-pub value_passes : (text : List ℕ) → list_all is_visible text ≡ true → list_all is_value_byte text ≡ true
+value_passes : (text : List ℕ) → list_all is_visible text ≡ true → list_all is_value_byte text ≡ true
 value_passes text h = list_all_so is_visible is_value_byte visible_is_value text h
 
 -- a field whose name is a token and whose value has no control octets
@@ -26,37 +24,33 @@ field_is name value some token passes = record {
   raw = AllPass-from_list_all is_value_byte (32 ∷ value) passes;
 }
 
-host_is : (authority : List ℕ) → IsAuthority authority → IsField (field (codes "Host") authority)
-unfolding is_token_byte
-host_is authority h = field_is (codes "Host") authority (lit< tt) refl (value_passes authority (visible_text 255 authority h).visible)
-
-bearer_field_is : (token : List ℕ) → IsBearerToken token → IsField (field (codes "Authorization") (codes "Bearer " ++ token))
-unfolding is_token_byte
-bearer_field_is token h = field_is (codes "Authorization") (codes "Bearer " ++ token) (lit< tt) refl (value_passes token (visible_text 128 token h).visible)
-
-close_is : IsField (field (codes "Connection") (codes "close"))
+pub close_is : IsField (field (codes "Connection") (codes "close"))
 unfolding is_token_byte
 close_is = field_is (codes "Connection") (codes "close") (lit< tt) refl refl
 
-type_is : IsField (field (codes "Content-Type") (codes "application/json"))
-unfolding is_token_byte
-type_is = field_is (codes "Content-Type") (codes "application/json") (lit< tt) refl refl
-
-length_is : (n : ℕ) → n < 2 ^ 64 → IsField (field (codes "Content-Length") (decimal n))
+pub length_is : (n : ℕ) → n < 2 ^ 64 → IsField (field (codes "Content-Length") (decimal n))
 unfolding is_token_byte
 length_is n h = field_is (codes "Content-Length") (decimal n) (lit< tt) refl (value_passes (decimal n) (visible-decimal n h))
 
 body_fields_are : (question : Question) → IsSendable question → AllByRecursion IsField (body_fields question)
-body_fields_are (command key c) h =
-    let size = length (request_text key c) in
-    (type_is, (length_is size (omega (arith, short-request_text key c h.whole h.parts)), tt))
+unfolding is_token_byte
+body_fields_are (command key c) h = (
+  field_is (codes "Content-Type") (codes "application/json") (lit< tt) refl refl,
+  (length_is (length (request_text key c)) (omega (arith, short-request_text key c h.whole h.parts)), tt),
+)
 body_fields_are other h = tt
 
 fields_are : (authority token : List ℕ) (question : Question) → IsAuthority authority → IsBearerToken token → IsSendable question
     → All IsField (fields_of authority token question)
+unfolding is_token_byte
 fields_are authority token question a t h =
-    All-from_recursion IsField (fields_of authority token question)
-    (host_is authority a, (bearer_field_is token t, (close_is, body_fields_are question h)))
+    All-from_recursion IsField (fields_of authority token question) (
+      field_is (codes "Host") authority (lit< tt) refl (value_passes authority (visible_text 255 authority a).visible),
+      (
+        field_is (codes "Authorization") (codes "Bearer " ++ token) (lit< tt) refl (value_passes token (visible_text 128 token t).visible),
+        (close_is, body_fields_are question h),
+      ),
+    )
 
 method_is : (question : Question) → IsToken (method_of question)
 unfolding is_token_byte
@@ -122,26 +116,6 @@ length-head first second third fields =
     counted : (a b c f one two three section : ℕ) → one ≡ a + suc b → two ≡ one + suc c → three ≡ two + 2 → section ≡ f + 2 → three + section ≡ a + b + c + f + 6
     counted a b c f one two three section h i j k = omega arith
 
--- what the fields of each request take
-common_fields : (authority token : List ℕ) (more : List Field) → length authority ≤ 255 → length token ≤ 128 → length (flat_map print_field more) ≤ 200
-    → length (flat_map print_field (field (codes "Host") authority ∷ field (codes "Authorization") (codes "Bearer " ++ token) ∷ field (codes "Connection") (codes "close") ∷ more)) ≤ 1000
-common_fields authority token more a t m =
-    let host = field (codes "Host") authority in
-    let bearer = field (codes "Authorization") (codes "Bearer " ++ token) in
-    let close = field (codes "Connection") (codes "close") in
-    omega (
-      arith,
-      a,
-      t,
-      m,
-      length-fields host (bearer ∷ close ∷ more),
-      length-fields bearer (close ∷ more),
-      length-fields close more,
-      length-field (codes "Host") authority,
-      length-field (codes "Authorization") (codes "Bearer " ++ token),
-      length-field (codes "Connection") (codes "close"),
-    )
-
 body_fields_fit : (question : Question) → IsSendable question → length (flat_map print_field (body_fields question)) ≤ 200
 body_fields_fit (command key c) h =
     let n = length (request_text key c) in
@@ -161,7 +135,22 @@ body_fields_fit other h = lit≤ tt
 fields_fit : (authority token : List ℕ) (question : Question) → IsAuthority authority → IsBearerToken token → IsSendable question
     → length (flat_map print_field (fields_of authority token question)) ≤ 1000
 fields_fit authority token question a t h =
-    common_fields authority token (body_fields question) (visible_text 255 authority a).few (visible_text 128 token t).few (body_fields_fit question h)
+    let host = field (codes "Host") authority in
+    let bearer = field (codes "Authorization") (codes "Bearer " ++ token) in
+    let close = field (codes "Connection") (codes "close") in
+    let more = body_fields question in
+    omega (
+      arith,
+      (visible_text 255 authority a).few,
+      (visible_text 128 token t).few,
+      body_fields_fit question h,
+      length-fields host (bearer ∷ close ∷ more),
+      length-fields bearer (close ∷ more),
+      length-fields close more,
+      length-field (codes "Host") authority,
+      length-field (codes "Authorization") (codes "Bearer " ++ token),
+      length-field (codes "Connection") (codes "close"),
+    )
 
 method_fits : (question : Question) → length (method_of question) ≤ 4
 method_fits (command key c) = lit≤ tt

@@ -1,4 +1,4 @@
-pub mod Ask
+pub mod Prelude
 pub mod FieldLaws
 pub mod HeadLaws
 pub mod PartLaws
@@ -6,4 +6,3 @@ pub mod Request
 pub mod RequestLaws
 pub mod Response
 pub mod ResponseLaws
-pub mod Sendable

@@ -1,8 +1,7 @@
 -- Laws of requests part by part: the parts that are written one after another are the whole.
 use Rattle.std.{proofs.Common.{◌≡◌, ℕ, List, [], ◌++◌, length, refl, ap, ◌∙◌, append_assoc, append-nil}, specs.Prelude.{codes, decimal, flat_map}}
-use Rattle.httparse.specs.Grammar.{print_request, print_field}
-use Rattle.hall_events.specs.{Command.request_text, declared.command.HallCommand.HallCommand}
-use Rattle.hallctl_requests.specs.Request.{Question, machines, machine, orders, command, body_fields, body_of, fields_of, method_of, target_of, request_of, request_line, field_line, common_lines, get_of, post_of}
+use Rattle.httparse.specs.Grammar.{print_request}
+use Rattle.hallctl_requests.specs.{Prelude.{print_field, request_text, HallCommand}, Request.{Question, machines, machine, orders, command, body_fields, body_of, fields_of, method_of, target_of, request_of, request_line, field_line, common_lines, get_of, post_of}}
 
 three_then : (x y z more rest : List ℕ) → (x ++ (y ++ (z ++ more))) ++ rest ≡ (x ++ (y ++ z)) ++ (more ++ rest)
 three_then x y z more rest = simp append_assoc

@@ -1,10 +1,9 @@
 -- Requests of an operator's client and the events that they make (RFC 9112 sections 3 and 5; RFC 9110 sections 7.2, 8.3, 8.6 and 9.3; RFC 6750 section 2.1).
-use Rattle.std.specs.{Prelude.{ℕ, List, [], ◌∷◌, ◌++◌, Some, codes, decimal, length, nat_le, ◌&&◌, IsTrue}, List.list_all}
-use Rattle.httparse.specs.Grammar.{Field, RequestHead, crlf, print_request}
-use Rattle.sha2.specs.Sha256.{sha256}
-use Rattle.hall_events.specs.{Command.request_text, declared.{command.HallCommand.HallCommand, event.Event.Event}}
+use Rattle.std.specs.{Prelude.{ℕ, List, [], ◌∷◌, ◌++◌, Some, Bool, false, not, codes, decimal, length, nat_le, ◌&&◌, IsTrue}, List.list_all}
+use Rattle.httparse.specs.Grammar.{print_request}
 use Rattle.hall_events.specs.declared.event.Event.TheVariants as event
-use Rattle.hall_http.specs.Fields.{is_visible}
+use Rattle.hallctl_requests.specs.{Prelude.{Field, RequestHead, crlf, sha256, request_text, HallCommand, Event, IsNumber, is_visible, IsSendableCommand, is_identified}, declared.requests.Ask.Ask}
+use Rattle.hallctl_requests.specs.declared.requests.Ask.TheVariants as ask
 
 -- what is asked of the desk: the list of machines, one machine, the waiting orders, or a command with the key of its request
 pub data Question : Type 0 where
@@ -12,6 +11,25 @@ pub data Question : Type 0 where
   machine : ℕ → Question
   orders : Question
   command : List ℕ → HallCommand → Question
+
+-- what an `Ask` asks
+abbrev pub asked : Ask → Question
+asked ask.Machines = machines
+asked (ask.Machine id) = machine id
+asked ask.Orders = orders
+asked (ask.Command key c) = command key c.now
+
+-- a command would bring a UUID that identifies no machine
+abbrev pub brings_blank : Question → Bool
+brings_blank (command key c) = not (is_identified c)
+brings_blank other = false
+
+-- the desk reads it as what was meant: a machine has a number, and a command can be brought by a request
+abbrev pub IsSendable : Question → Type 0
+IsSendable machines = Unit {0}
+IsSendable (machine id) = IsNumber id
+IsSendable orders = Unit {0}
+IsSendable (command key c) = IsSendableCommand key c
 
 -- 1 to so many visible characters
 abbrev pub IsVisibleText : ℕ → List ℕ → Type 0

@@ -1,10 +1,9 @@
 -- Laws of requests: the desk reads each as the event that was meant, and no two are equal.
 use Rattle.std.{proofs.Common.{◌≡◌, ℕ, List, [], map, refl, sym, ap, subst, ◌∙◌}, specs.{Prelude.{Result, Ok}, Result.result_unwrap_or}}
-use Rattle.httparse.{specs.{Grammar.{RequestHead, ReadsRequest}, Spans.name_and_value}, proofs.GrammarLemmas.request_unique}
-use Rattle.hall_events.specs.declared.event.Event.{Event}
+use Rattle.httparse.proofs.GrammarLemmas.{request_unique}
 use Rattle.hall_events.specs.declared.event.Event.TheVariants as event
-use Rattle.hall_http.specs.{SizeLaws.short-request_text, declared.fault.HttpFault.HttpFault, Answer.Answers, Event.event_of_parts, EventLaws.{command_event, machines_event, machine_event, orders_event}, Request.{IsEvent, after_head, of_head, front}}
-use Rattle.hallctl_requests.specs.{FieldLaws.{body_length_is, bearer_is}, HeadLaws.{reads_head, after_head_is, few_fields}, Request.{Question, machines, machine, orders, command, IsAuthority, IsBearerToken, fields_of, method_of, target_of, head_of, body_of, request_of, event_of}, Sendable.IsSendable}
+use Rattle.hall_http.specs.{BodyLaws.short-request_text, EventLaws.{command_event, machines_event, machine_event, orders_event}}
+use Rattle.hallctl_requests.specs.{Prelude.{RequestHead, ReadsRequest, name_and_value, Event, HttpFault, Answers, event_of_parts, IsEvent, after_head, of_head, front}, FieldLaws.{body_length_is, bearer_is}, HeadLaws.{reads_head, after_head_is, few_fields}, Request.{Question, machines, machine, orders, command, IsAuthority, IsBearerToken, IsSendable, fields_of, method_of, target_of, head_of, body_of, request_of, event_of}}
 
 -- ---- each request
 

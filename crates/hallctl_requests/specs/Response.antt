@@ -1,9 +1,7 @@
 -- How a client reads the octets that the desk sent until it closed the connection (RFC 9112 sections 4 and 6; RFC 9110 section 8.6).
 use Rattle.std.specs.{Prelude.{◌≡◌, ◌<◌, ◌≤◌, ◌⊎◌, ℕ, List, Option, Some, None, Result, Ok, Err, Bool, codes, length, map, drop, nat_eq, nat_le, nat_lt, ◌&&◌, if◌then◌else◌}, List.list_all, Char.is_ascii_digit}
-use Rattle.httparse.specs.{Grammar.{ResponseHead, ReadsResponse, MayBecomeResponse, NeverHasResponse, print_response, status_code}, Spans.{ResponseExceeds, IsResponseAt, IsResponseWithin, name_and_value}, declared.spans.{HeaderSpan.HeaderSpan, ResponseSpans.ResponseSpans}}
-use Rattle.hall_http.specs.{Fields.{FieldPair, count, first_value}, Request.front}
-use Rattle.pxe_vendor.specs.Digits.{decimal_value}
-use Rattle.hallctl_requests.specs.declared.{response.{Response.Response, ResponseFault.{ResponseFault, TheVariants.{NotHttp, Cut, TooLong}}}, head.Look.{Look, TheVariants.{Head, Open, Many, Never}}}
+use Rattle.httparse.specs.Grammar.{print_response}
+use Rattle.hallctl_requests.specs.{Prelude.{ResponseHead, ReadsResponse, MayBecomeResponse, NeverHasResponse, status_code, ResponseExceeds, IsResponseAt, IsResponseWithin, name_and_value, HeaderSpan, ResponseSpans, FieldPair, count, first_value, front, decimal_value}, declared.response.{Look.{Look, TheVariants.{Head, Open, Many, Never}}, Response.Response, ResponseFault.{ResponseFault, TheVariants.{NotHttp, Cut, TooLong}}}}
 
 -- ---- a complete head
 

@@ -1,19 +1,10 @@
 -- Laws of responses: a client reads what the desk writes as its status and its body.
 use Rattle.std.{proofs.{Common.{◌≡◌, ◌-◌, ◌<◌, ◌≤◌, ◌^◌, ℕ, Bool, true, false, List, [], ◌∷◌, ◌++◌, Some, map, length, refl, ap, subst, ◌∙◌, arith, append_assoc, append-nil, lit≤, lit<}, lemmas.{Bool.{and_parts, le-leb, leb-true, eqb-true, false_from_ne_true, ltb-true}, Fmt.{decimal_nonempty, decimal_is_IsNumeral, length-decimal-le}, List.{Elements.All-from_recursion, Sums.AllPass-from_list_all}}, Math.Seq.drop-append_seam}, specs.{Prelude.{codes, decimal, drop, take, flat_map, nat_le, nat_lt, ◌&&◌, ◌||◌, ◌==◌, All, Result, Ok}, Fmt.digits, List.{list_all, list_any}, Char.is_ascii_digit}}
-use Rattle.httparse.specs.{Grammar.{Field, ResponseHead, IsField, IsResponseHead, ReadsResponse, crlf, print_response, print_field, status_code, is_token_byte, is_value_byte}, Spans.name_and_value}
-use Rattle.hall_events.specs.declared.reply.BodyKind.{BodyKind, TheVariants.{Text, Json}}
-use Rattle.hall_http.specs.{Response.{IsStatus, statuses, phrase_of, kind_text, status_line, type_line, length_line, last_lines, response}, DecimalLaws.{digits-decimal, decimal_value-decimal}, Request.front}
-use Rattle.hallctl_requests.specs.{FieldLaws.{trims_decimal, visible-decimal}, HeadLaws.{field_is, value_passes, front_of, length-field, length-fields, length-head}, Request.field, Response.{IsReading, answer_of, size_of, sized}, declared.response.ResponseFault.ResponseFault}
+use Rattle.httparse.specs.Grammar.{print_response, is_token_byte}
+use Rattle.hall_http.specs.{Response.{phrase_of, kind_text, status_line, type_line, length_line, last_lines}, DecimalLaws.{digits-decimal, decimal_value-decimal}}
+use Rattle.hallctl_requests.specs.{Prelude.{Field, ResponseHead, IsField, IsResponseHead, ReadsResponse, crlf, print_field, status_code, is_value_byte, name_and_value, BodyKind, Text, Json, IsStatus, statuses, response, front}, FieldLaws.trims_decimal, HeadLaws.{close_is, field_is, length_is, front_of, length-field, length-fields, length-head}, Request.field, Response.{IsReading, answer_of, size_of, sized}, declared.response.ResponseFault.ResponseFault}
 
 -- ---- the statuses
-
--- a status has three digits, and its phrase has no control octets
-is_good : ℕ → Bool
-is_good status = (length (decimal status) == 3) && list_all is_value_byte (phrase_of status) && nat_le (length (phrase_of status)) 40 && nat_lt status 1000
-
-good_statuses : list_all is_good statuses ≡ true
-unfolding is_good phrase_of digits
-good_statuses = refl
 
 one_of : (test : ℕ → Bool) (status : ℕ) (all : List ℕ) → list_any (λ one. one == status) all ≡ true → list_all test all ≡ true → test status ≡ true
 one_of test status [] h g = absurd cc
@@ -26,6 +17,7 @@ one_of test status (one ∷ all) h g =
     by true e h t later g = subst (λ (n : ℕ). test n ≡ true) (eqb-true one status e) t
     by false e h t later g = later h g
 
+-- a status has three digits, and its phrase has no control octets
 record IsGood (status : ℕ) : Type 0 where
   three : length (decimal status) ≡ 3
   phrase : list_all is_value_byte (phrase_of status) ≡ true
@@ -33,18 +25,13 @@ record IsGood (status : ℕ) : Type 0 where
   small : status < 1000
 
 status_is : (status : ℕ) → IsStatus status → IsGood status
-unfolding is_good
-status_is status h =
-    let all = one_of is_good status statuses h good_statuses in
-    let last = and_parts ((length (decimal status) == 3) && list_all is_value_byte (phrase_of status) && nat_le (length (phrase_of status)) 40) (nat_lt status 1000) all in
-    let third = and_parts ((length (decimal status) == 3) && list_all is_value_byte (phrase_of status)) (nat_le (length (phrase_of status)) 40) last.0 in
-    let second = and_parts (length (decimal status) == 3) (list_all is_value_byte (phrase_of status)) third.0 in
-    record {
-      three = eqb-true (length (decimal status)) 3 second.0;
-      phrase = second.1;
-      few = leb-true (length (phrase_of status)) 40 third.1;
-      small = ltb-true status 1000 last.1;
-    }
+unfolding phrase_of digits
+status_is status h = record {
+  three = eqb-true (length (decimal status)) 3 (one_of (λ n. length (decimal n) == 3) status statuses h refl);
+  phrase = one_of (λ n. list_all is_value_byte (phrase_of n)) status statuses h refl;
+  few = leb-true (length (phrase_of status)) 40 (one_of (λ n. nat_le (length (phrase_of n)) 40) status statuses h refl);
+  small = ltb-true status 1000 (one_of (λ n. nat_lt n 1000) status statuses h refl);
+}
 
 -- ---- the head
 
@@ -78,10 +65,7 @@ unfolding is_token_byte
 fields_are kind body h =
     All-from_recursion IsField (fields_of kind body) (
       field_is (codes "Content-Type") (kind_text kind) (lit< tt) refl (kind_passes kind),
-      (
-        field_is (codes "Content-Length") (decimal (length body)) (lit< tt) refl (value_passes (decimal (length body)) (visible-decimal (length body) h)),
-        (field_is (codes "Connection") (codes "close") (lit< tt) refl refl, tt),
-      ),
+      (length_is (length body) h, (close_is, tt)),
     )
 
 head_is : (status : ℕ) (kind : BodyKind) (body : List ℕ) → IsGood status → length body < 2 ^ 64 → IsResponseHead (head_of status kind body)

@@ -1,8 +1,6 @@
 //! What holds of requests.
 ghost use Rattle.std.specs.Prelude.{◌≡◌, ◌↔◌, ℕ, List, Ok, Result};
-ghost use Rattle.hall_events.specs.declared.event.Event.{Event};
-ghost use Rattle.hall_http.specs.{declared.fault.HttpFault.HttpFault, Answer.Answers, Request.IsEvent};
-ghost use Rattle.hallctl_requests.specs.{Request.{Question, IsAuthority, IsBearerToken, event_of, request_of}, Sendable.IsSendable};
+ghost use Rattle.hallctl_requests.specs.{Prelude.{Event, HttpFault, Answers, IsEvent}, Request.{Question, IsAuthority, IsBearerToken, IsSendable, event_of, request_of}};
 
 /// Law: requests of one client have equal octets if and only if they ask the same, and the desk reads each as
 /// what it asks.

@@ -1,14 +1,10 @@
-//! The octets of requests.
+//! What is asked of the desk, and the octets of requests.
 ghost use Rattle.std.specs.Prelude.{◌≡◌, ◌++◌, ◌↔◌, false, codes, decimal, length, string_bytes, IfOk, OnOk, IsErrOf, IsTrue, Result, Ok};
-ghost use Rattle.hall_http.specs.{Answer.Answers, Request.IsEvent, declared.fault.HttpFault.HttpFault, Sendable.{IsSendableCommand, is_identified}};
-ghost use Rattle.hall_events.specs.{declared.event.Event.Event, Command.request_text};
-ghost use Rattle.hall_types.specs.Number.{IsNumber};
-ghost use Rattle.hallctl_requests.specs.{Ask.{asked, brings_blank}, Request.{body_part, common_lines, event_of, field_line, get_of, post_of, request_line, request_of}, Sendable.IsSendable};
+ghost use Rattle.hallctl_requests.specs.{Prelude.{Answers, IsEvent, HttpFault, IsSendableCommand, is_identified, Event, request_text, IsNumber}, Request.{IsSendable, asked, body_part, brings_blank, common_lines, event_of, field_line, get_of, post_of, request_line, request_of}};
 
-use crate::ask::Ask;
 use crate::checked_text::{Authority, BearerToken};
-use crate::sendable::{has_parts, is_identified};
 use hall_events::HallCommand;
+use hall_http::{has_parts, is_identified};
 use hall_types::{Number, RequestKey};
 use itoa::Buffer;
 use std::alloc::{AllocError, Global};
@@ -16,6 +12,22 @@ use thiserror::Error;
 
 /// Room for the octets of a request's head.
 const HEAD_ROOM: usize = 768;
+
+/// What is asked of the desk.
+#[derive(Clone, Copy)]
+pub enum Ask<'c> {
+    /// The list of machines.
+    Machines,
+    /// The machine with this number.
+    Machine(Number),
+    /// The waiting orders.
+    Orders,
+    /// To carry out a command, at most once for its key.
+    Command {
+        key: RequestKey,
+        command: &'c HallCommand,
+    },
+}
 
 /// Why a request can't be made.
 #[derive(Clone, Copy, Debug, PartialEq, Eq, Error)]

@@ -1,13 +1,10 @@
 //! Responses of the desk.
 ghost use Rattle.std.specs.{Prelude.{◌≡◌, ◌<◌, ◌^◌, ◌++◌, ℕ, List, Ok, IfOk, length, map, All, option_copied}, Result.result_map_both};
-ghost use Rattle.httparse.specs.Spans.{IsHeaderWithin, header_bytes};
-ghost use Rattle.hall_events.specs.declared.reply.BodyKind.{BodyKind};
-ghost use Rattle.hall_http.specs.Response.{IsStatus, response};
-ghost use Rattle.hallctl_requests.specs.Response.{IsReading, answer_of, body_of, has_one_size, is_size, said, said_size, size_of, sized};
+ghost use Rattle.hallctl_requests.specs.{Prelude.{IsHeaderWithin, header_bytes, BodyKind, IsStatus, response}, Response.{FindsHead, IsReading, answer_of, body_of, has_one_size, is_size, said, said_size, size_of, sized}};
 
-use crate::head::{Look, MAX_FIELDS, MAX_HEAD_LEN, look_for_head};
 use hall_http::{count, first_value, prefix, suffix};
-use httparse::spans::{EMPTY_HEADER_SPAN, HeaderSpan};
+use httparse::spans::{EMPTY_HEADER_SPAN, HeaderSpan, ResponseSpans, parse_response};
+use httparse::{Error as HeadError, Status};
 use pxe_vendor::{are_digits, decimal};
 use thiserror::Error;
 
@@ -33,6 +30,37 @@ pub enum ResponseFault {
     /// The first 8,192 octets don't complete the head, or it has more than 64 fields.
     #[error("the head of the answer is too long")]
     TooLong = 3,
+}
+
+/// The maximum number of a head's octets.
+const MAX_HEAD_LEN: usize = 8192;
+
+/// The maximum number of a head's fields.
+const MAX_FIELDS: usize = 64;
+
+/// What octets begin with.
+#[derive(Clone, Copy)]
+pub(crate) enum Look {
+    /// A head.
+    Head(ResponseSpans),
+    /// No head, which more octets may complete.
+    Open,
+    /// No head of so few fields.
+    Many,
+    /// No head, whatever follows.
+    Never,
+}
+
+/// Looks for a head at the front of the octets, and puts its fields into `room`.
+fn look_for_head(octets: &[u8], room: &mut [HeaderSpan]) -> Look
+    ensures { FindsHead octets.now (length room.old) room.new result }
+{
+    match parse_response(octets, room) {
+        Ok(Status::Complete(spans)) => Look::Head(spans),
+        Ok(Status::Partial) => Look::Open,
+        Err(HeadError::TooManyHeaders) => Look::Many,
+        Err(_) => Look::Never,
+    }
 }
 
 fn is_size(text: &[u8]) -> bool

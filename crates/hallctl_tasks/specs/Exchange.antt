@@ -1,5 +1,5 @@
 -- What an exchange with the desk sends, and what it makes known.
-use Rattle.std.specs.Prelude.{◌≡◌, ℕ, Bool, List, Option, Result, Ok, Err, if◌then◌else◌, ◌==◌, ◌||◌}
+use Rattle.std.specs.Prelude.{◌≡◌, ℕ, Bool, List, Option, Result, Ok, Err, drop, if◌then◌else◌, ◌==◌, ◌||◌}
 use Rattle.hallctl_requests.specs.{declared.response.ResponseFault.{ResponseFault, TheVariants.{Cut, NotHttp, TooLong}}, Response.IsReading}
 use Rattle.hallctl_tasks.specs.{Hearing.Hearing, Try.{Came, Octets, Endless, Silence, NoConnection, Try, adds}, declared.{dial.Why.Why, answer.Exchanged.{Exchanged, TheVariants.{Answered, NotTheDesk, Unknown, Unsent}}}}
 
@@ -8,6 +8,11 @@ pub data Known : Type 0 where
   Heard : Hearing → Known
   Foreign : Known
   Unheard : Known
+
+-- the status and the body of a response by where its body begins
+abbrev pub seen : List ℕ → Result (ℕ × ℕ) ResponseFault → Result (ℕ × List ℕ) ResponseFault
+seen octets (Ok found) = Ok (found.0, drop found.1 octets)
+seen octets (Err fault) = Err fault
 
 -- 503 says nothing of what was asked for, nor do a gateway's 502 and 504 (RFC 9110 sections 15.6.3 to 15.6.5)
 abbrev pub says_nothing : ℕ → Bool

@@ -1,4 +1,3 @@
 pub mod Exchange
 pub mod Hearing
-pub mod Seen
 pub mod Try

@@ -1,27 +1,18 @@
 //! Where the desk is.
 use hallctl_requests::{Authority, TextFault};
 use std::alloc::{AllocError, Global};
+use thiserror::Error;
 use url::{ParseError, Url};
 
 /// Why a text isn't the address of a desk.
-#[derive(Clone, Copy, PartialEq, Eq)]
+#[derive(Clone, Copy, Debug, PartialEq, Eq, Error)]
 pub enum AddressFault {
-    /// It isn't `http://HOST` or `http://HOST:PORT`.
+    #[error("the desk's address is http://HOST or http://HOST:PORT")]
     NotAnAddress,
-    /// It begins `https`, which the desk doesn't speak.
+    #[error("the desk speaks http and not https")]
     Https,
+    #[error("memory ran out")]
     Memory,
-}
-
-impl AddressFault {
-    /// The words for it.
-    pub fn words(self) -> &'static str {
-        match self {
-            AddressFault::NotAnAddress => "the desk's address is http://HOST or http://HOST:PORT",
-            AddressFault::Https => "the desk speaks http and not https",
-            AddressFault::Memory => "memory ran out",
-        }
-    }
 }
 
 impl From<AllocError> for AddressFault {

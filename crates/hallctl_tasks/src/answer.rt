@@ -86,19 +86,14 @@ pub enum Strange {
 impl Strange {
     /// What it did, after the URL that was asked.
     pub fn text(self, alloc: Global) -> Result<String, AllocError> {
-        match self {
-            Strange::NotHttp => String::from_str(
-                alloc,
-                "answered, but not by HTTP as the desk does",
-            ),
-            Strange::TooLong => String::from_str(
-                alloc,
-                "answered with more than the desk ever does",
-            ),
+        let words = match self {
+            Strange::NotHttp => "answered, but not by HTTP as the desk does",
+            Strange::TooLong => "answered with more than the desk ever does",
             Strange::OtherAnswer(status) => {
-                format!(in alloc; "answered {status}, but not as the desk does")
+                return format!(in alloc; "answered {status}, but not as the desk does");
             }
-        }
+        };
+        String::from_str(alloc, words)
     }
 }
 

@@ -1,5 +1,5 @@
 //! The commands of a line, one after another.
-use crate::end::{EarlyEnd, TaskEnd};
+use crate::end::{Step, TaskEnd};
 use crate::looks::{Before, Look};
 use crate::sending::Sending;
 use crate::session::Session;
@@ -30,11 +30,7 @@ fn as_listed(command: &HallCommand, listed: Version) -> Option<HallCommand> {
 
 impl<S: Surroundings> Session<'_, S> {
     // Sends a command on a machine that was listed so, or that a glance is had of first.
-    fn send_as(
-        &mut self,
-        command: &HallCommand,
-        listed: Option<Before>,
-    ) -> Result<TaskEnd, EarlyEnd> {
+    fn send_as(&mut self, command: &HallCommand, listed: Option<Before>) -> Step<TaskEnd> {
         let key = self.key()?;
         let before = match listed {
             Some(before) => Some(before),
@@ -49,7 +45,7 @@ impl<S: Surroundings> Session<'_, S> {
     }
 
     // Sends a command after the look at its machine.
-    fn send_after(&mut self, look: Look, command: &HallCommand) -> Result<TaskEnd, EarlyEnd> {
+    fn send_after(&mut self, look: Look, command: &HallCommand) -> Step<TaskEnd> {
         match look {
             Look::Unneeded => self.send_as(command, None),
             Look::Refused => Ok(TaskEnd::Refused),
@@ -67,14 +63,13 @@ impl<S: Surroundings> Session<'_, S> {
     // Reports how many commands weren't sent, after one that was the last.
     fn report_unsent(&mut self, unsent: usize) -> Result<(), AllocError> {
         if unsent > 0 {
-            let line = format!(in self.alloc; "not sent: {unsent} more")?;
-            self.report(line.as_str())?;
+            self.report(format_args!("not sent: {unsent} more"))?;
         }
         Ok(())
     }
 
     // Sends the commands, each after the look at its machine.
-    fn send_all(&mut self, commands: &[HallCommand], looks: &[Look]) -> Result<TaskEnd, EarlyEnd> {
+    fn send_all(&mut self, commands: &[HallCommand], looks: &[Look]) -> Step<TaskEnd> {
         let mut end = TaskEnd::Done;
         for (place, command) in commands.iter().enumerate() {
             let look = looks.get(place).copied().unwrap_or(Look::Unneeded);
@@ -94,7 +89,7 @@ impl<S: Surroundings> Session<'_, S> {
 
     /// Sends the commands of a line, and prints a line for each. Where one erases or deletes, the machines are looked at first, and the
     /// operator is asked. A refused command is no reason not to send the others; one without an answer is.
-    pub(crate) fn change(&mut self, commands: &[HallCommand]) -> Result<TaskEnd, EarlyEnd> {
+    pub(crate) fn change(&mut self, commands: &[HallCommand]) -> Step<TaskEnd> {
         let looks = self.look_before(commands)?;
         self.send_all(commands, looks.as_slice())
     }

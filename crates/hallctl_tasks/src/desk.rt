@@ -2,7 +2,7 @@
 use crate::address::DeskAddress;
 use crate::answer::{Answer, Exchanged, Strange};
 use crate::dial::Why;
-use crate::end::{EarlyEnd, TaskFault};
+use crate::end::{EarlyEnd, Step, TaskFault};
 use crate::exchanging::{MAX_TRY, Patience, exchange};
 use crate::session::Session;
 use crate::surroundings::Surroundings;
@@ -102,20 +102,12 @@ impl<S: Surroundings> Session<'_, S> {
         }
     }
 
-    fn ask_for(&mut self, ask: &Ask<'_>, patience: Patience) -> Result<Heard, EarlyEnd> {
-        match request(
-            self.alloc,
-            &self.desk.address.authority,
-            &self.desk.token,
-            ask,
-        ) {
+    fn ask_for(&mut self, ask: &Ask<'_>, patience: Patience) -> Step<Heard> {
+        let (authority, token) = (&self.desk.address.authority, &self.desk.token);
+        match request(self.alloc, authority, token, ask) {
             Ok(octets) => {
-                let exchanged = exchange(
-                    self.alloc,
-                    self.surroundings,
-                    octets.as_slice(),
-                    patience,
-                );
+                let sent = octets.as_slice();
+                let exchanged = exchange(self.alloc, self.surroundings, sent, patience);
                 drop(octets);
                 Ok(self.heard(ask, exchanged)?)
             }
@@ -132,7 +124,7 @@ impl<S: Surroundings> Session<'_, S> {
     }
 
     /// Asks the desk, again and again until there is an answer or the time is over.
-    pub(crate) fn ask(&mut self, ask: &Ask<'_>) -> Result<Heard, EarlyEnd> {
+    pub(crate) fn ask(&mut self, ask: &Ask<'_>) -> Step<Heard> {
         let all = self.time_left();
         // No time at all is one try.
         let first = if self.desk.milliseconds == 0 {
@@ -144,13 +136,13 @@ impl<S: Surroundings> Session<'_, S> {
     }
 
     /// Asks the desk once, for at most so many milliseconds.
-    pub(crate) fn ask_once(&mut self, ask: &Ask<'_>, milliseconds: u64) -> Result<Heard, EarlyEnd> {
+    pub(crate) fn ask_once(&mut self, ask: &Ask<'_>, milliseconds: u64) -> Step<Heard> {
         let first = milliseconds.min(MAX_TRY);
         self.ask_for(ask, Patience { all: 0, first })
     }
 
     /// Asks the desk once for what can be done without, for at most half of the time that is left.
-    pub(crate) fn ask_in_passing(&mut self, ask: &Ask<'_>) -> Result<Heard, EarlyEnd> {
+    pub(crate) fn ask_in_passing(&mut self, ask: &Ask<'_>) -> Step<Heard> {
         let milliseconds = if self.desk.milliseconds == 0 {
             MAX_TRY
         } else {

@@ -3,48 +3,41 @@ ghost use Rattle.std.specs.Prelude.{◌≡◌};
 ghost use Rattle.hallctl_tasks.specs.Try.{came_of};
 
 use std::alloc::Global;
+use thiserror::Error;
 
 /// Why a try had no answer.
-#[derive(Clone, Copy, PartialEq, Eq)]
+#[derive(Clone, Copy, Debug, PartialEq, Eq, Error)]
 pub enum Why {
     /// The desk's name has no address.
+    #[error("the name has no address")]
     NoAddress,
     /// Nothing takes connections there.
+    #[error("connection refused")]
     Refused,
     /// There is no way there.
+    #[error("the desk can't be reached")]
     Unreachable,
     /// The time of a try was over.
+    #[error("no answer in time")]
     Late,
     /// The connection was closed without an answer, or broke.
+    #[error("the connection was closed")]
     Closed,
     /// The connection was closed amid the answer.
+    #[error("the answer was cut")]
     Cut,
     /// The answer was 502 Bad Gateway, of something between (RFC 9110 section 15.6.3).
+    #[error("502 Bad Gateway")]
     BadGateway,
     /// The answer was 503 Unavailable (RFC 9110 section 15.6.4).
+    #[error("503 Unavailable")]
     Unavailable,
     /// The answer was 504 Gateway Timeout, of something between (RFC 9110 section 15.6.5).
+    #[error("504 Gateway Timeout")]
     GatewayTimeout,
     /// There was no memory for the answer.
+    #[error("no memory for the answer")]
     Memory,
-}
-
-impl Why {
-    /// The words for it.
-    pub fn words(self) -> &'static str {
-        match self {
-            Why::NoAddress => "the name has no address",
-            Why::Refused => "connection refused",
-            Why::Unreachable => "the desk can't be reached",
-            Why::Late => "no answer in time",
-            Why::Closed => "the connection was closed",
-            Why::Cut => "the answer was cut",
-            Why::BadGateway => "502 Bad Gateway",
-            Why::Unavailable => "503 Unavailable",
-            Why::GatewayTimeout => "504 Gateway Timeout",
-            Why::Memory => "no memory for the answer",
-        }
-    }
 }
 
 /// What comes of one try.

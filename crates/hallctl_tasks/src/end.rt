@@ -1,5 +1,6 @@
 //! How a task ends.
 use std::alloc::AllocError;
+use thiserror::Error;
 
 /// How a task ends that nothing kept from its end.
 #[derive(Clone, Copy, PartialEq, Eq)]
@@ -51,27 +52,17 @@ impl TaskEnd {
 }
 
 /// What keeps a task from its end.
-#[derive(Clone, Copy, PartialEq, Eq)]
+#[derive(Clone, Copy, Debug, PartialEq, Eq, Error)]
 pub enum TaskFault {
+    #[error("memory ran out")]
     Memory,
-    /// Standard output can't be written.
+    #[error("standard output can't be written")]
     Output,
-    /// The system gives no random octets.
+    #[error("the system gives no random octets")]
     Random,
     /// The UUID of a new machine is all zeros or all ones.
+    #[error("a UUID of zeros or ones alone identifies no machine")]
     BlankUuid,
-}
-
-impl TaskFault {
-    /// The words for it.
-    pub fn words(self) -> &'static str {
-        match self {
-            TaskFault::Memory => "memory ran out",
-            TaskFault::Output => "standard output can't be written",
-            TaskFault::Random => "the system gives no random octets",
-            TaskFault::BlankUuid => "a UUID of zeros or ones alone identifies no machine",
-        }
-    }
 }
 
 /// Why a task ends before all of it is done.
@@ -81,6 +72,9 @@ pub(crate) enum EarlyEnd {
     Reported(TaskEnd),
     Fault(TaskFault),
 }
+
+/// What comes of a step of a task.
+pub(crate) type Step<T> = Result<T, EarlyEnd>;
 
 impl From<TaskFault> for EarlyEnd {
     fn from(fault: TaskFault) -> EarlyEnd {

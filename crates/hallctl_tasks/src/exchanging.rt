@@ -1,7 +1,7 @@
 //! The same octets are sent until there is an answer.
 ghost use Rattle.std.specs.Prelude.{◌≡◌, ◌≤◌, ◌*◌, ◌↔◌, IfOk, IfSome, IsNone, IsSome, IsTrue, drop, is_some, length, min};
 ghost use Rattle.hallctl_requests.specs.Response.{IsReading};
-ghost use Rattle.hallctl_tasks.specs.{Exchange.{AreHeard, AreUnsent, HasNoConnection, IsExchange, IsTry, IsUnsent, MakesKnown, SaysUnsent, Unheard, heard, known_of, says, says_nothing}, Seen.seen, Try.came_of};
+ghost use Rattle.hallctl_tasks.specs.{Exchange.{AreHeard, AreUnsent, HasNoConnection, IsExchange, IsTry, IsUnsent, MakesKnown, SaysUnsent, Unheard, heard, known_of, says, says_nothing, seen}, Try.came_of};
 
 use crate::answer::{Answer, Exchanged, Strange};
 use crate::dial::{Attempt, Dial, Why};

@@ -82,67 +82,25 @@ impl Dial for Host<'_> {
     }
 }
 
-fn file_fault(error: &io::Error) -> FileFault {
-    match error.kind() {
-        ErrorKind::OutOfMemory => FileFault::Memory,
-        ErrorKind::AlreadyExists => FileFault::Exists,
-        _ => FileFault::Io,
-    }
-}
-
-// Reads a file to its end, or until it is too long.
-fn read_short(file: File, octets: &mut Vec<u8>) -> Result<(), FileFault> {
-    let mut file = file.take(MAX_FILE_LEN + 1);
-    match file.read_to_end(octets) {
-        Ok(_) if octets.len() as u64 > MAX_FILE_LEN => Err(FileFault::TooLong),
-        Ok(_) => Ok(()),
-        Err(error) => Err(file_fault(&error)),
+impl From<io::Error> for FileFault {
+    fn from(error: io::Error) -> FileFault {
+        match error.kind() {
+            ErrorKind::OutOfMemory => FileFault::Memory,
+            ErrorKind::AlreadyExists => FileFault::Exists,
+            _ => FileFault::Io,
+        }
     }
 }
 
 /// The octets of a file.
 pub fn file_octets(rt: &HostRuntime, path: &str) -> Result<Vec<u8>, FileFault> {
     let mut octets = Vec::new(rt.alloc());
-    match File::open(rt, path) {
-        Ok(file) => read_short(file, &mut octets)?,
-        Err(error) => return Err(file_fault(&error)),
+    let mut file = File::open(rt, path)?.take(MAX_FILE_LEN + 1);
+    file.read_to_end(&mut octets)?;
+    if octets.len() as u64 > MAX_FILE_LEN {
+        return Err(FileFault::TooLong);
     }
     Ok(octets)
-}
-
-fn write_file(rt: &HostRuntime, path: &str, octets: &[u8]) -> io::Result<()> {
-    let mut file = OpenOptions::new()
-        .write(true)
-        .create_new(true)
-        .mode(OWNER_ONLY)
-        .open(rt, path)?;
-    file.write_all(octets)?;
-    file.sync_all()
-}
-
-// The other name is made, and fails where there is a file of that name, before the first one goes.
-fn rename_file(rt: &HostRuntime, from: &str, to: &str) -> io::Result<()> {
-    hard_link(rt, from, to)?;
-    remove_file(rt, from)
-}
-
-fn add_to_file(rt: &HostRuntime, path: &str, text: &str) -> io::Result<()> {
-    let mut file = OpenOptions::new()
-        .append(true)
-        .create(true)
-        .mode(OWNER_ONLY)
-        .open(rt, path)?;
-    file.write_all(text.as_bytes())?;
-    // A pipe or a terminal can't be synced.
-    let _ = file.sync_data();
-    Ok(())
-}
-
-fn done(outcome: io::Result<()>) -> Result<(), FileFault> {
-    match outcome {
-        Ok(()) => Ok(()),
-        Err(error) => Err(file_fault(&error)),
-    }
 }
 
 // Whether the next line of standard input is `yes`.
@@ -198,14 +156,30 @@ impl Surroundings for Host<'_> {
     }
 
     fn make_file(&mut self, path: &str, octets: &[u8]) -> Result<(), FileFault> {
-        done(write_file(self.rt, path, octets))
+        let mut file = OpenOptions::new()
+            .write(true)
+            .create_new(true)
+            .mode(OWNER_ONLY)
+            .open(self.rt, path)?;
+        file.write_all(octets)?;
+        Ok(file.sync_all()?)
     }
 
+    // The other name is made, and fails where there is a file of that name, before the first one goes.
     fn rename_file(&mut self, from: &str, to: &str) -> Result<(), FileFault> {
-        done(rename_file(self.rt, from, to))
+        hard_link(self.rt, from, to)?;
+        Ok(remove_file(self.rt, from)?)
     }
 
     fn add_to_file(&mut self, path: &str, text: &str) -> Result<(), FileFault> {
-        done(add_to_file(self.rt, path, text))
+        let mut file = OpenOptions::new()
+            .append(true)
+            .create(true)
+            .mode(OWNER_ONLY)
+            .open(self.rt, path)?;
+        file.write_all(text.as_bytes())?;
+        // A pipe or a terminal can't be synced.
+        let _ = file.sync_data();
+        Ok(())
     }
 }

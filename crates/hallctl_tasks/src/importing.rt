@@ -1,5 +1,5 @@
 //! The machines of a file are added.
-use crate::end::{EarlyEnd, TaskEnd, TaskFault};
+use crate::end::{EarlyEnd, Step, TaskEnd, TaskFault};
 use crate::sending::Sending;
 use crate::session::Session;
 use crate::surroundings::Surroundings;
@@ -17,7 +17,7 @@ fn command_of(row: &ImportRow) -> HallCommand {
 }
 
 impl<S: Surroundings> Session<'_, S> {
-    fn add_row(&mut self, row: &ImportRow) -> Result<TaskEnd, EarlyEnd> {
+    fn add_row(&mut self, row: &ImportRow) -> Step<TaskEnd> {
         let command = command_of(row);
         let end = self.send(&Sending {
             key: row.key,
@@ -32,14 +32,13 @@ impl<S: Surroundings> Session<'_, S> {
     // Reports how far an import came that stops at a row.
     fn report_left(&mut self, done: usize, refused: usize, all: usize) -> Result<(), AllocError> {
         let left = all.saturating_sub(done).saturating_sub(refused);
-        let line = format!(in self.alloc;
+        self.report(format_args!(
             "of {all} rows {done} are done, {refused} refused and {left} left"
-        )?;
-        self.report(line.as_str())
+        ))
     }
 
     // Adds the machines of the rows. A row without an answer is the last.
-    fn add_rows(&mut self, rows: &[ImportRow]) -> Result<TaskEnd, EarlyEnd> {
+    fn add_rows(&mut self, rows: &[ImportRow]) -> Step<TaskEnd> {
         let mut end = TaskEnd::Done;
         let mut refused: usize = 0;
         for (place, row) in rows.iter().enumerate() {
@@ -58,22 +57,22 @@ impl<S: Surroundings> Session<'_, S> {
     }
 
     /// Adds the machines of a file, each with the key of its row, so that the file may be imported again.
-    pub(crate) fn import(&mut self, path: &str) -> Result<TaskEnd, EarlyEnd> {
+    pub(crate) fn import(&mut self, path: &str) -> Step<TaskEnd> {
         let octets = match self.surroundings.octets_of(self.alloc, path) {
             Ok(octets) => octets,
-            Err(fault) => return self.end_by_file(path, fault.words()),
+            Err(fault) => return self.end_by_file(path, fault),
         };
         match import_rows(self.alloc, octets.as_slice()) {
             Ok(rows) => self.add_rows(rows.as_slice()),
             Err(ImportFault::BadHeader) => {
                 self.end_by_file(path, "its first line must be key,mac,arch,uuid,pool")
             }
-            Err(ImportFault::BadRow(number)) => {
-                let words = format!(in self.alloc;
+            Err(ImportFault::BadRow(number)) => self.end_by_file(
+                path,
+                format_args!(
                     "row {number} is bad: a key, an address, an architecture, a UUID or nothing, a pool"
-                )?;
-                self.end_by_file(path, words.as_str())
-            }
+                ),
+            ),
             Err(ImportFault::Memory) => Err(EarlyEnd::Fault(TaskFault::Memory)),
         }
     }

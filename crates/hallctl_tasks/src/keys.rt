@@ -47,10 +47,8 @@ impl<S: Surroundings> Session<'_, S> {
         if let Some(key) = self.line.key {
             return Ok(key);
         }
-        match self.surroundings.fresh() {
-            Some(octets) => Ok(key_of(&octets)),
-            None => Err(TaskFault::Random),
-        }
+        let octets = self.surroundings.fresh().ok_or(TaskFault::Random)?;
+        Ok(key_of(&octets))
     }
 
     // Adds a line to the file of keys, if there is one. Where it can't be written, that is reported.
@@ -61,9 +59,7 @@ impl<S: Surroundings> Session<'_, S> {
         match self.surroundings.add_to_file(path, line) {
             Ok(()) => Ok(true),
             Err(fault) => {
-                let words = fault.words();
-                let line = format!(in self.alloc; "{path}: {words}")?;
-                self.report(line.as_str())?;
+                self.report(format_args!("{path}: {fault}"))?;
                 Ok(false)
             }
         }

@@ -1,7 +1,7 @@
 //! What the desk lists is printed.
 use crate::answer::Answer;
 use crate::desk::Heard;
-use crate::end::{EarlyEnd, TaskEnd};
+use crate::end::{EarlyEnd, Step, TaskEnd, TaskFault};
 use crate::session::Session;
 use crate::surroundings::Surroundings;
 use hall_types::MacAddress;
@@ -12,7 +12,7 @@ use hallctl_texts::{
 };
 use hallctl_words::{Form, Listing, Which};
 use serde_json::Value;
-use std::alloc::{AllocError, Global};
+use std::alloc::Global;
 
 // What is asked of the desk for a listing. It has no list of the machines with an address, so that is found in the list of all.
 fn ask_of(listing: &Listing) -> Ask<'static> {
@@ -47,77 +47,57 @@ fn machines_text(
     }
 }
 
-// The machine with an address, in the list of all: its lines, or its object.
-fn found_text(
-    alloc: Global,
-    value: &Value,
-    address: MacAddress,
-    json: bool,
-) -> Result<String, AnswerFault> {
-    match machine_with(value, address)? {
-        Some(machine) if json => {
-            let text = machine.to_string(alloc)?;
-            Ok(format!(in alloc; "{text}\n")?)
-        }
-        Some(machine) => machine_lines(alloc, machine),
-        None => Ok(String::new(alloc)),
-    }
-}
-
-// What the desk lists, as it is printed. It is empty for an address that no machine has.
-fn text_in(
-    alloc: Global,
-    value: &Value,
-    listing: &Listing,
-    json: bool,
-) -> Result<String, AnswerFault> {
-    match listing {
-        Listing::Machines(filter, form) => machines_text(alloc, value, filter, *form),
-        Listing::Machine(Which::Number(_)) => machine_lines(alloc, value),
-        Listing::Machine(Which::Address(address)) => found_text(alloc, value, *address, json),
-        Listing::Orders => order_table(alloc, value),
-    }
-}
-
-// The text of a listing: the desk's own where that is asked for. `None` is an answer that isn't one of the desk's to the request.
-fn text_of(
-    alloc: Global,
-    answer: &Answer,
-    listing: &Listing,
-    json: bool,
-) -> Result<Option<String>, AllocError> {
-    if json && is_whole(listing) {
-        return match answer.text() {
-            Some(text) => Ok(Some(format!(in alloc; "{text}\n")?)),
-            None => Ok(None),
-        };
-    }
-    let Some(value) = value_of(alloc, answer.body())? else {
-        return Ok(None);
-    };
-    match text_in(alloc, &value, listing, json) {
-        Ok(text) => Ok(Some(text)),
-        Err(AnswerFault::NotTheDesk) => Ok(None),
-        Err(AnswerFault::Memory) => Err(AllocError),
-    }
-}
-
 impl<S: Surroundings> Session<'_, S> {
-    fn print_listing(&mut self, listing: &Listing, answer: &Answer) -> Result<TaskEnd, EarlyEnd> {
-        match text_of(self.alloc, answer, listing, self.line.json)? {
-            Some(text) if text.is_empty() && matches!(listing, Listing::Machine(_)) => {
+    // The machine with an address, in the list of all: its lines, or its object.
+    fn found_text(&self, value: &Value, address: MacAddress) -> Result<String, AnswerFault> {
+        match machine_with(value, address)? {
+            Some(machine) if self.line.json => {
+                let text = machine.to_string(self.alloc)?;
+                Ok(format!(in self.alloc; "{text}\n")?)
+            }
+            Some(machine) => machine_lines(self.alloc, machine),
+            None => Ok(String::new(self.alloc)),
+        }
+    }
+
+    // What the desk lists, as it is printed. It is empty for an address that no machine has.
+    fn text_in(&self, value: &Value, listing: &Listing) -> Result<String, AnswerFault> {
+        match listing {
+            Listing::Machines(filter, form) => machines_text(self.alloc, value, filter, *form),
+            Listing::Machine(Which::Number(_)) => machine_lines(self.alloc, value),
+            Listing::Machine(Which::Address(address)) => self.found_text(value, *address),
+            Listing::Orders => order_table(self.alloc, value),
+        }
+    }
+
+    // The text of a listing: the desk's own where that is asked for.
+    fn text_of(&self, answer: &Answer, listing: &Listing) -> Result<String, AnswerFault> {
+        if self.line.json && is_whole(listing) {
+            let text = answer.text().ok_or(AnswerFault::NotTheDesk)?;
+            return Ok(format!(in self.alloc; "{text}\n")?);
+        }
+        let value = value_of(self.alloc, answer.body())?.ok_or(AnswerFault::NotTheDesk)?;
+        self.text_in(&value, listing)
+    }
+
+    fn print_listing(&mut self, listing: &Listing, answer: &Answer) -> Step<TaskEnd> {
+        match self.text_of(answer, listing) {
+            Ok(text) if text.is_empty() && matches!(listing, Listing::Machine(_)) => {
                 self.end(TaskEnd::Refused, "no machine has this address")
             }
-            Some(text) => {
+            Ok(text) => {
                 self.print(text.as_str())?;
                 Ok(TaskEnd::Done)
             }
-            None => self.end_by_stranger(&ask_of(listing), answer.strange()),
+            Err(AnswerFault::NotTheDesk) => {
+                self.end_by_stranger(&ask_of(listing), answer.strange())
+            }
+            Err(AnswerFault::Memory) => Err(EarlyEnd::Fault(TaskFault::Memory)),
         }
     }
 
     /// Prints what the desk lists.
-    pub(crate) fn list(&mut self, listing: &Listing) -> Result<TaskEnd, EarlyEnd> {
+    pub(crate) fn list(&mut self, listing: &Listing) -> Step<TaskEnd> {
         let ask = ask_of(listing);
         match self.ask(&ask)? {
             Heard::Said(DeskAnswer::Refused(refusal), _) => self.end_refused(refusal),

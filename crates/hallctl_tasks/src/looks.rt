@@ -1,7 +1,7 @@
 //! Machines are looked at before something is done that can't be undone, and the operator is asked.
 use crate::answer::Answer;
 use crate::desk::Heard;
-use crate::end::{EarlyEnd, TaskEnd};
+use crate::end::{Step, TaskEnd};
 use crate::session::Session;
 use crate::surroundings::Surroundings;
 use hall_events::HallCommand;
@@ -50,11 +50,7 @@ fn push(looks: &mut Vec<Look>, look: Look) -> Result<(), AllocError> {
 
 impl<S: Surroundings> Session<'_, S> {
     /// The machine that an answer lists. One that lists none isn't the desk's.
-    pub(crate) fn listed_machine(
-        &mut self,
-        ask: &Ask<'_>,
-        answer: &Answer,
-    ) -> Result<ListedMachine, EarlyEnd> {
+    pub(crate) fn listed_machine(&mut self, ask: &Ask<'_>, answer: &Answer) -> Step<ListedMachine> {
         match answer.machine(self.alloc)? {
             Some(machine) => Ok(machine),
             None => self.end_by_stranger(ask, answer.strange()),
@@ -63,7 +59,7 @@ impl<S: Surroundings> Session<'_, S> {
 
     /// The machine of a command as one look shows it, which is asked for once: if it shows nothing, the command is sent all the same. There
     /// is none where the answer is printed as it is, or is that of a command that was sent before.
-    pub(crate) fn glance(&mut self, command: &HallCommand) -> Result<Option<Before>, EarlyEnd> {
+    pub(crate) fn glance(&mut self, command: &HallCommand) -> Step<Option<Before>> {
         if self.line.json || self.line.key.is_some() {
             return Ok(None);
         }
@@ -79,22 +75,22 @@ impl<S: Surroundings> Session<'_, S> {
     }
 
     // Reports what a command would do to a machine that the desk has listed.
-    fn warn(&mut self, command: &HallCommand, machine: ListedMachine) -> Result<Look, EarlyEnd> {
+    fn warn(&mut self, command: &HallCommand, machine: ListedMachine) -> Step<Look> {
         if let Some(line) = warning(self.alloc, command, &machine)? {
-            self.report(line.as_str())?;
+            self.report(line)?;
         }
         Ok(Look::Listed(before_of(machine)))
     }
 
     // Prints the line of a machine that the desk refuses to list.
-    fn print_refusal(&mut self, command: &HallCommand, refusal: Refusal) -> Result<Look, EarlyEnd> {
+    fn print_refusal(&mut self, command: &HallCommand, refusal: Refusal) -> Step<Look> {
         let line = refusal_line(self.alloc, Some(command), refusal)?;
-        self.print_line(line.as_str())?;
+        self.print_line(line)?;
         Ok(Look::Refused)
     }
 
     // Asks the desk for a machine, and reports what the command would do to it. Nothing is sent yet.
-    fn look_at(&mut self, machine: Number, command: &HallCommand) -> Result<Look, EarlyEnd> {
+    fn look_at(&mut self, machine: Number, command: &HallCommand) -> Step<Look> {
         let ask = Ask::Machine(machine);
         match self.ask(&ask)? {
             Heard::Said(DeskAnswer::Refused(refusal), _) => self.print_refusal(command, refusal),
@@ -107,24 +103,21 @@ impl<S: Surroundings> Session<'_, S> {
         }
     }
 
-    // Adds the look before each command, until one isn't answered. There is none where a command does no harm.
-    fn add_looks(
-        &mut self,
-        commands: &[HallCommand],
-        looks: &mut Vec<Look>,
-    ) -> Result<(), EarlyEnd> {
+    // The look before each command, until one isn't answered. There is none where a command does no harm.
+    fn looks_at(&mut self, commands: &[HallCommand]) -> Step<Vec<Look>> {
+        let mut looks = Vec::new(self.alloc);
         for command in commands {
             let look = match machine_of(command) {
                 Some(machine) if is_dangerous(command) => self.look_at(machine, command)?,
                 _ => Look::Unneeded,
             };
-            push(looks, look)?;
+            push(&mut looks, look)?;
         }
-        Ok(())
+        Ok(looks)
     }
 
     // Asks the operator, and ends the task where the operator doesn't agree.
-    fn ask_operator(&mut self) -> Result<(), EarlyEnd> {
+    fn ask_operator(&mut self) -> Step<()> {
         if self.line.yes {
             return Ok(());
         }
@@ -151,34 +144,30 @@ impl<S: Surroundings> Session<'_, S> {
         None
     }
 
-    // Adds the looks before commands of which one erases or deletes, and asks the operator.
-    fn look_and_ask(
-        &mut self,
-        commands: &[HallCommand],
-        looks: &mut Vec<Look>,
-    ) -> Result<(), EarlyEnd> {
+    // The looks before commands of which one erases or deletes, after which the operator is asked.
+    fn look_and_ask(&mut self, commands: &[HallCommand]) -> Step<Vec<Look>> {
         // What is said again may be done already, and its machine changed or gone: it was looked at when it was first said.
         if self.line.key.is_some() {
             self.report("this erases or deletes, and is said again")?;
-            return self.ask_operator();
+            self.ask_operator()?;
+            return Ok(Vec::new(self.alloc));
         }
-        self.add_looks(commands, looks)?;
+        let looks = self.looks_at(commands)?;
         if looks.iter().any(|look| matches!(look, Look::Listed(_))) {
             self.ask_operator()?;
         }
-        Ok(())
+        Ok(looks)
     }
 
     /// The look before each command. Where one erases or deletes, its machine's listing is read, what would be done to it is reported, and the
     /// operator is asked, unless that isn't wanted.
-    pub(crate) fn look_before(&mut self, commands: &[HallCommand]) -> Result<Vec<Look>, EarlyEnd> {
-        let mut looks = Vec::new(self.alloc);
-        if commands.iter().any(|command| is_dangerous(command)) {
-            if let Some(reason) = self.misuse_of(commands) {
-                return self.end(TaskEnd::Misused, reason);
-            }
-            self.look_and_ask(commands, &mut looks)?;
+    pub(crate) fn look_before(&mut self, commands: &[HallCommand]) -> Step<Vec<Look>> {
+        if !commands.iter().any(|command| is_dangerous(command)) {
+            return Ok(Vec::new(self.alloc));
         }
-        Ok(looks)
+        if let Some(reason) = self.misuse_of(commands) {
+            return self.end(TaskEnd::Misused, reason);
+        }
+        self.look_and_ask(commands)
     }
 }

@@ -1,10 +1,11 @@
 //! An operator is added, with a token that is made.
-use crate::end::{EarlyEnd, TaskEnd, TaskFault};
+use crate::end::{Step, TaskEnd, TaskFault};
 use crate::sending::Sending;
 use crate::session::Session;
 use crate::surroundings::{FileFault, Surroundings};
 use hall_events::HallCommand;
-use hall_types::{Digest, Name, Role};
+use hall_types::Digest;
+use hallctl_words::NewOperator;
 use sha2::{Digest as _, Sha256};
 use std::alloc::AllocError;
 
@@ -23,15 +24,13 @@ fn digest_in(octets: &[u8]) -> Option<Digest> {
 
 impl<S: Surroundings> Session<'_, S> {
     // A token: 32 random octets in hexadecimal.
-    fn new_token(&mut self) -> Result<String, EarlyEnd> {
-        match self.surroundings.fresh() {
-            Some(octets) => Ok(hex::encode(self.alloc, octets)?),
-            None => Err(EarlyEnd::Fault(TaskFault::Random)),
-        }
+    fn new_token(&mut self) -> Step<String> {
+        let octets = self.surroundings.fresh().ok_or(TaskFault::Random)?;
+        Ok(hex::encode(self.alloc, octets)?)
     }
 
     // Makes a token, and writes it to its draft.
-    fn new_draft(&mut self, draft: &str) -> Result<Digest, EarlyEnd> {
+    fn new_draft(&mut self, draft: &str) -> Step<Digest> {
         let token = self.new_token()?;
         let digest = Digest::from(Sha256::digest(token.as_bytes()));
         let text = format!(in self.alloc; "{token}\n")?;
@@ -40,15 +39,15 @@ impl<S: Surroundings> Session<'_, S> {
         drop(text);
         match made {
             Ok(()) => Ok(digest),
-            Err(fault) => self.end_by_file(draft, fault.words()),
+            Err(fault) => self.end_by_file(draft, fault),
         }
     }
 
     // The token that an earlier line left in its draft.
-    fn old_draft(&mut self, draft: &str) -> Result<Digest, EarlyEnd> {
+    fn old_draft(&mut self, draft: &str) -> Step<Digest> {
         let octets = match self.surroundings.octets_of(self.alloc, draft) {
             Ok(octets) => octets,
-            Err(fault) => return self.end_by_file(draft, fault.words()),
+            Err(fault) => return self.end_by_file(draft, fault),
         };
         match digest_in(octets.as_slice()) {
             Some(digest) => Ok(digest),
@@ -57,16 +56,11 @@ impl<S: Surroundings> Session<'_, S> {
     }
 
     // Sends the command that adds an operator with this digest.
-    fn send_operator(
-        &mut self,
-        operator: Name,
-        role: Role,
-        digest: Digest,
-    ) -> Result<TaskEnd, EarlyEnd> {
+    fn send_new(&mut self, new: &NewOperator<'_>, digest: Digest) -> Step<TaskEnd> {
         let key = self.key()?;
         let command = HallCommand::AddOperator {
-            operator,
-            role,
+            operator: new.operator,
+            role: new.role,
             digest,
         };
         let end = self.send(&Sending {
@@ -82,48 +76,37 @@ impl<S: Surroundings> Session<'_, S> {
     // The operator has its token: the draft gets the name of its file.
     fn keep_draft(&mut self, draft: &str, path: &str) -> Result<(), AllocError> {
         if let Err(fault) = self.surroundings.rename_file(draft, path) {
-            let words = fault.words();
-            let line = format!(in self.alloc; "the token stays in {draft}: {path}: {words}")?;
-            self.report(line.as_str())?;
+            self.report(format_args!("the token stays in {draft}: {path}: {fault}"))?;
         }
         Ok(())
     }
 
     // Reports what the token of a draft is, where the operator wasn't added or that isn't known.
     fn report_draft(&mut self, draft: &str, is_new: bool, end: TaskEnd) -> Result<(), AllocError> {
-        let line = match end {
+        match end {
             TaskEnd::Refused if is_new => {
-                format!(in self.alloc; "the token in {draft} is nobody's")?
+                self.report(format_args!("the token in {draft} is nobody's"))
             }
-            TaskEnd::Refused => {
-                format!(in self.alloc;
-                    "the token in {draft} is of an earlier line, and the operator's only if that was done"
-                )?
-            }
-            _ => {
-                format!(in self.alloc; "the token waits in {draft}: the same line uses it again")?
-            }
-        };
-        self.report(line.as_str())
+            TaskEnd::Refused => self.report(format_args!(
+                "the token in {draft} is of an earlier line, and the operator's only if that was done"
+            )),
+            _ => self.report(format_args!(
+                "the token waits in {draft}: the same line uses it again"
+            )),
+        }
     }
 
     // Adds the operator with the token of its draft, which becomes its file if that is done.
-    fn add_with_draft(
-        &mut self,
-        operator: Name,
-        role: Role,
-        file: &str,
-        draft: &str,
-    ) -> Result<TaskEnd, EarlyEnd> {
+    fn add_with(&mut self, new: &NewOperator<'_>, draft: &str) -> Step<TaskEnd> {
         let is_new = !self.surroundings.has_file(draft);
         let digest = if is_new {
             self.new_draft(draft)?
         } else {
             self.old_draft(draft)?
         };
-        let end = self.send_operator(operator, role, digest)?;
+        let end = self.send_new(new, digest)?;
         if end == TaskEnd::Done {
-            self.keep_draft(draft, file)?;
+            self.keep_draft(draft, new.file)?;
         } else {
             self.report_draft(draft, is_new, end)?;
         }
@@ -132,16 +115,12 @@ impl<S: Surroundings> Session<'_, S> {
 
     /// Makes a token, writes it to a draft beside its file, adds the operator with its digest, and gives the draft the name of the file.
     /// Nothing is sent where there is such a file, or the draft can't be made. A draft that an earlier line left is used again.
-    pub(crate) fn add_operator(
-        &mut self,
-        operator: Name,
-        role: Role,
-        file: &str,
-    ) -> Result<TaskEnd, EarlyEnd> {
+    pub(crate) fn add_operator(&mut self, new: &NewOperator<'_>) -> Step<TaskEnd> {
+        let file = new.file;
         if self.surroundings.has_file(file) {
-            return self.end_by_file(file, FileFault::Exists.words());
+            return self.end_by_file(file, FileFault::Exists);
         }
         let draft = format!(in self.alloc; "{file}.new")?;
-        self.add_with_draft(operator, role, file, draft.as_str())
+        self.add_with(new, draft.as_str())
     }
 }

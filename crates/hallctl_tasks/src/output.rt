@@ -1,13 +1,14 @@
 //! What is written to the operator.
 use crate::answer::Strange;
 use crate::dial::Why;
-use crate::end::{EarlyEnd, TaskEnd, TaskFault};
+use crate::end::{EarlyEnd, Step, TaskEnd, TaskFault};
 use crate::session::Session;
 use crate::surroundings::Surroundings;
 use hall_types::Refusal;
 use hallctl_requests::Ask;
 use hallctl_texts::refusal_line;
 use std::alloc::{AllocError, Global};
+use std::fmt::Display;
 
 // The milliseconds of a second.
 const SECOND: u64 = 1_000;
@@ -19,7 +20,7 @@ pub fn goes_on_text(
     why: Why,
     milliseconds: u64,
 ) -> Result<String, AllocError> {
-    let (why, seconds) = (why.words(), milliseconds.div_ceil(SECOND));
+    let seconds = milliseconds.div_ceil(SECOND);
     format!(in alloc;
         "hallctl: no answer from http://{authority} ({why}), trying for {seconds} s\n"
     )
@@ -27,7 +28,7 @@ pub fn goes_on_text(
 
 impl<S: Surroundings> Session<'_, S> {
     /// Writes a text to standard output.
-    pub(crate) fn print(&mut self, text: &str) -> Result<(), EarlyEnd> {
+    pub(crate) fn print(&mut self, text: &str) -> Step<()> {
         if self.surroundings.print(text) {
             Ok(())
         } else {
@@ -36,13 +37,13 @@ impl<S: Surroundings> Session<'_, S> {
     }
 
     /// Writes a line to standard output.
-    pub(crate) fn print_line(&mut self, line: &str) -> Result<(), EarlyEnd> {
+    pub(crate) fn print_line(&mut self, line: impl Display + Drop) -> Step<()> {
         let text = format!(in self.alloc; "{line}\n")?;
         self.print(text.as_str())
     }
 
     /// Writes a line to standard error, after the program's name.
-    pub(crate) fn report(&mut self, line: &str) -> Result<(), AllocError> {
+    pub(crate) fn report(&mut self, line: impl Display + Drop) -> Result<(), AllocError> {
         let text = format!(in self.alloc; "hallctl: {line}\n")?;
         self.surroundings.eprint(text.as_str());
         Ok(())
@@ -59,28 +60,25 @@ impl<S: Surroundings> Session<'_, S> {
     }
 
     /// Reports a line, and ends the task so.
-    pub(crate) fn end<T>(&mut self, end: TaskEnd, line: &str) -> Result<T, EarlyEnd> {
+    pub(crate) fn end<T>(&mut self, end: TaskEnd, line: impl Display + Drop) -> Step<T> {
         self.report(line)?;
         Err(EarlyEnd::Reported(end))
     }
 
     /// A file can't be read or made, or isn't what it must be, for this reason.
-    pub(crate) fn end_by_file<T>(&mut self, path: &str, words: &str) -> Result<T, EarlyEnd> {
-        let line = format!(in self.alloc; "{path}: {words}")?;
-        self.end(TaskEnd::Misused, line.as_str())
+    pub(crate) fn end_by_file<T>(&mut self, path: &str, cause: impl Display + Drop) -> Step<T> {
+        self.end(TaskEnd::Misused, format_args!("{path}: {cause}"))
     }
 
     /// There was no answer to what was only to be read.
-    pub(crate) fn end_unanswered<T>(&mut self, why: Why) -> Result<T, EarlyEnd> {
-        let why = why.words();
-        let line = format!(in self.alloc; "no answer ({why})")?;
-        self.end(TaskEnd::NoAnswer, line.as_str())
+    pub(crate) fn end_unanswered<T>(&mut self, why: Why) -> Step<T> {
+        self.end(TaskEnd::NoAnswer, format_args!("no answer ({why})"))
     }
 
     /// The desk doesn't give what was only to be read, for this cause.
-    pub(crate) fn end_refused<T>(&mut self, refusal: Refusal) -> Result<T, EarlyEnd> {
+    pub(crate) fn end_refused<T>(&mut self, refusal: Refusal) -> Step<T> {
         let line = refusal_line(self.alloc, None, refusal)?;
-        self.end(TaskEnd::Refused, line.as_str())
+        self.end(TaskEnd::Refused, line)
     }
 
     /// What is known of a desk that isn't one, with the URL that was asked.
@@ -95,12 +93,8 @@ impl<S: Surroundings> Session<'_, S> {
     }
 
     /// What answers isn't the desk.
-    pub(crate) fn end_by_stranger<T>(
-        &mut self,
-        ask: &Ask<'_>,
-        strange: Strange,
-    ) -> Result<T, EarlyEnd> {
+    pub(crate) fn end_by_stranger<T>(&mut self, ask: &Ask<'_>, strange: Strange) -> Step<T> {
         let line = self.strange_text(ask, strange)?;
-        self.end(TaskEnd::NoAnswer, line.as_str())
+        self.end(TaskEnd::NoAnswer, line)
     }
 }

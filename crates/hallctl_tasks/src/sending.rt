@@ -1,8 +1,7 @@
 //! One command is sent until it is answered.
 use crate::answer::Answer;
 use crate::desk::Heard;
-use crate::dial::Why;
-use crate::end::{EarlyEnd, TaskEnd};
+use crate::end::{Step, TaskEnd};
 use crate::keys::key_text;
 use crate::looks::Before;
 use crate::session::Session;
@@ -49,23 +48,6 @@ impl<'c> Sending<'c> {
         }
     }
 
-    // The line where it isn't known whether the command was done, for this cause.
-    fn open_line(&self, alloc: Global, cause: &str) -> Result<String, AllocError> {
-        let about = subject(alloc, self.command)?;
-        let again = self.again(alloc)?;
-        format!(in alloc;
-            "{about}: {cause}; it isn't known whether this was done. Say it again with {again}"
-        )
-    }
-
-    // The line where the command wasn't sent, for this reason.
-    fn unsent_line(&self, alloc: Global, why: Why) -> Result<String, AllocError> {
-        let about = subject(alloc, self.command)?;
-        let again = self.again(alloc)?;
-        let why = why.words();
-        format!(in alloc; "{about}: not done ({why}): say it again with {again}")
-    }
-
     // The machine's status just before it was changed: it is that of the listing only if nothing else has changed it since.
     fn status_before(&self, state: &MachineState) -> Option<Status> {
         let before = self.before?;
@@ -84,8 +66,16 @@ impl<'c> Sending<'c> {
 }
 
 impl<S: Surroundings> Session<'_, S> {
-    // Prints the line of a command that ends so without an answer: beside the desk's JSON it goes to standard error.
-    fn print_unanswered(&mut self, line: &str, end: TaskEnd) -> Result<TaskEnd, EarlyEnd> {
+    // Prints the line of a command that ends so without an answer, for this cause: beside the desk's JSON it goes to standard error.
+    fn print_unanswered(
+        &mut self,
+        sending: &Sending<'_>,
+        end: TaskEnd,
+        cause: &str,
+    ) -> Step<TaskEnd> {
+        let about = subject(self.alloc, sending.command)?;
+        let again = sending.again(self.alloc)?;
+        let line = format!(in self.alloc; "{about}: {cause} with {again}")?;
         if self.line.json {
             self.report(line)?;
         } else {
@@ -95,20 +85,11 @@ impl<S: Surroundings> Session<'_, S> {
     }
 
     // Prints that it isn't known whether a command was done, for this cause.
-    fn print_open(&mut self, sending: &Sending<'_>, cause: &str) -> Result<TaskEnd, EarlyEnd> {
-        let line = sending.open_line(self.alloc, cause)?;
-        self.print_unanswered(line.as_str(), TaskEnd::NoAnswer)
-    }
-
-    fn print_unknown(&mut self, sending: &Sending<'_>, why: Why) -> Result<TaskEnd, EarlyEnd> {
-        let why = why.words();
-        let cause = format!(in self.alloc; "no answer ({why})")?;
-        self.print_open(sending, cause.as_str())
-    }
-
-    fn print_unsent(&mut self, sending: &Sending<'_>, why: Why) -> Result<TaskEnd, EarlyEnd> {
-        let line = sending.unsent_line(self.alloc, why)?;
-        self.print_unanswered(line.as_str(), TaskEnd::Unsent)
+    fn print_open(&mut self, sending: &Sending<'_>, cause: &str) -> Step<TaskEnd> {
+        let cause = format!(in self.alloc;
+            "{cause}; it isn't known whether this was done. Say it again"
+        )?;
+        self.print_unanswered(sending, TaskEnd::NoAnswer, cause.as_str())
     }
 
     // Prints what the desk says of a command, as it came or as a line.
@@ -117,12 +98,12 @@ impl<S: Surroundings> Session<'_, S> {
         sending: &Sending<'_>,
         said: &DeskAnswer,
         answer: &Answer,
-    ) -> Result<TaskEnd, EarlyEnd> {
+    ) -> Step<TaskEnd> {
         match answer.text() {
             Some(text) if self.line.json => self.print_line(text)?,
             _ => {
                 let line = sending.answered_line(self.alloc, said)?;
-                self.print_line(line.as_str())?;
+                self.print_line(line)?;
             }
         }
         match said {
@@ -131,7 +112,7 @@ impl<S: Surroundings> Session<'_, S> {
         }
     }
 
-    fn send_noted(&mut self, sending: &Sending<'_>) -> Result<TaskEnd, EarlyEnd> {
+    fn send_noted(&mut self, sending: &Sending<'_>) -> Step<TaskEnd> {
         let ask = sending.ask();
         match self.ask(&ask)? {
             Heard::Said(said, answer) => self.print_answer(sending, &said, &answer),
@@ -139,25 +120,26 @@ impl<S: Surroundings> Session<'_, S> {
                 let cause = self.strange_text(&ask, strange)?;
                 self.print_open(sending, cause.as_str())
             }
-            Heard::Unknown(why) => self.print_unknown(sending, why),
-            Heard::Unsent(why) => self.print_unsent(sending, why),
+            Heard::Unknown(why) => {
+                let cause = format!(in self.alloc; "no answer ({why})")?;
+                self.print_open(sending, cause.as_str())
+            }
+            Heard::Unsent(why) => {
+                let cause = format!(in self.alloc; "not done ({why}): say it again")?;
+                self.print_unanswered(sending, TaskEnd::Unsent, cause.as_str())
+            }
         }
-    }
-
-    // Sends a command, and notes before and after it.
-    fn send_with_note(&mut self, sending: &Sending<'_>, note: &str) -> Result<TaskEnd, EarlyEnd> {
-        if !self.note(note)? {
-            return Ok(TaskEnd::Misused);
-        }
-        let end = self.send_noted(sending)?;
-        self.note_end(note, end)?;
-        Ok(end)
     }
 
     /// Sends a command until it is answered, and prints its line. Its key is noted before the first try: where that fails, nothing is
     /// sent.
-    pub(crate) fn send(&mut self, sending: &Sending<'_>) -> Result<TaskEnd, EarlyEnd> {
+    pub(crate) fn send(&mut self, sending: &Sending<'_>) -> Step<TaskEnd> {
         let note = sending.note(self.alloc)?;
-        self.send_with_note(sending, note.as_str())
+        if !self.note(note.as_str())? {
+            return Ok(TaskEnd::Misused);
+        }
+        let end = self.send_noted(sending)?;
+        self.note_end(note.as_str(), end)?;
+        Ok(end)
     }
 }

@@ -1,6 +1,6 @@
 //! A command line is carried out.
 use crate::desk::Desk;
-use crate::end::{EarlyEnd, TaskEnd, TaskFault};
+use crate::end::{EarlyEnd, Step, TaskEnd, TaskFault};
 use crate::surroundings::Surroundings;
 use hallctl_words::{Line, Wish};
 use std::alloc::Global;
@@ -24,12 +24,12 @@ impl<S: Surroundings> Session<'_, S> {
         }
     }
 
-    fn carry_out_wish(&mut self) -> Result<TaskEnd, EarlyEnd> {
+    fn carry_out_wish(&mut self) -> Step<TaskEnd> {
         let line = self.line;
         match &line.wish {
             Wish::List(listing) => self.list(listing),
             Wish::Change(commands) => self.change(commands.as_slice()),
-            Wish::NewOperator(new) => self.add_operator(new.operator, new.role, new.file),
+            Wish::NewOperator(new) => self.add_operator(new),
             Wish::Wait { machine, statuses } => self.wait(*machine, statuses.as_slice()),
             Wish::Import(path) => self.import(path),
             Wish::Completion => Ok(TaskEnd::Done),

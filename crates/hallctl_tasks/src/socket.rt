@@ -57,14 +57,9 @@ impl Time {
 }
 
 fn connected_to(rt: &HostRuntime, address: SocketAddr, time: &Time) -> Result<TcpStream, Why> {
-    let Some(left) = time.left(rt) else {
-        return Err(Why::Late);
-    };
+    let left = time.left(rt).ok_or(Why::Late)?;
     let limit = left.min(Duration::from_millis(CONNECTING));
-    match TcpStream::connect_timeout(rt, &address, limit) {
-        Ok(stream) => Ok(stream),
-        Err(error) => Err(why_of(&error)),
-    }
+    TcpStream::connect_timeout(rt, &address, limit).map_err(|error| why_of(&error))
 }
 
 /// A connection to the desk, at the first of its addresses that takes one.
@@ -73,9 +68,9 @@ pub(crate) fn connected(
     address: &DeskAddress,
     time: &Time,
 ) -> Result<TcpStream, Why> {
-    let Ok(addresses) = (address.host.as_str(), address.port).to_socket_addrs(rt) else {
-        return Err(Why::NoAddress);
-    };
+    let addresses = (address.host.as_str(), address.port)
+        .to_socket_addrs(rt)
+        .map_err(|_| Why::NoAddress)?;
     let mut last = Why::NoAddress;
     for address in addresses {
         match connected_to(rt, address, time) {
@@ -112,16 +107,11 @@ fn read_piece(
 ) -> Result<usize, Why>
     ensures { IfOk result (λ count. count ≤ length piece.new) }
 {
-    if limit.is_none() {
-        return Err(Why::Late);
-    }
-    if stream.set_read_timeout(limit).is_err() {
-        return Err(Why::Closed);
-    }
-    match stream.read(piece) {
-        Ok(count) => Ok(count),
-        Err(error) => Err(why_of(&error)),
-    }
+    let limit = limit.ok_or(Why::Late)?;
+    stream
+        .set_read_timeout(Some(limit))
+        .map_err(|_| Why::Closed)?;
+    stream.read(piece).map_err(|error| why_of(&error))
 }
 
 // Reads until the connection is closed, nothing comes any more, or there is too much.
@@ -167,11 +157,10 @@ fn send(rt: &HostRuntime, stream: &mut TcpStream, time: &Time, octets: &[u8]) {
 pub(crate) fn exchanged(
     rt: &HostRuntime,
     alloc: Global,
-    stream: TcpStream,
+    mut stream: TcpStream,
     time: &Time,
     octets: &[u8],
 ) -> Attempt {
-    let mut stream = stream;
     send(rt, &mut stream, time, octets);
     let mut answer = Vec::new(alloc);
     let end = read_all(rt, &mut stream, time, &mut answer);

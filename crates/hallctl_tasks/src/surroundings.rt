@@ -1,29 +1,20 @@
 //! What a task uses besides the desk: the operator's terminal, files and random octets.
 use crate::dial::Dial;
 use std::alloc::Global;
+use thiserror::Error;
 
 /// Why a file can't be read or made.
-#[derive(Clone, Copy, PartialEq, Eq)]
+#[derive(Clone, Copy, Debug, PartialEq, Eq, Error)]
 pub enum FileFault {
-    /// There is one already.
+    #[error("there is a file already, which isn't overwritten")]
     Exists,
-    /// It has more octets than are read.
+    #[error("it has more than 16 MiB")]
     TooLong,
     /// The system refused.
+    #[error("it can't be opened, read or written")]
     Io,
+    #[error("there is no memory for it")]
     Memory,
-}
-
-impl FileFault {
-    /// The words for it.
-    pub fn words(self) -> &'static str {
-        match self {
-            FileFault::Exists => "there is a file already, which isn't overwritten",
-            FileFault::TooLong => "it has more than 16 MiB",
-            FileFault::Io => "it can't be opened, read or written",
-            FileFault::Memory => "there is no memory for it",
-        }
-    }
 }
 
 /// What a task uses: the way to the desk, and what is about it.

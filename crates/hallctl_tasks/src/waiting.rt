@@ -1,7 +1,7 @@
 //! A machine is waited for.
 use crate::desk::Heard;
 use crate::dial::Why;
-use crate::end::{EarlyEnd, TaskEnd};
+use crate::end::{Step, TaskEnd};
 use crate::session::Session;
 use crate::surroundings::Surroundings;
 use hall_types::{Number, Status};
@@ -23,7 +23,7 @@ enum Glance {
 }
 
 impl<S: Surroundings> Session<'_, S> {
-    fn look_once(&mut self, machine: Number, milliseconds: u64) -> Result<Glance, EarlyEnd> {
+    fn look_once(&mut self, machine: Number, milliseconds: u64) -> Step<Glance> {
         let ask = Ask::Machine(machine);
         match self.ask_once(&ask, milliseconds)? {
             Heard::Said(DeskAnswer::Refused(refusal), _) => self.end_refused(refusal),
@@ -34,30 +34,27 @@ impl<S: Surroundings> Session<'_, S> {
     }
 
     // Prints the status of the machine that was waited for.
-    fn print_found(&mut self, machine: &ListedMachine) -> Result<TaskEnd, EarlyEnd> {
+    fn print_found(&mut self, machine: &ListedMachine) -> Step<TaskEnd> {
         let (id, version) = (machine.id.get(), machine.version.get());
         let status = machine.status.text();
-        let line = format!(in self.alloc; "machine {id}: {status}, version {version}")?;
-        self.print_line(line.as_str())?;
+        self.print_line(format_args!("machine {id}: {status}, version {version}"))?;
         Ok(TaskEnd::Done)
     }
 
     // Reports that the desk doesn't answer, and is asked again.
     fn report_lost(&mut self, machine: Number, why: Why) -> Result<(), AllocError> {
-        let (id, why) = (machine.get(), why.words());
-        let line = format!(in self.alloc; "machine {id}: no answer ({why}), asking again")?;
-        self.report(line.as_str())
+        let id = machine.get();
+        self.report(format_args!("machine {id}: no answer ({why}), asking again"))
     }
 
     // Reports what the machine was last, after all the time.
-    fn end_in_vain(&mut self, machine: Number, last: Option<Status>) -> Result<TaskEnd, EarlyEnd> {
+    fn end_in_vain(&mut self, machine: Number, last: Option<Status>) -> Step<TaskEnd> {
         let (id, seconds) = (machine.get(), self.line.timeout);
-        let last = match last {
-            Some(last) => last.text(),
-            None => "no answer",
-        };
-        let line = format!(in self.alloc; "machine {id}: {last}, after {seconds} seconds")?;
-        self.end(TaskEnd::NoAnswer, line.as_str())
+        let last = last.map_or("no answer", |last| last.text());
+        self.end(
+            TaskEnd::NoAnswer,
+            format_args!("machine {id}: {last}, after {seconds} seconds"),
+        )
     }
 
     // The milliseconds of the wait that are left.
@@ -74,11 +71,7 @@ impl<S: Surroundings> Session<'_, S> {
     }
 
     /// Looks at a machine until it has one of the statuses, every two seconds. Each time that the desk is lost, that is reported once.
-    pub(crate) fn wait(
-        &mut self,
-        machine: Number,
-        statuses: &[Status],
-    ) -> Result<TaskEnd, EarlyEnd> {
+    pub(crate) fn wait(&mut self, machine: Number, statuses: &[Status]) -> Step<TaskEnd> {
         let start = self.surroundings.passed();
         let mut last = None;
         let mut is_lost = false;

@@ -2,10 +2,10 @@
 use Rattle.std.specs.Prelude.{◌≡◌, ◌⊎◌, ℕ, List}
 use Rattle.hall_types.specs.{Hall.second, declared.{order.Order.Order, refusal.Refusal.Refusal}}
 use Rattle.hall_events.specs.{Reply.{Content, ListedMachine, refused, machine_is, machine_gone, done, waiting_orders, machine_list, one_machine, reply_of}, declared.{command.{HallCommand.{HallCommand, TheVariants.{AddMachine, OnMachine}}, MachineCommand.{MachineCommand, TheVariants.Delete}}, reply.{Reply.{Reply, TheVariants.Http}, BodyKind.TheVariants.Json}}}
-use Rattle.hallctl_texts.specs.declared.{answers.{DeskAnswer.DeskAnswer, MachineState.MachineState, Question.Question}, due.Due.Due}
+use Rattle.hallctl_texts.specs.declared.answers.{DeskAnswer.DeskAnswer, Due.Due, MachineState.MachineState, Question.Question}
 use Rattle.hallctl_texts.specs.declared.answers.DeskAnswer.TheVariants as says
 use Rattle.hallctl_texts.specs.declared.answers.Question.TheVariants as asks
-use Rattle.hallctl_texts.specs.declared.due.Due.TheVariants as due
+use Rattle.hallctl_texts.specs.declared.answers.Due.TheVariants as due
 
 -- ---- commands
 

@@ -1,13 +1,8 @@
 //! What a command was about, and what it changed or why it was refused, in a line.
 use crate::answers::MachineState;
 use hall_events::HallCommand;
-use hall_types::{MacAddress, Number, Refusal, Status};
+use hall_types::{Number, Refusal, Status};
 use std::alloc::{AllocError, Global};
-
-fn machine_subject(alloc: Global, mac: MacAddress) -> Result<String, AllocError> {
-    let mac = pxe_vendor::print_mac(alloc, &mac.octets())?;
-    format!(in alloc; "machine {mac}")
-}
 
 /// What a command is about, as `machine 1`, `pool lab`, `operator olga` or `image jammy`.
 pub fn subject(alloc: Global, command: &HallCommand) -> Result<String, AllocError> {
@@ -16,7 +11,10 @@ pub fn subject(alloc: Global, command: &HallCommand) -> Result<String, AllocErro
             let machine = machine.get();
             format!(in alloc; "machine {machine}")
         }
-        HallCommand::AddMachine { mac, .. } => machine_subject(alloc, *mac),
+        HallCommand::AddMachine { mac, .. } => {
+            let mac = pxe_vendor::print_mac(alloc, &mac.octets())?;
+            format!(in alloc; "machine {mac}")
+        }
         HallCommand::AddPool { pool } => format!(in alloc; "pool {pool}"),
         HallCommand::AddOperator { operator, .. }
         | HallCommand::DisableOperator { operator }

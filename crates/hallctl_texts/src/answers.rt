@@ -2,13 +2,12 @@
 ghost use Rattle.std.specs.Prelude.{◌≡◌, ◌↔◌, IfOk, IfSome, IsTrue, string_bytes};
 ghost use Rattle.hall_events.specs.Reply.{status_data};
 ghost use Rattle.serde_json.specs.{Written.{compact_text, has_float}, View.view};
-ghost use Rattle.hallctl_texts.specs.DeskAnswer.{Answers, Gives, IsDue, IsReplyOf, IsStateOf, IsTextOf, Refuses};
+ghost use Rattle.hallctl_texts.specs.DeskAnswer.{Answers, Gives, IsDue, IsReplyOf, IsStateOf, IsTextOf, Refuses, due_to};
 
-use crate::due::{Due, due_to};
 use crate::json::value_in;
 use crate::listed_replies::listed_reply;
 use crate::members::{refusal_at, state_at};
-use hall_events::{BodyKind, HallCommand, Reply};
+use hall_events::{BodyKind, HallCommand, MachineCommand, Reply};
 use hall_types::{Number, Refusal, Status, Text, Version};
 use serde_json::{Value, json};
 use std::alloc::{AllocError, Global};
@@ -47,6 +46,34 @@ pub enum DeskAnswer {
     Machine(MachineState),
     /// What was asked for isn't given, for this cause.
     Refused(Refusal),
+}
+
+/// What a command is answered that was carried out.
+#[derive(Clone, Copy)]
+pub(crate) enum Due {
+    /// Nothing more.
+    Nothing,
+    /// The number of the machine that was deleted.
+    Gone(Number),
+    /// This machine's status and version.
+    Machine(Number),
+    /// A new machine's number, status and version.
+    NewMachine,
+}
+
+fn due_to(command: &HallCommand) -> Due
+    ensures { result ≡ due_to command.now }
+{
+    match command {
+        HallCommand::OnMachine {
+            machine,
+            command: MachineCommand::Delete,
+            ..
+        } => Due::Gone(*machine),
+        HallCommand::OnMachine { machine, .. } => Due::Machine(*machine),
+        HallCommand::AddMachine { .. } => Due::NewMachine,
+        _ => Due::Nothing,
+    }
 }
 
 /// An answer, and the reply by which the desk gives it.

@@ -6,7 +6,6 @@ mod answer_fault;
 mod answer_lines;
 mod answers;
 mod dangers;
-mod due;
 mod json;
 mod listed_replies;
 mod listings;

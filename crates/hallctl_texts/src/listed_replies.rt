@@ -5,37 +5,26 @@ ghost use Rattle.hall_events.specs.Reply.{ListedMachine, machine_list, one_machi
 ghost use Rattle.hallctl_texts.specs.DeskAnswer.{Gives, IsReplyOf};
 
 use crate::answers::{DeskAnswer, Question};
+use crate::listings::objects;
 use crate::machine_value::{machine_in, order_in, push_interfaces};
 use hall_events::{MachineList, Reply};
-use hall_types::{Interface, Machine, Order};
+use hall_types::{Machine, Order};
 use serde_json::Value;
 use std::alloc::{AllocError, Global};
-
-// Writes a machine into the list, with the interfaces of its object, and says whether those could be read.
-fn push_machine(
-    alloc: Global,
-    list: &mut MachineList,
-    machine: &Machine,
-    object: &Value,
-) -> Result<bool, AllocError>
-    ensures { IfOk result (λ read. IsTrue read → (machine : ListedMachine) × (list.new ≡ with_machine list.old machine)) }
-{
-    let mut interfaces = Vec::new(alloc);
-    if !push_interfaces(&mut interfaces, object, machine.id)? {
-        return Ok(false);
-    }
-    list.push(alloc, machine, interfaces.as_slice())?;
-    Ok(true)
-}
 
 // Writes the machine that an object is into the list, and says whether it is one.
 fn push_object(alloc: Global, list: &mut MachineList, object: &Value) -> Result<bool, AllocError>
     ensures { IfOk result (λ read. IsTrue read → (machine : ListedMachine) × (list.new ≡ with_machine list.old machine)) }
 {
-    match machine_in(object) {
-        Some(machine) => push_machine(alloc, list, &machine, object),
-        None => Ok(false),
+    let Some(machine) = machine_in(object) else {
+        return Ok(false);
+    };
+    let mut interfaces = Vec::new(alloc);
+    if !push_interfaces(&mut interfaces, object, machine.id)? {
+        return Ok(false);
     }
+    list.push(alloc, &machine, interfaces.as_slice())?;
+    Ok(true)
 }
 
 // The answer that lists the machines that these objects are, if they are machines.
@@ -91,13 +80,6 @@ fn orders_reply(alloc: Global, objects: &[Value]) -> Result<Option<Reply>, Alloc
     Ok(Some(reply))
 }
 
-fn items_of<'j>(value: &'j Value, name: &str) -> &'j [Value] {
-    match value.get(name).and_then(Value::as_array) {
-        Some(items) => items.as_slice(),
-        None => &[],
-    }
-}
-
 /// The list or the machine that is asked for, as a value has it, if it has that. A list that isn't there is written as an empty one.
 pub(crate) fn listed_reply(
     alloc: Global,
@@ -107,8 +89,8 @@ pub(crate) fn listed_reply(
     ensures { IfOk result (λ reply. IfSome reply (IsReplyOf (Gives question.now DeskAnswer.Listed))) }
 {
     match question {
-        Question::Machines => machines_reply(alloc, items_of(value, "machines")),
-        Question::Orders => orders_reply(alloc, items_of(value, "orders")),
+        Question::Machines => machines_reply(alloc, objects(value, "machines").unwrap_or(&[])),
+        Question::Orders => orders_reply(alloc, objects(value, "orders").unwrap_or(&[])),
         Question::Machine(id) => match machine_in(value) {
             Some(machine) if machine.id == *id => machine_reply(alloc, &machine, value),
             _ => Ok(None),

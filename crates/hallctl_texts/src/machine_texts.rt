@@ -5,7 +5,7 @@ use crate::listings::{
 };
 use crate::member_texts::push_item;
 use crate::table::Table;
-use hall_types::{MacAddress, Name, Number};
+use hall_types::{MacAddress, Name};
 use serde_json::Value;
 use std::alloc::{AllocError, Global};
 
@@ -40,25 +40,17 @@ fn addresses_cell(alloc: Global, object: &Value) -> Result<String, AnswerFault> 
     Ok(text)
 }
 
-fn push_values(
-    alloc: Global,
-    table: &mut Table,
-    machine: &ListedMachine,
-) -> Result<(), AllocError> {
-    table.push(machine.id.get().to_string(alloc)?)?;
-    table.push(String::from_str(alloc, machine.status.text())?)?;
-    table.push(name_cell(alloc, Some(machine.pool))?)?;
-    table.push(name_cell(alloc, machine.owner)?)?;
-    table.push(name_cell(alloc, machine.image)?)
-}
-
 fn push_row(
     alloc: Global,
     table: &mut Table,
     machine: &ListedMachine,
     object: &Value,
 ) -> Result<(), AnswerFault> {
-    push_values(alloc, table, machine)?;
+    table.push(machine.id.get().to_string(alloc)?)?;
+    table.push(String::from_str(alloc, machine.status.text())?)?;
+    table.push(name_cell(alloc, Some(machine.pool))?)?;
+    table.push(name_cell(alloc, machine.owner)?)?;
+    table.push(name_cell(alloc, machine.image)?)?;
     table.push(addresses_cell(alloc, object)?)?;
     table.push(machine.version.get().to_string(alloc)?)?;
     Ok(())
@@ -92,11 +84,6 @@ pub fn machine_table(
     Ok(table.text(alloc)?)
 }
 
-fn push_id(alloc: Global, text: &mut String, id: Number) -> Result<(), AllocError> {
-    text.push_str(id.get().to_string(alloc)?.as_str())?;
-    text.push('\n')
-}
-
 /// The numbers of the machines of a list that a filter lets through, one a line.
 ///
 /// # Errors
@@ -106,24 +93,10 @@ pub fn machine_ids(alloc: Global, answer: &Value, filter: &Filter) -> Result<Str
     let mut text = String::new(alloc);
     for object in objects(answer, MACHINES)? {
         match wanted(filter, object) {
-            Ok(Some(machine)) => push_id(alloc, &mut text, machine.id)?,
-            Ok(None) => {}
-            Err(fault) => return Err(fault),
-        }
-    }
-    Ok(text)
-}
-
-// The objects of the machines that the filter lets through, a comma between each two.
-fn wanted_objects(
-    alloc: Global,
-    filter: &Filter,
-    objects: &[Value],
-) -> Result<String, AnswerFault> {
-    let mut text = String::new(alloc);
-    for object in objects {
-        match wanted(filter, object) {
-            Ok(Some(_)) => push_item(&mut text, object.to_string(alloc)?.as_str())?,
+            Ok(Some(machine)) => {
+                let id = machine.id.get();
+                text.push_str(format!(in alloc; "{id}\n")?.as_str())?;
+            }
             Ok(None) => {}
             Err(fault) => return Err(fault),
         }
@@ -137,8 +110,15 @@ fn wanted_objects(
 ///
 /// `NotTheDesk` where the answer is no such list, and `Memory`.
 pub fn machine_json(alloc: Global, answer: &Value, filter: &Filter) -> Result<String, AnswerFault> {
-    let objects = wanted_objects(alloc, filter, objects(answer, MACHINES)?)?;
-    Ok(format!(in alloc; "{{\"machines\":[{objects}]}}")?)
+    let mut text = String::new(alloc);
+    for object in objects(answer, MACHINES)? {
+        match wanted(filter, object) {
+            Ok(Some(_)) => push_item(&mut text, object.to_string(alloc)?.as_str())?,
+            Ok(None) => {}
+            Err(fault) => return Err(fault),
+        }
+    }
+    Ok(format!(in alloc; "{{\"machines\":[{text}]}}")?)
 }
 
 /// The machine of a list that has a hardware address, if one has it.

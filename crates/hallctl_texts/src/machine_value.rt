@@ -1,10 +1,11 @@
 //! A machine or an order as a list has it.
+use crate::listings::address_in;
 use crate::members::{count_at, name_at, number_at, or_null, state_at, text_at, text_or_null};
 use hall_types::{
     BootCount, Interface, Machine, MachineUuid, Number, Order, OrderKind, OrderStage,
 };
 use serde_json::Value;
-use std::alloc::{AllocError, Global};
+use std::alloc::AllocError;
 use uuid::Uuid;
 
 fn uuid_at(object: &Value, name: &str) -> Option<MachineUuid> {
@@ -35,11 +36,6 @@ pub(crate) fn machine_in(object: &Value) -> Option<Machine> {
     })
 }
 
-fn interface_in(value: &Value, machine: Number) -> Option<Interface> {
-    let mac = value.as_str()?.parse().ok()?;
-    Some(Interface { mac, machine })
-}
-
 /// Adds the interfaces of the machine that an object of a list is, and says whether all of them could be read.
 pub(crate) fn push_interfaces(
     interfaces: &mut Vec<Interface>,
@@ -50,8 +46,8 @@ pub(crate) fn push_interfaces(
         return Ok(false);
     };
     for value in values.as_slice() {
-        match interface_in(value, machine) {
-            Some(interface) => interfaces.push(interface)?,
+        match address_in(value) {
+            Some(mac) => interfaces.push(Interface { mac, machine })?,
             None => return Ok(false),
         }
     }

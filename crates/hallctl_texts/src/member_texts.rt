@@ -46,23 +46,6 @@ fn value_text(alloc: Global, value: &Value) -> Result<String, AnswerFault> {
     }
 }
 
-fn push_line(
-    alloc: Global,
-    text: &mut String,
-    name: &str,
-    value: &Value,
-) -> Result<(), AnswerFault> {
-    if !is_plain(name) {
-        return Err(AnswerFault::NotTheDesk);
-    }
-    let value = value_text(alloc, value)?;
-    text.push_str(name)?;
-    text.push_str(": ")?;
-    text.push_str(value.as_str())?;
-    text.push('\n')?;
-    Ok(())
-}
-
 /// A machine (the answer to `GET /machines/ID`, or an object of a list), a line `name: value` for each of its members.
 ///
 /// # Errors
@@ -76,16 +59,16 @@ pub fn machine_lines(alloc: Global, object: &Value) -> Result<String, AnswerFaul
     let members = object.as_object().ok_or(AnswerFault::NotTheDesk)?;
     let mut text = String::new(alloc);
     for (name, value) in members.iter() {
-        push_line(alloc, &mut text, name.as_str(), value)?;
+        if !is_plain(name.as_str()) {
+            return Err(AnswerFault::NotTheDesk);
+        }
+        let value = value_text(alloc, value)?;
+        text.push_str(format!(in alloc; "{name}: {value}\n")?.as_str())?;
     }
     Ok(text)
 }
 
 const HEADING: [&str; 3] = ["NUMBER", "KIND", "MACHINE"];
-
-fn kind_at(order: &Value) -> Result<&str, AnswerFault> {
-    plain(order.get("kind").ok_or(AnswerFault::NotTheDesk)?)
-}
 
 fn number_text(alloc: Global, order: &Value, name: &str) -> Result<String, AnswerFault> {
     let number = number_at(order, name).ok_or(AnswerFault::NotTheDesk)?;
@@ -93,8 +76,9 @@ fn number_text(alloc: Global, order: &Value, name: &str) -> Result<String, Answe
 }
 
 fn push_order(alloc: Global, table: &mut Table, order: &Value) -> Result<(), AnswerFault> {
+    let kind = order.get("kind").ok_or(AnswerFault::NotTheDesk)?;
     table.push(number_text(alloc, order, "number")?)?;
-    table.push(String::from_str(alloc, kind_at(order)?)?)?;
+    table.push(String::from_str(alloc, plain(kind)?)?)?;
     table.push(number_text(alloc, order, "machine")?)?;
     Ok(())
 }

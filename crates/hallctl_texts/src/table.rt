@@ -16,21 +16,14 @@ pub(crate) struct Table {
 
 // The length of the longest cell of a column. Cells are ASCII.
 fn width(table: &Table, column: usize) -> usize {
-    let mut width = 0;
-    for (i, cell) in table.cells.iter().enumerate() {
-        if i % table.columns == column && cell.len() > width {
-            width = cell.len();
-        }
-    }
-    width
+    let cells = table.cells.iter().skip(column).step_by(table.columns);
+    cells.map(|cell| cell.len()).max().unwrap_or(0)
 }
 
 fn widths(alloc: Global, table: &Table) -> Result<Vec<usize>, AllocError> {
-    let mut widths = Vec::with_capacity(alloc, table.columns)?;
-    for column in 0..table.columns {
-        widths.push(width(table, column))?;
-    }
-    Ok(widths)
+    (0..table.columns)
+        .map(|column| width(table, column))
+        .collect(alloc)
 }
 
 // Writes a cell that another one follows, as wide as its column.
@@ -40,11 +33,6 @@ fn push_wide(text: &mut String, cell: &str, width: usize) -> Result<(), AllocErr
         text.push(' ')?;
     }
     text.push_str(GAP)
-}
-
-fn push_last(text: &mut String, cell: &str) -> Result<(), AllocError> {
-    text.push_str(cell)?;
-    text.push('\n')
 }
 
 impl Table {
@@ -75,7 +63,8 @@ impl Table {
         for (i, cell) in self.cells.iter().enumerate() {
             let column = i % self.columns;
             if column + 1 == self.columns {
-                push_last(&mut text, cell.as_str())?;
+                text.push_str(cell.as_str())?;
+                text.push('\n')?;
             } else {
                 let width = widths.get(column).copied().unwrap_or(0);
                 push_wide(&mut text, cell.as_str(), width)?;

@@ -45,7 +45,7 @@ fn push_case(text: &mut String, row: &CommandRow) -> Result<(), AllocError> {
 // The line of a command line that has no command yet.
 fn push_front(text: &mut String, rows: &[CommandRow]) -> Result<(), AllocError> {
     text.push_str("        '') options='--help --version")?;
-    push_options(text, READING)?;
+    push_options(text, &READING)?;
     for row in rows {
         text.push_str(" ")?;
         text.push_str(row.name)?;
@@ -53,18 +53,14 @@ fn push_front(text: &mut String, rows: &[CommandRow]) -> Result<(), AllocError> 
     text.push_str("' ;;\n")
 }
 
-fn push_all(text: &mut String, rows: &[CommandRow]) -> Result<(), AllocError> {
-    push_front(text, rows)?;
-    for row in rows {
-        push_case(text, row)?;
-    }
-    text.push_str(TAIL)
-}
-
 /// A file for bash that completes commands and options, from the same rows as the command line.
 pub fn completion(alloc: Global) -> Result<String, AllocError> {
     let rows = rows(alloc)?;
     let mut text = String::from_str(alloc, HEAD)?;
-    push_all(&mut text, rows.as_slice())?;
+    push_front(&mut text, rows.as_slice())?;
+    for row in rows.as_slice() {
+        push_case(&mut text, row)?;
+    }
+    text.push_str(TAIL)?;
     Ok(text)
 }

@@ -1,14 +1,13 @@
 //! The command line: its commands in the order of the help, and what the words of one ask for.
 use crate::asked::{Line, Listing, Wish};
-use crate::durations::seconds_of;
-use crate::hall::hall_command;
-use crate::lists::one;
+use crate::hall::{add_operator, hall_command};
 use crate::machines::{YES, commands_on};
-use crate::new_operator::add_operator;
-use crate::options::{DESK, JSON, KEY, KEYS, READING, TIMEOUT, TOKEN_FILE};
-use crate::values::key_of;
-use crate::waiting::wait;
-use crate::{hall, listings, machines, new_operator, waiting};
+use crate::options::{
+    CHANGING, COMMAND, DESK, JSON, KEY, KEYS, READING, TIMEOUT, TOKEN_FILE, WAITING,
+};
+use crate::values::{key_of, seconds_of};
+use crate::waiting::{WAIT, wait};
+use crate::{hall, listings, machines};
 use command_rows::{CommandRow, Front, OptionRow, Options, Usage, Wrong};
 use hall_events::HallCommand;
 use hall_types::RequestKey;
@@ -23,68 +22,49 @@ const TRIES: u64 = 60;
 // How long a status is waited for.
 const WAITS: u64 = 1800;
 
-static IMPORT: CommandRow = CommandRow {
+const IMPORT: CommandRow = CommandRow {
     name: "import",
     about: "Adds the machines of a file of comma-separated values",
     example: "Example: hallctl import machines.csv",
     options: &[FILE, KEYS],
-    common: READING,
+    ..COMMAND
 };
 
-static COMPLETION: CommandRow = CommandRow {
+const COMPLETION: CommandRow = CommandRow {
     name: "completion",
     about: "Prints the completion for bash",
     example: "Example: hallctl completion > /etc/bash_completion.d/hallctl",
-    options: &[],
-    common: &[],
+    ..COMMAND
 };
 
 const FILE: OptionRow = OptionRow {
     name: "file",
     value: "FILE",
     help: "The file of machines",
-    must: "a file's path",
     ..OptionRow::PLACE
 };
+
+// Adds the rows of commands that share these options.
+fn push(
+    rows: &mut Vec<CommandRow>,
+    more: &[CommandRow],
+    common: &'static [OptionRow],
+) -> Result<(), AllocError> {
+    for row in more {
+        rows.push(CommandRow { common, ..*row })?;
+    }
+    Ok(())
+}
 
 /// All commands, in the order of the help.
 pub(crate) fn rows(alloc: Global) -> Result<Vec<CommandRow>, AllocError> {
     let mut rows = Vec::new(alloc);
-    for row in [
-        &listings::MACHINES,
-        &listings::MACHINE,
-        &listings::ORDERS,
-        &machines::COMMISSION,
-        &machines::TEST,
-        &machines::OVERRIDE,
-        &machines::ALLOCATE,
-        &machines::DEPLOY,
-        &machines::RELEASE,
-        &machines::RESCUE,
-        &machines::EXIT_RESCUE,
-        &machines::ABORT,
-        &machines::BREAK,
-        &machines::FIX,
-        &machines::LOCK,
-        &machines::UNLOCK,
-        &machines::DELETE,
-        &machines::SET_POOL,
-        &hall::ADD_MACHINE,
-        &machines::ADD_INTERFACE,
-        &machines::REMOVE_INTERFACE,
-        &new_operator::ADD_OPERATOR,
-        &hall::DISABLE_OPERATOR,
-        &hall::ADD_POOL,
-        &hall::GRANT,
-        &hall::ADD_IMAGE,
-        &hall::DELETE_IMAGE,
-        &hall::SET_LIVE,
-        &waiting::WAIT,
-        &IMPORT,
-        &COMPLETION,
-    ] {
-        rows.push(*row)?;
-    }
+    push(&mut rows, &listings::ROWS, &READING)?;
+    push(&mut rows, &machines::ROWS, &CHANGING)?;
+    push(&mut rows, &hall::ROWS, &CHANGING)?;
+    push(&mut rows, &[WAIT], &WAITING)?;
+    push(&mut rows, &[IMPORT], &READING)?;
+    push(&mut rows, &[COMPLETION], &[])?;
     Ok(rows)
 }
 
@@ -100,7 +80,7 @@ pub enum LineFault {
 // The commands that are sent.
 fn commands(name: &str, options: &Options<'_>) -> Result<Vec<HallCommand>, Wrong> {
     match hall_command(name, options)? {
-        Some(command) => Ok(one(options.alloc(), command)?),
+        Some(command) => Ok(Vec::from_array(options.alloc(), [command])?),
         None => commands_on(name, options),
     }
 }
@@ -144,7 +124,10 @@ fn key_for(options: &Options<'_>, wish: &Wish<'_>) -> Result<Option<RequestKey>,
     }
 }
 
-fn line_with<'a>(options: &Options<'a>, timeout: u64, wish: Wish<'a>) -> Result<Line<'a>, Wrong> {
+fn line_of<'a>(options: &Options<'a>) -> Result<Line<'a>, Wrong> {
+    let name = options.command().unwrap_or("");
+    let timeout = timeout(name, options)?;
+    let wish = wish_of(name, options)?;
     let key = key_for(options, &wish)?;
     Ok(Line {
         desk: options.text(&DESK),
@@ -158,41 +141,22 @@ fn line_with<'a>(options: &Options<'a>, timeout: u64, wish: Wish<'a>) -> Result<
     })
 }
 
-fn line_of<'a>(options: &Options<'a>) -> Result<Line<'a>, Wrong> {
-    let name = options.command().unwrap_or("");
-    let timeout = timeout(name, options)?;
-    let wish = wish_of(name, options)?;
-    line_with(options, timeout, wish)
-}
-
-fn options_of<'a>(
-    alloc: Global,
-    rows: &[CommandRow],
-    words: &'a [String],
-) -> Result<Options<'a>, Usage> {
-    let front = Front {
-        name: "hallctl",
-        version: VERSION,
-        about: "Asks the boot desk of a server hall",
-        after: "Exit status: 0 done, 1 refused, 2 wrong usage, 3 no answer.",
-        options: READING,
-        commands: rows,
-        needs_command: true,
-    };
-    Options::read(alloc, &front, words)
-}
-
 /// What the words of a command line ask for, of which the first is the program's name.
 ///
 /// # Errors
 ///
 /// `Usage` where the words are none of the command line's or ask for help, and `Wrong` where an option isn't what it must be.
 pub fn read<'a>(alloc: Global, words: &'a [String]) -> Result<Line<'a>, LineFault> {
-    let Ok(rows) = rows(alloc) else {
-        return Err(LineFault::Wrong(Wrong::Memory));
+    let rows = rows(alloc).map_err(|_| LineFault::Wrong(Wrong::Memory))?;
+    let front = Front {
+        name: "hallctl",
+        version: VERSION,
+        about: "Asks the boot desk of a server hall",
+        after: "Exit status: 0 done, 1 refused, 2 wrong usage, 3 no answer.",
+        options: &READING,
+        commands: rows.as_slice(),
+        needs_command: true,
     };
-    match options_of(alloc, rows.as_slice(), words) {
-        Ok(options) => line_of(&options).map_err(LineFault::Wrong),
-        Err(usage) => Err(LineFault::Usage(usage)),
-    }
+    let options = Options::read(alloc, &front, words).map_err(LineFault::Usage)?;
+    line_of(&options).map_err(LineFault::Wrong)
 }

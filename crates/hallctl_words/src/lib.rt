@@ -4,12 +4,9 @@
 mod asked;
 mod bash_completion;
 mod command_line;
-mod durations;
 mod hall;
 mod listings;
-mod lists;
 mod machines;
-mod new_operator;
 mod options;
 mod spans;
 mod values;

@@ -1,32 +1,32 @@
 //! Commands that list what the desk has: `machines`, `machine`, `orders`.
 use crate::asked::{Form, Listing, Which};
-use crate::options::{JSON, NAME, READING, STATUS};
+use crate::options::{COMMAND, JSON, NAME, STATUS};
 use command_rows::{CommandRow, OptionRow, Options, Wrong};
 use hallctl_texts::Filter;
 
-pub(crate) static MACHINES: CommandRow = CommandRow {
-    name: "machines",
-    about: "Lists the machines",
-    example: "Example: hallctl machines --status Ready --pool lab",
-    options: &[WITH_STATUS, IN_POOL, OWNER, IDS],
-    common: READING,
-};
-
-pub(crate) static MACHINE: CommandRow = CommandRow {
-    name: "machine",
-    about: "Shows one machine",
-    example: "Example: hallctl machine 52:54:00:12:34:56",
-    options: &[WHICH],
-    common: READING,
-};
-
-pub(crate) static ORDERS: CommandRow = CommandRow {
-    name: "orders",
-    about: "Lists the power orders that wait",
-    example: "Example: hallctl orders",
-    options: &[],
-    common: READING,
-};
+/// The commands, in the order of the help.
+pub(crate) static ROWS: [CommandRow; 3] = [
+    CommandRow {
+        name: "machines",
+        about: "Lists the machines",
+        example: "Example: hallctl machines --status Ready --pool lab",
+        options: &[WITH_STATUS, IN_POOL, OWNER, IDS],
+        ..COMMAND
+    },
+    CommandRow {
+        name: "machine",
+        about: "Shows one machine",
+        example: "Example: hallctl machine 52:54:00:12:34:56",
+        options: &[WHICH],
+        ..COMMAND
+    },
+    CommandRow {
+        name: "orders",
+        about: "Lists the power orders that wait",
+        example: "Example: hallctl orders",
+        ..COMMAND
+    },
+];
 
 const WITH_STATUS: OptionRow = OptionRow {
     name: "status",

@@ -1,147 +1,91 @@
 //! Commands on machines that are there.
-use crate::lists::{one, push};
-use crate::options::{CHANGING, MAC, MACHINE, NAME, POOL};
+use crate::hall::ADD_MACHINE;
+use crate::options::{COMMAND, MAC, MACHINE, NAME, POOL};
 use crate::spans::machines_of;
 use crate::values::erase_of;
 use command_rows::{CommandRow, OptionRow, Options, Shape, Wrong};
 use hall_events::{HallCommand, MachineCommand};
 use hall_types::{Act, Number, Version};
-use std::alloc::AllocError;
 
-// A command without members.
-const ACT: CommandRow = CommandRow {
-    name: "",
-    about: "",
-    example: "",
-    options: &[MACHINES, VERSION],
-    common: CHANGING,
-};
+// The row of a command without members.
+macro_rules! act {
+    ($name:literal, $about:literal) => {
+        CommandRow {
+            name: $name,
+            about: $about,
+            example: concat!("Example: hallctl ", $name, " 1"),
+            options: &[MACHINES, VERSION],
+            ..COMMAND
+        }
+    };
+}
 
-pub(crate) static COMMISSION: CommandRow = CommandRow {
-    name: "commission",
-    about: "Commissions machines",
-    example: "Example: hallctl commission 1 2 5-9 --tests",
-    options: &[MACHINES, TESTS, VERSION],
-    common: CHANGING,
-};
-
-pub(crate) static TEST: CommandRow = CommandRow {
-    name: "test",
-    about: "Tests machines",
-    example: "Example: hallctl test 1",
-    ..ACT
-};
-
-pub(crate) static OVERRIDE: CommandRow = CommandRow {
-    name: "override",
-    about: "Takes machines whose tests failed as ready",
-    example: "Example: hallctl override 1",
-    ..ACT
-};
-
-pub(crate) static ALLOCATE: CommandRow = CommandRow {
-    name: "allocate",
-    about: "Makes you the owner of machines",
-    example: "Example: hallctl allocate 1",
-    ..ACT
-};
-
-pub(crate) static DEPLOY: CommandRow = CommandRow {
-    name: "deploy",
-    about: "Deploys an image on machines that you own",
-    example: "Example: hallctl deploy 1 --image jammy",
-    options: &[MACHINES, IMAGE, VERSION],
-    common: CHANGING,
-};
-
-pub(crate) static RELEASE: CommandRow = CommandRow {
-    name: "release",
-    about: "Gives machines back, with all of their disks erased first or not",
-    example: "Example: hallctl release 1 --erase none",
-    options: &[MACHINES, ERASE, VERSION, YES],
-    common: CHANGING,
-};
-
-pub(crate) static RESCUE: CommandRow = CommandRow {
-    name: "rescue",
-    about: "Boots the rescue system on machines",
-    example: "Example: hallctl rescue 1",
-    ..ACT
-};
-
-pub(crate) static EXIT_RESCUE: CommandRow = CommandRow {
-    name: "exit-rescue",
-    about: "Ends the rescue of machines",
-    example: "Example: hallctl exit-rescue 1",
-    ..ACT
-};
-
-pub(crate) static ABORT: CommandRow = CommandRow {
-    name: "abort",
-    about: "Stops what machines are doing",
-    example: "Example: hallctl abort 1",
-    ..ACT
-};
-
-pub(crate) static BREAK: CommandRow = CommandRow {
-    name: "break",
-    about: "Marks machines as broken",
-    example: "Example: hallctl break 1",
-    ..ACT
-};
-
-pub(crate) static FIX: CommandRow = CommandRow {
-    name: "fix",
-    about: "Takes broken machines as ready",
-    example: "Example: hallctl fix 1",
-    ..ACT
-};
-
-pub(crate) static LOCK: CommandRow = CommandRow {
-    name: "lock",
-    about: "Guards deployed machines against every command but unlock",
-    example: "Example: hallctl lock 1",
-    ..ACT
-};
-
-pub(crate) static UNLOCK: CommandRow = CommandRow {
-    name: "unlock",
-    about: "Ends that guard",
-    example: "Example: hallctl unlock 1",
-    ..ACT
-};
-
-pub(crate) static DELETE: CommandRow = CommandRow {
-    name: "delete",
-    about: "Deletes machines",
-    example: "Example: hallctl delete 1",
-    options: &[MACHINES, VERSION, YES],
-    common: CHANGING,
-};
-
-pub(crate) static SET_POOL: CommandRow = CommandRow {
-    name: "set-pool",
-    about: "Puts machines into another pool",
-    example: "Example: hallctl set-pool 1 --pool lab",
-    options: &[MACHINES, POOL, VERSION],
-    common: CHANGING,
-};
-
-pub(crate) static ADD_INTERFACE: CommandRow = CommandRow {
-    name: "add-interface",
-    about: "Adds a hardware address to a machine",
-    example: "Example: hallctl add-interface 1 --mac 52:54:00:12:34:57",
-    options: &[MACHINE, MAC, VERSION],
-    common: CHANGING,
-};
-
-pub(crate) static REMOVE_INTERFACE: CommandRow = CommandRow {
-    name: "remove-interface",
-    about: "Removes a hardware address from a machine",
-    example: "Example: hallctl remove-interface 1 --mac 52:54:00:12:34:57",
-    options: &[MACHINE, MAC, VERSION],
-    common: CHANGING,
-};
+/// Commands on machines, in the order of the help.
+pub(crate) static ROWS: [CommandRow; 18] = [
+    CommandRow {
+        name: "commission",
+        about: "Commissions machines",
+        example: "Example: hallctl commission 1 2 5-9 --tests",
+        options: &[MACHINES, TESTS, VERSION],
+        ..COMMAND
+    },
+    act!("test", "Tests machines"),
+    act!("override", "Takes machines whose tests failed as ready"),
+    act!("allocate", "Makes you the owner of machines"),
+    CommandRow {
+        name: "deploy",
+        about: "Deploys an image on machines that you own",
+        example: "Example: hallctl deploy 1 --image jammy",
+        options: &[MACHINES, IMAGE, VERSION],
+        ..COMMAND
+    },
+    CommandRow {
+        name: "release",
+        about: "Gives machines back, with all of their disks erased first or not",
+        example: "Example: hallctl release 1 --erase none",
+        options: &[MACHINES, ERASE, VERSION, YES],
+        ..COMMAND
+    },
+    act!("rescue", "Boots the rescue system on machines"),
+    act!("exit-rescue", "Ends the rescue of machines"),
+    act!("abort", "Stops what machines are doing"),
+    act!("break", "Marks machines as broken"),
+    act!("fix", "Takes broken machines as ready"),
+    act!(
+        "lock",
+        "Guards deployed machines against every command but unlock"
+    ),
+    act!("unlock", "Ends that guard"),
+    CommandRow {
+        name: "delete",
+        about: "Deletes machines",
+        example: "Example: hallctl delete 1",
+        options: &[MACHINES, VERSION, YES],
+        ..COMMAND
+    },
+    CommandRow {
+        name: "set-pool",
+        about: "Puts machines into another pool",
+        example: "Example: hallctl set-pool 1 --pool lab",
+        options: &[MACHINES, POOL, VERSION],
+        ..COMMAND
+    },
+    ADD_MACHINE,
+    CommandRow {
+        name: "add-interface",
+        about: "Adds a hardware address to a machine",
+        example: "Example: hallctl add-interface 1 --mac 52:54:00:12:34:57",
+        options: &[MACHINE, MAC, VERSION],
+        ..COMMAND
+    },
+    CommandRow {
+        name: "remove-interface",
+        about: "Removes a hardware address from a machine",
+        example: "Example: hallctl remove-interface 1 --mac 52:54:00:12:34:57",
+        options: &[MACHINE, MAC, VERSION],
+        ..COMMAND
+    },
+];
 
 const MACHINES: OptionRow = OptionRow {
     name: "machines",
@@ -163,14 +107,12 @@ const VERSION: OptionRow = OptionRow {
 pub(crate) const YES: OptionRow = OptionRow {
     name: "yes",
     help: "Asks nothing",
-    must: "a flag",
     ..OptionRow::FLAG
 };
 
 const TESTS: OptionRow = OptionRow {
     name: "tests",
     help: "Tests the machine too",
-    must: "a flag",
     ..OptionRow::FLAG
 };
 
@@ -232,8 +174,7 @@ fn machines(options: &Options<'_>) -> Result<Vec<Number>, Wrong> {
     if options.is_given(&MACHINES) {
         return machines_of(alloc, &MACHINES, options.texts(&MACHINES)?.as_slice());
     }
-    let machine = options.parse(&MACHINE)?;
-    Ok(one(alloc, machine)?)
+    Ok(Vec::from_array(alloc, [options.parse(&MACHINE)?])?)
 }
 
 // The version that one machine must have.
@@ -244,29 +185,15 @@ fn version(options: &Options<'_>, machines: usize) -> Result<Option<Version>, Wr
     }
 }
 
-fn push_commands(
-    commands: &mut Vec<HallCommand>,
-    machines: &[Number],
-    version: &Option<Version>,
-    command: &MachineCommand,
-) -> Result<(), AllocError> {
-    for machine in machines {
-        let command = HallCommand::OnMachine {
-            machine: *machine,
-            version: *version,
-            command: *command,
-        };
-        push(commands, command)?;
-    }
-    Ok(())
-}
-
 /// The command of this name for each machine that is named.
 pub(crate) fn commands_on(name: &str, options: &Options<'_>) -> Result<Vec<HallCommand>, Wrong> {
     let command = machine_command(name, options)?;
     let machines = machines(options)?;
     let version = version(options, machines.len())?;
-    let mut commands = Vec::new(options.alloc());
-    push_commands(&mut commands, machines.as_slice(), &version, &command)?;
-    Ok(commands)
+    let commands = machines.iter().map(|machine| HallCommand::OnMachine {
+        machine: *machine,
+        version,
+        command,
+    });
+    Ok(commands.collect(options.alloc())?)
 }

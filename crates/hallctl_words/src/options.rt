@@ -1,5 +1,5 @@
 //! Options that several commands have.
-use command_rows::OptionRow;
+use command_rows::{CommandRow, OptionRow};
 
 // ---- what values must be
 
@@ -16,7 +16,6 @@ pub(crate) const DESK: OptionRow = OptionRow {
     name: "desk",
     value: "URL",
     help: "The desk, as http://desk.hall.example; without it HALL_DESK says",
-    must: "a URL is as in http://desk.hall.example",
     ..OptionRow::MAYBE
 };
 
@@ -24,7 +23,6 @@ pub(crate) const TOKEN_FILE: OptionRow = OptionRow {
     name: "token-file",
     value: "FILE",
     help: "A file whose first line is your token; without it HALL_TOKEN_FILE says",
-    must: "a file's path",
     ..OptionRow::MAYBE
 };
 
@@ -48,25 +46,32 @@ pub(crate) const KEYS: OptionRow = OptionRow {
     name: "keys",
     value: "FILE",
     help: "Adds each command's key to this file before it is sent, and how it ended",
-    must: "a file's path",
     ..OptionRow::MAYBE
 };
 
 pub(crate) const JSON: OptionRow = OptionRow {
     name: "json",
     help: "Prints the desk's JSON",
-    must: "a flag",
     ..OptionRow::FLAG
 };
 
 /// What a command that reads shares with all others. It may stand before the command as well.
-pub(crate) const READING: &[OptionRow] = &[DESK, TOKEN_FILE, TIMEOUT, JSON];
+pub(crate) static READING: [OptionRow; 4] = [DESK, TOKEN_FILE, TIMEOUT, JSON];
 
 /// What commands share that change something: a command's key beside.
-pub(crate) const CHANGING: &[OptionRow] = &[DESK, TOKEN_FILE, TIMEOUT, KEY, KEYS, JSON];
+pub(crate) static CHANGING: [OptionRow; 6] = [DESK, TOKEN_FILE, TIMEOUT, KEY, KEYS, JSON];
 
 /// What a command shares whose time limit is its own.
-pub(crate) const WAITING: &[OptionRow] = &[DESK, TOKEN_FILE, JSON];
+pub(crate) static WAITING: [OptionRow; 3] = [DESK, TOKEN_FILE, JSON];
+
+/// What the rows of commands have in common, before what they share is added.
+pub(crate) const COMMAND: CommandRow = CommandRow {
+    name: "",
+    about: "",
+    example: "",
+    options: &[],
+    common: &[],
+};
 
 // ---- options of several commands
 

@@ -22,10 +22,7 @@ struct Span {
 fn number_of(text: &[u8]) -> Option<Number>
     ensures { result ≡ number_of_text text.now }
 {
-    match numeral(text) {
-        Some(number) => Number::new(number).ok(),
-        None => None,
-    }
+    Number::new(numeral(text)?).ok()
 }
 
 #[tactic(auto, unfolding(crate::specs::Spans::between))]

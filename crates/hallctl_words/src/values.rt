@@ -1,9 +1,10 @@
 //! The values that words say.
-ghost use Rattle.std.specs.Prelude.{◌≡◌, option_map};
+ghost use Rattle.std.specs.Prelude.{◌≡◌, ◌≤◌, take, length, option_map, slice_index};
 ghost use Rattle.uuid.specs.Text.{parsed};
-ghost use Rattle.hallctl_words.specs.Words.{erase_in, uuid_in};
+ghost use Rattle.hallctl_words.specs.Words.{erase_in, seconds_in, times_at_most, uuid_in};
 
 use hall_types::{Erase, MachineUuid, RequestKey};
+use pxe_vendor::numeral;
 use uuid::Uuid;
 
 // The octets of a UUID, in one of its four spellings.
@@ -20,20 +21,15 @@ fn parsed(text: &str) -> Option<[u8; 16]>
 pub(crate) fn key_of(text: &str) -> Option<RequestKey>
     ensures { result ≡ parsed text.now }
 {
-    match parsed(text) {
-        Some(octets) => Some(RequestKey::from(octets)),
-        None => None,
-    }
+    let octets = parsed(text)?;
+    Some(RequestKey::from(octets))
 }
 
 /// The UUID of a machine's system, which is neither all zeros nor all ones.
 pub(crate) fn uuid_of(text: &str) -> Option<MachineUuid>
     ensures { result ≡ uuid_in text.now }
 {
-    match parsed(text) {
-        Some(octets) => MachineUuid::identifying(octets),
-        None => None,
-    }
+    MachineUuid::identifying(parsed(text)?)
 }
 
 /// How disks are erased; `none` isn't at all.
@@ -43,8 +39,31 @@ pub(crate) fn erase_of(text: &str) -> Option<Option<Erase>>
     if text == "none" {
         return Some(None);
     }
-    match text.parse::<Erase>() {
-        Ok(erase) => Some(Some(erase)),
-        Err(_) => None,
+    text.parse::<Erase>().ok().map(Some)
+}
+
+// A year of 365 days, in seconds.
+const MAX_SECONDS: u64 = 31_536_000;
+
+// So many units of this many seconds.
+fn times(text: &[u8], unit: u64) -> Option<u64>
+    requires { 1 ≤ unit }
+    ensures { result ≡ times_at_most unit text.now }
+{
+    match numeral(text) {
+        Some(count) if count <= MAX_SECONDS / unit => Some(count * unit),
+        _ => None,
+    }
+}
+
+/// The seconds of a time in seconds, or as `30s`, `10m` or `2h`: a year at most.
+pub(crate) fn seconds_of(text: &[u8]) -> Option<u64>
+    ensures { result ≡ seconds_in text.now }
+{
+    match text {
+        [count @ .., b's'] => times(count, 1),
+        [count @ .., b'm'] => times(count, 60),
+        [count @ .., b'h'] => times(count, 3600),
+        _ => times(text, 1),
     }
 }

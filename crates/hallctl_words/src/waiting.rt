@@ -1,16 +1,15 @@
 //! `wait`.
 use crate::asked::Wish;
-use crate::lists::{one, push};
-use crate::options::{MACHINE, STATUS, TIME, WAITING};
+use crate::options::{COMMAND, MACHINE, STATUS, TIME};
 use command_rows::{CommandRow, OptionRow, Options, Shape, Wrong};
 use hall_types::Status;
 
-pub(crate) static WAIT: CommandRow = CommandRow {
+pub(crate) const WAIT: CommandRow = CommandRow {
     name: "wait",
     about: "Waits until a machine has a status",
     example: "Example: hallctl wait 1 --for Ready --or 'Failed commissioning' --timeout 30m",
     options: &[MACHINE, FOR, OR, PATIENCE],
-    common: WAITING,
+    ..COMMAND
 };
 
 const FOR: OptionRow = OptionRow {
@@ -38,25 +37,16 @@ const PATIENCE: OptionRow = OptionRow {
     ..OptionRow::MAYBE
 };
 
-fn push_others(
-    statuses: &mut Vec<Status>,
-    options: &Options<'_>,
-    texts: &[&str],
-) -> Result<(), Wrong> {
-    for text in texts {
-        match text.parse() {
-            Ok(status) => push(statuses, status)?,
-            Err(_) => return Err(Wrong::of(options.alloc(), &OR, Some(text))),
-        }
-    }
-    Ok(())
-}
-
 /// The machine that is waited for, and the statuses that end it.
 pub(crate) fn wait<'a>(options: &Options<'a>) -> Result<Wish<'a>, Wrong> {
     let machine = options.parse(&MACHINE)?;
-    let first = options.parse(&FOR)?;
-    let mut statuses = one(options.alloc(), first)?;
-    push_others(&mut statuses, options, options.texts(&OR)?.as_slice())?;
+    let mut statuses = Vec::from_array(options.alloc(), [options.parse(&FOR)?])?;
+    let texts = options.texts(&OR)?;
+    for text in texts.as_slice() {
+        match text.parse::<Status>() {
+            Ok(status) => statuses.push(status)?,
+            Err(_) => return Err(Wrong::of(options.alloc(), &OR, Some(text))),
+        }
+    }
     Ok(Wish::Wait { machine, statuses })
 }

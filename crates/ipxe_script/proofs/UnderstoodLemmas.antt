@@ -8,9 +8,6 @@ bind_ok : {A B : Type 0} (r : Result A ScriptFault) (f : A → Result B ScriptFa
 bind_ok (Ok x) f y e = (x, refl, e)
 bind_ok (Err fault) f y e = absurd cc
 
-done : {A : Type 0} → A → Result A ScriptFault
-done x = Ok x
-
 same_ok : {A : Type 0} (x y : A) → ◌≡◌ {A = Result A ScriptFault} (Ok x) (Ok y) → x ≡ y
 same_ok x y e = cc
 
@@ -56,9 +53,6 @@ initrd_of-ok (uri ∷ []) command e =
     subst (λ (x : Command). IsCommand (codes "initrd" ∷ uri ∷ []) x) made (record { spelt = refl; whole = p.0 })
 initrd_of-ok other command e = absurd cc
 
-same_text : (xs ys : List ℕ) → bytes_eq xs ys ≡ true → xs ≡ ys
-same_text xs ys e = (bytes_eq-Decides xs ys).0 e
-
 three_same : (a b c x y z : List ℕ) → a ≡ x → b ≡ y → c ≡ z → codes "sanboot" ∷ a ∷ b ∷ c ∷ [] ≡ codes "sanboot" ∷ x ∷ y ∷ z ∷ []
 three_same a b c x y z p q r = cc
 
@@ -68,7 +62,7 @@ sanboot_of-ok (a ∷ b ∷ c ∷ []) command e =
     let p = passed (are_sanboot_words a b c) BadWord Sanboot command e in
     let q = and_parts (bytes_eq a (codes "--no-describe") && bytes_eq b (codes "--drive")) (bytes_eq c (codes "0x80")) p.0 in
     let r = and_parts (bytes_eq a (codes "--no-describe")) (bytes_eq b (codes "--drive")) q.0 in
-    let spelt = three_same a b c (codes "--no-describe") (codes "--drive") (codes "0x80") (same_text a _ r.0) (same_text b _ r.1) (same_text c _ q.1) in
+    let spelt = three_same a b c (codes "--no-describe") (codes "--drive") (codes "0x80") ((bytes_eq-Decides a _).0 r.0) ((bytes_eq-Decides b _).0 r.1) ((bytes_eq-Decides c _).0 q.1) in
     subst (λ (x : Command). IsCommand (codes "sanboot" ∷ a ∷ b ∷ c ∷ []) x) p.1 (record { spelt = spelt; whole = tt })
 sanboot_of-ok other command e = absurd cc
 
@@ -87,7 +81,7 @@ by_name : (name : List ℕ) (words : List (List ℕ)) (command : Command) (own :
     → IsCommand (name ∷ words) command
 by_name name words command own {here} {there} e one other =
     elim (chosen (bytes_eq name own) here there (Ok command) e) [
-      | inl h ↦ subst (λ (x : List ℕ). IsCommand (x ∷ words) command) (sym (same_text name own h.0)) (one h.1)
+      | inl h ↦ subst (λ (x : List ℕ). IsCommand (x ∷ words) command) (sym ((bytes_eq-Decides name own).0 h.0)) (one h.1)
       | inr h ↦ other h.1
     ]
 

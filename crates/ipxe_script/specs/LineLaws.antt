@@ -42,13 +42,10 @@ words_are_words other h = (refl, tt)
 
 -- ---- joined and cut again
 
-same_test : (c : ℕ) → (c == c) ≡ true
-same_test c = eq-eqb c c refl
-
 pub slice_split-join : (c : ℕ) (first : List ℕ) (words : List (List ℕ)) → IsApart c first → AllByRecursion (IsApart c) words → slice_split (λ octet. octet == c) (join_with_byte c (first ∷ words)) ≡ first ∷ words
 slice_split-join c first [] a h = slice_split_none (λ octet. octet == c) first a
 slice_split-join c first (next ∷ words) a h =
-    slice_split_at (λ octet. octet == c) first c (join_with_byte c (next ∷ words)) a (same_test c)
+    slice_split_at (λ octet. octet == c) first c (join_with_byte c (next ∷ words)) a (eq-eqb c c refl)
     ∙ ap (λ (x : List (List ℕ)). first ∷ x) (slice_split-join c next words h.0 h.1)
 
 pub IsApart-join : (first : List ℕ) (words : List (List ℕ)) → IsApart line_feed first → AllByRecursion (IsApart line_feed) words → IsApart line_feed (join_with_byte space (first ∷ words))

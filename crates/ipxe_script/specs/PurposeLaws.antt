@@ -4,23 +4,23 @@ use Rattle.ipxe_script.specs.{Word.{is_uri, is_word}, Script.{spelling, IsWhole,
 
 -- ---- some element of a list
 
-Any-nil : {A : Type 0} (P : A → Type 0) → Any P [] → ⊥
+pub Any-nil : {A : Type 0} (P : A → Type 0) → Any P [] → ⊥
 Any-nil P h = omega (arith, h.2)
 
-Any-here : {A : Type 0} (P : A → Type 0) (x : A) (xs : List A) → P x → Any P (x ∷ xs)
+pub Any-here : {A : Type 0} (P : A → Type 0) (x : A) (xs : List A) → P x → Any P (x ∷ xs)
 Any-here P x xs h = (0, x, omega arith, refl, h)
 
-Any-there : {A : Type 0} (P : A → Type 0) (x : A) (xs : List A) → Any P xs → Any P (x ∷ xs)
+pub Any-there : {A : Type 0} (P : A → Type 0) (x : A) (xs : List A) → Any P xs → Any P (x ∷ xs)
 Any-there P x xs h = (suc h.0, h.1, omega (arith, h.2), h.3, h.4)
 
-Any-cases : {A : Type 0} (P : A → Type 0) (x : A) (xs : List A) → Any P (x ∷ xs) → P x ⊎ Any P xs
+pub Any-cases : {A : Type 0} (P : A → Type 0) (x : A) (xs : List A) → Any P (x ∷ xs) → P x ⊎ Any P xs
 Any-cases P x xs (zero, y, lt, e, h) = inl (subst P (sym e) h)
 Any-cases P x xs (suc k, y, lt, e, h) = inr (k, y, omega arith, e, h)
 
 Contains-there : {A : Type 0} (x : A) (xs : List A) (y : A) → Contains xs y → Contains (x ∷ xs) y
 Contains-there x xs y h = (suc h.0, omega (arith, h.1), h.2)
 
-Contains-cases : {A : Type 0} (x : A) (xs : List A) (y : A) → Contains (x ∷ xs) y → (x ≡ y) ⊎ Contains xs y
+pub Contains-cases : {A : Type 0} (x : A) (xs : List A) (y : A) → Contains (x ∷ xs) y → (x ≡ y) ⊎ Contains xs y
 Contains-cases x xs y (zero, lt, e) = inl e
 Contains-cases x xs y (suc k, lt, e) = inr (k, omega arith, e)
 

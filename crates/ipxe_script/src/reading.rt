@@ -197,10 +197,7 @@ fn lines_of(alloc: Global, text: &str) -> Result<Vec<&str>, ScriptFault>
 fn body_of(text: &str) -> Result<&str, ScriptFault>
     ensures { Gives (λ body. body.now) result (body_of text.now) }
 {
-    match text.strip_prefix("#!ipxe\n") {
-        Some(body) => Ok(body),
-        None => Err(ScriptFault::NoHead),
-    }
+    text.strip_prefix("#!ipxe\n").ok_or(ScriptFault::NoHead)
 }
 
 #[tactic(auto, unfolding(crate::specs::Understood::understood))]

@@ -1,39 +1,14 @@
 -- A hall of the first schema that was carried over, by the words of the model and by those of the tables; and what comes to it.
 use Rattle.std.{proofs.Common.{◌≡◌, ◌⊎◌, ℕ, List, [], ◌∷◌, Option, Some, None, Result, Ok, Err, inl, inr, refl, ap, ◌∙◌}, specs.Prelude.{IfOk, if◌then◌else◌, option_map}}
-use Rattle.sqlite.specs.Tree.{Trees}
-use Rattle.hall_types.specs.{Hall.{Hall, first, new_hall}, Rows.at, declared.{kinds.Erase.TheVariants.Full, machine.Machine.Machine, status.Status.{Status, TheVariants.{New, Commissioning, FailedCommissioning, Testing, FailedTesting, Ready, Allocated, Deploying, FailedDeployment, Deployed, Releasing, FailedReleasing, DiskErasing, FailedDiskErasing, EnteringRescue, FailedToEnterRescue, Rescue, ExitingRescue, FailedToExitRescue, Broken}}}}
 use Rattle.life_cycle.specs.Entering.{keeps_erase}
-use Rattle.hall_laws.specs.{Migration.{IsMigrated, with_kind}, Step.Step, FirstSchema.IsFirstRun, Origin.carried_over}
-use Rattle.hall_desk.specs.{History.{AllLead, BeginsWith, Item, Origin}, Headline.Headline}
-use Rattle.laws_stores.specs.Migrating.{GoesOn}
-use Rattle.sql_schema.specs.Spelling.{SpellHall}
-use Rattle.sql_tables.specs.Migrating.{BecomeHall, IsCarriedOver, SpellFirst, is_erasing, with_full}
-use Rattle.hall_store.specs.declared.store.HallStore.{Ghosts}
+use Rattle.laws_stores.specs.{Prelude.{Trees, Hall, first, new_hall, at, Full, Machine, Status, New, IsMigrated, with_kind, Step, IsFirstRun, carried_over, AllLead, BeginsWith, Item, Origin, Headline, SpellHall, BecomeHall, IsCarriedOver, SpellFirst, is_erasing, with_full, Ghosts}, Migrating.GoesOn}
 
 -- ---- the same statuses
 
 same_statuses : (s : Status) → keeps_erase s ≡ is_erasing s
 unfolding keeps_erase
 same_statuses New = refl
-same_statuses Commissioning = refl
-same_statuses FailedCommissioning = refl
-same_statuses Testing = refl
-same_statuses FailedTesting = refl
-same_statuses Ready = refl
-same_statuses Allocated = refl
-same_statuses Deploying = refl
-same_statuses FailedDeployment = refl
-same_statuses Deployed = refl
-same_statuses Releasing = refl
-same_statuses FailedReleasing = refl
-same_statuses DiskErasing = refl
-same_statuses FailedDiskErasing = refl
-same_statuses EnteringRescue = refl
-same_statuses FailedToEnterRescue = refl
-same_statuses Rescue = refl
-same_statuses ExitingRescue = refl
-same_statuses FailedToExitRescue = refl
-same_statuses Broken = refl
+same_statuses other = refl
 
 same_kind : (m : Machine) → with_kind m ≡ with_full m
 same_kind m = ap (λ b. record m { erase = if b then Some Full else m.erase }) (same_statuses m.status)

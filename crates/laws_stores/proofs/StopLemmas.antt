@@ -1,11 +1,6 @@
 -- Of halls that a stop may leave, the one that its tables spell.
 use Rattle.std.{proofs.Common.{◌≡◌, ℕ, List, [], ◌∷◌, Result, Ok, Err, inl, inr, subst, sym}, specs.{Prelude.IfOk, List.AllByRecursion}}
-use Rattle.sqlite.specs.Tree.{Trees}
-use Rattle.hall_types.specs.Hall.{Hall}
-use Rattle.sqlite_rules.specs.Lists.{Has}
-use Rattle.sql_schema.specs.Spelling.{SpellHall}
-use Rattle.hall_desk.specs.{History.{Item, Origin}, Headline.Headline, Stops.{IsEnd, IsSettled}}
-use Rattle.hall_store.specs.declared.store.HallStore.{Ghosts}
+use Rattle.laws_stores.specs.Prelude.{Trees, Hall, Has, SpellHall, Item, Origin, Headline, IsEnd, IsSettled, Ghosts}
 
 pub of_halls : (db : Trees) (origin : Origin) (IsOne : List Item → Type 0) (h : Hall) (halls : List Hall) → Has halls h → SpellHall db h
     → AllByRecursion (IsEnd origin IsOne) halls → (end : Hall) × SpellHall db end × IsEnd origin IsOne end

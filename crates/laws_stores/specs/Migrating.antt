@@ -1,8 +1,6 @@
 -- What a store over a hall that was carried over from the first schema is promised.
 use Rattle.std.specs.Prelude.{List, [], ◌∷◌}
-use Rattle.hall_types.specs.Hall.{Hall}
-use Rattle.hall_desk.specs.{Headline.Headline, History.{AllLead, Item, Origin}, Stops.IsSettled}
-use Rattle.hall_store.specs.declared.store.HallStore.{Ghosts}
+use Rattle.laws_stores.specs.Prelude.{Hall, Headline, AllLead, Item, Origin, IsSettled, Ghosts}
 
 -- The store has this hall, a stop leaves it alone, and the history of this origin begins with it. Whatever comes to it from now on keeps all
 -- laws, of its whole past. `holds` says which hall a store has, and `leaves` that a stop leaves one of these halls.

@@ -1,9 +1,6 @@
 //! New halls, and all that came to them in one run.
 ghost use Rattle.std.specs.Prelude.{◌≡◌, ℕ, List, length, IfOk};
-ghost use Rattle.sqlite.specs.{Held.state, State.HasCleanDisk};
-ghost use Rattle.hall_types.specs.Hall.{Hall, new_hall, second};
-ghost use Rattle.hall_laws.specs.Origin.{created};
-ghost use Rattle.hall_desk.specs.{Headline.Headline, History.exchanges};
+ghost use Rattle.laws_stores.specs.Prelude.{state, HasCleanDisk, Hall, new_hall, second, created, Headline, exchanges};
 
 use hall_desk::{Answer, Arrival, Desk};
 use hall_sql::SqlStore;

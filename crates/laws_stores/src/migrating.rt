@@ -1,13 +1,6 @@
 //! A hall of the first schema that is carried over: its history goes on.
 ghost use Rattle.std.specs.Prelude.{◌⊎◌, ℕ, List, [], IfOk};
-ghost use Rattle.sqlite.specs.{Held.state, State.HasCleanDisk, Tree.Trees};
-ghost use Rattle.hall_types.specs.Hall.{Hall, first, new_hall};
-ghost use Rattle.hall_laws.specs.{FirstSchema.IsFirstRun, Origin.carried_over, Migration.IsMigrated, Step.Step};
-ghost use Rattle.hall_desk.specs.Headline.{Headline};
-ghost use Rattle.hall_sql.specs.Opening.{connection_after};
-ghost use Rattle.sql_schema.specs.Spelling.{SpellHall};
-ghost use Rattle.laws_stores.specs.Migrating.{GoesOn};
-ghost use Rattle.sql_tables.specs.Migrating.{SpellFirst};
+ghost use Rattle.laws_stores.specs.{Prelude.{state, HasCleanDisk, Trees, Hall, first, new_hall, IsFirstRun, carried_over, IsMigrated, Step, Headline, connection_after, SpellHall, SpellFirst}, Migrating.GoesOn};
 
 use hall_desk::histories_keep_the_laws;
 use hall_sql::{Refused, SqlStore};

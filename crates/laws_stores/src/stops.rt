@@ -1,12 +1,6 @@
 //! A hall in SQLite over a stop, and what comes to it once its tables are opened again.
 ghost use Rattle.std.specs.Prelude.{ℕ, List, IfOk};
-ghost use Rattle.sqlite.specs.{Held.state, Tree.Trees};
-ghost use Rattle.pxe_vendor.specs.Place.{Site};
-ghost use Rattle.hall_types.specs.Hall.{Hall};
-ghost use Rattle.sql_schema.specs.Spelling.{SpellHall};
-ghost use Rattle.hall_desk.specs.{Headline.Headline, History.{Item, Origin}, Stops.{AndCutRun, IsEnd, IsLeft, IsSettled, OrUnanswered, OrUnreplied}, declared.arrival.{Answer.Answer, Arrival.Arrival}};
-ghost use Rattle.hall_events.specs.declared.event.Event.{Event};
-ghost use Rattle.hall_sql.specs.Store.{connection};
+ghost use Rattle.laws_stores.specs.Prelude.{state, Trees, Site, Hall, SpellHall, Headline, Item, Origin, AndCutRun, IsEnd, IsLeft, IsSettled, OrUnanswered, OrUnreplied, Answer, Arrival, Event, connection};
 
 use hall_sql::{Refused, SqlStore};
 use hall_store::HallStore;

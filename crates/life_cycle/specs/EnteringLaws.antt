@@ -1,6 +1,6 @@
 -- What entering a status makes of a machine, field by field, and what a machine remembers.
-use Rattle.std.{specs.{Prelude.{◌≡◌, ◌⊎◌, ◌||◌, not, ℕ, ◌+◌, Bool, true, false, Option, Some, None, is_some, option_map, unwrap_or, if◌then◌else◌}, List.list_all}, proofs.{Common.{refl, sym, ap, subst, inl, inr, ◌∙◌}, lemmas.{Bool.{both_ways, not-true, or_cases}, Option.none-some}}}
-use Rattle.hall_types.specs.{Number.{next_number, next_version}, Status.statuses, declared.{status.Status.{Status, TheVariants.EnteringRescue}, kinds.{OrderKind.OrderKind, OrderStage.TheVariants.Waiting}, machine.Machine.Machine, number.Numbers.Numbers, order.Order.Order}}
+use Rattle.std.{specs.Prelude.{◌≡◌, ◌⊎◌, ◌||◌, not, ℕ, ◌+◌, Bool, true, false, Option, Some, None, is_some, option_map, unwrap_or, if◌then◌else◌}, proofs.{Common.{refl, sym, ap, subst, inl, inr, ◌∙◌}, lemmas.{Bool.{both_ways, not-true, or_cases}, Option.none-some}}}
+use Rattle.hall_types.specs.{Number.next_number, declared.{status.Status.{Status, TheVariants.EnteringRescue}, kinds.{OrderKind.OrderKind, OrderStage.TheVariants.Waiting}, machine.Machine.Machine, number.Numbers.Numbers, order.Order.Order}}
 use Rattle.life_cycle.specs.declared.action.Action.TheVariants as act
 use Rattle.hall_types.specs.declared.act.Act.TheVariants as does
 use Rattle.life_cycle.specs.{declared.{signal.Signal.{Signal, TheVariants.By}, step.Step.Step, entering.Entered.Entered}, Table.step_of, Entering.{back_after, boot_after, entered, entered_by, entered_plain, entered_queued, is_origin, is_rescue, keeps_erase, keeps_owner, kept, limit_of, machine_in}, Laws.IsRemembered, TableLaws.{each_status, only_if, only_if_true}, StepLaws.{rescue_enters, ways_to_rescue}}
@@ -43,26 +43,11 @@ module _ (m : Machine) (step : Step) (moment : ℕ) (numbers : Numbers) (e : Ent
   pub entered-id : e.machine.id ≡ m.id
   entered-id = ap (λ x. x.id) entered-machine
 
-  pub entered-arch : e.machine.arch ≡ m.arch
-  entered-arch = ap (λ x. x.arch) entered-machine
-
-  pub entered-uuid : e.machine.uuid ≡ m.uuid
-  entered-uuid = ap (λ x. x.uuid) entered-machine
-
-  pub entered-pool : e.machine.pool ≡ m.pool
-  entered-pool = ap (λ x. x.pool) entered-machine
-
   pub entered-status : e.machine.status ≡ step.status
   entered-status = ap (λ x. x.status) entered-machine
 
-  pub entered-owner : e.machine.owner ≡ kept (keeps_owner step.status) m.owner
-  entered-owner = ap (λ x. x.owner) entered-machine
-
   pub entered-image : e.machine.image ≡ kept (keeps_owner step.status) m.image
   entered-image = ap (λ x. x.image) entered-machine
-
-  pub entered-tests : e.machine.tests ≡ m.tests
-  entered-tests = ap (λ x. x.tests) entered-machine
 
   pub entered-back : e.machine.back ≡ back_after m.status step.status m.back
   entered-back = ap (λ x. x.back) entered-machine
@@ -70,30 +55,11 @@ module _ (m : Machine) (step : Step) (moment : ℕ) (numbers : Numbers) (e : Ent
   pub entered-erase : e.machine.erase ≡ kept (keeps_erase step.status) m.erase
   entered-erase = ap (λ x. x.erase) entered-machine
 
-  pub entered-locked : e.machine.locked ≡ m.locked
-  entered-locked = ap (λ x. x.locked) entered-machine
-
-  pub entered-version : e.machine.version ≡ next_version m.version
-  entered-version = ap (λ x. x.version) entered-machine
-
   pub entered-deadline : e.machine.deadline ≡ option_map (λ limit. moment + limit) (limit_of step.status)
   entered-deadline = ap (λ x. x.deadline) entered-machine
 
   pub entered-boot : e.machine.boot ≡ boot_after m.status step.status m.boot
   entered-boot = ap (λ x. x.boot) entered-machine
-
-  pub entered-boots : e.machine.boots ≡ 0
-  entered-boots = ap (λ x. x.boots) entered-machine
-
-  -- the machine's waiting order is the one that is queued
-  pub entered-waiting : e.machine.waiting ≡ option_map (λ o. o.number) e.order
-  entered-waiting =
-      entered_cases (λ x. x.machine.waiting ≡ option_map (λ o. o.number) x.order) m step moment numbers e (λ o. refl) (λ kind n o next. refl) is
-
-  -- an order is queued exactly if the step has one, of the step's kind
-  pub entered-order : option_map (λ o. o.kind) e.order ≡ step.order
-  entered-order =
-      entered_cases (λ x. option_map (λ o. o.kind) x.order ≡ step.order) m step moment numbers e (λ o. sym o) (λ kind n o next. sym o) is
 
   pub entered-order-queued : (order : Order) → e.order ≡ Some order → IsQueued m step numbers e.numbers order
   entered-order-queued =
@@ -108,11 +74,6 @@ module _ (m : Machine) (step : Step) (moment : ℕ) (numbers : Numbers) (e : Ent
   pub entered-numbers : e.numbers ≡ record numbers { order = unwrap_or (option_map (λ o. o.number) e.order) numbers.order }
   entered-numbers =
       entered_cases (λ x. x.numbers ≡ record numbers { order = unwrap_or (option_map (λ o. o.number) x.order) numbers.order }) m step moment numbers e (λ o. refl) (λ kind n o next. refl) is
-
-  -- the order that waited is withdrawn
-  pub entered-withdrawn : e.withdrawn ≡ m.waiting
-  entered-withdrawn =
-      entered_cases (λ x. x.withdrawn ≡ m.waiting) m step moment numbers e (λ o. refl) (λ kind n o next. refl) is
 
 -- ---- deadlines
 
@@ -147,37 +108,31 @@ entering_is_rescue : (status : Status) → status ≡ EnteringRescue → is_resc
 unfolding is_rescue
 entering_is_rescue status is = ap is_rescue is
 
-back_after-begins : (from status : Status) (back : Option Status) → is_rescue status ≡ true → is_origin from ≡ true → back_after from status back ≡ Some from
+-- what is remembered in a rescue that begins, or that goes on
+back_after-in_rescue : (from status : Status) (back : Option Status) (begins : Bool) → is_rescue status ≡ true → is_origin from ≡ begins
+    → back_after from status back ≡ (if begins then Some from else back)
 unfolding back_after
-back_after-begins from status back rescue origin =
+back_after-in_rescue from status back begins rescue origin =
     ap (λ b. if b then (if is_origin from then Some from else back) else None) rescue ∙ ap (λ b. if b then Some from else back) origin
 
 -- a rescue that begins from Deployed or Broken remembers that very status
 pub rescue_begins : (m : Machine) (step : Step) (moment : ℕ) (numbers : Numbers) (e : Entered) → IsRemembered m.back → is_origin m.status ≡ true → step_of m (By (act.Act does.Rescue)) ≡ Some step → entered m step moment numbers ≡ Some e → e.machine.back ≡ Some m.status
 rescue_begins m step moment numbers e r origin by is =
     entered-back m step moment numbers e is
-    ∙ back_after-begins m.status step.status m.back (entering_is_rescue step.status (rescue_enters m step r by)) origin
+    ∙ back_after-in_rescue m.status step.status m.back true (entering_is_rescue step.status (rescue_enters m step r by)) origin
 
 abbrev is_apart : Status → Bool
 is_apart status = only_if (is_rescue status) (not (is_origin status))
 
-all_apart : list_all is_apart statuses ≡ true
-unfolding is_rescue is_origin
-all_apart = refl
-
 no_origin : (status : Status) → is_rescue status ≡ true → is_origin status ≡ false
+unfolding is_rescue is_origin
 no_origin status rescue =
-    not-true (is_origin status) (only_if_true (is_rescue status) (not (is_origin status)) (each_status is_apart all_apart status) rescue)
-
-back_after-keeps : (from status : Status) (back : Option Status) → is_rescue status ≡ true → is_origin from ≡ false → back_after from status back ≡ back
-unfolding back_after
-back_after-keeps from status back rescue origin =
-    ap (λ b. if b then (if is_origin from then Some from else back) else None) rescue ∙ ap (λ b. if b then Some from else back) origin
+    not-true (is_origin status) (only_if_true (is_rescue status) (not (is_origin status)) (each_status is_apart refl status) rescue)
 
 -- each step within the five statuses of a rescue keeps what is remembered
 pub rescue_keeps : (m : Machine) (step : Step) (moment : ℕ) (numbers : Numbers) (e : Entered) → is_rescue m.status ≡ true → is_rescue step.status ≡ true → entered m step moment numbers ≡ Some e → e.machine.back ≡ m.back
 rescue_keeps m step moment numbers e from at is =
-    entered-back m step moment numbers e is ∙ back_after-keeps m.status step.status m.back at (no_origin m.status from)
+    entered-back m step moment numbers e is ∙ back_after-in_rescue m.status step.status m.back false at (no_origin m.status from)
 
 exactly_in_rescue : (from status : Status) (back : Option Status) → is_some back ≡ is_rescue from → (is_rescue status ≡ true → (is_rescue from || is_origin from) ≡ true) → is_some (back_after from status back) ≡ is_rescue status
 unfolding back_after

@@ -16,35 +16,26 @@ way_by : (status : Status) (by : Signal) (m : Machine) (signal : Signal) (step :
 way_by status by m signal step all r e is =
     same_signal signal by (only_if_true (is_status step.status status) (is_signal signal by) (each_step (only_way status by) m signal step all r e) (is_status-same step.status status is))
 
-deploy_alone : list_all (passes (only_way Deploying (By act.Deploy))) transitions ≡ true
-unfolding status_number
-deploy_alone = refl
-
 -- only `deploy` leads to Deploying
 pub ways_to_deploying : (m : Machine) (signal : Signal) (step : Step) → IsRemembered m.back → step_of m signal ≡ Some step → step.status ≡ Deploying → signal ≡ By act.Deploy
-ways_to_deploying m signal step r e is = way_by Deploying (By act.Deploy) m signal step deploy_alone r e is
-
-release_alone : list_all (passes (only_way DiskErasing (By act.ReleaseErasing))) transitions ≡ true
 unfolding status_number
-release_alone = refl
+ways_to_deploying m signal step r e is = way_by Deploying (By act.Deploy) m signal step refl r e is
 
 -- only release with erasing leads to Disk erasing
 pub ways_to_disk_erasing : (m : Machine) (signal : Signal) (step : Step) → IsRemembered m.back → step_of m signal ≡ Some step → step.status ≡ DiskErasing → signal ≡ By act.ReleaseErasing
-ways_to_disk_erasing m signal step r e is = way_by DiskErasing (By act.ReleaseErasing) m signal step release_alone r e is
+unfolding status_number
+ways_to_disk_erasing m signal step r e is = way_by DiskErasing (By act.ReleaseErasing) m signal step refl r e is
 
 -- ---- Failed disk erasing
 
 abbrev only_from : Status → Status → StepTest
 only_from status from' signal from at order = only_if (is_status at status) (is_status from from')
 
-from_disk_erasing : list_all (passes (only_from FailedDiskErasing DiskErasing)) transitions ≡ true
-unfolding status_number
-from_disk_erasing = refl
-
 -- Failed disk erasing is entered only from Disk erasing
 pub ways_to_failed_disk_erasing : (m : Machine) (signal : Signal) (step : Step) → IsRemembered m.back → step_of m signal ≡ Some step → step.status ≡ FailedDiskErasing → m.status ≡ DiskErasing
+unfolding status_number
 ways_to_failed_disk_erasing m signal step r e is =
-    same_status m.status DiskErasing (only_if_true (is_status step.status FailedDiskErasing) (is_status m.status DiskErasing) (each_step (only_from FailedDiskErasing DiskErasing) m signal step from_disk_erasing r e) (is_status-same step.status FailedDiskErasing is))
+    same_status m.status DiskErasing (only_if_true (is_status step.status FailedDiskErasing) (is_status m.status DiskErasing) (each_step (only_from FailedDiskErasing DiskErasing) m signal step refl r e) (is_status-same step.status FailedDiskErasing is))
 
 -- ---- into Deployed, and out of it
 
@@ -55,10 +46,6 @@ deployed_by back signal from = is_signal signal (Answer outcome.Done) && is_stat
 
 abbrev deployed_fits : Transition → Bool
 deployed_fits t = deployed_by t.target t.signal t.from
-
-all_deployed_fit : list_all deployed_fits transitions ≡ true
-unfolding status_number
-all_deployed_fit = refl
 
 abbrev IsWay : Signal → Status → Option Status → Type 0
 IsWay signal from remembered =
@@ -77,8 +64,9 @@ deployed_way back signal from remembered order step h e deployed =
 
 -- a machine becomes Deployed by the report that its deployment is done, or by the end of a rescue that began there
 pub ways_to_deployed : (m : Machine) (signal : Signal) (step : Step) → step_of m signal ≡ Some step → step.status ≡ Deployed → ((signal ≡ Report progress.Done) × (m.status ≡ Deploying)) ⊎ ((signal ≡ Answer outcome.Done) × (m.status ≡ ExitingRescue) × (m.back ≡ Some Deployed))
+unfolding status_number
 ways_to_deployed m signal step e deployed =
-    let l = led deployed_fits m signal step all_deployed_fit e in
+    let l = led deployed_fits m signal step refl e in
     let way : IsWay l.transition.signal l.transition.from m.back = deployed_way l.transition.target l.transition.signal l.transition.from m.back l.transition.order step l.fits l.step_is deployed in
     subst (λ (x : Signal). IsWay x m.status m.back) l.signal_is (subst (λ (x : Status). IsWay l.transition.signal x m.back) l.from_is way)
 
@@ -86,14 +74,11 @@ abbrev leaves_deployed : Signal → Status → Bool
 leaves_deployed signal from =
     only_if (is_status from Deployed) (is_signal signal (By act.Release) || (is_signal signal (By act.ReleaseErasing) || is_signal signal (By (act.Act does.Rescue))))
 
-all_leave : list_all (λ (t : Transition). leaves_deployed t.signal t.from) transitions ≡ true
-unfolding status_number
-all_leave = refl
-
 -- Deployed is left only by release without erasing, by release with erasing, and by rescue
 pub ways_from_deployed : (m : Machine) (signal : Signal) (step : Step) → step_of m signal ≡ Some step → m.status ≡ Deployed → (signal ≡ By act.Release) ⊎ ((signal ≡ By act.ReleaseErasing) ⊎ (signal ≡ By (act.Act does.Rescue)))
+unfolding status_number
 ways_from_deployed m signal step e is =
-    by (or_cases (is_signal signal (By act.Release)) _ (only_if_true (is_status m.status Deployed) _ (each_start leaves_deployed m signal step all_leave e) (is_status-same m.status Deployed is)))
+    by (or_cases (is_signal signal (By act.Release)) _ (only_if_true (is_status m.status Deployed) _ (each_start leaves_deployed m signal step refl e) (is_status-same m.status Deployed is)))
   where
     by_erasing : (is_signal signal (By act.ReleaseErasing) ≡ true) ⊎ (is_signal signal (By (act.Act does.Rescue)) ≡ true) → (signal ≡ By act.ReleaseErasing) ⊎ (signal ≡ By (act.Act does.Rescue))
     by_erasing (inl t) = inl (same_signal signal (By act.ReleaseErasing) t)
@@ -108,40 +93,31 @@ ways_from_deployed m signal step e is =
 abbrev changes : StepTest
 changes signal from at order = not (is_status at from)
 
-all_change : list_all (passes changes) transitions ≡ true
-unfolding status_number
-all_change = refl
-
 -- each step leads to another status
 pub steps_change_status : (m : Machine) (signal : Signal) (step : Step) → IsRemembered m.back → step_of m signal ≡ Some step → step.status ≢ m.status
+unfolding status_number
 steps_change_status m signal step r e same =
-    both_ways (is_status step.status m.status) (not-true (is_status step.status m.status) (each_step changes m signal step all_change r e)) (is_status-same step.status m.status same)
+    both_ways (is_status step.status m.status) (not-true (is_status step.status m.status) (each_step changes m signal step refl r e)) (is_status-same step.status m.status same)
 
 -- ---- rescue
 
 abbrev rescued : StepTest
 rescued signal from at order = only_if (is_signal signal (By (act.Act does.Rescue))) (is_status at EnteringRescue)
 
-all_rescued : list_all (passes rescued) transitions ≡ true
-unfolding status_number
-all_rescued = refl
-
 -- `rescue` leads to Entering rescue
 pub rescue_enters : (m : Machine) (step : Step) → IsRemembered m.back → step_of m (By (act.Act does.Rescue)) ≡ Some step → step.status ≡ EnteringRescue
+unfolding status_number
 rescue_enters m step r e =
-    same_status step.status EnteringRescue (each_step rescued m (By (act.Act does.Rescue)) step all_rescued r e)
+    same_status step.status EnteringRescue (each_step rescued m (By (act.Act does.Rescue)) step refl r e)
 
 abbrev into_rescue : StepTest
 into_rescue signal from at order = only_if (is_rescue at) (is_rescue from || is_origin from)
 
-all_into_rescue : list_all (passes into_rescue) transitions ≡ true
-unfolding status_number is_rescue is_origin
-all_into_rescue = refl
-
 -- the five statuses of a rescue are entered only from one another, from Deployed and from Broken
 pub ways_to_rescue : (m : Machine) (signal : Signal) (step : Step) → IsRemembered m.back → step_of m signal ≡ Some step → is_rescue step.status ≡ true → (is_rescue m.status || is_origin m.status) ≡ true
+unfolding status_number is_rescue is_origin
 ways_to_rescue m signal step r e is =
-    only_if_true (is_rescue step.status) (is_rescue m.status || is_origin m.status) (each_step into_rescue m signal step all_into_rescue r e) is
+    only_if_true (is_rescue step.status) (is_rescue m.status || is_origin m.status) (each_step into_rescue m signal step refl r e) is
 
 -- the end of a rescue leads back to the status that is remembered
 pub rescue_ends : (m : Machine) (step : Step) → m.status ≡ ExitingRescue → step_of m (Answer outcome.Done) ≡ Some step → m.back ≡ Some step.status
@@ -154,21 +130,17 @@ rescue_ends m step is e =
 
 same_test : (a b : Bool) → beq a b ≡ true → a ≡ b
 same_test true true e = refl
-same_test true false e = absurd (false≢true e)
-same_test false true e = absurd (false≢true e)
 same_test false false e = refl
+same_test a b e = absurd (false≢true e)
 
 abbrev limit_fits : Status → Bool
 limit_fits status = beq (is_some (limit_of status)) (is_among limited status)
 
-all_limits_fit : list_all limit_fits statuses ≡ true
-unfolding status_number limit_of
-all_limits_fit = refl
-
 -- seven statuses have a limit
 pub limits_of : (status : Status) → is_some (limit_of status) ≡ is_among limited status
+unfolding status_number limit_of
 limits_of status =
-    same_test (is_some (limit_of status)) (is_among limited status) (each_status limit_fits all_limits_fit status)
+    same_test (is_some (limit_of status)) (is_among limited status) (each_status limit_fits refl status)
 
 abbrev expiry_fits : Machine → Status → Bool
 expiry_fits m status = beq (is_some (step_of (record m { status = status }) Expired)) (is_some (limit_of status))
@@ -205,9 +177,8 @@ abbrev order_kinds : List (Option OrderKind)
 order_kinds = None ∷ Some Cycle ∷ Some Off ∷ []
 
 order_in : (o : Option OrderKind) → get_or order_kinds (order_number o) None ≡ o
-order_in None = refl
 order_in (Some Cycle) = refl
-order_in (Some Off) = refl
+order_in other = refl
 
 same_order : (a b : Option OrderKind) → (order_number a == order_number b) ≡ true → a ≡ b
 same_order a b e =
@@ -216,14 +187,11 @@ same_order a b e =
 abbrev ordered : StepTest
 ordered signal from at order = order_number order == order_number (order_with signal at)
 
-all_ordered : list_all (passes ordered) transitions ≡ true
-unfolding order_into
-all_ordered = refl
-
 -- which order is queued follows from the signal and the status that the step leads to
 pub orders_by_target : (m : Machine) (signal : Signal) (step : Step) → IsRemembered m.back → step_of m signal ≡ Some step → step.order ≡ order_with signal step.status
+unfolding order_into
 orders_by_target m signal step r e =
-    same_order step.order (order_with signal step.status) (each_step ordered m signal step all_ordered r e)
+    same_order step.order (order_with signal step.status) (each_step ordered m signal step refl r e)
 
 -- ---- who may give a signal
 
@@ -244,15 +212,12 @@ who_at w = refl
 abbrev who_fits : Transition → Bool
 who_fits t = who_number t.who == who_number (who_gives t.signal)
 
-all_who_fit : list_all who_fits transitions ≡ true
-unfolding who_gives
-all_who_fit = refl
-
 who_of : (t : Transition) → who_fits t ≡ true → t.who ≡ who_gives t.signal
 who_of t e =
     sym (who_at t.who) ∙ ap (λ (n : ℕ). get_or whos n Nobody) (eqb-true (who_number t.who) (who_number (who_gives t.signal)) e) ∙ who_at (who_gives t.signal)
 
 -- all lines of a signal name the same operators
 pub one_who : All (λ t. t.who ≡ who_gives t.signal) transitions
+unfolding who_gives
 one_who =
-    All-weaker (λ (t : Transition). who_fits t ≡ true) (λ (t : Transition). t.who ≡ who_gives t.signal) who_of transitions (AllPass-from_list_all who_fits transitions all_who_fit)
+    All-weaker (λ (t : Transition). who_fits t ≡ true) (λ (t : Transition). t.who ≡ who_gives t.signal) who_of transitions (AllPass-from_list_all who_fits transitions refl)

@@ -2,36 +2,13 @@
 use crate::frames::print_field;
 use boot_desk::{Decision, FrameView, enlist, frame};
 use cases::{CaseFault, Out, Played};
-use dhcp_frame::read;
-use hall_desk::Input;
-use hall_types::{Client, Number, Port, RowWrite};
-use play_log::{arrival, halves, issued, number, numbers};
-use pxe_vendor::{NotServed, client};
+use hall_types::{Client, Port, RowWrite};
+use play_log::{arrival, client_of, halves, maybe, number, numbers};
 use std::alloc::Global;
-
-fn client_of(alloc: Global, octets: &[u8]) -> Result<Client, CaseFault> {
-    let frame = read(octets).map_err(|_| CaseFault::Form)?;
-    match client(alloc, &frame) {
-        Ok(client) => Ok(client),
-        Err(NotServed::Memory) => Err(CaseFault::Memory),
-        Err(_) => Err(CaseFault::Form),
-    }
-}
 
 // The client whose frame arrives, and the port.
 fn client_in(alloc: Global, words: &str) -> Result<(Port, Client), CaseFault> {
-    let arrival = arrival(alloc, words)?;
-    match &arrival.input {
-        Input::Datagram { port, octets } => Ok((*port, client_of(alloc, octets.as_slice())?)),
-        _ => Err(CaseFault::Form),
-    }
-}
-
-fn known(word: &str) -> Result<Option<Number>, CaseFault> {
-    if word == "-" {
-        return Ok(None);
-    }
-    Ok(Some(issued(number(word)?)?))
+    client_of(alloc, &arrival(alloc, words)?)
 }
 
 /// How a client is answered, `BY_ADDRESS BY_UUID MACHINES LAST, ARRIVAL`: the machines with its address and with its UUID, how
@@ -42,8 +19,8 @@ pub fn decide(rest: &str, out: &mut Out) -> Played {
     let (by_uuid, words) = halves(words, " ")?;
     let (machines, last) = halves(words, " ")?;
     let view = FrameView {
-        by_mac: known(by_mac)?,
-        by_uuid: known(by_uuid)?,
+        by_mac: maybe(by_mac)?,
+        by_uuid: maybe(by_uuid)?,
         machines: number(machines)?,
         numbers: numbers(last)?,
     };

@@ -6,7 +6,7 @@ use hall_types::{
 };
 use life_cycle::Signal::{self, *};
 use life_cycle::{Action, Entered, Step, enter, may, next};
-use play_log::{halves, moment, name, number, status};
+use play_log::{halves, last, parsed};
 
 const ACTIONS: [(&str, Signal); 4] = [
     ("commission", By(Action::Commission)),
@@ -87,7 +87,7 @@ const TRIED: [(&str, bool, Option<Status>); 4] = [
 
 /// Where each signal leads that leads somewhere from a status, and once more for each machine of which it is otherwise.
 pub fn signals(rest: &str, out: &mut Out) -> Played {
-    let mut machine = beginning(name("east")?, status(rest)?, LastIssued::NONE).machine;
+    let mut machine = beginning(parsed("east")?, parsed(rest)?, LastIssued::NONE).machine;
     let mut last = String::new(out.alloc());
     for (with, tests, back) in TRIED {
         (machine.tests, machine.back) = (tests, back);
@@ -119,9 +119,9 @@ fn entered(before: &Entered, step: Option<Step>, moment: Moment) -> Entered {
 
 /// The deadline of a machine that enters a status at the moment 1000.
 pub fn limit(rest: &str, out: &mut Out) -> Played {
-    let (status, order) = (status(rest)?, None);
-    let ready = beginning(name("east")?, Status::Ready, LastIssued::NONE);
-    let after = entered(&ready, Some(Step { status, order }), moment(1000)?);
+    let (status, order) = (parsed(rest)?, None);
+    let ready = beginning(parsed("east")?, Status::Ready, LastIssued::NONE);
+    let after = entered(&ready, Some(Step { status, order }), parsed("1000")?);
     print_deadline(&after.machine, out);
     Ok(())
 }
@@ -129,14 +129,14 @@ pub fn limit(rest: &str, out: &mut Out) -> Played {
 /// Whether a step keeps the owner, the kind of erasing and the boot, `STATUS, SIGNAL`.
 pub fn kept(rest: &str, out: &mut Out) -> Played {
     let (from, by) = halves(rest, ", ")?;
-    let mut before = beginning(name("east")?, status(from)?, LastIssued::NONE);
+    let mut before = beginning(parsed("east")?, parsed(from)?, LastIssued::NONE);
     let mut machine = before.machine;
     machine.owner = Some(machine.pool);
     machine.erase = Some(Erase::Full);
     machine.boot = Some(Number::FIRST);
     before.machine = machine;
     let step = next(&machine, signal(by)?);
-    let after = entered(&before, step, moment(1000)?).machine;
+    let after = entered(&before, step, parsed("1000")?).machine;
     let owner = if after.owner.is_some() { "owner" } else { "-" };
     let erase = if after.erase.is_some() { "erase" } else { "-" };
     let boot = if after.boot.is_some() { "boot" } else { "-" };
@@ -153,15 +153,15 @@ pub fn permissions(rest: &str, out: &mut Out) -> Played {
     let By(action) = signal(rest)? else {
         return Err(CaseFault::Form);
     };
-    let mut machine = beginning(name("east")?, Status::Allocated, LastIssued::NONE).machine;
-    machine.owner = Some(name("owner")?);
+    let mut machine = beginning(parsed("east")?, Status::Allocated, LastIssued::NONE).machine;
+    machine.owner = Some(parsed("owner")?);
     for (who, role) in [
         ("stranger", Role::User),
         ("owner", Role::User),
         ("admin", Role::Admin),
     ] {
         let operator = Operator {
-            name: name(who)?,
+            name: parsed(who)?,
             role,
             digest: Digest::from([0; 32]),
             enabled: true,
@@ -189,12 +189,11 @@ fn print_entered(entered: &Entered, out: &mut Out) {
 pub fn life(rest: &str, out: &mut Out) -> Played {
     let (from, rest) = halves(rest, ", ")?;
     let (order, rest) = halves(rest, ", ")?;
-    let order = LastIssued::new(number(order)?).map_err(|_| CaseFault::Form)?;
-    let mut at = beginning(name("east")?, status(from)?, order);
+    let mut at = beginning(parsed("east")?, parsed(from)?, last(order)?);
     for part in rest.split(", ") {
         let (by, seconds) = halves(part, " at ")?;
         let step = next(&at.machine, signal(by)?);
-        at = entered(&at, step, moment(number(seconds)?)?);
+        at = entered(&at, step, parsed(seconds)?);
         print_entered(&at, out);
     }
     let (version, last) = (at.machine.version.get(), at.numbers.order.get());

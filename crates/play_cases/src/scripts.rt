@@ -34,10 +34,8 @@ pub fn characters(front: &str, out: &mut Out) -> Played {
 
 fn reprinted(alloc: Global, text: &str) -> Result<String, ScriptFault> {
     let script = read(alloc, text)?;
-    let mut copies = Vec::with_capacity(alloc, script.commands().len())?;
-    for command in script.commands() {
-        copies.push(command.copy(alloc)?)?;
-    }
+    let copies = script.commands().iter().map(|command| command.copy(alloc));
+    let copies: Vec<Command> = copies.try_collect(alloc)?;
     Ok(Script::new(copies)?.print(alloc)?)
 }
 

@@ -2,7 +2,7 @@
 use cases::{CaseFault, Out, Played, string_of};
 use hall_types::{Arch, BootCount, Image, ImageFault, LastIssued, Moment, Name, Number, Version};
 use ipxe_script::{Uri, Word, WordFault};
-use play_log::{halves, name, number};
+use play_log::{halves, maybe, parsed};
 use std::alloc::Global;
 
 /// The name of a text.
@@ -16,7 +16,7 @@ pub fn name_of(rest: &str, out: &mut Out) -> Played {
 /// The order of two names, and whether they are equal.
 pub fn compare(rest: &str, out: &mut Out) -> Played {
     let (one, other) = halves(rest, " ")?;
-    let (one, other) = (name(one)?, name(other)?);
+    let (one, other): (Name, Name) = (parsed(one)?, parsed(other)?);
     let equal = if one == other { "same" } else { "different" };
     out.show(format_args!("{:?} {equal}", one.cmp(&other)));
     Ok(())
@@ -62,12 +62,7 @@ fn print_value(kind: &str, number: Option<u64>, out: &mut Out) -> Option<()> {
 /// The value of a number, `NUMBER` or `-`, by its kind: `moment`; `number` of a machine, a boot or an order, how it compares with the first, and
 /// what is last issued with it; the `last` number that was issued, before all `-`; `version`, and what it is raised to, the first `-`; `boots`.
 pub fn value(kind: &str, rest: &str, out: &mut Out) -> Played {
-    let number = if rest == "-" {
-        None
-    } else {
-        Some(number(rest)?)
-    };
-    if print_value(kind, number, out).is_none() {
+    if print_value(kind, maybe(rest)?, out).is_none() {
         out.push("none");
     }
     Ok(())
@@ -97,7 +92,7 @@ fn image_of(alloc: Global, args: &str) -> Result<Result<Image, ImageFault>, Case
     }
     let kernel = Uri::new(alloc, "http://files.example/live/vmlinuz").map_err(word_fault)?;
     let initrd = Uri::new(alloc, "http://files.example/live/initrd").map_err(word_fault)?;
-    Ok(Image::new(name("live64")?, Arch::Uefi64, kernel, initrd, words))
+    Ok(Image::new(parsed("live64")?, Arch::Uefi64, kernel, initrd, words))
 }
 
 /// The image live64 with these arguments: a copy of it, and itself.

@@ -4,13 +4,10 @@ use hall_sql::SqlStore;
 use hall_store::HallStore;
 use hall_types::{Digest, Name};
 use play_files::{Fresh, Tables};
-use play_log::{admin, first, is_arrival};
+use play_log::{ADA, admin, first, is_arrival};
 use play_store::{Asked, Hall, Looked, Way};
 use std::alloc::Global;
 use store_memory::MemoryStore;
-
-// Ada, and the digest of the token abc (SHA-256).
-const ADMIN: &str = "ada ba7816bf8f01cfea414140de5dae2223b00361a396177a9cb410ff61f20015ad";
 
 /// A store over which a new hall can be begun.
 pub trait Begun: HallStore + Drop {
@@ -29,6 +26,18 @@ impl<A: Fresh> Begun for SqlStore<A> {
         let conn = A::fresh(alloc)?;
         SqlStore::create(alloc, conn, name, digest).map_err(|_| CaseFault::Memory)
     }
+}
+
+/// A new hall whose administrator these words are, `ADMIN DIGEST`, and whose arrivals are answered in this way.
+pub fn begin_hall<S: Begun>(
+    alloc: Global,
+    words: &str,
+    way: Way,
+    asked: Asked,
+) -> Result<Hall<S>, CaseFault> {
+    let (name, digest) = admin(words)?;
+    let store = S::begin(alloc, name, digest)?;
+    Ok(Hall::new(store, way, asked, Looked::nothing(alloc)))
 }
 
 /// Halls over stores of one kind, one after the other.
@@ -54,10 +63,8 @@ impl<S: Begun> Halls<S> {
     }
 
     fn begin(&mut self, alloc: Global, words: &str) -> Played {
-        let (name, digest) = admin(if words.is_empty() { ADMIN } else { words })?;
-        let store = S::begin(alloc, name, digest)?;
-        let looked = Looked::nothing(alloc);
-        self.hall = Some(Hall::new(store, self.way, self.asked(), looked));
+        let words = if words.is_empty() { ADA } else { words };
+        self.hall = Some(begin_hall(alloc, words, self.way, self.asked())?);
         Ok(())
     }
 
@@ -68,10 +75,8 @@ impl<S: Begun> Halls<S> {
         places: &[usize],
         comparison: &mut Comparison,
     ) -> Played {
-        let mut acts = Vec::new(comparison.alloc());
-        for at in places {
-            acts.push(file.act(*at).unwrap_or(""))?;
-        }
+        let acts = places.iter().map(|at| file.act(*at).unwrap_or(""));
+        let acts: Vec<&str> = acts.collect(comparison.alloc())?;
         if let Some(hall) = &mut self.hall
             && !acts.is_empty()
         {
@@ -125,9 +130,7 @@ impl<A: Fresh> Player for FileTables<A> {
             self.tables = Some(Tables::new(out.alloc(), A::fresh(out.alloc())?));
             return Ok(());
         }
-        match &mut self.tables {
-            Some(tables) => tables.play(act, out),
-            None => Err(CaseFault::Form),
-        }
+        let tables = self.tables.as_mut().ok_or(CaseFault::Form)?;
+        tables.play(act, out)
     }
 }

@@ -4,11 +4,11 @@
 //! file; what that may leave is in play_files' `stops.rt`. Then they are played over SQLite in memory and over the store in memory, where memory
 //! ends after 0 octets, OCTETS octets, twice as many, and so on, 32 times as many for SQLite, as its `budgets.rt` says; the store in memory has
 //! the hall that the first act `create` makes, and acts that end with `migrate` aren't played over it. `halls` prints what either of them has.
-use crate::halls::Begun;
+use crate::halls::begin_hall;
 use cases::{CaseFault, Out, Played, Player, hold_all_but};
 use play_files::{Image, Run, Tables, Which, play_in_budgets};
-use play_log::{admin, first, number};
-use play_store::{Asked, Hall, Looked, Way};
+use play_log::{first, number};
+use play_store::{Asked, Hall, Way};
 use sqlite::{Connection, MemStore};
 use std::alloc::Global;
 use store_memory::MemoryStore;
@@ -32,13 +32,6 @@ pub struct Stops {
 fn tables(alloc: Global) -> Result<Tables<MemStore>, CaseFault> {
     let conn: Result<Connection<MemStore>, _> = Connection::open_in_memory(alloc);
     Ok(Tables::new(alloc, conn.map_err(|_| CaseFault::Memory)?))
-}
-
-fn hall(alloc: Global, words: &str) -> Result<Hall<MemoryStore>, CaseFault> {
-    let (name, digest) = admin(words)?;
-    let store = MemoryStore::begin(alloc, name, digest)?;
-    let looked = Looked::nothing(alloc);
-    Ok(Hall::new(store, Way::Alone, Asked::default(), looked))
 }
 
 fn print_answers(run: &Run<'_>, out: &mut Out) {
@@ -103,7 +96,8 @@ impl Stops {
         self.stop_memory(octets, acts, out)?;
         // The store in memory has the hall that the first act makes.
         if let Some(words) = acts.strip_prefix("create ") {
-            self.hall = Some(hall(out.alloc(), words)?);
+            let hall = begin_hall(out.alloc(), words, Way::Alone, Asked::default());
+            self.hall = Some(hall?);
         }
         Ok(())
     }
@@ -113,10 +107,8 @@ impl Stops {
         out.line("SQLite:");
         self.tables.play(look, out)?;
         out.line("the store in memory:");
-        match &mut self.hall {
-            Some(hall) => hall.play(look, out),
-            None => Err(CaseFault::Form),
-        }
+        let hall = self.hall.as_mut().ok_or(CaseFault::Form)?;
+        hall.play(look, out)
     }
 }
 

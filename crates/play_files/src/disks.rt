@@ -133,18 +133,19 @@ fn written_over(
     written: &[u8],
     turn: u64,
 ) -> Result<Vec<u8>, AllocError> {
-    let mut left = Vec::new(alloc);
-    for (at, octet) in written.iter().enumerate() {
+    let left = written.iter().enumerate().map(|(at, octet)| {
         let lost = synced.get(at).copied().unwrap_or(0);
-        let is_kept = is_written(at / SECTOR, turn);
-        left.push(if is_kept { *octet } else { lost })?;
-    }
-    Ok(left)
+        if is_written(at / SECTOR, turn) {
+            *octet
+        } else {
+            lost
+        }
+    });
+    left.collect(alloc)
 }
 
 /// What a crash leaves of two files: what was synced; and, by turns, all that was written, or every other sector of it.
-pub fn crash(alloc: Global, files: Disks, turn: u64) -> Result<(Image, Image), AllocError> {
-    let mut files = files;
+pub fn crash(alloc: Global, mut files: Disks, turn: u64) -> Result<(Image, Image), AllocError> {
     let written = Image::of(alloc, &files)?;
     files.log.crash();
     files.db.crash();

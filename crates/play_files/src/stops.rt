@@ -116,10 +116,8 @@ fn play_in(
         answer: String::new(alloc),
         is_closed: false,
     };
-    match over_files(alloc, files, acts, answers, &mut outcome) {
-        Some(files) => Ok((outcome, files)),
-        None => Err(CaseFault::Io),
-    }
+    let files = over_files(alloc, files, acts, answers, &mut outcome).ok_or(CaseFault::Io)?;
+    Ok((outcome, files))
 }
 
 // The answer to an act over files that don't stop, and what they hold then.

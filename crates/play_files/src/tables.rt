@@ -101,8 +101,7 @@ impl<S: Alter + Drop> Tables<S> {
         }
     }
 
-    fn sql(&mut self, conn: Connection<S>, statement: &str, out: &mut Out) {
-        let mut conn = conn;
+    fn sql(&mut self, mut conn: Connection<S>, statement: &str, out: &mut Out) {
         out.push(match conn.execute(statement, &[]) {
             Ok(_) => "done",
             Err(_) => "refused",
@@ -110,8 +109,7 @@ impl<S: Alter + Drop> Tables<S> {
         self.conn = Some(conn);
     }
 
-    fn query(&mut self, conn: Connection<S>, statement: &str, out: &mut Out) {
-        let mut conn = conn;
+    fn query(&mut self, mut conn: Connection<S>, statement: &str, out: &mut Out) {
         match query(&mut conn, statement) {
             Ok(number) => out.show(number),
             Err(_) => out.push("refused"),
@@ -128,9 +126,7 @@ impl<S: Alter + Drop> Tables<S> {
 
 impl<S: Alter + Drop> Player for Tables<S> {
     fn play(&mut self, act: &str, out: &mut Out) -> Played {
-        let Some(conn) = self.conn.take() else {
-            return Err(CaseFault::Unavailable);
-        };
+        let conn = self.conn.take().ok_or(CaseFault::Unavailable)?;
         let (kind, words) = first(act);
         match kind {
             "sql" => self.sql(conn, words, out),

@@ -1,15 +1,19 @@
 //! The words of arrivals.
 use crate::frames::frame;
 use crate::requests::request;
-use crate::values::{digest, first, halves, moment, name, number, port, token};
+use crate::values::{first, halves, parsed, port};
 use cases::{CaseFault, text_of};
+use dhcp_frame::read;
 use hall_desk::{Arrival, Input};
-use hall_types::{Digest, Moment, Name, Token};
-use pxe_vendor::Octets;
+use hall_types::{Client, Digest, Name, Port, Token};
+use pxe_vendor::{NotServed, Octets, client};
 use std::alloc::Global;
 
 /// The token of boots, where words name no other.
 pub(crate) const FRESH: &str = "000102030405060708090a0b0c0d0e0f";
+
+/// The administrator ada, and the digest of the token `abc` (SHA-256).
+pub const ADA: &str = "ada ba7816bf8f01cfea414140de5dae2223b00361a396177a9cb410ff61f20015ad";
 
 /// The words that arrivals begin with.
 const KINDS: [&str; 10] = [
@@ -25,15 +29,7 @@ pub fn is_arrival(kind: &str) -> bool {
 /// The administrator of a new hall, and the digest of its token: `ADMIN DIGEST`.
 pub fn admin(words: &str) -> Result<(Name, Digest), CaseFault> {
     let (its_name, its_digest) = first(words);
-    Ok((name(its_name)?, digest(its_digest)?))
-}
-
-// A moment in decimal digits, without a sign or a leading zero.
-fn moment_of(word: &str) -> Result<Moment, CaseFault> {
-    if word.starts_with('+') || (word.len() > 1 && word.starts_with('0')) {
-        return Err(CaseFault::Form);
-    }
-    moment(number(word)?)
+    Ok((parsed(its_name)?, parsed(its_digest)?))
 }
 
 // `PORT ..`, after the moment.
@@ -47,7 +43,7 @@ fn datagram(alloc: Global, words: &str) -> Result<Input, CaseFault> {
 
 // What comes by words of this kind, without their moment, and the fresh octets that they name.
 fn input(alloc: Global, kind: &str, words: &str) -> Result<(Input, Token), CaseFault> {
-    let its_token = token(FRESH)?;
+    let its_token = parsed(FRESH)?;
     match kind {
         "frame" => Ok((datagram(alloc, words)?, its_token)),
         "quiet" => Ok((Input::Quiet, its_token)),
@@ -58,9 +54,22 @@ fn input(alloc: Global, kind: &str, words: &str) -> Result<(Input, Token), CaseF
         "script" => {
             let (mac, fresh) = words.split_once(' ').unwrap_or((words, FRESH));
             let octets = request(alloc, kind, mac)?;
-            Ok((Input::Request(octets), token(fresh)?))
+            Ok((Input::Request(octets), parsed(fresh)?))
         }
         _ => Ok((Input::Request(request(alloc, kind, words)?), its_token)),
+    }
+}
+
+/// The client whose frame arrives, and the port.
+pub fn client_of(alloc: Global, arrival: &Arrival) -> Result<(Port, Client), CaseFault> {
+    let Input::Datagram { port, octets } = &arrival.input else {
+        return Err(CaseFault::Form);
+    };
+    let message = read(octets.as_slice()).map_err(|_| CaseFault::Form)?;
+    match client(alloc, &message) {
+        Ok(client) => Ok((*port, client)),
+        Err(NotServed::Memory) => Err(CaseFault::Memory),
+        Err(_) => Err(CaseFault::Form),
     }
 }
 
@@ -71,7 +80,7 @@ pub fn arrival(alloc: Global, words: &str) -> Result<Arrival, CaseFault> {
         "quiet" => (rest, ""),
         _ => halves(rest, " ")?,
     };
-    let moment = moment_of(at)?;
+    let moment = parsed(at)?;
     let (input, fresh) = input(alloc, kind, rest)?;
     Ok(Arrival {
         moment,

@@ -1,6 +1,7 @@
 //! Messages by DHCP (RFC 2131 section 2), from the words of their arrivals. Nothing here is the desk's own: a fault of its encoder would be seen.
-use crate::values::{halves, mac};
+use crate::values::{halves, parsed};
 use cases::{CaseFault, octets_of};
+use hall_types::MacAddress;
 use std::alloc::{AllocError, Global};
 use std::net::Ipv4Addr;
 
@@ -19,11 +20,6 @@ struct Fields {
     mac: [u8; 6],
 }
 
-fn ipv4(word: &str) -> Result<[u8; 4], CaseFault> {
-    let address = word.parse::<Ipv4Addr>().map_err(|_| CaseFault::Form)?;
-    Ok(address.octets())
-}
-
 fn read_fields(words: &str) -> Result<Fields, CaseFault> {
     let mut fields = Fields {
         client: [0; 4],
@@ -31,8 +27,8 @@ fn read_fields(words: &str) -> Result<Fields, CaseFault> {
     };
     for word in words.split_ascii_whitespace() {
         match halves(word, "=")? {
-            ("client", value) => fields.client = ipv4(value)?,
-            ("mac", value) => fields.mac = mac(value)?.octets(),
+            ("client", value) => fields.client = parsed::<Ipv4Addr>(value)?.octets(),
+            ("mac", value) => fields.mac = parsed::<MacAddress>(value)?.octets(),
             _ => return Err(CaseFault::Form),
         }
     }
@@ -66,7 +62,7 @@ fn push_option(alloc: Global, octets: &mut Vec<u8>, word: &str) -> Result<(), Ca
     }
     let (tag, text) = halves(word, "=")?;
     let value = value(alloc, text)?;
-    octets.push(tag.parse::<u8>().map_err(|_| CaseFault::Form)?)?;
+    octets.push(parsed::<u8>(tag)?)?;
     octets.push(u8::try_from(value.len()).map_err(|_| CaseFault::Form)?)?;
     Ok(octets.extend_from_slice(value.as_slice())?)
 }

@@ -27,9 +27,8 @@ mod requests;
 mod responses;
 mod values;
 
-pub use arrivals::{admin, arrival, is_arrival};
+pub use arrivals::{ADA, admin, arrival, client_of, is_arrival};
 pub use responses::{push_answer, push_response};
 pub use values::{
-    arch, digest, first, halves, issued, key, last, mac, moment, name, number, numbers, place,
-    port, status, token, uuid, version,
+    first, halves, key, last, maybe, number, numbers, parsed, place, port, some, uuid,
 };

@@ -1,36 +1,35 @@
 //! Values in cases.
 use cases::CaseFault;
-use hall_types::{
-    Arch, Digest, LastIssued, MacAddress, MachineUuid, Moment, Name, Number, Numbers, Port,
-    RequestKey, Status, Token, Version,
-};
+use hall_types::{LastIssued, MachineUuid, Numbers, Port, RequestKey};
 use hex::FromHex;
 use pxe_vendor::Place;
 use std::alloc::Global;
+use std::str::FromStr;
 
 /// A number in decimal digits.
 pub fn number(word: &str) -> Result<u64, CaseFault> {
-    word.parse::<u64>().map_err(|_| CaseFault::Form)
+    parsed(word)
 }
 
-/// A number of a machine, a boot or an order.
-pub fn issued(number: u64) -> Result<Number, CaseFault> {
-    Number::new(number).map_err(|_| CaseFault::Form)
+/// A value of a type that reads its own text, as a name, a status or a moment.
+pub fn parsed<T: FromStr + Drop>(word: &str) -> Result<T, CaseFault>
+where
+    T::Err: Drop,
+{
+    word.parse::<T>().map_err(|_| CaseFault::Form)
 }
 
-/// The version with this number.
-pub fn version(number: u64) -> Result<Version, CaseFault> {
-    Version::new(number).map_err(|_| CaseFault::Form)
+/// A word, nothing where it is empty or `-`.
+pub fn some(word: &str) -> Option<&str> {
+    Some(word).filter(|word| !word.is_empty() && *word != "-")
 }
 
-/// The moment after so many seconds.
-pub fn moment(seconds: u64) -> Result<Moment, CaseFault> {
-    Moment::new(seconds).map_err(|_| CaseFault::Form)
-}
-
-/// The name with this text.
-pub fn name(text: &str) -> Result<Name, CaseFault> {
-    Name::new(text).map_err(|_| CaseFault::Form)
+/// The value of such a word.
+pub fn maybe<T: FromStr + Drop>(word: &str) -> Result<Option<T>, CaseFault>
+where
+    T::Err: Drop,
+{
+    some(word).map(|word| parsed::<T>(word)).transpose()
 }
 
 /// The last number that was issued.
@@ -45,11 +44,6 @@ pub fn numbers(machine: &str) -> Result<Numbers, CaseFault> {
         boot: LastIssued::NONE,
         order: LastIssued::NONE,
     })
-}
-
-/// The status with this text.
-pub fn status(text: &str) -> Result<Status, CaseFault> {
-    text.parse::<Status>().map_err(|_| CaseFault::Form)
 }
 
 /// The port with this word.
@@ -77,16 +71,6 @@ pub fn first(words: &str) -> (&str, &str) {
     words.split_once(' ').unwrap_or((words, ""))
 }
 
-/// The architecture with this word.
-pub fn arch(word: &str) -> Result<Arch, CaseFault> {
-    word.parse::<Arch>().map_err(|_| CaseFault::Form)
-}
-
-/// The hardware address with these digits.
-pub fn mac(word: &str) -> Result<MacAddress, CaseFault> {
-    word.parse::<MacAddress>().map_err(|_| CaseFault::Form)
-}
-
 // 16 octets in hexadecimal.
 fn sixteen(word: &str) -> Result<[u8; 16], CaseFault> {
     <[u8; 16] as FromHex>::from_hex(word).map_err(|_| CaseFault::Form)
@@ -100,14 +84,4 @@ pub fn uuid(word: &str) -> Result<MachineUuid, CaseFault> {
 /// The request key with these 32 digits.
 pub fn key(word: &str) -> Result<RequestKey, CaseFault> {
     Ok(RequestKey::from(sixteen(word)?))
-}
-
-/// The boot's token with these 32 digits.
-pub fn token(word: &str) -> Result<Token, CaseFault> {
-    word.parse::<Token>().map_err(|_| CaseFault::Form)
-}
-
-/// The digest with these 64 digits.
-pub fn digest(word: &str) -> Result<Digest, CaseFault> {
-    word.parse::<Digest>().map_err(|_| CaseFault::Form)
 }

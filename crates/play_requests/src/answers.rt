@@ -8,7 +8,7 @@ use hall_types::{
     RequestKey, Status, Text, Version,
 };
 use ipxe_script::read;
-use play_log::{halves, issued, name, uuid, version};
+use play_log::{halves, parsed, uuid};
 use std::alloc::Global;
 
 fn print_response(reply: &Reply, out: &mut Out) -> Played {
@@ -36,10 +36,10 @@ fn interfaces() -> [Interface; 2] {
     [interface(one), interface(two)]
 }
 
-fn order(number: u64, kind: OrderKind) -> Result<Order, CaseFault> {
+fn order(number: &str, kind: OrderKind) -> Result<Order, CaseFault> {
     Ok(Order {
-        number: issued(number)?,
-        machine: issued(7)?,
+        number: parsed(number)?,
+        machine: parsed("7")?,
         kind,
         stage: OrderStage::Waiting,
     })
@@ -50,14 +50,14 @@ fn one_machine(alloc: Global, is_whole: bool) -> Result<Reply, CaseFault> {
     let machine = Machine {
         uuid: Some(uuid("00112233445566778899aabbccddeeff")?),
         status: Status::FailedDiskErasing,
-        owner: Some(name("olga")?),
-        image: Some(name("jammy")?),
+        owner: Some(parsed("olga")?),
+        image: Some(parsed("jammy")?),
         erase: Some(Erase::Quick),
         locked: true,
         deadline: Some(4700),
-        boot: Some(issued(4)?),
-        waiting: Some(issued(5)?),
-        ..ready(name("lab")?, version(13)?)
+        boot: Some(parsed("4")?),
+        waiting: Some(parsed("5")?),
+        ..ready(parsed("lab")?, parsed("13")?)
     };
     if is_whole {
         return Ok(Reply::one_machine(alloc, &machine, &interfaces())?);
@@ -67,7 +67,7 @@ fn one_machine(alloc: Global, is_whole: bool) -> Result<Reply, CaseFault> {
 
 // A machine that is ready, without interfaces and with two.
 fn machines(alloc: Global) -> Result<Reply, CaseFault> {
-    let machine = ready(name("lab")?, version(14)?);
+    let machine = ready(parsed("lab")?, parsed("14")?);
     let mut list = MachineList::new(alloc, 2)?;
     list.push(alloc, &machine, &[])?;
     list.push(alloc, &machine, &interfaces())?;
@@ -87,7 +87,7 @@ fn reply_of(alloc: Global, word: &str) -> Result<Reply, CaseFault> {
         "gone" => Reply::gone(alloc, Number::FIRST),
         "exit" => return script(alloc, "#!ipxe\nexit\n"),
         "poweroff" => return script(alloc, "#!ipxe\npoweroff\n"),
-        "orders" => Reply::orders(alloc, &[order(1, Cycle)?, order(2, Off)?]),
+        "orders" => Reply::orders(alloc, &[order("1", Cycle)?, order("2", Off)?]),
         "no orders" => Reply::orders(alloc, &[]),
         "machine" => return one_machine(alloc, false),
         "one machine" => return one_machine(alloc, true),
@@ -112,9 +112,9 @@ fn receipt_of(alloc: Global, rest: &str) -> Result<Receipt, CaseFault> {
     let (status, rest) = halves(rest, " ")?;
     let (command, body) = halves(rest, " ")?;
     Ok(Receipt {
-        operator: name("olga")?,
+        operator: parsed("olga")?,
         key: RequestKey::from([7; 16]),
-        status: status.parse::<u16>().map_err(|_| CaseFault::Form)?,
+        status: parsed(status)?,
         command: Text::from(String::from_str(alloc, command)?),
         body: Text::from(String::from_str(alloc, body)?),
     })

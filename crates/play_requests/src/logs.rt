@@ -4,15 +4,12 @@ use cases::{CaseFault, Out, Played};
 use desk_lines::{
     Backup, Failures, arrival_text, backup_line, lost_line, moment_text, unstamped_line,
 };
-use dhcp_frame::read;
-use hall_desk::{Account, Answer, Arrival, Came, Input, Notes};
+use hall_desk::{Account, Answer, Arrival, Came, Notes};
 use hall_report::LogFormat;
-use hall_types::{Client, Port};
+use hall_types::Port;
 use hallboot_tasks::turn_line;
-use play_log::{arrival, first, halves, moment, number, numbers};
-use pxe_vendor::{NotServed, client};
+use play_log::{arrival, client_of, first, halves, number, numbers, parsed};
 use serve_sockets::{Close, Handover, Kind, Said, Turn};
-use std::alloc::Global;
 use std::net::{IpAddr, Ipv4Addr, SocketAddr};
 
 /// Whether words are an arrival's: `taken`, or the fault.
@@ -75,7 +72,7 @@ fn backup(words: &str) -> Result<Backup, CaseFault> {
 /// `backup`, `FORM OCTETS MILLISECONDS` or `FORM failed`; of so many lines that were `lost`, `FORM COUNT`; `unstamped` of a clock that fails.
 pub fn line(kind: &str, rest: &str, out: &mut Out) -> Played {
     let (format, words) = formatted(rest)?;
-    let (alloc, now) = (out.alloc(), moment(1_790_000_000)?);
+    let (alloc, now) = (out.alloc(), parsed("1790000000")?);
     let line = match kind {
         "turn" => {
             let (word, text) = first(words);
@@ -95,7 +92,7 @@ pub fn failures(rest: &str, out: &mut Out) -> Played {
     let (format, words) = formatted(rest)?;
     let mut failures = Failures::NONE;
     for word in words.split(' ') {
-        let line = failures.line(out.alloc(), format, moment(number(word)?)?)?;
+        let line = failures.line(out.alloc(), format, parsed(word)?)?;
         print_line(line, out);
     }
     Ok(())
@@ -103,27 +100,14 @@ pub fn failures(rest: &str, out: &mut Out) -> Played {
 
 /// A moment in UTC.
 pub fn utc(rest: &str, out: &mut Out) -> Played {
-    let moment = moment(number(rest)?)?;
-    out.push(moment_text(out.alloc(), LogFormat::Utc, moment)?.as_str());
+    out.push(moment_text(out.alloc(), LogFormat::Utc, parsed(rest)?)?.as_str());
     Ok(())
 }
 
-fn client_of(alloc: Global, octets: &[u8]) -> Result<Client, CaseFault> {
-    let frame = read(octets).map_err(|_| CaseFault::Form)?;
-    match client(alloc, &frame) {
-        Ok(client) => Ok(client),
-        Err(NotServed::Memory) => Err(CaseFault::Memory),
-        Err(_) => Err(CaseFault::Form),
-    }
-}
-
 fn print_silence(arrival: &Arrival, view: &FrameView, out: &mut Out) -> Played {
-    let Input::Datagram { port, octets } = &arrival.input else {
-        return Err(CaseFault::Form);
-    };
-    let client = client_of(out.alloc(), octets.as_slice())?;
+    let (port, client) = client_of(out.alloc(), arrival)?;
     let mut notes = Notes::NONE;
-    notes.decision = Some(frame(view, *port, &client));
+    notes.decision = Some(frame(view, port, &client));
     let came = Came::Client(client);
     let account = Account { came, notes };
     let text = arrival_text(out.alloc(), arrival, &Answer::Silence, &account);

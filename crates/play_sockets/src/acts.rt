@@ -5,7 +5,7 @@ use cases::{CaseFault, Out, Played, text_of};
 use hall_desk::{Answer, Input};
 use hall_store::HallStore;
 use hall_types::Port;
-use play_log::{first, moment, number, push_answer, push_response};
+use play_log::{first, number, parsed, push_answer, push_response};
 use pxe_vendor::Octets;
 use std::io::ErrorKind;
 
@@ -169,7 +169,7 @@ impl<'a, S: HallStore + Drop> Stage<'a, S> {
         match (kind, rest) {
             ("turns" | "rests", count) => self.push_turns(kind, number(count)?, out),
             ("settle", _) => out.push(self.settle()),
-            ("moment", seconds) => self.clock.stamp.moment = moment(number(seconds)?)?,
+            ("moment", seconds) => self.clock.stamp.moment = parsed(seconds)?,
             ("at", millis) => self.clock.stamp.millis = number(millis)?,
             ("pass", millis) => self.pass(number(millis)?),
             ("clock", "fails") => self.clock.fails = true,

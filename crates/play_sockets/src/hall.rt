@@ -2,17 +2,15 @@
 use crate::stage::Stage;
 use cases::{CaseFault, Out, Played, Player};
 use hall_store::{HallStore, Probe};
-use hall_types::{Arch, Change, Interface, MacAddress, Machine, RowWrite};
-use play_log::{admin, issued, name, number};
+use hall_types::{Arch, Change, Interface, MacAddress, Machine, Number, RowWrite};
+use play_log::{ADA, admin, number, parsed};
 use std::alloc::Global;
 use store_memory::MemoryStore;
 
-// The administrator, and the SHA-256 of the token `abc`.
-const ADMIN: &str = "ada ba7816bf8f01cfea414140de5dae2223b00361a396177a9cb410ff61f20015ad";
-
 // A new machine in the pool that every hall has, and its eight interfaces, 52:54:00:HH:HH:00 to 52:54:00:HH:HH:07, where HH:HH is its number.
 fn rows_of(alloc: Global, number: u64) -> Result<Vec<RowWrite>, CaseFault> {
-    let machine = Machine::new(issued(number)?, Arch::Uefi64, name("default")?, None);
+    let id = Number::new(number).map_err(|_| CaseFault::Form)?;
+    let machine = Machine::new(id, Arch::Uefi64, parsed("default")?, None);
     let mut rows = Vec::new(alloc);
     rows.push(RowWrite::PutMachine { machine, was: None })?;
     let [.., high, low] = number.to_be_bytes();
@@ -40,14 +38,11 @@ fn store_of(alloc: Global, words: &str) -> Result<Probe<MemoryStore>, CaseFault>
         Some((machines, call)) => (number(machines)?, Some(number(call)?)),
         None => (number(words)?, None),
     };
-    let (admin, digest) = admin(ADMIN)?;
-    match MemoryStore::create(alloc, admin, digest) {
-        Ok(mut store) => {
-            fill(alloc, &mut store, machines)?;
-            Ok(Probe::new(store, fails_at))
-        }
-        Err(_) => Err(CaseFault::Unavailable),
-    }
+    let (admin, digest) = admin(ADA)?;
+    let store = MemoryStore::create(alloc, admin, digest);
+    let mut store = store.map_err(|_| CaseFault::Unavailable)?;
+    fill(alloc, &mut store, machines)?;
+    Ok(Probe::new(store, fails_at))
 }
 
 /// What cases are played on: a hall in memory that is served, once an act has begun one.
@@ -77,9 +72,7 @@ impl<'a> Player for Hall<'a> {
             self.stage = Some(stage.again());
             return Ok(());
         }
-        match &mut self.stage {
-            Some(stage) => stage.play(act, out),
-            None => Err(CaseFault::Act),
-        }
+        let stage = self.stage.as_mut().ok_or(CaseFault::Act)?;
+        stage.play(act, out)
     }
 }

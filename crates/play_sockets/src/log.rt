@@ -27,12 +27,9 @@ pub struct Log {
 
 // A word, or the name of the client whose address it is.
 fn name_of<'a>(word: &'a str, clients: &'a [Client]) -> &'a str {
-    for client in clients.iter().rev() {
-        if client.address.as_str() == word {
-            return client.name.as_str();
-        }
-    }
-    word
+    let mut clients = clients.iter().rev();
+    let client = clients.find(|client| client.address.as_str() == word);
+    client.map_or(word, |client| client.name.as_str())
 }
 
 // Prints a text with clients' names in place of addresses.

@@ -5,7 +5,7 @@ use cases::CaseFault;
 use hall_desk::{Desk, Input};
 use hall_store::HallStore;
 use hall_types::Token;
-use play_log::{arrival, moment, place};
+use play_log::{arrival, parsed, place};
 use serve_sockets::{Addresses, Service, Sockets, Source, Stamp};
 use std::net::{IpAddr, Ipv4Addr, SocketAddr, UdpSocket};
 
@@ -75,7 +75,7 @@ fn service<S: HallStore + Drop>(rt: &HostRuntime, store: S) -> Result<Service<S>
 fn standing() -> Result<Clock, CaseFault> {
     Ok(Clock {
         stamp: Stamp {
-            moment: moment(1_000)?,
+            moment: parsed("1000")?,
             fresh: Token::from([0; 16]),
             millis: 0,
         },
@@ -117,12 +117,9 @@ impl<'a, S: HallStore + Drop> Stage<'a, S> {
 
     /// The last client of a name.
     pub fn client(&mut self, name: &str) -> Result<&mut Client, CaseFault> {
-        for client in self.clients.iter_mut().rev() {
-            if client.name.as_str() == name {
-                return Ok(client);
-            }
-        }
-        Err(CaseFault::Form)
+        let mut clients = self.clients.iter_mut().rev();
+        let client = clients.find(|client| client.name.as_str() == name);
+        client.ok_or(CaseFault::Form)
     }
 
     /// What comes by the words of an arrival. The clock is set to it.

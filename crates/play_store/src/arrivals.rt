@@ -54,14 +54,6 @@ fn push_fronts<S: HallStore>(desk: &mut Desk<S>, arrival: &Arrival, out: &mut Ou
     Ok(())
 }
 
-fn arrivals_of(alloc: Global, acts: &[&str]) -> Result<Vec<Arrival>, CaseFault> {
-    let mut arrivals = Vec::new(alloc);
-    for act in acts {
-        arrivals.push(arrival(alloc, act)?)?;
-    }
-    Ok(arrivals)
-}
-
 impl<S: HallStore + Drop> Hall<S> {
     /// Answers an arrival.
     pub(crate) fn arrive(&mut self, words: &str, out: &mut Out) -> Played {
@@ -106,15 +98,16 @@ impl<S: HallStore + Drop> Hall<S> {
 
     /// Answers arrivals by one run of a desk over the store: the answers.
     pub fn run(&mut self, alloc: Global, acts: &[&str]) -> Result<Vec<String>, CaseFault> {
-        let arrivals = arrivals_of(alloc, acts)?;
+        let arrivals = acts.iter().map(|act| arrival(alloc, act));
+        let arrivals: Vec<Arrival> = arrivals.try_collect(alloc)?;
         let mut desk = self.take_desk(alloc)?;
         let answers = desk.run(alloc, arrivals.as_slice());
         self.put_back(desk.into_store());
         self.asked.note_run(acts.len());
-        let (answers, mut texts) = (answers?, Vec::new(alloc));
-        for (arrival, answer) in arrivals.iter().zip(answers.as_slice()) {
-            texts.push(text_of(alloc, &arrival.input, answer)?)?;
-        }
-        Ok(texts)
+        let answers = answers?;
+        let answered = arrivals.iter().zip(answers.as_slice());
+        answered
+            .map(|(arrival, answer)| text_of(alloc, &arrival.input, answer))
+            .try_collect(alloc)
     }
 }

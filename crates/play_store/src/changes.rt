@@ -6,49 +6,29 @@ use crate::hall::Hall;
 use cases::{CaseFault, Out, Played};
 use hall_store::HallStore;
 use hall_types::{
-    Arch, Boot, Change, Interface, Machine, Number, Numbers, Order, OrderKind, OrderStage, Purpose,
-    Receipt, RowWrite, Stage, Text, Token, Version,
+    Arch, Boot, Change, Interface, Machine, Moment, Numbers, Order, OrderKind, OrderStage, Purpose,
+    Receipt, RowWrite, Stage, Text, Token,
 };
-use play_log::{first, issued, key, last, mac, moment, name, number, status, uuid, version};
+use play_log::{first, key, last, maybe, parsed, some, uuid};
 use std::alloc::Global;
-
-// A word, nothing where it is empty or `-`.
-fn some(word: &str) -> Option<&str> {
-    Some(word).filter(|word| !word.is_empty() && *word != "-")
-}
-
-fn version_of(word: &str) -> Result<Version, CaseFault> {
-    version(number(word)?)
-}
-
-fn deadline_of(word: &str) -> Result<u64, CaseFault> {
-    Ok(moment(number(word)?)?.get())
-}
-
-fn numbered(word: &str) -> Result<Number, CaseFault> {
-    issued(number(word)?)
-}
 
 // `ID VERSION POOL STATUS DEADLINE`, and what may stand after it.
 fn machine(id: &str, words: &str) -> Result<Machine, CaseFault> {
-    let (its_version, words) = first(words);
+    let (version, words) = first(words);
     let (pool, words) = first(words);
-    let (its_status, words) = first(words);
+    let (status, words) = first(words);
     let (deadline, words) = first(words);
     let (its_uuid, words) = first(words);
     let (owner, image) = first(words);
+    let deadline: Option<Moment> = maybe(deadline)?;
+    let its_uuid = some(its_uuid).map(uuid).transpose()?;
     Ok(Machine {
-        status: status(its_status)?,
-        owner: some(owner).map(name).transpose()?,
-        image: some(image).map(name).transpose()?,
-        version: version_of(its_version)?,
-        deadline: some(deadline).map(deadline_of).transpose()?,
-        ..Machine::new(
-            numbered(id)?,
-            Arch::Uefi64,
-            name(pool)?,
-            some(its_uuid).map(uuid).transpose()?,
-        )
+        status: parsed(status)?,
+        owner: maybe(owner)?,
+        image: maybe(image)?,
+        version: parsed(version)?,
+        deadline: deadline.map(|moment| moment.get()),
+        ..Machine::new(parsed(id)?, Arch::Uefi64, parsed(pool)?, its_uuid)
     })
 }
 
@@ -63,10 +43,10 @@ fn numbers(words: &str) -> Result<Numbers, CaseFault> {
 }
 
 // An offered boot that commissions.
-fn boot(its_number: &str, id: &str) -> Result<Boot, CaseFault> {
+fn boot(number: &str, id: &str) -> Result<Boot, CaseFault> {
     Ok(Boot {
-        number: numbered(its_number)?,
-        machine: numbered(id)?,
+        number: parsed(number)?,
+        machine: parsed(id)?,
         purpose: Purpose::Commission,
         token: Token::from([0; 16]),
         stage: Stage::Offered,
@@ -74,10 +54,10 @@ fn boot(its_number: &str, id: &str) -> Result<Boot, CaseFault> {
 }
 
 // An order that waits, to cycle the power.
-fn order(its_number: &str, id: &str) -> Result<Order, CaseFault> {
+fn order(number: &str, id: &str) -> Result<Order, CaseFault> {
     Ok(Order {
-        number: numbered(its_number)?,
-        machine: numbered(id)?,
+        number: parsed(number)?,
+        machine: parsed(id)?,
         kind: OrderKind::Cycle,
         stage: OrderStage::Waiting,
     })
@@ -89,10 +69,9 @@ fn text(alloc: Global, text: &str) -> Result<Text, CaseFault> {
 
 // The receipt of a lock.
 fn receipt(alloc: Global, operator: &str, its_key: &str) -> Result<Receipt, CaseFault> {
-    let (operator, key) = (name(operator)?, key(its_key)?);
     Ok(Receipt {
-        operator,
-        key,
+        operator: parsed(operator)?,
+        key: key(its_key)?,
         command: text(alloc, "{\"command\":\"lock\",\"machine\":1,\"version\":1}")?,
         status: 200,
         body: text(alloc, "{\"id\":1,\"status\":\"Ready\",\"version\":2}")?,
@@ -103,7 +82,7 @@ fn put_machine(id: &str, words: &str) -> Result<RowWrite, CaseFault> {
     let (before, words) = first(words);
     Ok(RowWrite::PutMachine {
         machine: machine(id, words)?,
-        was: some(before).map(version_of).transpose()?,
+        was: maybe(before)?,
     })
 }
 
@@ -112,13 +91,13 @@ fn row(alloc: Global, words: &str) -> Result<RowWrite, CaseFault> {
     let (word, rest) = first(words);
     match kind {
         "machine" => put_machine(word, rest),
-        "machine_gone" => Ok(RowWrite::MachineGone(numbered(word)?)),
+        "machine_gone" => Ok(RowWrite::MachineGone(parsed(word)?)),
         "interface" => Ok(RowWrite::PutInterface(Interface {
-            mac: mac(word)?,
-            machine: numbered(rest)?,
+            mac: parsed(word)?,
+            machine: parsed(rest)?,
         })),
-        "interface_gone" => Ok(RowWrite::InterfaceGone(mac(word)?)),
-        "image_gone" => Ok(RowWrite::ImageGone(name(word)?)),
+        "interface_gone" => Ok(RowWrite::InterfaceGone(parsed(word)?)),
+        "image_gone" => Ok(RowWrite::ImageGone(parsed(word)?)),
         "numbers" => Ok(RowWrite::PutNumbers(numbers(words)?)),
         "boot" => Ok(RowWrite::PutBoot(boot(word, rest)?)),
         "order" => Ok(RowWrite::PutOrder(order(word, rest)?)),
@@ -129,10 +108,8 @@ fn row(alloc: Global, words: &str) -> Result<RowWrite, CaseFault> {
 
 /// The change of words.
 pub fn change(alloc: Global, words: &str) -> Result<Change, CaseFault> {
-    let mut rows = Vec::new(alloc);
-    for text in words.split("; ").filter(|text| !text.is_empty()) {
-        rows.push(row(alloc, text)?)?;
-    }
+    let texts = words.split("; ").filter(|text| !text.is_empty());
+    let rows: Vec<RowWrite> = texts.map(|text| row(alloc, text)).try_collect(alloc)?;
     Ok(Change::from(rows))
 }
 

@@ -79,10 +79,8 @@ impl<S: HallStore + Drop> Hall<S> {
 
     /// The store, which may fail at a call. It has to be put back.
     pub(crate) fn take(&mut self) -> Result<Probe<S>, CaseFault> {
-        match self.store.take() {
-            Some(store) => Ok(Probe::new(store, self.fails_at)),
-            None => Err(CaseFault::Unavailable),
-        }
+        let store = self.store.take().ok_or(CaseFault::Unavailable)?;
+        Ok(Probe::new(store, self.fails_at))
     }
 
     pub(crate) fn put_back(&mut self, probe: Probe<S>) {

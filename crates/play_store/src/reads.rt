@@ -6,7 +6,7 @@ use crate::hall::Hall;
 use crate::records::Row;
 use cases::{CaseFault, Out, Played};
 use hall_store::{HallStore, Unavailable};
-use play_log::{arch, digest, first, issued, key, mac, moment, name, number, uuid};
+use play_log::{first, key, parsed, uuid};
 
 /// Whether something was found, and printed.
 type Found = Result<bool, CaseFault>;
@@ -30,7 +30,7 @@ fn all<T: Row + Drop>(found: Result<Vec<T>, Unavailable>, out: &mut Out) -> Foun
 }
 
 fn image_used<S: HallStore>(store: &mut S, word: &str, out: &mut Out) -> Found {
-    let used = store.image_used(&name(word)?);
+    let used = store.image_used(&parsed(word)?);
     let is_used = used.map_err(|_| CaseFault::Unavailable)?;
     if is_used {
         out.show(format_args!("image {word} is used\n"));
@@ -39,7 +39,7 @@ fn image_used<S: HallStore>(store: &mut S, word: &str, out: &mut Out) -> Found {
 }
 
 fn next_expired<S: HallStore>(store: &mut S, word: &str, out: &mut Out) -> Found {
-    let found = store.next_expired(moment(number(word)?)?);
+    let found = store.next_expired(parsed(word)?);
     if let Ok(Some(_)) = &found {
         out.push("expired ");
     }
@@ -51,11 +51,11 @@ fn list<S: HallStore>(store: &mut S, what: &str, words: &str, out: &mut Out) -> 
     let alloc = out.alloc();
     let (word, other) = first(words);
     match what {
-        "member" => one(store.member(&name(word)?, &name(other)?), out),
-        "receipt" => one(store.receipt(alloc, &name(word)?, key(other)?), out),
+        "member" => one(store.member(&parsed(word)?, &parsed(other)?), out),
+        "receipt" => one(store.receipt(alloc, &parsed(word)?, key(other)?), out),
         "numbers" => one(store.numbers().map(Some), out),
         "machine_count" => one(store.machine_count().map(Some), out),
-        "interfaces_of" => all(store.interfaces_of(alloc, issued(number(word)?)?), out),
+        "interfaces_of" => all(store.interfaces_of(alloc, parsed(word)?), out),
         "interfaces" => all(store.interfaces(alloc), out),
         "machines" => all(store.machines(alloc), out),
         "waiting_orders" => all(store.waiting_orders(alloc), out),
@@ -68,17 +68,17 @@ fn list<S: HallStore>(store: &mut S, what: &str, words: &str, out: &mut Out) -> 
 pub(crate) fn found<S: HallStore>(store: &mut S, words: &str, out: &mut Out) -> Found {
     let (what, word) = first(words);
     match what {
-        "machine" => one(store.machine(issued(number(word)?)?), out),
-        "boot" => one(store.boot(issued(number(word)?)?), out),
-        "order" => one(store.order(issued(number(word)?)?), out),
-        "by_mac" => one(store.by_mac(mac(word)?), out),
+        "machine" => one(store.machine(parsed(word)?), out),
+        "boot" => one(store.boot(parsed(word)?), out),
+        "order" => one(store.order(parsed(word)?), out),
+        "by_mac" => one(store.by_mac(parsed(word)?), out),
         "by_uuid" => one(store.by_uuid(uuid(word)?), out),
-        "live" => one(store.live(arch(word)?), out),
+        "live" => one(store.live(parsed(word)?), out),
         "next_expired" => next_expired(store, word, out),
-        "operator" => one(store.operator(&name(word)?), out),
-        "digest" => one(store.operator_by_digest(&digest(word)?), out),
-        "pool" => one(store.pool(&name(word)?), out),
-        "image" => one(store.image(out.alloc(), &name(word)?), out),
+        "operator" => one(store.operator(&parsed(word)?), out),
+        "digest" => one(store.operator_by_digest(&parsed(word)?), out),
+        "pool" => one(store.pool(&parsed(word)?), out),
+        "image" => one(store.image(out.alloc(), &parsed(word)?), out),
         "image_used" => image_used(store, word, out),
         _ => list(store, what, word, out),
     }

@@ -5,7 +5,8 @@ use cases::{CaseFault, Out, Played, Short, string_of};
 use desk_operations::{Imported, export};
 use hall_report::{Fault, What, import_rows};
 use hall_store::HallStore;
-use play_log::{digest, first, issued, moment, number};
+use hall_types::{Digest, Moment, Number};
+use play_log::{first, parsed};
 
 /// Prints the name of the fault by which something ended.
 pub(crate) fn push_end(out: &mut Out, end: Result<(), Fault>) -> Played {
@@ -26,7 +27,7 @@ fn push_text(out: &mut Out, octets: &[u8]) {
 fn what(kind: &str, words: &str) -> Result<Option<What>, CaseFault> {
     match kind {
         "hall" => Ok(Some(What::Hall)),
-        "machine-text" => Ok(Some(What::Machine(issued(number(words)?)?.get()))),
+        "machine-text" => Ok(Some(What::Machine(parsed::<Number>(words)?.get()))),
         "order-text" => Ok(Some(What::Orders)),
         "export" => Ok(None),
         _ => Err(CaseFault::Act),
@@ -67,7 +68,7 @@ impl<S: HallStore + Drop> Hall<S> {
         let alloc = out.alloc();
         let (at, rest) = first(words);
         let (bearer, text) = first(rest);
-        let (bearer, at) = (digest(bearer)?, moment(number(at)?)?);
+        let (bearer, at): (Digest, Moment) = (parsed(bearer)?, parsed(at)?);
         let file = string_of(alloc, text)?;
         let mut writer = Short::new(Vec::new(alloc), room);
         let mut desk = self.take_desk(alloc)?;

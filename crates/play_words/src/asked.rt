@@ -1,10 +1,9 @@
 //! What a command line of hallboot asks for.
 use crate::words::words_of;
 use cases::{Out, Played};
-use command_rows::Options;
 use hall_report::What;
 use hall_types::Port;
-use hallboot_words::{Backup, Failure, Frame, Init, Job, Restore, Task, read, wants_reason};
+use hallboot_words::{Failure, Frame, HallCopy, Job, Task, read, wants_reason};
 use pxe_vendor::Place;
 use std::net::Ipv4Addr;
 
@@ -24,16 +23,11 @@ fn show_task(task: Task, out: &mut Out) {
         Task::Report(What::Orders) => out.push("report orders"),
         Task::Report(What::Machine(id)) => out.show(format_args!("report machine {id}")),
         Task::Export => out.push("export"),
-        Task::Import {
-            place,
-            octets,
-            bearer,
-            moment,
-        } => {
-            let (moment, len) = (moment.get(), octets.len());
+        Task::Import(asked) => {
+            let (moment, len) = (asked.moment.get(), asked.octets.len());
             out.show(format_args!("import of {len} octets at {moment}, digest "));
-            out.hex(&bearer.octets());
-            show_place(&place, out);
+            out.hex(&asked.bearer.octets());
+            show_place(&asked.place, out);
         }
     }
 }
@@ -53,30 +47,20 @@ fn show(rt: &HostRuntime, job: Job, out: &mut Out) -> Result<(), Failure> {
             });
             show_place(&place, out);
         }
-        Job::Init(
-            Init {
-                path,
-                admin,
-                digest,
-            },
-        ) => {
-            out.show(format_args!("init {path}, admin {admin}, digest "));
-            out.hex(&digest.octets());
+        Job::Init(init) => {
+            out.show(format_args!("init {}, admin {}, digest ", init.path, init.admin));
+            out.hex(&init.digest.octets());
         }
         Job::Migrate(path) => out.show(format_args!("migrate {path}")),
-        Job::Backup(Backup { path, to }) => out.show(format_args!("backup {path} to {to}")),
-        Job::Restore(Restore { path, from }) => {
-            out.show(format_args!("restore {path} from {from}"));
+        Job::Backup(HallCopy { path, copy }) => out.show(format_args!("backup {path} to {copy}")),
+        Job::Restore(HallCopy { path, copy }) => {
+            out.show(format_args!("restore {path} from {copy}"));
         }
         Job::Serve(serving) => out.show(format_args!("{serving}")),
         Job::Import(path, import) => show_over(path.as_str(), import.task(rt)?, out),
         Job::Over(path, task) => show_over(path.as_str(), task, out),
     }
     Ok(())
-}
-
-fn show_options(rt: &HostRuntime, options: &Options<'_>, out: &mut Out) -> Result<(), Failure> {
-    show(rt, Job::read(rt, options)?, out)
 }
 
 fn show_failure(failure: Failure, out: &mut Out) {
@@ -91,7 +75,7 @@ pub(crate) fn show_asked(rt: &HostRuntime, line: &str, out: &mut Out) -> Played 
     let words = words_of(out.alloc(), "hallboot", line)?;
     match read(out.alloc(), words.as_slice()) {
         Ok(options) => {
-            if let Err(failure) = show_options(rt, &options, out) {
+            if let Err(failure) = Job::read(rt, &options).and_then(|job| show(rt, job, out)) {
                 show_failure(failure, out);
             }
             out.push(if wants_reason(&options) {

@@ -53,7 +53,7 @@ impl Stage<'_> {
         match session.carry_out() {
             Ok(end) => Ok(end.status()),
             Err(fault) => {
-                self.err.line(fault.words());
+                self.err.show(format_args!("{fault}\n"));
                 Ok(1)
             }
         }

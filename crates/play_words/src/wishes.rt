@@ -3,7 +3,7 @@ use crate::words::words_of;
 use cases::{CaseFault, Out, Played};
 use command_rows::Wrong;
 use hallctl_texts::Filter;
-use hallctl_words::{Form, Line, LineFault, Listing, NewOperator, Which, Wish, read};
+use hallctl_words::{Form, Line, LineFault, Listing, Which, Wish, read};
 
 fn show_filter(filter: &Filter, form: Form, out: &mut Out) {
     let form = match form {
@@ -42,14 +42,8 @@ fn show(wish: &Wish<'_>, out: &mut Out) -> Played {
                 out.show(format_args!(" {text}"));
             }
         }
-        Wish::NewOperator(
-            NewOperator {
-                operator,
-                role,
-                file,
-            },
-        ) => {
-            let role = role.text();
+        Wish::NewOperator(new) => {
+            let (operator, role, file) = (new.operator, new.role.text(), new.file);
             out.show(format_args!("new operator {operator}, {role}, token to {file}"));
         }
         Wish::Wait { machine, statuses } => {

@@ -75,10 +75,7 @@ fn class_in(value: Option<&[u8]>) -> Result<&[u8], NotServed>
 fn arch_in(list: Option<&[u8]>, class: &[u8]) -> Result<Arch, NotServed>
     ensures { result ≡ ok_or (first_known (numbers_of (unwrap_or (option_copied list.entry) []) ++ class_numbers class.now)) NotServed.NoArch }
 {
-    let listed = match list {
-        Some(list) => arch::in_list(list),
-        None => None,
-    };
+    let listed = list.and_then(|list| arch::in_list(list));
     listed.or(arch::in_class(class)).ok_or(NotServed::NoArch)
 }
 

@@ -1,5 +1,5 @@
 -- What a connection reads and writes.
-use Rattle.std.{proofs.{Common.{◌≡◌, ◌≢◌, ◌<◌, ◌≤◌, ◌+◌, ◌-◌, ◌++◌, ◌∙◌, ℕ, Bool, true, false, Fits, w64, List, [], Option, Result, Ok, drop, if◌then◌else◌, length, min, take, ap, append-nil, arith, length-append, subst, sym}, lemmas.List.{drop-drop, drop_all, length-drop, length-take, take-append-drop, take-append-le, take_all}, KnownBytes.{append_known-kept, append_known-moved}}, specs.Io.KnownBytes.{Appends, Consumes, Keeps, WriteAppends, append_known}}
+use Rattle.std.{proofs.{Common.{◌≡◌, ◌≢◌, ◌<◌, ◌≤◌, ◌+◌, ◌-◌, ◌++◌, ◌∙◌, ℕ, Bool, true, Fits, w64, List, [], Option, Result, Ok, drop, if◌then◌else◌, length, min, take, ap, append-nil, arith, length-append, subst, sym}, lemmas.List.{drop-drop, drop_all, length-drop, length-take, take-append-drop, take-append-le, take_all}, KnownBytes.{append_known-kept, append_known-moved}}, specs.Io.KnownBytes.{Appends, Consumes, Keeps, WriteAppends, append_known}}
 use Rattle.serve_sockets.specs.Connection.{Moves}
 
 -- ---- reads
@@ -15,13 +15,6 @@ within_more n a b within = omega (arith, within, length-append a b)
 -- there is room to read into
 pub has_room : (n a : ℕ) (got buffer : List ℕ) → n ≡ min a (length buffer) → length got ≡ length (take n buffer) → n ≢ 0 → 0 < length got
 has_room n a got buffer is size some = omega (arith, is, size, some, length-take n buffer)
-
--- the input stays within its bound
-pub input_within : (len at n count after : ℕ) (got rest buffer : List ℕ) (is : Bool) → at ≡ len → len ≤ 24576 → n ≡ min (24576 - at) (length buffer)
-    → length got ≡ length (take n buffer) → count ≤ length got → after ≡ (if is then len + length (take count (got ++ rest)) else len) → after ≤ 24576
-input_within len at n count after got rest buffer true same few size room some is =
-    omega (arith, same, few, size, room, some, is, length-take n buffer, length-take count (got ++ rest))
-input_within len at n count after got rest buffer false same few size room some is = omega (arith, few, is)
 
 module _ (old new : Option (List ℕ)) (before : List ℕ) where
   -- no octet came

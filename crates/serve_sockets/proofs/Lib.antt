@@ -1,10 +1,7 @@
 pub mod ConnectionLemmas
 pub mod ListingLemmas
 pub mod ListsLemmas
-pub mod PastLemmas
-pub mod RunLemmas
 pub mod ServingLemmas
-pub mod SilenceLemmas
 pub mod TableLemmas
 pub mod TurnLemmas
 pub mod WentOnLemmas

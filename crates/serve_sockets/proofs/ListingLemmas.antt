@@ -1,8 +1,6 @@
 -- Which requests ask for a list.
 use Rattle.std.{proofs.Common.{◌≡◌, ℕ, List, Option, None, Some, Ok, sym}, specs.Prelude.IfSome}
-use Rattle.hall_events.specs.declared.event.Event.{Event}
-use Rattle.hall_http.specs.Request.{IsEvent}
-use Rattle.serve_sockets.specs.Listing.{AsksForList, list_bearer}
+use Rattle.serve_sockets.specs.{Prelude.{Event, IsEvent}, Listing.{AsksForList, list_bearer}}
 
 -- the octets of an event ask for a list with the token that the event has
 pub asks_by : (octets : List ℕ) (what : Event) (found : Option (List ℕ)) → IsEvent octets (Ok what) → found ≡ list_bearer what → IfSome found (AsksForList octets)

@@ -1,27 +1,8 @@
 -- What follows once a request is decided.
-use Rattle.std.{proofs.Common.{◌≡◌, ◌⊎◌, ℕ, List, ◌∷◌, ◌++◌, Option, Result, Some, None, [], inl, inr, sym, ◌∙◌, ap, subst, append_assoc, append-nil}, specs.{Prelude.IfSome, Io.KnownBytes.{Consumes, IsAtEnd}}}
-use Rattle.pxe_vendor.specs.Place.{Site}
-use Rattle.hall_types.specs.Hall.{Hall}
-use Rattle.desk_command.specs.Look.{IsLook}
-use Rattle.hall_http.specs.Decided.{IsDecided}
-use Rattle.hall_desk.specs.{Attempt.{IsAnswered, IsKept, IsOnlyRead, IsTorn}, AttemptLaws.{answered_on, missed_same}, Octets.octets_of, declared.arrival.{Answer.{Answer, TheVariants.Unavailable}, Input.{Input, TheVariants.Request}}}
-use Rattle.serve_sockets.specs.{Connection.Moves, Serving.{IfRequest, IsRequest, IsWaiting}, Turn.Tells, declared.{serving.Step.Step, turn.Handover.Handover}}
-use Rattle.hall_store.specs.declared.store.HallStore.{Ghosts}
+use Rattle.std.{proofs.Common.{◌≡◌, ◌⊎◌, ℕ, List, ◌∷◌, Option, Result, [], inl, inr, subst}, specs.Io.KnownBytes.IsAtEnd}
+use Rattle.serve_sockets.specs.{Prelude.{Site, Hall, IsLook, IsDecided, IsAnswered, IsKept, IsOnlyRead, IsTorn, answered_whole, missed_same, unread, site_of, store_of, octets_of, Answer, Unavailable, Input, Request, Desk, Ghosts}, Connection.Moves, Serving.{IsRequest, IsStep, IsWaiting}, Turn.Tells, declared.{serving.Step.Step, turn.Handover.Handover}}
 
 module _ {S : Type 0} (g : Ghosts S) (old new : S) (site : Site) (moment : ℕ) (fresh : List ℕ) where
-  -- an answer to what was read is one to all that was to be read
-  answered_whole : (read octets all : List ℕ) (rest after : Option (List ℕ)) (a : Answer) → Consumes rest after octets → all ≡ read ++ octets
-      → (IsAtEnd after ⊎ IsDecided all) → IsAnswered g old new site (Request all) moment fresh a
-      → IfSome rest (λ more. IsAnswered g old new site (Request (read ++ more)) moment fresh a)
-  answered_whole read octets all None after a f k g it = tt
-  answered_whole read octets all (Some more) None a f k g it = absurd f
-  answered_whole read octets all (Some more) (Some left) a f k (inl e) it =
-      let same : all ≡ read ++ more = k ∙ ap (λ t. read ++ t) (sym (f ∙ ap (λ t. octets ++ t) e ∙ append-nil octets)) in
-      subst (λ (o : List ℕ). IsAnswered g old new site (Request o) moment fresh a) same it
-  answered_whole read octets all (Some more) (Some left) a f k (inr d) it =
-      let same : all ++ left ≡ read ++ more = ap (λ t. t ++ left) k ∙ append_assoc read octets left ∙ ap (λ t. read ++ t) (sym f) in
-      subst (λ (o : List ℕ). IsAnswered g old new site (Request o) moment fresh a) same (answered_on g old new site moment fresh all left d a it)
-
   -- the answer that waits for a decided request is that to all that the client sends
   whole_request : (read all left : List ℕ) (rest after : Option (List ℕ)) (handover : Handover) → Moves rest after read all → (IsAtEnd after ⊎ IsDecided all)
       → IsWaiting g old new site moment fresh all left handover → IsRequest g old new site moment fresh read rest left handover
@@ -30,19 +11,21 @@ module _ {S : Type 0} (g : Ghosts S) (old new : S) (site : Site) (moment : ℕ) 
     said = it.said;
     tells = it.tells;
     answered = it.answered;
-    whole = answered_whole read moves.octets all rest after it.said moves.consumed moves.kept ends it.answered;
+    whole = answered_whole g old new site moment fresh read moves.octets all rest after it.said moves.consumed moves.kept ends it.answered;
     waits = it.waits;
   }
 
-  -- likewise of a step
-  pub whole_step : (s : Step) (read all left : List ℕ) (rest after : Option (List ℕ)) → Moves rest after read all → (IsAtEnd after ⊎ IsDecided all)
-      → IfRequest s (IsWaiting g old new site moment fresh all left) → IfRequest s (IsRequest g old new site moment fresh read rest left)
-  whole_step (Step.Handed handover) read all left rest after moves ends it = whole_request read all left rest after handover moves ends it
-  whole_step s read all left rest after moves ends it = tt
-
--- a store stays as it is where nothing is asked
-pub read_same : {S : Type 0} (g : Ghosts S) (s : S) → IsOnlyRead g s s
-read_same g s = record { same = λ h held. held; stop = λ h held hs left. left }
+-- likewise of a step
+pub whole_step : {S : Type 0} (g : Ghosts S) (old new : Desk S) (moment : ℕ) (fresh : List ℕ) (s : Step) (read all left : List ℕ) (rest after : Option (List ℕ))
+    → Moves rest after read all → (IsAtEnd after ⊎ IsDecided all)
+    → IsStep g old new (IsWaiting g (store_of old) (store_of new) (site_of old) moment fresh all left) s
+    → IsStep g old new (IsRequest g (store_of old) (store_of new) (site_of old) moment fresh read rest left) s
+whole_step g old new moment fresh (Step.Handed handover) read all left rest after moves ends it = record {
+  kept = it.kept;
+  did = λ clean.
+      whole_request g (store_of old) (store_of new) (site_of old) moment fresh read all left rest after handover moves ends (it.did clean);
+}
+whole_step g old new moment fresh s read all left rest after moves ends it = record { kept = it.kept; did = it.did }
 
 -- what a look leaves of a store
 pub read_by_look : {S Y E : Type 0} (g : Ghosts S) (old new : S) (r : Result Y E) (Right : Hall → Y → Type 0)
@@ -97,9 +80,6 @@ refused_request g wider s site moment fresh read octets left rest handover tells
   said = Unavailable;
   tells = tells;
   answered = missed_same g wider s site moment fresh (Request octets);
-  whole = elim rest as (λ r. IfSome r (λ more. IsAnswered g s s site (Request (read ++ more)) moment fresh Unavailable)) [
-    | None ↦ tt
-    | Some more ↦ missed_same g wider s site moment fresh (Request (read ++ more))
-  ];
+  whole = unread g wider s site moment fresh read rest;
   waits = waits;
 }

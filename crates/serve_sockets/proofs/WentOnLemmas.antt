@@ -1,9 +1,6 @@
 -- How the hall goes on by turns.
 use Rattle.std.proofs.Common.{◌≡◌, ◌≤◌, ◌+◌, ℕ, List, [], ◌∷◌, ◌++◌, Option, Some, None, arith, inl, inr, length-append, refl, subst, sym}
-use Rattle.pxe_vendor.specs.Place.{Site}
-use Rattle.hall_desk.specs.{Attempt.IsOnlyRead, declared.arrival.Arrival.Arrival}
-use Rattle.serve_sockets.{specs.{Stamps.{AreStamped, IsPassed, ended, handed, passed}, Turn.{AreServed, HandsNothing, IfHanded, IsHanded, IsPutOff}, declared.turn.{Handover.Handover, Stamp.Stamp, Turn.Turn}}, proofs.{RunLemmas.{has_run_none, has_run_one, has_run_then}, ServingLemmas.read_same}}
-use Rattle.hall_store.specs.declared.store.HallStore.{Ghosts}
+use Rattle.serve_sockets.specs.{Prelude.{Site, IsOnlyRead, read_same, AreHistoryLaws, after_run, run_given, run_stop, site_of, store_of, has_run_none, has_run_one, has_run_then, Arrival, Desk, Ghosts}, Stamps.{AreStamped, IsPassed, ended, handed, passed}, Turn.{AreServed, Did, IsHanded, WentOn}, declared.turn.{Handover.Handover, Stamp.Stamp, Turn.Turn}}
 
 module _ {C : Type 0} (gives : C → Option Stamp → C → Type 0) where
   stamped_then : {c d e : C} {xs ys : List Arrival} → AreStamped gives c xs d → AreStamped gives d ys e → AreStamped gives c (xs ++ ys) e
@@ -87,13 +84,25 @@ module _ {S C : Type 0} (g : Ghosts S) (gives : C → Option Stamp → C → Typ
       run = λ h held sound. has_run_none g site h old new only held sound;
     }
 
-    served_still : new ≡ old → AreServed g gives old new c e site 1
-    served_still same = served_reading (subst (λ (s : S). IsOnlyRead g old s) (sym same) (read_same g old))
+  -- one turn
+  pub served_one : (old new : Desk S) (c d e : C) (waited : IsPassed gives c d) (stamp : Stamp) (gave : gives d (Some stamp) e) (t : Turn) → g.is_clean (store_of new)
+      → Did g old new stamp t → AreServed g gives (store_of old) (store_of new) c e (site_of old) 1
+  served_one old new c d e waited stamp gave (Turn.Handed handover) clean it =
+      served_by (store_of old) (store_of new) c d e (site_of old) waited stamp gave handover (it clean)
+  served_one old new c d e waited stamp gave (Turn.Unsent handover) clean it =
+      served_by (store_of old) (store_of new) c d e (site_of old) waited stamp gave handover (it clean)
+  served_one old new c d e waited stamp gave (Turn.PutOff from) clean it =
+      served_reading (store_of old) (store_of new) c d e (site_of old) waited stamp gave (it clean)
+  served_one old new c d e waited stamp gave t clean it =
+      served_reading (store_of old) (store_of new) c d e (site_of old) waited stamp gave
+      (subst (λ (desk : Desk S). IsOnlyRead g (store_of old) (store_of desk)) (sym it) (read_same g (store_of old)))
 
-    -- one turn
-    pub served_one : (t : Turn) → IfHanded t (IsHanded g old new site stamp.moment stamp.fresh) → (HandsNothing t → new ≡ old)
-        → (IsPutOff t → IsOnlyRead g old new) → AreServed g gives old new c e site 1
-    served_one (Turn.Handed handover) it same read = served_by handover it
-    served_one (Turn.Unsent handover) it same read = served_by handover it
-    served_one (Turn.PutOff from) it same read = served_reading (read tt)
-    served_one t it same read = served_still (same tt)
+-- what the turns make of what came to the hall since it was new
+pub went_on : AreHistoryLaws → {S C : Type 0} (g : Ghosts S) (gives : C → Option Stamp → C → Type 0) (old new : S) (source source' : C) (site : Site) (most : ℕ)
+    → AreServed g gives old new source source' site most → WentOn g gives old new source source' site most
+went_on its g gives old new source source' site most it = record {
+  served = it;
+  history = λ origin past was. after_run its g old new site origin past was it.arrivals it.answers (λ h held sound. (it.run h held sound).ran);
+  settled = λ origin past was. run_given its g old new site origin past was it.arrivals it.answers it.run;
+  stop = λ origin past was. run_stop its g old new site origin past was it.arrivals it.answers it.run;
+}

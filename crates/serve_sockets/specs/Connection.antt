@@ -1,8 +1,6 @@
 -- What a connection sent, and what of its answer it has taken.
 use Rattle.std.specs.{Prelude.{◌≡◌, ◌⊎◌, ℕ, ◌-◌, List, [], ◌++◌, Bool, false, Option, None, Some, drop, is_some, nat_lt, not, ◌&&◌, if◌then◌else◌}, Io.KnownBytes.{Consumes, IsAtEnd, Keeps}}
-use Rattle.hall_http.specs.Decided.{IsDecided}
-use Rattle.hall_desk.specs.Octets.{octets_of}
-use Rattle.serve_sockets.specs.{Group.group_of, declared.{connection.{Connection.Connection, Sending.Sending}, reading.Taken.Taken, writing.Put.Put}}
+use Rattle.serve_sockets.specs.{Prelude.{IsDecided, octets_of}, Group.group_of, declared.{connection.{Connection.Connection, Sending.Sending}, reading.Taken.Taken, writing.Put.Put}}
 
 -- the octets of an answer that are to be written yet
 abbrev pub unwritten : Sending → List ℕ
@@ -80,5 +78,4 @@ abbrev pub IsTaken : Taken → Option (List ℕ) → Option (List ℕ) → List 
 IsTaken Taken.Waits old new before after = Keeps old new × (after ≡ before)
 IsTaken Taken.More old new before after = Moves old new before after
 IsTaken Taken.Whole old new before after = Moves old new before after × (IsAtEnd new ⊎ IsDecided after)
-IsTaken Taken.NoMemory old new before after = Unit {0}
-IsTaken Taken.Failed old new before after = Unit {0}
+IsTaken other old new before after = Unit {0}

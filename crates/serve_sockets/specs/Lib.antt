@@ -1,3 +1,4 @@
+pub mod Prelude
 pub mod Connection
 pub mod Group
 pub mod Listing

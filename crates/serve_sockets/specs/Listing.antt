@@ -1,7 +1,6 @@
 -- Requests that ask for a list, which takes long and may wait.
 use Rattle.std.specs.Prelude.{◌≡◌, ℕ, List, Option, None, Some, Ok}
-use Rattle.hall_events.specs.declared.event.Event.{Event}
-use Rattle.hall_http.specs.Request.{IsEvent}
+use Rattle.serve_sockets.specs.Prelude.{Event, IsEvent}
 
 -- the digest of the token with which an event asks for all machines or all orders
 abbrev pub list_bearer : Event → Option (List ℕ)

@@ -1,9 +1,6 @@
 -- Which replies are sent.
 use Rattle.std.specs.Prelude.{◌≡◌, ℕ, List, Some}
-use Rattle.pxe_vendor.specs.Place.{Site}
-use Rattle.hall_desk.specs.{Attempt.GivesAnswer, declared.arrival.{Answer.Answer, Input.TheVariants.Datagram}}
-use Rattle.serve_sockets.specs.{Turn.Tells, declared.{replying.Way.Way, turn.Handover.Handover}}
-use Rattle.hall_store.specs.declared.store.HallStore.{Ghosts}
+use Rattle.serve_sockets.specs.{Prelude.{Site, GivesAnswer, Answer, Datagram, Ghosts}, Turn.Tells, declared.{replying.Way.Way, turn.Handover.Handover}}
 
 -- the octets of a reply were sent that way, once, and nothing for another answer; `sends` says what one call sends
 abbrev pub IsSent : {P : Type 0} → (P → Way → List ℕ → P → Type 0) → P → Way → Answer → P → Type 0

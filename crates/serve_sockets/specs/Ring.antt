@@ -1,7 +1,6 @@
 -- Whose turn it is, up and round.
 use Rattle.std.specs.Prelude.{◌≡◌, ◌<◌, ◌≤◌, ◌+◌, ℕ, List, Bool, true, false, Some, length, slice_get, slice_set, nat_lt, if◌then◌else◌}
-use Rattle.hall_types.specs.declared.port.Port.TheVariants.{Boot, Discover}
-use Rattle.serve_sockets.specs.declared.ring.{Origin.{Origin, TheVariants.{Connection, Listener, Port}}, Ring.Ring}
+use Rattle.serve_sockets.specs.{Prelude.{Boot, Discover}, declared.ring.{Origin.{Origin, TheVariants.{Connection, Listener, Port}}, Ring.Ring}}
 
 -- the seat of the discover socket, of the boot socket, of the listener, or of a connection
 abbrev pub IsAt : ℕ → Origin → Type 0
@@ -12,15 +11,13 @@ IsAt seat (Connection slot) = (seat ≡ slot + 3) × (slot < 1024)
 
 -- there are 1,024 slots at most
 abbrev pub IsOpenable : Origin → Type 0
-IsOpenable (Port port) = Unit {0}
-IsOpenable Listener = Unit {0}
 IsOpenable (Connection slot) = slot < 1024
+IsOpenable other = Unit {0}
 
 -- there are so many slots
 abbrev pub IsPlace : ℕ → Origin → Type 0
-IsPlace places (Port port) = Unit {0}
-IsPlace places Listener = Unit {0}
 IsPlace places (Connection slot) = slot < places
+IsPlace places other = Unit {0}
 
 -- the seat is ready, and no other between `from` and it, up and round, is
 pub record IsNext (ready : List Bool) (from seat : ℕ) : Type 0 where

@@ -1,7 +1,6 @@
 -- What a service is made of.
 use Rattle.std.specs.Prelude.{◌≡◌, ◌+◌, ◌%◌, ℕ, Bool, true, false}
-use Rattle.hall_desk.specs.declared.desk.Desk.{Desk}
-use Rattle.serve_sockets.specs.{Turn.{IsQuiet, IsUnavailable}, declared.{service.Service.Service, sockets.Sockets.Sockets, turn.Turn.Turn}}
+use Rattle.serve_sockets.specs.{Prelude.Desk, Turn.{IsQuiet, IsUnavailable}, declared.{service.Service.Service, sockets.Sockets.Sockets, turn.Turn.Turn}}
 
 module _ {S : Type 0} where
   -- the desk to which what comes is handed

@@ -1,9 +1,6 @@
 -- What a step of a connection did.
 use Rattle.std.specs.Prelude.{◌≡◌, ℕ, List, ◌++◌, Option, IfSome}
-use Rattle.pxe_vendor.specs.Place.{Site}
-use Rattle.hall_desk.specs.{Attempt.{IsAnswered, IsOnlyRead}, Desk.store_of, Octets.octets_of, declared.{arrival.{Answer.Answer, Input.TheVariants.Request}, desk.Desk.Desk}}
-use Rattle.serve_sockets.specs.{Turn.{KeepsDesk, Tells}, declared.{serving.Step.Step, turn.Handover.Handover}}
-use Rattle.hall_store.specs.declared.store.HallStore.{Ghosts}
+use Rattle.serve_sockets.specs.{Prelude.{Site, IsAnswered, IsOnlyRead, store_of, octets_of, Answer, Request, Desk, Ghosts}, Turn.{HandsNothing, IsPutOff, KeepsDesk, Tells}, declared.{serving.Step.Step, turn.{Handover.Handover, Turn.Turn}}}
 
 module _ {S : Type 0} (g : Ghosts S) (old new : S) (site : Site) (moment : ℕ) (fresh : List ℕ) where
   -- the octets were handed to the desk as a request, and its answer waits
@@ -23,25 +20,25 @@ module _ {S : Type 0} (g : Ghosts S) (old new : S) (site : Site) (moment : ℕ) 
     pub whole : IfSome rest (λ more. IsAnswered g old new site (Request (read ++ more)) moment fresh said)
     pub waits : left ≡ octets_of said
 
--- a fact of the request that a step handed to the desk, if it did
-abbrev pub IfRequest : Step → (Handover → Type 0) → Type 0
-IfRequest (Step.Handed handover) P = P handover
-IfRequest step P = Unit {0}
-
 -- a step handed nothing to the desk, and asked it nothing
 abbrev pub IsOnlyMoved : Step → Type 0
 IsOnlyMoved (Step.Handed handover) = ⊥
 IsOnlyMoved Step.PutOff = ⊥
 IsOnlyMoved step = Unit {0}
 
--- a step put a request for a list off
-abbrev pub PutsOff : Step → Type 0
-PutsOff Step.PutOff = Unit {0}
-PutsOff step = ⊥
+-- the turn of a step
+abbrev pub IsTurnOf : Step → Turn → Type 0
+IsTurnOf (Step.Handed handover) turn = turn ≡ Turn.Handed handover
+IsTurnOf Step.PutOff turn = IsPutOff turn
+IsTurnOf step turn = HandsNothing turn
+
+-- `P` holds of a request that was handed over; where one was put off, the hall was only read
+abbrev pub StepDid : {S : Type 0} → Ghosts S → Desk S → Desk S → (Handover → Type 0) → Step → Type 0
+StepDid g old new P (Step.Handed handover) = g.is_clean (store_of new) → P handover
+StepDid g old new P Step.PutOff = g.is_clean (store_of new) → IsOnlyRead g (store_of old) (store_of new)
+StepDid g old new P step = new ≡ old
 
 -- What a step did with the desk, where `P` is what holds of a request that it handed over.
 pub record IsStep {S : Type 0} (g : Ghosts S) (old new : Desk S) (P : Handover → Type 0) (step : Step) : Type 0 where
   pub kept : KeepsDesk g old new
-  pub request : g.is_clean (store_of new) → IfRequest step P
-  pub same : IsOnlyMoved step → new ≡ old
-  pub read : g.is_clean (store_of new) → PutsOff step → IsOnlyRead g (store_of old) (store_of new)
+  pub did : StepDid g old new P step

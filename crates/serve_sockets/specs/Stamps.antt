@@ -1,7 +1,6 @@
 -- Which arrivals have the stamps that a source gave.
 use Rattle.std.specs.Prelude.{◌≡◌, ◌⊎◌, List, [], ◌∷◌, Option, Some, None}
-use Rattle.hall_desk.specs.declared.arrival.Arrival.{Arrival}
-use Rattle.serve_sockets.specs.declared.turn.Stamp.{Stamp}
+use Rattle.serve_sockets.specs.{Prelude.Arrival, declared.turn.Stamp.Stamp}
 
 -- `gives` says which stamp a call gives, if any, and between which states of the source
 module _ {C : Type 0} (gives : C → Option Stamp → C → Type 0) where

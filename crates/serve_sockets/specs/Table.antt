@@ -37,9 +37,8 @@ module _ {T : Type 0} where
 
   -- the number of a slot's connection; no connection counts as the last
   abbrev pub number_in : Option (Option (Connection T)) → ℕ
-  number_in None = 18446744073709551615
-  number_in (Some None) = 18446744073709551615
   number_in (Some (Some connection)) = number_of connection
+  number_in held = 18446744073709551615
 
   -- the how-manieth connection a slot holds
   abbrev pub number_at : List (Option (Connection T)) → ℕ → ℕ

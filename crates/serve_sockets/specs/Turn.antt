@@ -1,11 +1,7 @@
 -- What a turn did, and what a log says of it.
 use Rattle.std.specs.Prelude.{◌≡◌, ◌≤◌, ℕ, Bool, true, false, List, [], ◌++◌, length, Option}
-use Rattle.pxe_vendor.specs.Place.{Site}
-use Rattle.hall_types.specs.Hall.{Hall}
-use Rattle.boot_desk.specs.Sound.{IsSound}
-use Rattle.hall_desk.specs.{Attempt.{IsAnswered, IsOnlyRead}, Desk.{enlists_of, site_of, store_of}, Headline.HasHistory, History.{Item, Origin, exchanges}, Stops.{AndCutRun, AreGiven, HasRun, IsLeft, IsSettled}, declared.{arrival.{Answer.Answer, Arrival.Arrival, Input.Input}, desk.Desk.Desk}}
-use Rattle.serve_sockets.specs.{Stamps.AreStamped, declared.turn.{Handover.Handover, Kind.Kind, Said.Said, Stamp.Stamp, Turn.Turn}}
-use Rattle.hall_store.specs.declared.store.HallStore.{Ghosts}
+use Rattle.hall_desk.specs.History.{Origin}
+use Rattle.serve_sockets.specs.{Prelude.{Site, Hall, IsSound, IsAnswered, IsOnlyRead, enlists_of, site_of, store_of, HasHistory, Item, exchanges, AndCutRun, AreGiven, HasRun, IsLeft, IsSettled, Answer, Arrival, Input, Desk, Ghosts}, Stamps.AreStamped, declared.turn.{Handover.Handover, Kind.Kind, Said.Said, Stamp.Stamp, Turn.Turn}}
 
 -- ---- handovers
 
@@ -57,12 +53,6 @@ abbrev pub IsPutOff : Turn → Type 0
 IsPutOff (Turn.PutOff from) = Unit {0}
 IsPutOff turn = ⊥
 
--- a fact of what the turn handed to the desk, if it did
-abbrev pub IfHanded : Turn → (Handover → Type 0) → Type 0
-IfHanded (Turn.Handed handover) P = P handover
-IfHanded (Turn.Unsent handover) P = P handover
-IfHanded turn P = Unit {0}
-
 -- the turn was a quiet moment
 abbrev pub IsQuiet : Turn → Type 0
 IsQuiet (Turn.Handed handover) = handover.kind ≡ Kind.Quiet
@@ -77,8 +67,7 @@ IsUnavailable turn = ⊥
 -- what came is a datagram
 abbrev pub IsOfDatagram : Kind → Type 0
 IsOfDatagram (Kind.Datagram port) = Unit {0}
-IsOfDatagram Kind.Request = ⊥
-IsOfDatagram Kind.Quiet = ⊥
+IsOfDatagram other = ⊥
 
 -- the turn handed a datagram to the desk
 abbrev pub HandsDatagram : Turn → Type 0
@@ -100,13 +89,17 @@ pub record KeepsDesk {S : Type 0} (g : Ghosts S) (old new : Desk S) : Type 0 whe
   pub site : site_of new ≡ site_of old
   pub enlists : enlists_of new ≡ enlists_of old
 
--- What a turn did with the desk. At most one arrival was handed to it, with a stamp's moment and fresh octets; the hall was only read
--- where a request was put off, and where the desk enlists none and a datagram came.
+-- what was handed to the desk, at a stamp's moment and with its fresh octets; where a request was put off, the hall was only read
+abbrev pub Did : {S : Type 0} → Ghosts S → Desk S → Desk S → Stamp → Turn → Type 0
+Did g old new stamp (Turn.Handed handover) = g.is_clean (store_of new) → IsHanded g (store_of old) (store_of new) (site_of old) stamp.moment stamp.fresh handover
+Did g old new stamp (Turn.Unsent handover) = g.is_clean (store_of new) → IsHanded g (store_of old) (store_of new) (site_of old) stamp.moment stamp.fresh handover
+Did g old new stamp (Turn.PutOff from) = g.is_clean (store_of new) → IsOnlyRead g (store_of old) (store_of new)
+Did g old new stamp turn = new ≡ old
+
+-- What a turn did with the desk. At most one arrival was handed to it; the hall was only read where the desk enlists none and a datagram came.
 pub record IsTurn {S : Type 0} (g : Ghosts S) (old new : Desk S) (stamp : Stamp) (turn : Turn) : Type 0 where
   pub kept : KeepsDesk g old new
-  pub handed : g.is_clean (store_of new) → IfHanded turn (IsHanded g (store_of old) (store_of new) (site_of old) stamp.moment stamp.fresh)
-  pub same : HandsNothing turn → new ≡ old
-  pub read : g.is_clean (store_of new) → IsPutOff turn → IsOnlyRead g (store_of old) (store_of new)
+  pub did : Did g old new stamp turn
   pub unlisted : enlists_of old ≡ false → HandsDatagram turn → g.is_clean (store_of new) → IsOnlyRead g (store_of old) (store_of new)
 
 -- Turns were served: so many arrivals at most were handed to the desk, one at a time, each with the moment and the fresh octets of a stamp

@@ -3,7 +3,7 @@ ghost use Rattle.std.specs.Prelude.{◌≡◌, ◌<◌, ◌≤◌, IfNone, IfSom
 ghost use Rattle.serve_sockets.specs.{Table.number_at, Lists.{IsFirst, is_open, wants_at, wants_in}};
 
 use crate::connection::Connection;
-use crate::number::number_at;
+use crate::slots::{held_at, number_at};
 
 /// What is looked for among connections.
 #[derive(Clone, Copy)]
@@ -29,7 +29,7 @@ fn wants_in<T>(wanted: Wanted, held: &Option<Connection<T>>) -> bool
 fn wants_at<T>(wanted: Wanted, slots: &[Option<Connection<T>>], slot: usize) -> bool
     ensures { result ≡ wants_at wanted slots.now slot }
 {
-    match slots.get(slot) {
+    match held_at(slots, slot) {
         Some(held) => wants_in(wanted, held),
         None => false,
     }

@@ -1,6 +1,6 @@
 //! The sockets of a service, and its open connections.
 ghost use Rattle.std.specs.Prelude.{◌≡◌, ◌<◌, ◌≤◌, ◌+◌, IfErr, IfOk, IfSome, length, vec_len};
-ghost use Rattle.serve_sockets.specs.{Ring.{IsPlace, ready_of}, ServedTime.served_of, Serving.{IfRequest, IsOnlyMoved, PutsOff}, Stamps.IsPassed, Table.slots_of, Turn.{HandsNothing, IsPutOff}};
+ghost use Rattle.serve_sockets.specs.{Ring.{IsPlace, ready_of}, ServedTime.served_of, Serving.IsTurnOf, Stamps.IsPassed, Table.slots_of, Turn.HandsNothing};
 
 use crate::connection::Connection;
 use crate::lists::Wanted;
@@ -382,9 +382,7 @@ impl Sockets {
         step: Step,
     ) -> Turn
         requires { slot < places_of self.old }
-        ensures handed { IfRequest step (λ handover. result ≡ Turn.Handed handover) }
-        ensures moved { IsOnlyMoved step → HandsNothing result }
-        ensures put_off { PutsOff step → IsPutOff result }
+        ensures { IsTurnOf step result }
     {
         match step {
             Step::Handed(handover) => {

@@ -3,6 +3,7 @@ ghost use Rattle.std.specs.Prelude.{◌≡◌, ◌<◌, ◌≤◌, count_by, is_
 
 use crate::connection::Connection;
 use crate::lists::{Wanted, first_of, open_lists};
+use crate::slots::{held_at, is_late_held, is_marked};
 use crate::yielding::yielding;
 use std::alloc::{AllocError, Global};
 use std::mem;
@@ -46,11 +47,7 @@ impl<T: Drop> Table<T> {
     fn is_late(&self, marks: &[bool], now: u64, slot: usize) -> bool
         ensures { result ≡ late_at (slots_of self.now) marks.now now slot }
     {
-        let is_marked = marks.get(slot).copied().unwrap_or(false);
-        match self.slots.get(slot) {
-            Some(Some(connection)) => !is_marked && connection.is_late(now),
-            _ => false,
-        }
+        !is_marked(marks, slot) && is_late_held(held_at(self.slots.as_slice(), slot), now)
     }
 
     /// The first slot from this one on whose connection is late, where its seat isn't marked.
@@ -110,15 +107,24 @@ impl<T: Drop> Table<T> {
         open_lists(self.slots.as_slice()) >= MAX_LISTS
     }
 
+    // Has a slot hold this in place of what it held.
+    fn hold(&mut self, slot: usize, held: Option<Connection<T>>) -> Option<Connection<T>>
+        requires { slot < length (slots_of self.old) }
+        ensures before { slice_get (slots_of self.old) slot ≡ Some result }
+        ensures after { slots_of self.new ≡ slice_set (slots_of self.old) slot held }
+    {
+        self.taken += usize::from(held.is_some());
+        let before = mem::replace(&mut self.slots[slot], held);
+        self.taken -= usize::from(before.is_some());
+        before
+    }
+
     /// Puts a connection into a slot, and closes the one that is there. Says where that one's client is.
     pub(crate) fn open(&mut self, slot: usize, connection: Connection<T>) -> Option<SocketAddr>
         requires { slot < length (slots_of self.old) }
         ensures { slots_of self.new ≡ slice_set (slots_of self.old) slot (Some connection) }
     {
-        let before = mem::replace(&mut self.slots[slot], Some(connection));
-        if before.is_none() {
-            self.taken += 1;
-        }
+        let before = self.hold(slot, Some(connection));
         before.map(|connection| connection.from())
     }
 
@@ -128,11 +134,7 @@ impl<T: Drop> Table<T> {
         ensures taken { slice_get (slots_of self.old) slot ≡ Some result }
         ensures free { slots_of self.new ≡ slice_set (slots_of self.old) slot None }
     {
-        let taken = self.slots[slot].take();
-        if taken.is_some() {
-            self.taken -= 1;
-        }
-        taken
+        self.hold(slot, None)
     }
 
     /// How many slots there are.

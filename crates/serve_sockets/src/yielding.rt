@@ -4,7 +4,7 @@ ghost use Rattle.serve_sockets.specs.Yielding.{Goes, IsAhead, IsTally, crowd_at,
 
 use crate::connection::Connection;
 use crate::group::GROUPS;
-use crate::number::number_at;
+use crate::slots::{held_at, number_at};
 
 // The group of the connection that is held, if that is undecided.
 fn group_in<T>(held: &Option<Connection<T>>) -> Option<usize>
@@ -36,7 +36,7 @@ fn crowd_at<T>(slots: &[Option<Connection<T>>], crowds: &[u16; GROUPS], slot: us
     requires { IsTally crowds.now slots.now }
     ensures { result ≡ crowd_at slots.now slot }
 {
-    match slots.get(slot) {
+    match held_at(slots, slot) {
         Some(held) => group_in(held).map_or(0, |group| crowds[group]),
         None => 0,
     }

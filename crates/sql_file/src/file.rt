@@ -29,15 +29,14 @@ pub struct Ended<O> {
     pub closing: Result<(), FileFault>,
 }
 
+// What came of the tables of a connection, and the connection.
+type Done<O, S> = (Result<O, FileFault>, Connection<S>);
+
 // What is done over the tables of a connection, which is given back.
 trait TablesTask: Drop {
     type Outcome: Drop;
 
-    fn over<S: Alter + Drop>(
-        self,
-        alloc: Global,
-        connection: Connection<S>,
-    ) -> (Result<Self::Outcome, FileFault>, Connection<S>);
+    fn over<S: Alter + Drop>(self, alloc: Global, conn: Connection<S>) -> Done<Self::Outcome, S>;
 }
 
 // The tables of a new hall are made, with its one operator, an enabled admin, and the digest of its token.
@@ -50,12 +49,8 @@ struct Making {
 impl TablesTask for Making {
     type Outcome = ();
 
-    fn over<S: Alter + Drop>(
-        self,
-        alloc: Global,
-        connection: Connection<S>,
-    ) -> (Result<(), FileFault>, Connection<S>) {
-        match SqlStore::create(alloc, connection, self.admin, self.digest) {
+    fn over<S: Alter + Drop>(self, alloc: Global, conn: Connection<S>) -> Done<(), S> {
+        match SqlStore::create(alloc, conn, self.admin, self.digest) {
             Ok(store) => (Ok(()), store.into_connection()),
             Err(refused) => {
                 let fault = match refused.fault {
@@ -83,12 +78,8 @@ struct Migrating;
 impl TablesTask for Migrating {
     type Outcome = Migrated;
 
-    fn over<S: Alter + Drop>(
-        self,
-        alloc: Global,
-        connection: Connection<S>,
-    ) -> (Result<Migrated, FileFault>, Connection<S>) {
-        match SqlStore::migrate(alloc, connection) {
+    fn over<S: Alter + Drop>(self, alloc: Global, conn: Connection<S>) -> Done<Migrated, S> {
+        match SqlStore::migrate(alloc, conn) {
             Ok((store, migrated)) => (Ok(migrated), store.into_connection()),
             Err(refused) => (Err(of_opening(refused.fault)), refused.connection),
         }
@@ -104,12 +95,8 @@ struct Opening<T> {
 impl<T: StoreTask> TablesTask for Opening<T> {
     type Outcome = T::Outcome;
 
-    fn over<S: Alter + Drop>(
-        self,
-        alloc: Global,
-        connection: Connection<S>,
-    ) -> (Result<T::Outcome, FileFault>, Connection<S>) {
-        match SqlStore::open(alloc, connection) {
+    fn over<S: Alter + Drop>(self, alloc: Global, conn: Connection<S>) -> Done<T::Outcome, S> {
+        match SqlStore::open(alloc, conn) {
             Ok(store) => {
                 let (outcome, store) = self.task.over(store);
                 (Ok(outcome), store.into_connection())
@@ -119,10 +106,9 @@ impl<T: StoreTask> TablesTask for Opening<T> {
     }
 }
 
-fn connect(
-    rt: &HostRuntime,
-    path: &str,
-) -> Result<Connection<FileStore<FileFrom<Unknown>>>, FileFault> {
+type HallConnection = Connection<FileStore<FileFrom<Unknown>>>;
+
+fn connect(rt: &HostRuntime, path: &str) -> Result<HallConnection, FileFault> {
     match Connection::open_from(rt, path, false, Unknown) {
         Ok(connection) => Ok(connection),
         Err(_) => Err(FileFault::Unavailable),

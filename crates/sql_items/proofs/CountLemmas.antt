@@ -137,8 +137,7 @@ outputs c = ((Text c.pool ∷ number c.status ∷ []), count_columns c)
 
 then_end : (o : Ordering) → ordering_then o Equal ≡ o
 then_end Less = refl
-then_end Equal = refl
-then_end Greater = refl
+then_end other = refl
 
 key_order : (a b : List ℕ) (s t : ℕ) → pairs.cmp (count_key a s) (count_key b t) ≡ ordering_then (slice_cmp nat_cmp a b) (nat_cmp s t)
 unfolding pairs

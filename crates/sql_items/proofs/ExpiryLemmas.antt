@@ -1,6 +1,6 @@
 -- What the query of the machine that expires next asks.
-use Rattle.sql_schema.specs.{Words.{of_machines, AllByRecursion, option_to_list, is_le, is_lt, match_ordering, nat_tests, IsPermutation-refl, IsPermutation-cons, IsPermutation-sym, IsPermutation-trans, Binary, is_true, from_truth, Row, Output, IsAscending, Compare, Le, value_cmp-Int, ascending-filter, ascending_weaker, all-permutation, all_has, listed, Hall, has_come, is_due, next_expired, sooner, soonest, next_expired-is, Machine, number, or_null, machine_columns, machine_values, and_true, all_passed, IsPermutation-map, AreRising, AreRising-put_in, put_in, put_in-permutes, number_order, numbered_entries, machines, kept_row, at_most, rising, IsBefore, items_by}, AskingLaws.asks_by}
-use Rattle.sql_items.{specs.{MachineStatements.{find_expired_query, find_expired_is}, MachineRows.{AsksMachine, in_row, row_values}, declared.finding.TheConstants.FIND_EXPIRED}, proofs.FindingLemmas.{in_number_order, machines_stand}}
+use Rattle.sql_schema.specs.{ValueLaws.truth, Words.{of_machines, AllByRecursion, option_to_list, is_le, is_lt, match_ordering, nat_tests, IsPermutation-refl, IsPermutation-cons, IsPermutation-sym, IsPermutation-trans, Binary, is_true, from_truth, Row, Output, IsAscending, Compare, Le, value_cmp-Int, ascending-filter, ascending_weaker, all-permutation, all_has, listed, Hall, has_come, is_due, next_expired, sooner, soonest, next_expired-is, Machine, number, or_null, machine_columns, machine_values, and_true, all_passed, IsPermutation-map, AreRising, AreRising-put_in, put_in, put_in-permutes, number_order, numbered_entries, machines, kept_row, at_most, rising, IsBefore, items_by}, AskingLaws.asks_by}
+use Rattle.sql_items.{specs.{MachineStatements.{find_expired_query, find_expired_is}, MachineRows.{AsksMachine, in_row, row_values}, declared.machines.TheConstants.FIND_EXPIRED}, proofs.FindingLemmas.{in_number_order, machines_stand}}
 use Rattle.std.{proofs.Common.{◌≡◌, ◌<◌, ℕ, pos, nat_le, nat_lt, int_cmp, List, [], ◌∷◌, map, filter, take, slice_get, Bool, true, false, cond, Option, Some, None, option_map, Less, Equal, Greater, refl, ap, ap₂, subst, ◌∙◌, arith, IsPermutation}, specs.Prelude.unwrap_or}
 use Rattle.sqlite.specs.Ops.{binary}
 use Rattle.hall_types.specs.Rows.{numbers, texts}
@@ -58,10 +58,6 @@ first_is_soonest (m ∷ ms) up due =
 
 due_has_deadline : (moment : ℕ) (m : Machine) → is_due moment m ≡ true → HasDeadline m
 due_has_deadline moment m = elim m.deadline as (λ o. has_come moment o ≡ true → (d : ℕ) × (o ≡ Some d)) [ None ↦ λ h. absurd (let k = h in cc) | Some d ↦ λ h. (d, refl) ]
-
-truth : (t : Bool) → is_true (from_truth (Some t)) ≡ t
-truth true = refl
-truth false = refl
 
 at_most_is : (d moment : ℕ) → is_le (int_cmp (pos d) (pos moment)) ≡ nat_le d moment
 unfolding numbers

@@ -1,6 +1,6 @@
 -- Machines joined with their kinds of erasing are those of the hall.
 use Rattle.sql_schema.specs.Words.{AllByRecursion, filter_map, cons_option, nat_tests, drop-drop, IsAscending, Erase, Machine, Wipe, wipe_of}
-use Rattle.std.proofs.Common.{◌≡◌, ◌+◌, ◌==◌, ◌<◌, ◌++◌, ℕ, zero, suc, List, [], ◌∷◌, map, drop, drop-cons, append_assoc, get_or, length, slice_get, true, false, cond, Option, Some, None, option_map, refl, sym, ap, subst, ◌∙◌, arith}
+use Rattle.std.proofs.{Common.{◌≡◌, ◌+◌, ◌==◌, ◌<◌, ◌++◌, ℕ, zero, suc, List, [], ◌∷◌, map, drop, drop-cons, append_assoc, get_or, length, slice_get, true, false, cond, Option, Some, None, option_map, refl, sym, ap, subst, ◌∙◌, arith}, lemmas.Bool.eq-eqb}
 use Rattle.sql_items.{specs.{declared.wipes.Erasing.Erasing, Wipes.erasing, MachineRows.in_row, Joining.{joined, kind_at, kind_of, past}}, proofs.{ListLemmas.all_mapped, WipeLemmas.wipe_machine}}
 
 -- ---- a step of the walk
@@ -18,9 +18,6 @@ first_left [] zero = refl
 first_left [] (suc at) = refl
 first_left (e ∷ es) zero = refl
 first_left (e ∷ es) (suc at) = first_left es at
-
-itself : (n : ℕ) → (n == n) ≡ true
-itself n = grind (arith, nat_tests)
 
 apart : (n k : ℕ) → n < k → (k == n) ≡ false
 apart n k low = grind (arith, nat_tests)
@@ -45,4 +42,4 @@ joins_all es (m ∷ ms) at up left = go m.erase refl left (λ next more. joins_a
         → ((next : ℕ) → drop next es ≡ map erasing (filter_map wipe_of ms) → joined es next (map in_row ms) ≡ ms) → joined es at (in_row m ∷ map in_row ms) ≡ m ∷ ms
     go None e left rest = joins None e (ap (λ l. kind_of (slice_get l 0) m.id) left ∙ none_later m.id (filter_map wipe_of ms) later) (rest at left)
     go (Some kind) e left rest =
-        joins (Some kind) e (ap (λ l. kind_of (slice_get l 0) m.id) left ∙ ap (λ b. cond b (Some kind) None) (itself m.id)) (rest (at + 1) (sym (drop-drop 1 at es) ∙ ap (drop 1) left))
+        joins (Some kind) e (ap (λ l. kind_of (slice_get l 0) m.id) left ∙ ap (λ b. cond b (Some kind) None) (eq-eqb m.id m.id refl)) (rest (at + 1) (sym (drop-drop 1 at es) ∙ ap (drop 1) left))

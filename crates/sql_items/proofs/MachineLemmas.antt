@@ -1,27 +1,8 @@
 -- What the statements on machines write: a row that still has its version, with RETURNING, and a row that goes after its children.
-use Rattle.sql_schema.specs.{Words.{number_key, number_is_free, equal_keys, adds_kept, sets_kept_if, removes_alone, IsKept, TableOf, kept_row, parameters_from, machines, interfaces, boots, orders, wipes, HallRows, cell, equals, lit, Null, Text, Keys, Rows, numbers, at, listed, same_key, of_boots, of_interfaces, of_machines, of_orders, of_wipes, list_any, take-map, Value, Row, cast, cast_row, row_at, with_rowid, Chosen, bound, bound_value, State, ExecutesInside, Shown, ValueRef, all_from, Has, filter_same, any_from_none, key-same, same_number, arch_number, status_number, Hall, Machine, no_row_points, any_along, uncounted, hall_schema, machines_table, interfaces_table, boots_table, orders_table, wipes_table, belongs_to_machine, never_follows, machines_go_alone, number, truth_number, or_null, machine_columns, machine_values, sets, IsWithin, within, shown_within, add_is}, declared.creating.TheConstants.ADD_MACHINE, TableStatements.{with_item, without_item}}
-use Rattle.sql_items.specs.{MachineStatements.{set_machine_is, remove_machine_is}, Machines.{checked_values, HasNoChild, HasVersion}, declared.machines.TheConstants.{REMOVE_MACHINE, SET_MACHINE}}
+use Rattle.sql_schema.specs.{Words.{number_key, number_is_free, equal_keys, adds_kept, sets_kept_if, removes_alone, IsKept, TableOf, kept_row, parameters_from, machines, interfaces, boots, orders, wipes, HallRows, cell, equals, lit, Null, Text, Keys, Rows, numbers, at, listed, same_key, of_boots, of_interfaces, of_machines, of_orders, of_wipes, list_any, take-map, Value, Row, cast, cast_row, row_at, with_rowid, Chosen, bound, bound_value, State, ExecutesInside, Shown, ValueRef, all_from, Has, filter_same, any_from_none, key-same, same_number, arch_number, status_number, Hall, Machine, no_row_points, list_any-IsPermutation, uncounted, hall_schema, machines_table, interfaces_table, boots_table, orders_table, wipes_table, belongs_to_machine, never_follows, machines_go_alone, number, truth_number, or_null, machine_columns, machine_values, sets, IsWithin, within, shown_within, add_is}, declared.creating.TheConstants.ADD_MACHINE, TableStatements.{with_item, without_item}}
+use Rattle.sql_items.specs.{MachineRowLaws.cast_machine, MachineStatements.{set_machine_is, remove_machine_is}, Machines.{checked_values, HasNoChild, HasVersion}, declared.machines.TheConstants.{REMOVE_MACHINE, SET_MACHINE}}
 use Rattle.std.proofs.Common.{◌≡◌, ◌&&◌, ◌||◌, ◌==◌, inl, inr, ℕ, pos, List, [], ◌∷◌, map, length, take, Bool, false, Option, Some, None, Ok, refl, sym, ap, ap₂, subst, ◌∙◌, int_eq, IsPermutation, arith}
-use Rattle.sqlite_schema.specs.declared.schema.Kind.{Kind}
-use Rattle.sqlite.specs.Kind.TheVariants as kind
 use Rattle.sql_schema.specs.ValueLaws as value
-
--- ---- a column that may be NULL keeps its values
-
-cast_optional : {X : Type 0} (k : Kind) (value : X → Value) → cast k Null ≡ Null → ((x : X) → cast k (value x) ≡ value x) → (o : Option X) → cast k (or_null value o) ≡ or_null value o
-cast_optional k value null some None = null
-cast_optional k value null some (Some x) = some x
-
-optional_number : (o : Option ℕ) → cast kind.Integer (or_null number o) ≡ or_null number o
-optional_number = cast_optional kind.Integer number value.cast-Null (λ n. value.cast-Int (pos n))
-
--- the columns of the table keep a machine's row
-cast_machine : (m : Machine) → cast_row (uncounted machines_table) (number m.id ∷ machine_columns m) ≡ number m.id ∷ machine_columns m
-cast_machine m =
-    rw (value.cast-Int (pos m.id), value.cast-Null, value.cast-Int (pos (arch_number m.arch)), value.cast-Int (pos (status_number m.status)))
-    (rw (cast_optional kind.Text Text refl (λ t. refl) m.owner, cast_optional kind.Text Text refl (λ t. refl) m.image, value.cast-Int (pos (truth_number m.tests)))
-    (rw (cast_optional kind.Integer (λ x. number (status_number x)) value.cast-Null (λ x. value.cast-Int (pos (status_number x))) m.back)
-    (rw (value.cast-Int (pos (truth_number m.locked)), value.cast-Int (pos m.version), optional_number m.deadline, optional_number m.boot, value.cast-Int (pos m.boots), optional_number m.waiting) refl)))
 
 -- ---- a new row, and a row that still has its version
 
@@ -61,7 +42,7 @@ mapped_any p g (y ∷ ys) = ap (λ b. p (g y) || b) (mapped_any p g ys)
 none_kept : {K X E : Type 0} {keys : Keys K} (t : TableOf keys X E) (stored : List Row) (rows : Rows keys X) (is : IsKept t.rowid t.item t.key_of t.columns stored rows) (machine_of : X → ℕ) (id : ℕ)
     → ((x : X) → Has (listed rows) x → (machine_of x == id) ≡ false) → list_any (λ e. int_eq (pos (machine_of (t.item e))) (pos id)) is.entries ≡ false
 none_kept t stored rows is machine_of id none =
-    sym (mapped_any (λ x. int_eq (pos (machine_of x)) (pos id)) t.item is.entries) ∙ sym (any_along _ _ _ is.same) ∙ none_in machine_of id (listed rows) none
+    sym (mapped_any (λ x. int_eq (pos (machine_of x)) (pos id)) t.item is.entries) ∙ sym (list_any-IsPermutation _ _ _ is.same) ∙ none_in machine_of id (listed rows) none
 
 pub removes_machine : (old new : State) (before : Hall) (c : HallRows) → IsWithin old before c → (id : ℕ) → HasNoChild c id → (count : ℕ) → ExecutesInside 0 REMOVE_MACHINE.now (number id ∷ []) old new (Ok count) → IsWithin new before (without_item machines c id)
 removes_machine old new before c held id alone count ran =

@@ -10,26 +10,6 @@ use Rattle.hall_types.specs.declared.kinds.OrderStage.TheVariants as stage
 
 -- ---- interfaces
 
--- the interfaces of a machine
-find_interfaces_is : IsQueryText hall_schema FIND_INTERFACES.now (shows_query interfaces (equals 2 0 ∷ []) interfaces.by_key)
-unfolding understood everything
-find_interfaces_is = record { names = _; is = refl; plain = (refl, refl); unlisted = refl }
-
--- all interfaces
-list_interfaces_is : IsQueryText hall_schema LIST_INTERFACES.now (shows_query interfaces [] interfaces.by_key)
-unfolding understood everything
-list_interfaces_is = record { names = _; is = refl; plain = (refl, refl); unlisted = refl }
-
--- the interface with an address goes
-remove_interface_is : IsCommandText hall_schema REMOVE_INTERFACE.now (remove_command interfaces interfaces.matches)
-unfolding understood everything
-remove_interface_is = record { is = refl; plain = (refl, refl) }
-
--- the interfaces of a machine go
-remove_interfaces_is : IsCommandText hall_schema REMOVE_INTERFACES.now (remove_command interfaces (equals 2 0 ∷ []))
-unfolding understood everything
-remove_interfaces_is = record { is = refl; plain = (refl, refl) }
-
 are_interfaces : IsTable interfaces
 are_interfaces = record {
   there = refl;
@@ -51,23 +31,36 @@ by_mac one other low = rw (value_cmp-Blob one.mac other.mac, low) refl
 pub finds_interface : (mac : List ℕ) → Asks interface_columns FIND_INTERFACE.now (Blob mac ∷ []) (λ h. option_to_list (at h.interfaces mac))
 finds_interface = finds interfaces are_interfaces (λ h. h.interfaces) (λ c. refl) FIND_INTERFACE.now (find_is of_interfaces)
 
+-- the interfaces of a machine
 pub finds_interfaces : (id : ℕ) → Asks interface_columns FIND_INTERFACES.now (number id ∷ []) (λ h. interfaces_of h id)
+unfolding understood everything
 finds_interfaces id =
-    lists interfaces are_interfaces (λ h. h.interfaces) (λ c. refl) FIND_INTERFACES.now (equals 2 0 ∷ []) find_interfaces_is (number id ∷ []) (λ i. i.machine == id)
+    lists interfaces are_interfaces (λ h. h.interfaces) (λ c. refl) FIND_INTERFACES.now (equals 2 0 ∷ [])
+    (record { names = _; is = refl; plain = (refl, refl); unlisted = refl }) (number id ∷ []) (λ i. i.machine == id)
     (λ e. equal_numbers e.item.machine id) (λ i. Blob i.mac ∷ []) (λ e. refl) by_mac
 
+-- all interfaces
 pub lists_interfaces : Asks interface_columns LIST_INTERFACES.now [] (λ h. listed h.interfaces)
-lists_interfaces = shows_all (lists interfaces are_interfaces (λ h. h.interfaces) (λ c. refl) LIST_INTERFACES.now [] list_interfaces_is [] (λ _. true) (λ e. refl) (λ i. Blob i.mac ∷ []) (λ e. refl) by_mac)
+unfolding understood everything
+lists_interfaces =
+    shows_all (lists interfaces are_interfaces (λ h. h.interfaces) (λ c. refl) LIST_INTERFACES.now []
+    (record { names = _; is = refl; plain = (refl, refl); unlisted = refl }) [] (λ _. true) (λ e. refl) (λ i. Blob i.mac ∷ []) (λ e. refl) by_mac)
 
 pub adds_interface : {C : Type 0} (state_of : C → State) (i : Interface) (before : Hall) (c : HallRows) → at c.hall.interfaces i.mac ≡ None → Makes state_of ADD_INTERFACE.now (interface_columns i) before c (with_item interfaces c i)
 adds_interface state_of = adds interfaces are_interfaces state_of ADD_INTERFACE.now (add_is of_interfaces)
 
+-- the interface with an address goes
 pub removes_interface : {C : Type 0} (state_of : C → State) (mac : List ℕ) (before : Hall) (c : HallRows) → Makes state_of REMOVE_INTERFACE.now (Blob mac ∷ []) before c (without_item interfaces c mac)
-removes_interface state_of = removes interfaces are_interfaces state_of REMOVE_INTERFACE.now remove_interface_is (goes_alone of_interfaces (λ is. cc))
+unfolding understood everything
+removes_interface state_of =
+    removes interfaces are_interfaces state_of REMOVE_INTERFACE.now (record { is = refl; plain = (refl, refl) }) (goes_alone of_interfaces (λ is. cc))
 
+-- the interfaces of a machine go
 pub removes_interfaces : {C : Type 0} (state_of : C → State) (id : ℕ) (before : Hall) (c : HallRows) → Makes state_of REMOVE_INTERFACES.now (number id ∷ []) before c (without_where interfaces c (λ i. i.machine == id))
+unfolding understood everything
 removes_interfaces state_of id =
-    removes_where interfaces are_interfaces state_of REMOVE_INTERFACES.now (equals 2 0 ∷ []) remove_interfaces_is (goes_alone of_interfaces (λ is. cc)) (number id ∷ []) (λ i. i.machine == id)
+    removes_where interfaces are_interfaces state_of REMOVE_INTERFACES.now (equals 2 0 ∷ [])
+    (record { is = refl; plain = (refl, refl) }) (goes_alone of_interfaces (λ is. cc)) (number id ∷ []) (λ i. i.machine == id)
     (λ e. equal_numbers e.item.machine id)
 
 -- ---- boots
@@ -76,11 +69,6 @@ removes_interfaces state_of id =
 set_boot_is : IsReturningText hall_schema SET_BOOT.now (set_command boots (cell 0 ∷ lit Null ∷ parameters_from 1 4)) (record { names = codes "number" ∷ []; row = Values (parameter 7 ∷ []) 1 })
 unfolding understood everything
 set_boot_is = record { is = refl; returning = refl; untimed = refl }
-
--- the boots of a machine go
-remove_boots_is : IsCommandText hall_schema REMOVE_BOOTS.now (remove_command boots (equals 2 0 ∷ []))
-unfolding understood everything
-remove_boots_is = record { is = refl; plain = (refl, refl) }
 
 are_boots : IsTable boots
 are_boots = record {
@@ -104,27 +92,20 @@ puts_boot state_of b =
     (λ was. record b { number = was.number }) (λ was. refl) (λ was same. ap (λ n. record b { number = n }) (key-same numbers was.number b.number same))
     (λ was. rw (value.cast-Int, value.cast-Null, value.cast-Int, value.cast-Int, value.cast-Int) refl)
 
+-- the boots of a machine go
 pub removes_boots : {C : Type 0} (state_of : C → State) (id : ℕ) (before : Hall) (c : HallRows) → Makes state_of REMOVE_BOOTS.now (number id ∷ []) before c (without_where boots c (λ b. b.machine == id))
+unfolding understood everything
 removes_boots state_of id =
-    removes_where boots are_boots state_of REMOVE_BOOTS.now (equals 2 0 ∷ []) remove_boots_is (goes_alone of_boots (λ is. cc)) (number id ∷ []) (λ b. b.machine == id)
+    removes_where boots are_boots state_of REMOVE_BOOTS.now (equals 2 0 ∷ [])
+    (record { is = refl; plain = (refl, refl) }) (goes_alone of_boots (λ is. cc)) (number id ∷ []) (λ b. b.machine == id)
     (λ b. equal_numbers b.machine id)
 
 -- ---- orders
-
--- the orders that wait
-list_waiting_orders_is : IsQueryText hall_schema LIST_WAITING_ORDERS.now (shows_query orders (op2 (Compare Eq Binary) (cell 4) (lit (Int (pos 0))) ∷ []) orders.by_key)
-unfolding understood everything
-list_waiting_orders_is = record { names = _; is = refl; plain = (refl, refl); unlisted = refl }
 
 -- an order, changed if it is there
 set_order_is : IsReturningText hall_schema SET_ORDER.now (set_command orders (cell 0 ∷ lit Null ∷ parameters_from 1 3)) (record { names = codes "number" ∷ []; row = Values (parameter 6 ∷ []) 1 })
 unfolding understood everything
 set_order_is = record { is = refl; returning = refl; untimed = refl }
-
--- the orders of a machine go
-remove_orders_is : IsCommandText hall_schema REMOVE_ORDERS.now (remove_command orders (equals 2 0 ∷ []))
-unfolding understood everything
-remove_orders_is = record { is = refl; plain = (refl, refl) }
 
 are_orders : IsTable orders
 are_orders = record {
@@ -145,13 +126,14 @@ finds_order = finds orders are_orders (λ h. h.orders) (λ c. refl) FIND_ORDER.n
 waits_is : (s : OrderStage) → int_eq (pos (order_stage_number s)) (pos 0) ≡ waits s
 unfolding order_stage_number
 waits_is stage.Waiting = refl
-waits_is stage.Done = refl
-waits_is stage.Failed = refl
-waits_is stage.Withdrawn = refl
+waits_is other = refl
 
+-- the orders that wait
 pub lists_waiting : Asks order_values LIST_WAITING_ORDERS.now [] waiting
+unfolding understood everything
 lists_waiting =
-    lists orders are_orders (λ h. h.orders) (λ c. refl) LIST_WAITING_ORDERS.now (op2 (Compare Eq Binary) (cell 4) (lit (Int (pos 0))) ∷ []) list_waiting_orders_is [] (λ o. waits o.stage)
+    lists orders are_orders (λ h. h.orders) (λ c. refl) LIST_WAITING_ORDERS.now (op2 (Compare Eq Binary) (cell 4) (lit (Int (pos 0))) ∷ [])
+    (record { names = _; is = refl; plain = (refl, refl); unlisted = refl }) [] (λ o. waits o.stage)
     (λ o. and_true _ ∙ value.same_number (pos (order_stage_number o.stage)) (pos 0) ∙ waits_is o.stage) (λ o. number o.number ∷ []) (λ o. refl) (λ one other low. rises one.number other.number low)
 
 pub puts_order : {C : Type 0} (state_of : C → State) (o : Order) → Puts state_of SET_ORDER.now ADD_ORDER.now (order_values o) (λ c. with_item orders c o)
@@ -160,7 +142,10 @@ puts_order state_of o =
     (λ was. record o { number = was.number }) (λ was. refl) (λ was same. ap (λ n. record o { number = n }) (key-same numbers was.number o.number same))
     (λ was. rw (value.cast-Int, value.cast-Null, value.cast-Int, value.cast-Int, value.cast-Int) refl)
 
+-- the orders of a machine go
 pub removes_orders : {C : Type 0} (state_of : C → State) (id : ℕ) (before : Hall) (c : HallRows) → Makes state_of REMOVE_ORDERS.now (number id ∷ []) before c (without_where orders c (λ o. o.machine == id))
+unfolding understood everything
 removes_orders state_of id =
-    removes_where orders are_orders state_of REMOVE_ORDERS.now (equals 2 0 ∷ []) remove_orders_is (goes_alone of_orders (λ is. cc)) (number id ∷ []) (λ o. o.machine == id)
+    removes_where orders are_orders state_of REMOVE_ORDERS.now (equals 2 0 ∷ [])
+    (record { is = refl; plain = (refl, refl) }) (goes_alone of_orders (λ is. cc)) (number id ∷ []) (λ o. o.machine == id)
     (λ o. equal_numbers o.machine id)

@@ -1,7 +1,10 @@
 -- Laws of rows of machines: what their columns make of them, and that a row is that of one machine, but for how its disks are erased.
-use Rattle.sql_schema.specs.Words.{option_to_list, Value, Null, Text, Blob, Row, column, Hall, erase_number, at, status_number, Machine, number, or_null, same_truth, arch_by_number, erase_by_number, same_kind, status_by_number}
-use Rattle.std.{proofs.Common.{◌≡◌, ℕ, zero, suc, [], ◌∷◌, drop, length, map, Option, Some, None, option_map, refl, sym, ap, ap₂, ◌∙◌}, specs.Prelude.option_and_then}
+use Rattle.sql_schema.specs.Words.{cast, cast_row, uncounted, machines_table, machine_columns, arch_number, truth_number, option_to_list, Value, Null, Text, Blob, Row, column, Hall, erase_number, at, status_number, Machine, number, or_null, same_truth, arch_by_number, erase_by_number, same_kind, status_by_number}
+use Rattle.std.{proofs.Common.{◌≡◌, ℕ, pos, zero, suc, [], ◌∷◌, drop, length, map, Option, Some, None, option_map, refl, sym, ap, ap₂, ◌∙◌}, specs.Prelude.option_and_then}
 use Rattle.sql_items.specs.MachineRows.{found_whole, in_row, number_values, row_values}
+use Rattle.sqlite_schema.specs.declared.schema.Kind.{Kind}
+use Rattle.sqlite.specs.Kind.TheVariants as kind
+use Rattle.sql_schema.specs.ValueLaws as value
 
 -- ---- a row is its columns
 
@@ -17,6 +20,23 @@ shifted (suc more) at x row = ap (λ l. column row at ∷ l) (shifted more (suc 
 pub all_columns : (row : Row) → row ≡ columns_from 0 (length row) row
 all_columns [] = refl
 all_columns (x ∷ row) = ap (λ l. x ∷ l) (all_columns row ∙ sym (shifted (length row) 0 x row))
+
+-- ---- a column that may be NULL keeps its values
+
+cast_optional : {X : Type 0} (k : Kind) (value : X → Value) → cast k Null ≡ Null → ((x : X) → cast k (value x) ≡ value x) → (o : Option X) → cast k (or_null value o) ≡ or_null value o
+cast_optional k value null some None = null
+cast_optional k value null some (Some x) = some x
+
+optional_number : (o : Option ℕ) → cast kind.Integer (or_null number o) ≡ or_null number o
+optional_number = cast_optional kind.Integer number value.cast-Null (λ n. value.cast-Int (pos n))
+
+-- the columns of the table keep a machine's row
+pub cast_machine : (m : Machine) → cast_row (uncounted machines_table) (number m.id ∷ machine_columns m) ≡ number m.id ∷ machine_columns m
+cast_machine m =
+    rw (value.cast-Int (pos m.id), value.cast-Null, value.cast-Int (pos (arch_number m.arch)), value.cast-Int (pos (status_number m.status)))
+    (rw (cast_optional kind.Text Text refl (λ t. refl) m.owner, cast_optional kind.Text Text refl (λ t. refl) m.image, value.cast-Int (pos (truth_number m.tests)))
+    (rw (cast_optional kind.Integer (λ x. number (status_number x)) value.cast-Null (λ x. value.cast-Int (pos (status_number x))) m.back)
+    (rw (value.cast-Int (pos (truth_number m.locked)), value.cast-Int (pos m.version), optional_number m.deadline, optional_number m.boot, value.cast-Int (pos m.boots), optional_number m.waiting) refl)))
 
 -- ---- and those of one machine
 

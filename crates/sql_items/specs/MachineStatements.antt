@@ -3,7 +3,7 @@ use Rattle.sqlite.specs.Listing.{understood}
 use Rattle.sqlite_tied.specs.Compute.{everything}
 use Rattle.sql_schema.specs.{TableStatements.{shows_query, remove_command}, Queries.first_from, Words.{machines, wipes, Null, lit, Query, Update, Values, parameter, cell, equals, at_most, rising, from_one, only, IsQueryText, IsCommandText, IsReturningText, hall_schema}}
 use Rattle.std.proofs.Common.{refl, [], ◌∷◌, codes}
-use Rattle.sql_items.specs.declared.{finding.TheConstants.{FIND_UUID, FIND_MACHINE_WITH_IMAGE, FIND_EXPIRED}, machines.TheConstants.{SET_MACHINE, REMOVE_MACHINE}, wipes.TheConstants.{LIST_WIPES, REMOVE_WIPE}}
+use Rattle.sql_items.specs.declared.{finding.TheConstants.{FIND_UUID, FIND_MACHINE_WITH_IMAGE}, machines.TheConstants.{FIND_EXPIRED, SET_MACHINE, REMOVE_MACHINE}, wipes.TheConstants.{LIST_WIPES, REMOVE_WIPE}}
 
 -- the machines with a UUID
 pub find_uuid_is : IsQueryText hall_schema FIND_UUID.now (from_one 11 (equals 3 0 ∷ []) (cell 0 ∷ []) (rising 0 ∷ []))

@@ -3,17 +3,13 @@ ghost use Rattle.sql_schema.specs.Words.{list_any, state, HasCleanDisk, bound, H
 ghost use Rattle.std.specs.Prelude.{◌≡◌, Option, option_map};
 ghost use Rattle.sql_items.specs.MachineRows.{AsksMachine, found_whole};
 
-use crate::rows::{MachineNumbers, MachineRows};
+use crate::machines::{FIND_EXPIRED, MachineNumbers, MachineRows};
 use crate::wipes::find_wipe;
 use hall_types::{Machine, MachineUuid, Moment, Name, Number};
 use sql_schema::creating::FIND_MACHINE;
 use sql_schema::{ask_first, ask_one, name_value, number_value, octets_value};
 use sqlite::types::ValueRef;
 use sqlite::{Alter, Connection, Error};
-
-// The machine whose deadline comes first, at most at a moment.
-const FIND_EXPIRED: &str =
-    "SELECT id, arch, uuid, pool, status, owner, image, tests, back, locked, version, deadline, boot, boots, waiting FROM machines WHERE deadline <= ?1 ORDER BY deadline, id LIMIT 1";
 
 // The first machine that has an image.
 const FIND_MACHINE_WITH_IMAGE: &str =

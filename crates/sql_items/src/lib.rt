@@ -16,7 +16,6 @@ mod operators;
 mod orders;
 mod pools;
 mod receipts;
-mod rows;
 mod wipes;
 mod words;
 

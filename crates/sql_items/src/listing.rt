@@ -3,7 +3,7 @@ ghost use Rattle.sql_schema.specs.Words.{state, HasCleanDisk, listed, IsTableRea
 ghost use Rattle.std.specs.Prelude.{◌≡◌, IfOk};
 ghost use Rattle.sql_items.specs.{Joining.{joined, kind_at, past}, Wipes.erasings};
 
-use crate::rows::MachineRows;
+use crate::machines::MachineRows;
 use crate::wipes::{Erasing, list_wipes};
 use hall_types::{Erase, Machine, Number};
 use sql_schema::ask_all;

@@ -1,11 +1,18 @@
-//! The table of machines: a new row, a row that changes while it still has its version, and a row that goes after its children.
+//! The table of machines: its rows, a new row, a row that changes while it still has its version, and a row that goes after its children.
 ghost use Rattle.sql_schema.specs.{Words.{Blob, Text, state, HasCleanDisk, ExecutesInside, Survives, Shown, FailsToQuery, IsTooLate, bound, owned, Hall, at, status_number, machine_values, number, or_null, IsWithin, HallRows, machines}, Steps.{IsStep, IsWritten}, TableStatements.{with_item, without_item}};
 ghost use Rattle.std.specs.Prelude.{◌≡◌, ◌⊎◌, ◌<◌, ◌≤◌, ◌^◌, length, take, IfOk, IfErr, IfSome, IsTrue, None};
-ghost use Rattle.sql_items.specs.Machines.{HasNoChild, HasVersion, checked_values};
+ghost use Rattle.sql_items.specs.{MachineRows.{number_values, row_values}, MachineRowLaws.{same_number, same_row}, Machines.{HasNoChild, HasVersion, checked_values}};
 
+use crate::columns::{
+    boots_in, deadline_in, optional_name_in, optional_number_in, optional_status_in,
+    optional_uuid_in, version_in,
+};
 use hall_types::{Machine, MachineUuid, Name, Number, Status, Version, arch_number};
 use sql_schema::creating::ADD_MACHINE;
-use sql_schema::{name_value, number_value, octets_value, small_value, truth_value, write};
+use sql_schema::{
+    Table, kind_in, name_in, name_value, number_in, number_value, octets_value, small_value,
+    truth_in, truth_value, write,
+};
 use sqlite::types::ValueRef;
 use sqlite::{Alter, Error, Row, Transaction};
 
@@ -15,6 +22,63 @@ const REMOVE_MACHINE: &str = "DELETE FROM machines WHERE id = ?1";
 // A machine, changed where it still has a version.
 const SET_MACHINE: &str =
     "UPDATE machines SET arch = ?2, uuid = ?3, pool = ?4, status = ?5, owner = ?6, image = ?7, tests = ?8, back = ?9, locked = ?10, version = ?11, deadline = ?12, boot = ?13, boots = ?14, waiting = ?15 WHERE id = ?1 AND version = ?16 RETURNING version";
+
+/// The machine whose deadline comes first, at most at a moment.
+pub(crate) const FIND_EXPIRED: &str =
+    "SELECT id, arch, uuid, pool, status, owner, image, tests, back, locked, version, deadline, boot, boots, waiting FROM machines WHERE deadline <= ?1 ORDER BY deadline, id LIMIT 1";
+
+/// The table of machines, by what it stores: it doesn't say how their disks are erased.
+pub(crate) struct MachineRows;
+
+impl Table for MachineRows {
+    type Item = Machine;
+
+    ghost values = { row_values };
+
+    fn read(row: &Row) -> Result<Machine, Error> {
+        if row.column_count() != 15 {
+            return Err(Error::InvalidQuery);
+        }
+        Ok(Machine {
+            id: number_in(row, 0)?,
+            arch: kind_in(row, 1)?,
+            uuid: optional_uuid_in(row, 2)?,
+            pool: name_in(row, 3)?,
+            status: kind_in(row, 4)?,
+            owner: optional_name_in(row, 5)?,
+            image: optional_name_in(row, 6)?,
+            tests: truth_in(row, 7)?,
+            back: optional_status_in(row, 8)?,
+            erase: None,
+            locked: truth_in(row, 9)?,
+            version: version_in(row, 10)?,
+            deadline: deadline_in(row, 11)?,
+            boot: optional_number_in(row, 12)?,
+            boots: boots_in(row, 13)?,
+            waiting: optional_number_in(row, 14)?,
+        })
+    }
+
+    ghost single = { same_row };
+}
+
+/// The table of machines, by their numbers alone.
+pub(crate) struct MachineNumbers;
+
+impl Table for MachineNumbers {
+    type Item = Number;
+
+    ghost values = { number_values };
+
+    fn read(row: &Row) -> Result<Number, Error> {
+        if row.column_count() != 1 {
+            return Err(Error::InvalidQuery);
+        }
+        number_in(row, 0)
+    }
+
+    ghost single = { same_number };
+}
 
 fn optional_name(name: &Option<Name>) -> ValueRef<'_>
     ensures { owned result ≡ or_null Text name.now }
@@ -38,10 +102,7 @@ fn optional_status<'a>(status: Option<Status>) -> ValueRef<'a>
 fn uuid_octets(uuid: Option<MachineUuid>) -> Option<[u8; 16]>
     ensures { result ≡ uuid }
 {
-    match uuid {
-        Some(uuid) => Some(uuid.octets()),
-        None => None,
-    }
+    Some(uuid?.octets())
 }
 
 fn optional_octets(octets: &Option<[u8; 16]>) -> ValueRef<'_>

@@ -42,19 +42,13 @@ impl Table for Wipes {
     ghost single = { Prim.search (rules, same_kind erase_by_number) };
 }
 
-fn kind_found(found: Option<Erasing>) -> Option<Erase>
-    ensures { result ≡ option_map (λ e. e.erase) found }
-{
-    found.map(|erasing| erasing.erase)
-}
-
 /// How the disks of the machine with this number are erased, if they are to be.
 pub fn find_wipe<S: Alter>(conn: &mut Connection<S>, id: Number) -> Result<Option<Erase>, Error>
     ensures clean { HasCleanDisk (state S.Store conn.new) → HasCleanDisk (state S.Store conn.old) }
     ensures asked { HasCleanDisk (state S.Store conn.new) → IsTableRead (state S.Store conn.old) (state S.Store conn.new) result (λ h erase. erase ≡ erase_of h id) }
 {
     match ask_one::<Wipes, S>(conn, FIND_WIPE, &[number_value(id.get())]) {
-        Ok(found) => Ok(kind_found(found)),
+        Ok(found) => Ok(found.map(|erasing| erasing.erase)),
         Err(error) => Err(error),
     }
 }

@@ -1,6 +1,7 @@
 -- Laws of what a write sets off, for the proofs of callers: a write that meets no child is its one step.
-use Rattle.sql_schema.specs.{Prelude.{list_any, AllByRecursion, filter_map, cons_option, Decides-eqb, Null, Int, Binary, Row, column, binary, is_true, Table, Schema, Trees, has_rowid, Edit, row_at, taken_by, Applies, Compare, Eq, plain, value_cmp-Int, agree, ParentKey, parent_key, Enforced, Reference, NoAction, Has, Work, works, work_for, work_by, deed_for, deed_of, loses, Leads, Writes, ActsOn, AreChildren, is_child_of, Deed, all_map, any_from_none, none_from_any, same_int, all_of, all_weaker}, Cascades.{IsIdle, cascade, NeverFollows}, Rows.row_of, StatementLaws.same_value, ListLaws.{any_along, all_passed, has_map, has_none}, ValueLaws.{same_number, number_null}}
+use Rattle.sql_schema.specs.{Prelude.{list_any, list_any-IsPermutation, AllByRecursion, filter_map, cons_option, Decides-eqb, Null, Int, Binary, Row, column, binary, is_true, Table, Schema, Trees, has_rowid, Edit, row_at, taken_by, Applies, Compare, Eq, plain, value_cmp-Int, agree, ParentKey, parent_key, Enforced, Reference, NoAction, Has, Work, works, work_for, work_by, deed_for, deed_of, loses, Leads, Writes, ActsOn, AreChildren, is_child_of, Deed, all_map, any_from_none, none_from_any, same_int, all_of, all_weaker}, Cascades.{IsIdle, cascade, NeverFollows}, Rows.row_of, StatementLaws.same_value, ListLaws.{all_passed, has_map, has_none}, ValueLaws.{same_number, number_null}}
 use Rattle.std.proofs.Common.{◌≡◌, ◌⊎◌, ◌&&◌, ◌==◌, not, inl, inr, ℕ, zero, suc, ℤ, List, [], ◌∷◌, ◌++◌, length, map, filter, Bool, true, false, cond, Option, Some, None, IfSome, Ok, refl, sym, ap, subst, ◌∙◌, int_eq, is_eq, IsPermutation, true≢false, flat_map, arith}
+use Rattle.std.proofs.lemmas.Bool.{and_right, not-false}
 use Rattle.sqlite_value.specs.{declared.keys.Order.Order, Keys.first_key}
 use Rattle.sqlite_schema.specs.declared.schema.Keys.{Keys}
 use Rattle.sqlite_rules.specs.{Action.pairs, declared.action.Deed.TheVariants.Delete}
@@ -101,17 +102,13 @@ child_is_idle schema tree places order ref key deed db olds child h =
         (subst (λ (k : Option ParentKey). IfSome (work_by 0 tree (pairs olds []) child ref (Some Delete) k) (IsIdle db)) (sym key)
         (if_work (IsIdle db) ((tree == tree) && list_any (loses order places) (pairs olds [])) (cascade child ref places order olds) h))
 
-and_false : (a b : Bool) → b ≡ false → (a && b) ≡ false
-and_false true b e = e
-and_false false b e = refl
-
 no_child : (child : Table) (ref : Reference) (olds : List Row) (r : Row) → AllByRecursion (λ old. agree plain ref.columns r (0 ∷ []) old ≡ false) olds
     → list_any (is_child_of (cascade child ref (0 ∷ []) plain olds) r) (pairs olds []) ≡ false
 no_child child ref olds r = go olds
   where
     go : (left : List Row) → AllByRecursion (λ old. agree plain ref.columns r (0 ∷ []) old ≡ false) left → list_any (is_child_of (cascade child ref (0 ∷ []) plain olds) r) (pairs left []) ≡ false
     go [] h = refl
-    go (old ∷ left) h = rw (and_false (loses plain (0 ∷ []) (old, [])) _ h.0) (go left h.1)
+    go (old ∷ left) h = rw (and_right (loses plain (0 ∷ []) (old, [])) _ h.0) (go left h.1)
 
 agrees : (c : ℕ) (r old : Row) → agree plain (c ∷ []) r (0 ∷ []) old ≡ (is_true (binary (Compare Eq Binary) (column r c) (column old 0)) && true)
 unfolding first_key
@@ -141,20 +138,16 @@ module _ {X : Type 0} (key : X → ℤ) (columns : X → Row) where
       go (inr some) = ap (λ l. is_true (binary (Compare Eq Binary) (column r c) (column l 0)) && true) some.1 ∙ ap (λ v. is_true (binary (Compare Eq Binary) v (Int (key some.0))) && true) is
           ∙ ap (λ b. b && true) (same_number n (key some.0) ∙ ap (int_eq n) (same_int (key some.0) id some.2) ∙ other)
 
-  sure : (b : Bool) → not b ≡ false → b ≡ true
-  sure true e = refl
-  sure false e = sym e
-
   -- each row that goes is that of the item
   gone : (id : ℤ) (xs : List X) (ids : List ℤ) → IsPermutation (map key (filter (λ x. int_eq (key x) id) xs)) ids → list_any (λ i. not (int_eq i id)) ids ≡ false
-  gone id xs ids same = sym (any_along (λ i. not (int_eq i id)) _ ids same)
+  gone id xs ids same = sym (list_any-IsPermutation (λ i. not (int_eq i id)) _ ids same)
       ∙ any_from_none _ _ (all_map (λ i. not (int_eq i id) ≡ false) key _ (all_passed (λ x. not (int_eq (key x) id) ≡ false) (λ x. int_eq (key x) id) (λ x e. ap not e) xs))
 
   module _ (tree : ℕ) (db : Trees) (xs : List X) (here : db tree ≡ map (row_of key columns) xs) (id : ℤ) (c : ℕ) (r : Row) (n : ℤ) (is : column r c ≡ Int n) (other : int_eq n id ≡ false) where
     none_agrees : (ids : List ℤ) → AllByRecursion (λ i. not (int_eq i id) ≡ false) ids → AllByRecursion (λ old. agree plain (c ∷ []) r (0 ∷ []) old ≡ false) (map (row_at (db tree)) ids)
     none_agrees [] h = tt
     none_agrees (i ∷ ids) mine =
-        let same : i ≡ id = same_int i id (sure (int_eq i id) mine.0) in (
+        let same : i ≡ id = same_int i id (not-false (int_eq i id) mine.0) in (
           subst (λ i. agree plain (c ∷ []) r (0 ∷ []) (row_at (db tree) i) ≡ false) (sym same)
               (subst (λ l. agree plain (c ∷ []) r (0 ∷ []) (row_at l id) ≡ false) (sym here) (apart xs id c r n is other)),
           none_agrees ids mine.1,

@@ -1,5 +1,6 @@
 -- Laws of tables that keep rows under rowids, for the proofs of callers: reads by key and of all rows, and writes.
-use Rattle.sql_schema.specs.{Prelude.{filter_none, filter-filter, length-filter_both, all_of, list_all, AllByRecursion, option_to_list, length-map, length_permutation, IsPermutation-sym, IsPermutation-cons, IsPermutation-trans, Row, cast_row, Table, Schema, Term, col, holds, eval_all, Trees, IsAnswer, Output, Query, page, overlay, Values, Insert, Update, Delete, with_rowid, row_at, Chosen, value_rows, State, Executes, Shown, one_permutation, Key, works, Has, Enforced, insert_by, has_key, delete_where, update_where, map-map, filter-map, ascending-filter, ascending_weaker, IsPermutation-filter, along_permutation, IsKeyedBy-insert_by, IsKeyedBy-delete_where, IsKeyedBy-update_where, Keys, Rows, at, put, gone, rows_where, listed, same_key, key-same, StandUnder}, Cascades.{IsIdle, NeverFollows}, ListLaws.{any_order, and_true, IsPermutation-map, insert_by-permutes, map_has}, Queries.{over_table, output_of, IsBefore, from_one}, QueryLaws.{items_by, items_in_order}, Rows.{row_of, uncounted}, Statements.{IsCommandText, IsReturningText, SetsRows, only}, TableLaws.{inserts, deletes_alone, changes, changes_showing}, ListedLaws.{AreRising-listed, listed_at, listed_with_key, listed-put-new, listed-put-there, listed-gone, listed-where, StandUnder-put, StandUnder-gone, StandUnder-where}, TableOf.IsKept}
+use Rattle.sql_schema.specs.{Prelude.{IsPermutation-map, filter_none, filter-filter, length-filter_both, all_of, list_all, AllByRecursion, option_to_list, length-map, length_permutation, IsPermutation-sym, IsPermutation-cons, IsPermutation-trans, Row, cast_row, Table, Schema, Term, col, holds, eval_all, Trees, IsAnswer, Output, Query, page, overlay, Values, Insert, Update, Delete, with_rowid, row_at, Chosen, value_rows, State, Executes, Shown, one_permutation, Key, works, Has, Enforced, insert_by, has_key, delete_where, update_where, map-map, filter-map, ascending-filter, ascending_weaker, IsPermutation-filter, along_permutation, IsKeyedBy-insert_by, IsKeyedBy-delete_where, IsKeyedBy-update_where, Keys, Rows, at, put, gone, rows_where, listed, same_key, key-same, StandUnder}, Cascades.{IsIdle, NeverFollows}, ListLaws.{any_order, and_true, insert_by-permutes, map_has}, Queries.{over_table, output_of, IsBefore, from_one}, QueryLaws.{items_by, items_in_order}, Rows.{row_of, uncounted}, Statements.{IsCommandText, IsReturningText, SetsRows, only}, TableLaws.{inserts, deletes_alone, changes, changes_showing}, ListedLaws.{AreRising-listed, listed_at, listed_with_key, listed-put-new, listed-put-there, listed-gone, listed-where, StandUnder-put, StandUnder-gone, StandUnder-where}, TableOf.IsKept}
+use Rattle.std.proofs.lemmas.{Bool.and_parts, List.nil_from_length}
 use Rattle.std.proofs.Common.{◌≡◌, ◌⊎◌, ◌&&◌, inl, inr, ◌≤◌, ◌/◌, not, ℕ, ℤ, List, [], ◌∷◌, map, filter, length, slice_get, Bool, true, false, cond, Option, Some, None, Ok, Less, refl, sym, ap, subst, ◌∙◌, arith, IsPermutation}
 
 -- ---- lists
@@ -213,12 +214,8 @@ module _ {K X E : Type 0} (keys : Keys K) (rowid : E → ℤ) (item : E → X) (
               swapped e true c same here = let t : has (key_of x) (item e) ≡ true = here ∙ sym same in ap (λ d. cond d x (item e)) (sym same) ∙ sym (gives e t)
               swapped e false c same here = ap (λ d. cond d x (item e)) (sym same)
 
-          narrows : (a b : Bool) → (a && b) ≡ true → a ≡ true
-          narrows true b e = refl
-          narrows false b e = e
-
           fewer : length (filter finds is.entries) ≤ length (filter (λ e. has (key_of x) (item e)) is.entries)
-          fewer = shorter finds (λ e. has (key_of x) (item e)) (λ e. narrows (has (key_of x) (item e)) (q (item e))) is.entries
+          fewer = shorter finds (λ e. has (key_of x) (item e)) (λ e both. (and_parts (has (key_of x) (item e)) (q (item e)) both).0) is.entries
 
           one_found : length (filter finds is.entries) ≤ 1
           one_found = omega (arith, fewer, at_most_one (key_of x))
@@ -265,10 +262,6 @@ module _ {K X E : Type 0} (keys : Keys K) (rowid : E → ℤ) (item : E → X) (
                 go None none found many =
                     let empty : filter (λ e. has (key_of x) (item e)) is.entries ≡ [] = no_map item _ (found ∙ ap option_to_list none) in
                     let passing : filter finds is.entries ≡ [] =
-                    no_items _ (let l = ap length empty in omega (arith, l, fewer)) in
+                    nil_from_length _ (let l = ap length empty in omega (arith, l, fewer)) in
                     inl (many ∙ ap length passing, stays_as passing, λ was some. absurd (let e = sym none ∙ some in cc))
-                  where
-                    no_items : {Y : Type 0} (ys : List Y) → length ys ≤ 0 → ys ≡ []
-                    no_items [] low = refl
-                    no_items (y ∷ ys) low = absurd (omega (arith, low))
                 go (Some was) some found many = by_test was some (sym (length-map _ item) ∙ ap length (found ∙ ap option_to_list some)) many (q was) refl

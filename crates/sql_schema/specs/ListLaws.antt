@@ -1,5 +1,5 @@
 -- Laws of lists, for the proofs of callers: rows taken out in any order, put back under their keys, or counted.
-use Rattle.sql_schema.specs.Prelude.{all_has, none_from_any, list_any, AllByRecursion, match_ordering, ints, IsPermutation-refl, IsPermutation-cons, IsPermutation-trans, IsPermutation-middle, Row, put_all, put_row, IsAscending, Has, IsKeyedBy, insert_by, has_key, without_key, delete_where, update_where, all_map, all-filter, all_weaker, all_of, filter_all, filter_same, along_permutation, IsPermutation-flat_map, Less-from_lt, removes_delete, common_steps}
+use Rattle.sql_schema.specs.Prelude.{all_has, none_from_any, list_any, list_any-IsPermutation, AllByRecursion, match_ordering, ints, IsPermutation-refl, IsPermutation-cons, IsPermutation-trans, IsPermutation-middle, Row, put_all, put_row, IsAscending, Has, IsKeyedBy, insert_by, has_key, without_key, delete_where, update_where, all_map, all-filter, all_weaker, all_of, filter_all, filter_same, along_permutation, IsPermutation-flat_map, Less-from_lt, removes_delete, common_steps}
 use Rattle.std.proofs.Common.{◌≡◌, ◌&&◌, ◌||◌, ◌≤◌, ◌<◌, ◌+◌, ◌<ℤ◌, not, inl, inr, ℕ, ℤ, List, [], ◌∷◌, length, drop, drop-cons, get_or, suc, add-one, map, filter, Bool, true, false, cond, refl, sym, ap, subst₂, ◌∙◌, arith, Ordering, Less, Equal, Greater, int_eq, int_cmp, is_eq, fold, IsPermutation, true≢false, flat_map}
 
 pub and_true : (b : Bool) → (b && true) ≡ b
@@ -13,25 +13,6 @@ pub any_order : {X : Type 0} (R : X → X → Type 0) (xs : List X) → length x
 any_order R [] short = tt
 any_order R (x ∷ []) short = (tt, tt)
 any_order R (x ∷ y ∷ more) short = absurd (omega arith)
-
--- ---- lists in another order
-
-pub IsPermutation-map : {A B : Type 0} (f : A → B) (xs ys : List A) → IsPermutation xs ys → IsPermutation (map f xs) (map f ys)
-IsPermutation-map f xs ys same = subst₂ IsPermutation (one f xs) (one f ys) (IsPermutation-flat_map (λ x. f x ∷ []) xs ys same)
-  where
-    one : {A B : Type 0} (f : A → B) (xs : List A) → flat_map (λ x. f x ∷ []) xs ≡ map f xs
-    one f [] = refl
-    one f (x ∷ xs) = ap (λ l. f x ∷ l) (one f xs)
-
--- whether some item passes doesn't depend on the order
-pub any_along : {X : Type 0} (p : X → Bool) (xs ys : List X) → IsPermutation xs ys → list_any p xs ≡ list_any p ys
-any_along p = along_permutation (λ xs ys. list_any p xs ≡ list_any p ys) (λ xs. refl) (λ x xs ys e. ap (λ b. p x || b) e) (λ x y xs. turn (p x) (p y) (list_any p xs)) (λ xs ys zs a b. a ∙ b)
-  where
-    turn : (a b c : Bool) → (a || (b || c)) ≡ (b || (a || c))
-    turn true true c = refl
-    turn true false c = refl
-    turn false true c = refl
-    turn false false c = refl
 
 -- ---- what passes a test
 
@@ -84,7 +65,7 @@ module _ {X : Type 0} (key : X → ℤ) where
   -- the keys of the rows that pass, taken out in any order
   pub removes_any : (p : X → Bool) (xs : List X) → IsKeyedBy key xs → (ids : List ℤ) → IsPermutation (map key (filter p xs)) ids → fold (without_key key) xs ids ≡ delete_where p xs
   removes_any p xs up ids same =
-      removes_all ids xs ∙ filter_same _ _ (λ x. ap not (sym (any_along (λ id. int_eq (key x) id) _ ids same))) xs ∙ sym (removes_all (map key (filter p xs)) xs) ∙ removes_delete key p xs up
+      removes_all ids xs ∙ filter_same _ _ (λ x. ap not (sym (list_any-IsPermutation (λ id. int_eq (key x) id) _ ids same))) xs ∙ sym (removes_all (map key (filter p xs)) xs) ∙ removes_delete key p xs up
 
   -- a row with a new key stands somewhere among the others
   pub insert_by-permutes : (new : X) (xs : List X) → has_key key xs (key new) ≡ false → IsPermutation (insert_by key xs new) (new ∷ xs)
@@ -130,9 +111,6 @@ module _ {X : Type 0} (key : X → ℤ) where
       go false more = puts_past _ x _ (above x refl) ∙ ap (λ l. x ∷ l) more
 
 -- ---- the items that a loop has still to come to
-
-pub no_item : {X : Type 0} (xs : List X) (i : ℕ) → length xs ≤ i → drop i xs ≡ []
-no_item xs i high = grind (arith, common_steps)
 
 pub next_item : {X : Type 0} (xs : List X) (i : ℕ) (x : X) → i < length xs → x ≡ get_or xs i x → drop i xs ≡ x ∷ drop (i + 1) xs
 next_item xs i x low is = drop-cons xs i x low ∙ ap (λ y. y ∷ drop (suc i) xs) (sym is) ∙ ap (λ j. x ∷ drop j xs) (sym (add-one i))

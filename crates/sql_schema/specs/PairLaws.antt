@@ -22,9 +22,8 @@ text_null a = refl
 
 -- what differs in its second part differs
 untied : (one other : Ordering) → is_eq other ≡ false → is_eq (ordering_then one other) ≡ false
-untied Less other apart = refl
 untied Equal other apart = apart
-untied Greater other apart = refl
+untied one other apart = refl
 
 -- a row passes `WHERE` of a key if its key is that one
 pub pair_tests : (second : List ℕ → Value) → ((b d : List ℕ) → is_true (binary (Compare Eq Binary) (second b) (second d)) ≡ bytes_eq b d)

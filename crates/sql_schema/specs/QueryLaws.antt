@@ -1,5 +1,5 @@
 -- Laws of queries over one table, for the proofs of callers: what such a query answers.
-use Rattle.sql_schema.specs.{Prelude.{list_all, Null, Row, Schema, Term, eval_all, holds, Trees, IsAscending, Query, IsAnswer, output, output_cmp, page, Output, overlay, State, Shown, reads_as, Key, output_cmp_total, IsPermutation-refl, IsPermutation-trans, sorted_unique, map-map, filter-map, filter_same, ascending-map}, Queries.{over_table, passing, output_of, IsBefore}, Rows.row_of, Statements.IsQueryText, ListLaws.IsPermutation-map}
+use Rattle.sql_schema.specs.{Prelude.{IsPermutation-map, list_all, Null, Row, Schema, Term, eval_all, holds, Trees, IsAscending, Query, IsAnswer, output, output_cmp, page, Output, overlay, State, Shown, reads_as, Key, output_cmp_total, IsPermutation-refl, IsPermutation-trans, sorted_unique, map-map, filter-map, filter_same, ascending-map}, Queries.{over_table, passing, output_of, IsBefore}, Rows.row_of, Statements.IsQueryText}
 use Rattle.std.proofs.Common.{◌≡◌, ℕ, ℤ, List, [], ◌∷◌, ◌++◌, map, filter, Bool, true, false, cond, refl, sym, ap, subst, subst₂, ◌∙◌, IsPermutation, flat_map}
 
 found : {X : Type 0} (p : Row → Bool) (f : Row → X) (rows : List Row) → flat_map (λ r. cond (p r) (f r ∷ []) []) rows ≡ map f (filter p rows)

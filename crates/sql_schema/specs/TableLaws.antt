@@ -1,5 +1,5 @@
 -- Laws of tables of items, for the proofs of callers: what INSERT, UPDATE and DELETE make of their lists.
-use Rattle.sql_schema.specs.{Prelude.{list_all, list_any, AllByRecursion, length-map, Null, Int, Row, cast_row, understood, Table, Schema, Term, col, holds, eval_all, Trees, rowid, put_row, Query, overlay, Values, Insert, Update, Delete, id_in, numbered, edit_of, is_taken, are_fresh, with_rowid, put_all, without_all, row_at, taken_by, Applies, Chosen, Given, Does, Answers, value_rows, State, Executes, Shown, mode_of, statement_of, one_step, Enforced, Returning, ids_of, works, Writes, given, IsSound, IsKeyedBy, insert_by, has_key, without_key, delete_where, update_where, map_same, map-map, removes_delete, any_is_found, puts-map, deletes-map, value_cmp-Int}, Cascades.{IsIdle, NeverFollows}, CascadeStepLaws.{step_alone, insert_is_quiet, update_is_quiet}, ListLaws.{any_order, put_all-map, removes_any, puts_back, IsPermutation-map}, Queries.{from_one, passing}, QueryLaws.{answer_any, items_in_order, passing_items}, Rows.{row_of, uncounted}, Statements.{IsCommandText, IsReturningText, SetsRows, only}, StatementLaws.wrote, WriteLaws.{insert_values, updates, deletes, shown_wrote, updates_showing}}
+use Rattle.sql_schema.specs.{Prelude.{IsPermutation-map, list_all, list_any, AllByRecursion, length-map, Null, Int, Row, cast_row, understood, Table, Schema, Term, col, holds, eval_all, Trees, rowid, put_row, Query, overlay, Values, Insert, Update, Delete, id_in, numbered, edit_of, is_taken, are_fresh, with_rowid, put_all, without_all, row_at, taken_by, Applies, Chosen, Given, Does, Answers, value_rows, State, Executes, Shown, mode_of, statement_of, one_step, Enforced, Returning, ids_of, works, Writes, given, IsSound, IsKeyedBy, insert_by, has_key, without_key, delete_where, update_where, map_same, map-map, removes_delete, any_is_found, puts-map, deletes-map, value_cmp-Int}, Cascades.{IsIdle, NeverFollows}, CascadeStepLaws.{step_alone, insert_is_quiet, update_is_quiet}, ListLaws.{any_order, put_all-map, removes_any, puts_back}, Queries.{from_one, passing}, QueryLaws.{answer_any, items_in_order, passing_items}, Rows.{row_of, uncounted}, Statements.{IsCommandText, IsReturningText, SetsRows, only}, StatementLaws.wrote, WriteLaws.{insert_values, updates, deletes, shown_wrote, updates_showing}}
 use Rattle.std.proofs.Common.{◌≡◌, ◌≢◌, ◌&&◌, ◌≤◌, ◌/◌, not, ℕ, ℤ, List, [], ◌∷◌, length, map, filter, fold, drop, slice_get, Bool, true, false, Some, Ok, refl, sym, ap, subst, ◌∙◌, int_eq, IsPermutation}
 
 not_taken : (b : Bool) → (not b && true) ≡ true → b ≡ false

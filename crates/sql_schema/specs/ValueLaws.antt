@@ -4,7 +4,7 @@ use Rattle.std.proofs.Common.{◌≡◌, ℕ, ℤ, List, Bool, true, false, cond
 use Rattle.sqlite.specs.Ops.{unary, binary}
 use Rattle.sqlite.specs.Kind.TheVariants as kind
 
-truth : (t : Bool) → is_true (from_truth (Some t)) ≡ t
+pub truth : (t : Bool) → is_true (from_truth (Some t)) ≡ t
 truth true = refl
 truth false = refl
 

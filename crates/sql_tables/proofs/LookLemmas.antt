@@ -80,14 +80,12 @@ all_compiled schema [] plain = tt
 all_compiled schema (sql ∷ more) plain = (compiled_of _ plain.0, all_compiled schema more plain.1)
 
 pub not_found : (Names : ℤ → Type 0) (wanted : Wanted) (db : Database) (e : OpenFault) → AreFound (FIND_NUMBERS.now ∷ []) db (Err e) → IsFoundBy Names wanted (Err e)
-not_found Names wanted db NotAHall missing = tt
 not_found Names wanted db OtherVersion missing = absurd missing
-not_found Names wanted db Unavailable missing = tt
+not_found Names wanted db e missing = tt
 
 pub none_found : (Names : ℤ → Type 0) (wanted : Wanted) (e : OpenFault) → e ≢ OtherVersion → IsFoundBy Names wanted (Err e)
-none_found Names wanted NotAHall other = tt
 none_found Names wanted OtherVersion other = absurd (other refl)
-none_found Names wanted Unavailable other = tt
+none_found Names wanted e other = tt
 
 -- ---- what the query of the numbers shows
 

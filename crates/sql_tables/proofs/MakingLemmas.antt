@@ -1,6 +1,6 @@
 -- What each statement of a new hall makes of the tables.
 use Rattle.sql_schema.specs.{Words.{hall_schema, hall_table, operators_table, pools_table, AllByRecursion, IsPermutation-refl, Null, Int, Text, Row, KeepsRows, next_tree, Database, Schema, Table, lit, Trees, State, Keys, numbers, texts, at, put, no_rows, listed, pairs, at-no_rows, none_size, none_pass, length-listed, Hall, default_pool, new_hall, second, IsSound, Admin, Numbers, Operator, Pool, makes_table, makes_index, MakesOne, inserts, CountRow, operator_columns, pool_columns, numbers_row, number, IsKept, HallRows, pools, operators, adds_kept, sets, at_table, option_to_list, in_rows, Spells, SpellHall, is_in, wipe_of, TableName, described, count_key, of_last, of_operators, of_pools, of_images, of_counts, of_wipes, add_is}, declared.creating.TheConstants.{ADD_OPERATOR, ADD_POOL, FIRST_NUMBERS}}
-use Rattle.std.{proofs.Common.{inl, inr, true, ◌≡◌, ◌≢◌, ◌++◌, ℕ, pos, List, [], ◌∷◌, length, map, None, Some, refl, sym, ap, subst, ◌∙◌, arith, IsPermutation, ℤ}, specs.Prelude.option_and_then}
+use Rattle.std.{proofs.{Common.{inl, inr, true, ◌≡◌, ◌≢◌, ◌++◌, ℕ, pos, List, [], ◌∷◌, length, map, None, Some, refl, sym, ap, subst, ◌∙◌, arith, IsPermutation, ℤ}, lemmas.List.nil_from_length}, specs.Prelude.option_and_then}
 use Rattle.sql_schema.specs.ValueLaws as value
 use Rattle.sql_tables.specs.{Creating.{CanMake, HasNoRows, bare_hall, without_kinds}, Migrating.{AreFirstRows, as_second, is_first}, Running.IsRun}
 
@@ -41,12 +41,8 @@ all_made {db = db} can = subst (HasNoRows db) can.2 can.1
 
 -- ---- tables without rows
 
-none_of : {X : Type 0} (rows : List X) → length rows ≡ 0 → rows ≡ []
-none_of [] is = refl
-none_of (x ∷ xs) is = absurd (omega (arith, is))
-
 nothing_listed : {K X : Type 0} (keys : Keys K) → ◌≡◌ {A = List X} (listed {keys = keys} no_rows) []
-nothing_listed keys = none_of (listed {keys = keys} no_rows) (length-listed no_rows ∙ none_size keys no_rows refl)
+nothing_listed keys = nil_from_length (listed {keys = keys} no_rows) (length-listed no_rows ∙ none_size keys no_rows refl)
 
 none_stands : {K X : Type 0} (keys : Keys K) (key_of : X → K) (key : K) (row : X) → at {keys = keys} no_rows key ≡ Some row → key_of row ≡ key
 none_stands keys key_of key row there = absurd (let e = sym (at-no_rows keys key no_rows refl) ∙ there in cc)

@@ -1,13 +1,7 @@
 -- Counts of machines, as they are kept and as they are listed.
-use Rattle.std.{proofs.{Common.{◌≡◌, ◌≤◌, ◌<◌, ◌+◌, ◌==◌, ◌&&◌, ◌^◌, ℕ, List, [], ◌∷◌, map, length, filter, Option, Some, Bool, true, false, not, cond, if◌then◌else◌, Ordering, Less, Equal, Greater, is_eq, All, refl, sym, ap, subst, arith, ◌∙◌}, lemmas.{Bool.{and_parts, Decides.nat_tests}, List.{Elements.recursion_from_All, Filters.length-filter_both}, Slice.Eq.bytes_eq-Decides}}, specs.{BTreeMap.{BTreeMap, IsOrdered, Updates, btree_map_len, get, is_at, values}, Cmp.{eq_by_cmp_equiv, nat_cmp_total, Lexicographic.{nat_list_cmp_total, texts_ties}}, List.{AllByRecursion, Sorted.IsStrictlySortedBy}, Map.{keys_of, lookup}, Ordering.{eq_by_cmp, nat_cmp, ordering_then}, Str.bytes_eq}}
-use Rattle.hall_types.specs.{Hall.Hall, ListLaws.how_many-listed, Rows.{listed, numbers}, RowLaws.same_number, Status.status_number, declared.{machine.Machine.Machine, status.Status.Status}}
-use Rattle.hall_store.specs.{Counts.{AreCounts, count_cmp, counted, is_about, is_in}, declared.count.Count.Count}
-use Rattle.store_memory.{specs.{Counted.{AreEntries, CountsMore, counted_in, key_cmp, machines_in, many}, Held.text_cmp, Table.rows_of}, proofs.HeldLemmas.rows_few}
-
-both_tie : (a b : Ordering) → is_eq (ordering_then a b) ≡ (is_eq a && is_eq b)
-both_tie Less b = refl
-both_tie Equal b = refl
-both_tie Greater b = refl
+use Rattle.std.{proofs.{Common.{◌≡◌, ◌≤◌, ◌<◌, ◌+◌, ◌==◌, ◌&&◌, ◌^◌, ℕ, List, [], ◌∷◌, map, length, filter, Option, Some, Bool, true, false, not, cond, if◌then◌else◌, Ordering, Less, Equal, Greater, is_eq, All, refl, sym, ap, subst, arith, ◌∙◌}, lemmas.{Bool.{and_parts, eqb-true, Decides.nat_tests}, List.{Elements.recursion_from_All, Filters.length-filter_both}, Slice.Eq.bytes_eq-Decides}}, specs.{BTreeMap.{BTreeMap, IsOrdered, Updates, btree_map_len, get, is_at, values}, Cmp.{eq_by_cmp_equiv, nat_cmp_total, tied_then, Lexicographic.{nat_list_cmp_total, texts_ties}}, List.{AllByRecursion, Sorted.IsStrictlySortedBy}, Map.{keys_of, lookup}, Ordering.{eq_by_cmp, nat_cmp, ordering_then}, Str.bytes_eq}}
+use Rattle.hall_types.specs.Rows.{listed, numbers}
+use Rattle.store_memory.{specs.{Prelude.{Hall, how_many-listed, same_number, status_number, Machine, Status, AreCounts, count_cmp, counted, is_about, is_in, Count}, Counted.{AreEntries, CountsMore, counted_in, key_cmp, machines_in, many}, Held.text_cmp, Table.rows_of}, proofs.HeldLemmas.rows_few}
 
 number_ties : (a b : ℕ) → is_eq (nat_cmp a b) ≡ (a == b)
 unfolding numbers
@@ -15,20 +9,17 @@ number_ties a b = same_number a b
 
 -- keys tie where their parts are the same
 ties : (a b : List ℕ) (i j : ℕ) → eq_by_cmp key_cmp (a, i) (b, j) ≡ (bytes_eq a b && (i == j))
-ties a b i j = both_tie (text_cmp a b) (nat_cmp i j) ∙ (ap (λ x. x && is_eq (nat_cmp i j)) (sym (texts_ties a b)) ∙ ap (λ y. bytes_eq a b && y) (number_ties i j))
+ties a b i j = sym (tied_then (text_cmp a b) (nat_cmp i j)) ∙ (ap (λ x. x && is_eq (nat_cmp i j)) (sym (texts_ties a b)) ∙ ap (λ y. bytes_eq a b && y) (number_ties i j))
 
 ties_back : (a b : List ℕ) (i j : ℕ) → eq_by_cmp key_cmp (a, i) (b, j) ≡ (bytes_eq b a && (j == i))
 ties_back a b i j =
-    both_tie (text_cmp a b) (nat_cmp i j)
+    sym (tied_then (text_cmp a b) (nat_cmp i j))
     ∙ (ap (λ x. x && is_eq (nat_cmp i j)) ((eq_by_cmp_equiv nat_list_cmp_total).symm a b ∙ sym (texts_ties b a))
     ∙ ap (λ y. bytes_eq b a && y) ((eq_by_cmp_equiv nat_cmp_total).symm i j ∙ number_ties j i))
 
-same_number_of : (i j : ℕ) → (i == j) ≡ true → i ≡ j
-same_number_of i j h = grind (arith, nat_tests)
-
 -- a key that ties has the same parts
 same_parts : (a b : List ℕ) (i j : ℕ) → (bytes_eq a b && (i == j)) ≡ true → (a ≡ b) × (i ≡ j)
-same_parts a b i j tie = let parts = and_parts (bytes_eq a b) (i == j) tie in ((bytes_eq-Decides a b).0 parts.0, same_number_of i j parts.1)
+same_parts a b i j tie = let parts = and_parts (bytes_eq a b) (i == j) tie in ((bytes_eq-Decides a b).0 parts.0, eqb-true i j parts.1)
 
 -- ---- one more machine
 

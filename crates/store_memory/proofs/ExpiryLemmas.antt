@@ -1,7 +1,7 @@
 -- Which machine expires next, found among all of them.
 use Rattle.std.{specs.Prelude.{◌≡◌, ◌<◌, ℕ, Some, None, unwrap_or}, proofs.{Common.{arith, ◌∙◌, ap}, lemmas.Bool.Decides.nat_tests}}
-use Rattle.hall_types.specs.{Rows.listed, Hall.Hall, Lookup.{soonest, if_due}, declared.machine.Machine.Machine}
-use Rattle.hall_store.specs.{Expiry.IsEarliest, ExpiryLaws.{earliest_is, soonest_due}}
+use Rattle.store_memory.specs.Prelude.{Hall, soonest, if_due, Machine, IsEarliest, earliest_is, soonest_due}
+use Rattle.hall_types.specs.Rows.{listed}
 
 early : (moment any : ℕ) (m : Machine) → moment < unwrap_or m.deadline any → if_due moment (Some m) ≡ None
 early moment any m low = grind (arith, nat_tests)

@@ -1,8 +1,7 @@
 -- What a store has after one of its parts was changed.
 use Rattle.std.{specs.{Prelude.{◌≡◌, ◌<◌, ◌≤◌, ◌+◌, ◌-◌, ◌^◌, ℕ, List, [], ◌∷◌, length, map, filter_map, Option, Some, None}, List.cons_option, BTreeMap.{BTreeMap, IsOrdered, btree_map_len}, Ordering.nat_cmp, Str.bytes_eq}, proofs.Common.{rules, sym, ap, ◌∙◌, arith}}
-use Rattle.hall_types.specs.{Hall.{Hall}, ListLaws.length-listed, Rows.{size}, declared.{machine.{Interface.Interface, Machine.Machine}}}
-use Rattle.hall_store.specs.{Expiry.{IsEarliest}}
-use Rattle.store_memory.{specs.{declared.memory.MemoryStore.MemoryStore, Hashed.{Hashed, KeepsFound}, Held.{AreFound, IsHeld, IsIndex, text_cmp}, Table.{KeepsRows, rows_of}}, proofs.{TableLemmas.{numbers_listed}}}
+use Rattle.hall_types.specs.Rows.{size}
+use Rattle.store_memory.{specs.{Prelude.{Hall, length-listed, Interface, Machine, IsEarliest}, declared.memory.MemoryStore.MemoryStore, Hashed.{Hashed, KeepsFound}, Held.{AreFound, IsHeld, IsIndex, text_cmp}, Table.{KeepsRows, rows_of}}, proofs.TableLemmas.numbers_listed}
 
 pub rows_few : {K X : Type 0} (es : List (K × Option X)) → length (filter_map (λ (row : Option X). row) (map (λ (e : K × Option X). e.1) es)) ≤ length es
 rows_few [] = omega arith

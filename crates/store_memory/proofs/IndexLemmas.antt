@@ -1,7 +1,7 @@
 -- The index of machines by UUID.
 use Rattle.std.{proofs.{Common.{◌≡◌, ◌≢◌, ◌⊎◌, inl, inr, if◌then◌else◌, Bool, ℕ, List, Option, Some, None, true, false, refl, sym, ap, ◌∙◌}, lemmas.{Bool.both_ways, Slice.Eq.bytes_eq-Decides}}, specs.{Prelude.option_map, Str.bytes_eq}}
-use Rattle.hall_types.specs.{Hall.Hall, Keyed.StandUnder, Lookup.{has_uuid, machine_with_uuid}, LookupLaws.{found_listed, none_listed}, Rows.{at, gone, put}, RowLaws.{at-gone-other, at-put-other, at-put-same, gone_found, put_cases}, declared.machine.Machine.Machine}
-use Rattle.store_memory.specs.{Hashed.{Hashed, entry_at}, Held.{IsIndex, SetsEntry, uuid_of}}
+use Rattle.hall_types.specs.Rows.{at}
+use Rattle.store_memory.specs.{Prelude.{Hall, StandUnder, has_uuid, machine_with_uuid, found_listed, none_listed, gone, put, at-gone-other, at-put-other, at-put-same, gone_found, put_cases, Machine}, Hashed.{Hashed, entry_at}, Held.{IsIndex, SetsEntry, uuid_of}}
 
 -- a UUID that is found is recorded
 pub has_recorded : (its : Option (List ℕ)) (uuid : List ℕ) → has_uuid its uuid ≡ true → its ≡ Some uuid

@@ -1,8 +1,7 @@
 -- What a store has of no machines and no interfaces.
 use Rattle.std.{proofs.{Common.{◌≡◌, ℕ, List, Some, refl, sym, ap, ◌∙◌}, lemmas.Option.none-some}, specs.{HashMap.IsEmpty, FinMap.len-empty, Map.lookup, Ordering.nat_cmp, Str.bytes_eq}}
-use Rattle.hall_types.specs.{Rows.{at, no_rows, numbers, size, texts}, RowLaws.at-no_rows, declared.machine.{Interface.Interface, Machine.Machine}}
-use Rattle.hall_store.specs.Expiry.{IsEarliest}
-use Rattle.store_memory.specs.{Hashed.Hashed, Held.{AreFound, IsIndex}, Table.row_in}
+use Rattle.hall_types.specs.Rows.{at, no_rows, numbers, size, texts}
+use Rattle.store_memory.specs.{Prelude.{at-no_rows, Interface, Machine, IsEarliest}, Hashed.Hashed, Held.{AreFound, IsIndex}, Table.row_in}
 
 no_machine : (id : ℕ) (m : Machine) → at (no_rows {K = ℕ} {X = Machine} {keys = numbers}) id ≡ Some m → ⊥
 no_machine id m there = none-some m (sym (at-no_rows numbers id no_rows refl) ∙ there)

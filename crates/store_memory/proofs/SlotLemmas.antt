@@ -1,7 +1,6 @@
 -- The slots that a store keeps after one of its parts was changed.
 use Rattle.std.specs.{Prelude.{ℕ, List, [], ◌∷◌, ◌++◌, Option}, BTreeMap.BTreeMap, Ordering.nat_cmp, Str.bytes_eq}
-use Rattle.hall_types.specs.declared.{boot.Boot.Boot, change.RowWrite.{RowWrite, TheVariants.{PutMember, PutMachine, PutInterface, PutBoot, PutOrder, PutReceipt}}, machine.{Interface.Interface, Machine.Machine}, operator.Member.Member, order.Order.Order, receipt.Receipt.Receipt}
-use Rattle.store_memory.specs.{declared.memory.MemoryStore.MemoryStore, Held.{HasSlots, HaveAllSlots, KeepsAllSlots, pair_cmp, text_cmp}, Hashed.{Hashed, KeepsEntries}, Table.KeepsSlots}
+use Rattle.store_memory.specs.{Prelude.{Boot, RowWrite, PutMember, PutMachine, PutInterface, PutBoot, PutOrder, PutReceipt, Interface, Machine, Member, Order, Receipt}, declared.memory.MemoryStore.MemoryStore, Held.{HasSlots, HaveAllSlots, KeepsAllSlots, pair_cmp, text_cmp}, Hashed.{Hashed, KeepsEntries}, Table.KeepsSlots}
 
 module _ (s : MemoryStore) where
   pub slots_members : (table : BTreeMap (List ℕ × List ℕ) (Option Member)) → KeepsSlots pair_cmp s.members table → KeepsAllSlots s (record s { members = table })

@@ -1,8 +1,8 @@
 -- Tables and the rows of a hall: what is found in both after each change.
-use Rattle.std.{proofs.{Common.{◌≡◌, ◌&&◌, ℕ, List, [], ◌∷◌, map, Option, Some, None, Bool, true, false, not, refl, sym, ap, subst, ◌∙◌, Ordering, Less, Equal, Greater, is_eq, if◌then◌else◌, filter_map, IsSome, is_some, option_map}, Math.Dec.T}, specs.{BTreeMap.{BTreeMap, IsEmpty, IsOrdered}, Cmp.{IsTotalOrder, eq_by_cmp_equiv, Lexicographic.{nat_list_cmp_total, texts_ties}, nat_cmp_total}, FinMap.{find, is_sorted, entries_sorted, get-entries, Entries.{same_entries, below_all}}, List.{AllByRecursion, cons_option, Sorted.IsStrictlySortedBy}, Map.{lookup, keys_of, Calls.RetainsPairs}, Ordering.{nat_cmp, eq_by_cmp, is_lt, ordering_reverse, ordering_then}, Str.bytes_eq}}
+use Rattle.std.{proofs.{Common.{◌≡◌, ◌&&◌, ℕ, List, [], ◌∷◌, map, Option, Some, None, Bool, true, false, not, refl, sym, ap, subst, ◌∙◌, Ordering, Less, Equal, Greater, is_eq, if◌then◌else◌, filter_map, IsSome, is_some, option_map}, Math.Dec.T}, specs.{BTreeMap.{BTreeMap, IsEmpty, IsOrdered}, Cmp.{Equal-is, IsTotalOrder, eq_by_cmp_equiv, Lexicographic.{nat_list_cmp_total, texts_ties}, nat_cmp_total}, FinMap.{find, is_sorted, entries_sorted, get-entries, Entries.{same_entries, below_all}}, List.{AllByRecursion, cons_option, Sorted.IsStrictlySortedBy}, Map.{lookup, keys_of, Calls.RetainsPairs}, Ordering.{nat_cmp, eq_by_cmp, is_lt, ordering_reverse, ordering_then}, Str.bytes_eq}}
 use Rattle.std.specs.FinMap as map_of
-use Rattle.hall_types.specs.{Rows.{Keys, Rows, no_rows, numbers, texts, pairs, at, put, gone, rows_where, listed, passes, same_key}, RowLaws.{at-no_rows, at-put, at-gone, at-rows_where}}
-use Rattle.store_memory.specs.{Table.{IsTable, row_in, rows_of, unless_gone}, Held.{as_pair, itself, pair_cmp, text_cmp}}
+use Rattle.hall_types.specs.Rows.{no_rows, numbers, texts, pairs, at, listed}
+use Rattle.store_memory.specs.{Prelude.{Keys, Rows, put, gone, rows_where, passes, same_key, at-no_rows, at-put, at-gone, at-rows_where}, Table.{IsTable, row_in, rows_of, unless_gone}, Held.{as_pair, itself, pair_cmp, text_cmp}}
 
 -- how keys of a table tie, and which keys of a hall's rows they are: they tie where those do
 pub record KeysOf (K : Type 0) {L : Type 0} (keys : Keys L) : Type 0 where
@@ -19,11 +19,10 @@ unfolding numbers
 numbers_alike one other = (eq_by_cmp_equiv nat_cmp_total).symm one other
 
 turned : (a b : Ordering) → is_eq (ordering_then a b) ≡ is_eq (ordering_then (ordering_reverse a) (ordering_then (ordering_reverse b) Equal))
-turned Less b = refl
-turned Greater b = refl
 turned Equal Less = refl
 turned Equal Equal = refl
 turned Equal Greater = refl
+turned a b = refl
 
 pub pairs_alike : (one other : List ℕ × List ℕ) → eq_by_cmp pair_cmp one other ≡ same_key pairs (as_pair other) (as_pair one)
 unfolding pairs
@@ -75,11 +74,6 @@ sole_row {keys = keys} k {new} key row sole = put_row k {old = λ other. None} {
 both : (a b : Bool) → T a → T b → T (a && b)
 both true b p q = q
 both false b p q = p
-
-tied : (r : Ordering) → is_eq r ≡ true → r ≡ Equal
-tied Less e = cc
-tied Equal e = refl
-tied Greater e = cc
 
 module _ {K X : Type 0} where
   -- the key with its row, if there is one
@@ -138,7 +132,7 @@ module _ {K X : Type 0} where
         where
           by : (b : Bool) → is_eq (cmp q e.0) ≡ b → (row : Option X) → find cmp q (shown es) ≡ row_in (lookup (λ k. is_eq (cmp q k)) es)
               → find cmp q (cons_option (with_key e.0 row) (shown es)) ≡ row_in (if b then Some row else lookup (λ k. is_eq (cmp q k)) es)
-          by true t None rest = none_later q e.0 (tied (cmp q e.0) t) es sorted.0
+          by true t None rest = none_later q e.0 ((Equal-is (cmp q e.0)).0 t) es sorted.0
           by true t (Some x) rest = ap (λ b. if b then Some x else find cmp q (shown es)) t
           by false t None rest = rest
           by false t (Some x) rest = ap (λ b. if b then Some x else find cmp q (shown es)) t ∙ rest

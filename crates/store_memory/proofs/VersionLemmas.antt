@@ -1,10 +1,6 @@
 -- The versions of machines after row writes.
-use Rattle.std.proofs.{Common.{◌≡◌, ◌≢◌, ◌==◌, ◌<◌, ◌++◌, ◌+◌, ℕ, List, [], ◌∷◌, Option, Some, None, true, false, length, take, drop, get_or, option_map, refl, sym, ap, arith, ◌∙◌}, lemmas.{Bool.Decides.nat_tests, Grind.common_steps}}
-use Rattle.hall_types.specs.{Hall.{Hall, applied, written}, RowLaws.{at-put-same, at-put-other, at-gone-same, at-gone-other}, declared.{change.RowWrite.{RowWrite, TheVariants.{PutMachine, MachineGone}}, machine.Machine.Machine}}
-use Rattle.hall_store.specs.Versions.{HasVersion, HaveVersions, version_of}
-
-equal : (a b : ℕ) → (a == b) ≡ true → a ≡ b
-equal a b is = grind (arith, nat_tests)
+use Rattle.std.proofs.{Common.{◌≡◌, ◌≢◌, ◌==◌, ◌<◌, ◌++◌, ◌+◌, ℕ, List, [], ◌∷◌, Option, Some, None, true, false, length, take, drop, get_or, option_map, refl, sym, ap, arith, ◌∙◌}, lemmas.{Bool.{eqb-true, Decides.nat_tests}, Grind.common_steps}}
+use Rattle.store_memory.specs.Prelude.{Hall, applied, written, at-put-same, at-put-other, at-gone-same, at-gone-other, RowWrite, PutMachine, MachineGone, Machine, HasVersion, HaveVersions, version_of}
 
 apart : (a b : ℕ) → (a == b) ≡ false → b ≢ a
 apart a b is same = grind (arith, nat_tests)
@@ -12,14 +8,14 @@ apart a b is same = grind (arith, nat_tests)
 module _ (h : Hall) (id : ℕ) where
   pub put_here : (m : Machine) (was : Option ℕ) → (m.id == id) ≡ true → Some m.version ≡ version_of (written (PutMachine m was) h) id
   put_here m was is =
-      sym (ap (λ key. version_of (written (PutMachine m was) h) key) (sym (equal m.id id is)) ∙ ap (option_map (λ x. x.version)) (at-put-same h.machines m.id m))
+      sym (ap (λ key. version_of (written (PutMachine m was) h) key) (sym (eqb-true m.id id is)) ∙ ap (option_map (λ x. x.version)) (at-put-same h.machines m.id m))
 
   pub put_other : (m : Machine) (was : Option ℕ) → (m.id == id) ≡ false → version_of h id ≡ version_of (written (PutMachine m was) h) id
   put_other m was is = sym (ap (option_map (λ x. x.version)) (at-put-other h.machines m.id m id (apart m.id id is)))
 
   pub gone_here : (gone : ℕ) → (gone == id) ≡ true → None ≡ version_of (written (MachineGone gone) h) id
   gone_here gone is =
-      sym (ap (λ key. version_of (written (MachineGone gone) h) key) (sym (equal gone id is)) ∙ ap (option_map (λ x. x.version)) (at-gone-same h.machines gone))
+      sym (ap (λ key. version_of (written (MachineGone gone) h) key) (sym (eqb-true gone id is)) ∙ ap (option_map (λ x. x.version)) (at-gone-same h.machines gone))
 
   pub gone_other : (gone : ℕ) → (gone == id) ≡ false → version_of h id ≡ version_of (written (MachineGone gone) h) id
   gone_other gone is = sym (ap (option_map (λ x. x.version)) (at-gone-other h.machines gone id (apart gone id is)))

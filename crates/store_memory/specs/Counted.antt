@@ -1,8 +1,6 @@
 -- How many machines each pool has in each status, as they are counted.
 use Rattle.std.specs.{Prelude.{◌≡◌, ◌≤◌, ◌+◌, ℕ, List, Option, Some, None, filter, length}, BTreeMap.{BTreeMap, get}, Ordering.{nat_cmp, ordering_then}, declared.cmp.Ordering.Ordering}
-use Rattle.hall_types.specs.{Status.status_number, declared.{machine.Machine.Machine, status.Status.Status}}
-use Rattle.hall_store.specs.{Counts.is_in, declared.count.Count.Count}
-use Rattle.store_memory.specs.Held.{text_cmp}
+use Rattle.store_memory.specs.{Prelude.{status_number, Machine, Status, is_in, Count}, Held.text_cmp}
 
 -- by the pool's octets, then by the status's number
 abbrev pub key_cmp : List ℕ × ℕ → List ℕ × ℕ → Ordering

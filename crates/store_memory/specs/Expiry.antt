@@ -1,6 +1,6 @@
 -- The first machine with the least deadline, found in one walk.
 use Rattle.std.specs.Prelude.{Option, Some, None}
-use Rattle.hall_types.specs.{Lookup.sooner, declared.machine.Machine.Machine}
+use Rattle.store_memory.specs.Prelude.{sooner, Machine}
 
 -- the one of what was found so far and what comes after it
 abbrev pub joined : Option Machine → Option Machine → Option Machine

@@ -1,8 +1,7 @@
 -- Which hall a store in memory has.
 use Rattle.std.specs.{Prelude.{◌≡◌, ℕ, ◌↔◌, ⊤, List, [], ◌∷◌, Option, Some, None, if◌then◌else◌}, Cmp.Lexicographic.slice_cmp, Ordering.{nat_cmp, ordering_then}, Str.bytes_eq, declared.cmp.Ordering.Ordering}
-use Rattle.hall_types.specs.{Hall.{Hall, pair, second}, Kinds.arch_number, Keyed.IsKeyed, Lookup.has_uuid, Rows.{Rows, numbers, texts, at, size}, declared.{change.RowWrite.{RowWrite, TheVariants.{PutOperator, PutPool, PutMember, PutImage, PutLive, PutMachine, PutInterface, PutBoot, PutOrder, PutReceipt}}, machine.{Interface.Interface, Machine.Machine}}}
-use Rattle.hall_store.specs.Expiry.{IsEarliest}
-use Rattle.store_memory.specs.{Hashed.{HasEntry, Hashed, entry_at}, Table.{HasSlot, IsTable}, declared.memory.MemoryStore.MemoryStore}
+use Rattle.hall_types.specs.Rows.{numbers, texts, at, size}
+use Rattle.store_memory.specs.{Prelude.{Hall, pair, second, arch_number, IsKeyed, has_uuid, Rows, RowWrite, PutOperator, PutPool, PutMember, PutImage, PutLive, PutMachine, PutInterface, PutBoot, PutOrder, PutReceipt, Interface, Machine, IsEarliest}, Hashed.{HasEntry, Hashed, entry_at}, Table.{HasSlot, IsTable}, declared.memory.MemoryStore.MemoryStore}
 
 abbrev pub text_cmp : List ℕ → List ℕ → Ordering
 text_cmp = slice_cmp nat_cmp

@@ -1,6 +1,7 @@
 -- Tables in memory, which may have slots for rows to come.
 use Rattle.std.specs.{Prelude.{◌≡◌, Bool, List, Option, Some, None, IsSome, filter_map, if◌then◌else◌}, BTreeMap.{BTreeMap, get, values}, Ordering.eq_by_cmp, declared.cmp.Ordering.Ordering}
-use Rattle.hall_types.specs.Rows.{Keys, Rows, at}
+use Rattle.store_memory.specs.Prelude.{Keys, Rows}
+use Rattle.hall_types.specs.Rows.{at}
 
 -- the row in a slot, if there is a slot and a row in it
 abbrev pub row_in : {X : Type 0} → Option (Option X) → Option X

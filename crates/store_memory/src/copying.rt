@@ -1,21 +1,8 @@
 //! Copies of row writes, taken before any row is written.
 ghost use Rattle.std.specs.Prelude.{◌≡◌, ◌++◌, [], ◌∷◌, IfOk, OnOk};
-ghost use Rattle.hall_types.specs.declared.change.RowWrite.TheVariants.{PutImage, PutReceipt};
 
-use hall_types::{Image, Receipt, RowWrite};
+use hall_types::RowWrite;
 use std::alloc::{AllocError, Global};
-
-fn copy_image(alloc: Global, image: &Image) -> Result<RowWrite, AllocError>
-    ensures { IfOk result (λ copy. copy ≡ PutImage image.now) }
-{
-    Ok(RowWrite::PutImage(image.copy(alloc)?))
-}
-
-fn copy_receipt(alloc: Global, receipt: &Receipt) -> Result<RowWrite, AllocError>
-    ensures { IfOk result (λ copy. copy ≡ PutReceipt receipt.now) }
-{
-    Ok(RowWrite::PutReceipt(receipt.copy(alloc)?))
-}
 
 fn copy_write(alloc: Global, write: &RowWrite) -> Result<RowWrite, AllocError>
     ensures { IfOk result (λ copy. copy ≡ write.now) }
@@ -24,7 +11,7 @@ fn copy_write(alloc: Global, write: &RowWrite) -> Result<RowWrite, AllocError>
         RowWrite::PutOperator(operator) => Ok(RowWrite::PutOperator(*operator)),
         RowWrite::PutPool(pool) => Ok(RowWrite::PutPool(*pool)),
         RowWrite::PutMember(member) => Ok(RowWrite::PutMember(*member)),
-        RowWrite::PutImage(image) => copy_image(alloc, image),
+        RowWrite::PutImage(image) => Ok(RowWrite::PutImage(image.copy(alloc)?)),
         RowWrite::ImageGone(name) => Ok(RowWrite::ImageGone(*name)),
         RowWrite::PutLive(live) => Ok(RowWrite::PutLive(*live)),
         RowWrite::PutMachine { machine, was } => Ok(RowWrite::PutMachine {
@@ -36,7 +23,7 @@ fn copy_write(alloc: Global, write: &RowWrite) -> Result<RowWrite, AllocError>
         RowWrite::InterfaceGone(mac) => Ok(RowWrite::InterfaceGone(*mac)),
         RowWrite::PutBoot(boot) => Ok(RowWrite::PutBoot(*boot)),
         RowWrite::PutOrder(order) => Ok(RowWrite::PutOrder(*order)),
-        RowWrite::PutReceipt(receipt) => copy_receipt(alloc, receipt),
+        RowWrite::PutReceipt(receipt) => Ok(RowWrite::PutReceipt(receipt.copy(alloc)?)),
         RowWrite::PutNumbers(numbers) => Ok(RowWrite::PutNumbers(*numbers)),
     }
 }

@@ -13,10 +13,7 @@ use std::hash::Hash;
 pub(crate) fn row<K: Eq + Hash, X: Copy>(table: &HashMap<K, Option<X>>, key: &K) -> Option<X>
     ensures { result ≡ entry_at K.eq table.now key.now }
 {
-    match table.get(key) {
-        Some(row) => *row,
-        None => None,
-    }
+    *table.get(key)?
 }
 
 /// Takes a slot for a row with a key.

@@ -11,10 +11,7 @@ use std::collections::HashMap;
 pub(crate) fn uuid_of(machine: &Option<Machine>) -> Option<MachineUuid>
     ensures { result ≡ uuid_of machine.now }
 {
-    match machine {
-        Some(machine) => machine.uuid,
-        None => None,
-    }
+    machine.as_ref()?.uuid
 }
 
 /// Takes the entry of a UUID out.

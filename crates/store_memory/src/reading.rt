@@ -14,10 +14,7 @@ impl MemoryStore {
     pub(crate) fn machine_at_mac(&self, mac: MacAddress) -> Option<Number>
         ensures { (h : Hall) → IsHeld self.now h → result ≡ option_map (λ i. i.machine) (at h.interfaces mac) }
     {
-        match hashed::row(&self.addresses, &mac.octets()) {
-            Some(interface) => Some(interface.machine),
-            None => None,
-        }
+        hashed::row(&self.addresses, &mac.octets()).map(|interface| interface.machine)
     }
 
     pub(crate) fn machine_at_uuid(&self, uuid: MachineUuid) -> Option<Number>

@@ -10,10 +10,7 @@ use std::collections::BTreeMap;
 pub(crate) fn row<K: Ord, X: Copy>(table: &BTreeMap<K, Option<X>>, key: &K) -> Option<X>
     ensures { result ≡ row_at K.cmp table.now key.now }
 {
-    match table.get(key) {
-        Some(row) => *row,
-        None => None,
-    }
+    *table.get(key)?
 }
 
 /// The row with a key, where it is.

@@ -4,20 +4,14 @@ use Rattle.ipxe_script.specs.declared.command.Command.{Command}
 use Rattle.boot_desk.{specs.{DecisionLaws.if_ok, NewMachineLaws.enlisted_sound, Sound.IsSound, declared.fault.Verdict.Verdict}, proofs.DecisionLemmas.{answered_keeps, fetched_keeps, reported_keeps, swept_keeps}}
 use Rattle.boot_desk.proofs.laws.decisions_keep_halls_sound.Goals as goal
 
-pub returns-clause-script : goal.returns-clause-script
-returns-clause-script c = λ h m host fresh moment rows script s was.
-    if_ok (λ (d : List RowWrite × List Command). IsSound (applied d.0 h)) _ (rows, script) (fetched_keeps h m s was host moment fresh)
-
-pub returns-clause-report : goal.returns-clause-report
-returns-clause-report c = λ h number token progress moment rows verdict s.
-    if_ok (λ (d : List RowWrite × Verdict). IsSound (applied d.0 h)) _ (rows, verdict) (reported_keeps h s number token progress moment)
-
-pub returns-clause-answer : goal.returns-clause-answer
-returns-clause-answer c = λ h number outcome moment rows verdict s.
-    if_ok (λ (d : List RowWrite × Verdict). IsSound (applied d.0 h)) _ (rows, verdict) (answered_keeps h s number outcome moment)
-
-pub returns-clause-expiry : goal.returns-clause-expiry
-returns-clause-expiry c = λ h m moment s was. swept_keeps h m s was moment
-
-pub returns-clause-enlisting : goal.returns-clause-enlisting
-returns-clause-enlisting c = enlisted_sound
+pub returns : goal.returns
+returns c = record {
+  script = λ h m host fresh moment rows script s was.
+      if_ok (λ (d : List RowWrite × List Command). IsSound (applied d.0 h)) _ (rows, script) (fetched_keeps h m s was host moment fresh);
+  report = λ h number token progress moment rows verdict s.
+      if_ok (λ (d : List RowWrite × Verdict). IsSound (applied d.0 h)) _ (rows, verdict) (reported_keeps h s number token progress moment);
+  answer = λ h number outcome moment rows verdict s.
+      if_ok (λ (d : List RowWrite × Verdict). IsSound (applied d.0 h)) _ (rows, verdict) (answered_keeps h s number outcome moment);
+  expiry = λ h m moment s was. swept_keeps h m s was moment;
+  enlisting = enlisted_sound;
+}

@@ -1,8 +1,5 @@
 use Rattle.std.specs.Prelude.{List}
-use Rattle.hall_types.specs.{Hall.applied, declared.change.RowWrite.RowWrite}
-use Rattle.hall_events.specs.Reply.{Content}
-use Rattle.boot_desk.specs.{DecisionLaws.if_ok, Sound.IsSound}
-use Rattle.desk_command.proofs.SoundLemmas.{command_keeps}
+use Rattle.desk_command.{specs.Prelude.{applied, RowWrite, Content, if_ok, IsSound}, proofs.SoundLemmas.command_keeps}
 use Rattle.desk_command.proofs.laws.commands_keep_halls_sound.Goals as goal
 
 pub returns : goal.returns

@@ -1,6 +1,5 @@
 use Rattle.std.proofs.Common.{◌∙◌, ap, ◌++◌, ℕ, List, [], ◌∷◌}
-use Rattle.hex.specs.Hex.{encode_lower}
-use Rattle.desk_operations.proofs.FrameLemmas.{IsGood-understood, IsBad-none}
+use Rattle.desk_operations.{specs.Prelude.encode_lower, proofs.FrameLemmas.{IsGood-understood, IsBad-none}}
 use Rattle.desk_operations.proofs.frames.answer.Goals as goal
 
 pub returns-in-Err-clause-bad : goal.returns-in-Err-clause-bad

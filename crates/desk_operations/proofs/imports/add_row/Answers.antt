@@ -1,6 +1,5 @@
 use Rattle.std.proofs.{Common.{◌≡◌, string_bytes}, KnownBytes.Appends-nil}
-use Rattle.desk_operations.{specs.Import.row_line, proofs.ImportLemmas.{if_err_of, row_done, row_refused, row_stopped}}
-use Rattle.hall_desk.specs.Desk.{site_of, store_of}
+use Rattle.desk_operations.{specs.{Prelude.{site_of, store_of}, Import.row_line}, proofs.ImportLemmas.{if_err_of, row_done, row_refused, row_stopped}}
 use Rattle.desk_operations.proofs.imports.add_row.Goals as goal
 
 pub returns-in_err-reply-clause-stopped : goal.returns-in_err-reply-clause-stopped

@@ -1,7 +1,5 @@
 use Rattle.std.proofs.{Common.{arith, ◌≡◌, ◌<◌, ◌+◌, List, refl, sym, ◌∙◌, length, take, subst}, lemmas.{Grind.common_steps, List.take_more}}
-use Rattle.hall_desk.specs.Desk.{site_of, store_of}
-use Rattle.hall_report.specs.declared.row.ImportRow.{ImportRow}
-use Rattle.desk_operations.{specs.Import.IsImported, proofs.ImportLemmas.{if_err_of, imported_next, imported_none, kept_on, more_on, stopped_next}}
+use Rattle.desk_operations.{specs.{Prelude.{site_of, store_of, ImportRow}, Import.IsImported}, proofs.ImportLemmas.{if_err_of, imported_next, imported_none, kept_on, more_on, stopped_next}}
 use Rattle.desk_operations.proofs.imports.add_rows.Goals as goal
 
 pub loop-place-init : goal.loop-place-init

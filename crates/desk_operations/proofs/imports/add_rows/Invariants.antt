@@ -1,8 +1,5 @@
 use Rattle.std.proofs.Common.{◌≡◌, take}
-use Rattle.hall_types.specs.Hall.{Hall}
-use Rattle.boot_desk.specs.Sound.{IsSound}
-use Rattle.hall_desk.specs.Desk.{site_of, store_of}
-use Rattle.desk_operations.specs.Import.{GoOn, IsImported}
+use Rattle.desk_operations.specs.{Prelude.{Hall, IsSound, site_of, store_of}, Import.{GoOn, IsImported}}
 use Rattle.desk_operations.proofs.imports.add_rows.Given as goal
 
 -- the rows so far are imported

@@ -1,5 +1,4 @@
-use Rattle.hall_desk.specs.Desk.{site_of, store_of}
-use Rattle.desk_operations.proofs.ImportLemmas.{carried_on, kept_on, row_carried}
+use Rattle.desk_operations.{specs.Prelude.{site_of, store_of}, proofs.ImportLemmas.{carried_on, kept_on, row_carried}}
 use Rattle.desk_operations.proofs.imports.answer_row.Goals as goal
 
 pub returns-in-Ok-clause-answered : goal.returns-in-Ok-clause-answered

@@ -1,5 +1,4 @@
-use Rattle.hall_desk.specs.Desk.{site_of, store_of}
-use Rattle.desk_operations.proofs.ImportLemmas.{if_err_of, kept_on, stopped_none}
+use Rattle.desk_operations.{specs.Prelude.{site_of, store_of}, proofs.ImportLemmas.{if_err_of, kept_on, stopped_none}}
 use Rattle.desk_operations.proofs.imports.import.Goals as goal
 
 pub returns-in_err-rows-clause-stopped : goal.returns-in_err-rows-clause-stopped

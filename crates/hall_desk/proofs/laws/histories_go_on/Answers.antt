@@ -1,4 +1,4 @@
-use Rattle.hall_desk.proofs.HistoryLemmas.{goes_on, item_on}
+use Rattle.hall_desk.specs.RunLaws.{goes_on, item_on}
 use Rattle.hall_desk.proofs.laws.histories_go_on.Goals as goal
 
 pub returns-clause-runs : goal.returns-clause-runs

@@ -1,5 +1,5 @@
 use Rattle.std.proofs.Common.{◌≡◌, ◌==◌, filter, map, take}
-use Rattle.hall_events.specs.Reply.{listed, listing}
+use Rattle.hall_desk.specs.Prelude.{listed, listing}
 use Rattle.hall_desk.proofs.listing.sorted_reply.Given as goal
 
 -- the machines so far stand in the list

@@ -1,5 +1,5 @@
 use Rattle.std.proofs.{Common.{arith, inr, sym, ◌∙◌, true≢false}, lemmas.Grind.common_steps}
-use Rattle.hall_desk.proofs.{ReadingLemmas.in_time_read, ServedLemmas.{consumes_then, reads_whole}}
+use Rattle.hall_desk.proofs.ServedLemmas.{consumes_then, in_time_read, reads_whole}
 use Rattle.hall_desk.proofs.reading.read_request.Goals as goal
 
 pub returns-then-decided-clause-reads : goal.returns-then-decided-clause-reads

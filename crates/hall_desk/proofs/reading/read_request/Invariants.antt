@@ -1,5 +1,5 @@
 use Rattle.std.{proofs.Common.{◌≡◌, ◌⊎◌, [], false}, specs.Io.KnownBytes.Consumes}
-use Rattle.hall_http.specs.{Noted.{failed_of, inner_of, takes_of}, Decided.Ends}
+use Rattle.hall_desk.specs.Prelude.{failed_of, inner_of, takes_of, Ends}
 use Rattle.hall_desk.proofs.reading.read_request.Given as goal
 
 abbrev pub invariant-loop-turn : goal.invariant-loop-turn

@@ -1,5 +1,5 @@
 use Rattle.std.{proofs.Common.{◌≡◌, ◌-◌, ◌≤◌, length, take, false}, specs.Io.KnownBytes.Appends}
-use Rattle.hall_http.specs.Noted.{failed_of, inner_of}
+use Rattle.hall_desk.specs.Prelude.{failed_of, inner_of}
 use Rattle.hall_desk.proofs.serving.write_octets.Given as goal
 
 abbrev pub invariant-loop-at : goal.invariant-loop-at

@@ -1,6 +1,5 @@
 use Rattle.std.proofs.Common.{◌≡◌, drop, map}
-use Rattle.httparse.specs.Spans.{header_bytes}
-use Rattle.hall_http.specs.Fields.{first_value}
+use Rattle.hall_http.specs.{Prelude.header_bytes, Fields.first_value}
 use Rattle.hall_http.proofs.fields.first_value.Given as goal
 
 abbrev pub invariant-loop-header : goal.invariant-loop-header

@@ -1,6 +1,5 @@
 use Rattle.std.proofs.Common.{◌≡◌, drop}
-use Rattle.serde_json.specs.View.{view}
-use Rattle.hall_http.specs.Body.{texts, has_all}
+use Rattle.hall_http.specs.{Prelude.view, Body.{texts, has_all}}
 use Rattle.hall_http.proofs.shape.has_all.Given as goal
 
 abbrev pub invariant-loop-name : goal.invariant-loop-name

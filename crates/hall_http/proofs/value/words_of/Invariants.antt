@@ -1,6 +1,5 @@
 use Rattle.std.{proofs.Common.{◌≡◌, ◌++◌, drop}, specs.Prelude.option_map}
-use Rattle.serde_json.specs.View.{items_view}
-use Rattle.hall_http.specs.Value.{words_of}
+use Rattle.hall_http.specs.{Prelude.items_view, Value.words_of}
 use Rattle.hall_http.proofs.value.words_of.Given as goal
 
 abbrev pub invariant-loop-value : goal.invariant-loop-value

@@ -1,5 +1,4 @@
-use Rattle.hall_types.specs.Hall.{first, new_hall, second}
-use Rattle.hall_laws.proofs.{Erased.erases_fully, FirstRuns.{new_spares, typed_whole, whole_of}, Forgetting.new_forgotten, Twins.twins_plain}
+use Rattle.hall_laws.{specs.Prelude.{first, new_hall, second}, proofs.{Erased.erases_fully, FirstRuns.{new_spares, typed_whole, whole_of}, Forgetting.new_forgotten, Twins.twins_plain}}
 use Rattle.hall_laws.proofs.migration.first_erasing_is_released.Goals as goal
 
 pub returns : goal.returns

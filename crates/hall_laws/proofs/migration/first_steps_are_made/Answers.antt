@@ -1,6 +1,5 @@
 use Rattle.std.proofs.Common.{refl}
-use Rattle.hall_types.specs.Hall.{first, new_hall, second}
-use Rattle.hall_laws.{specs.{Decision.decision_of, FirstSchema.first_content}, proofs.{FirstRuns.{full_in, new_spares, whole_of}, FirstSteps.{came, first_step}, Forgetting.new_forgotten}}
+use Rattle.hall_laws.{specs.{Prelude.{first, new_hall, second}, Decision.decision_of, FirstSchema.first_content}, proofs.{FirstRuns.{full_in, new_spares, whole_of}, FirstSteps.{came, first_step}, Forgetting.new_forgotten}}
 use Rattle.hall_laws.proofs.migration.first_steps_are_made.Goals as goal
 
 pub returns : goal.returns

@@ -1,6 +1,5 @@
 use Rattle.std.proofs.Common.{◌++◌, ℕ, List, [], refl, subst}
-use Rattle.hall_types.specs.Hall.{Hall, first, new_hall, second}
-use Rattle.hall_laws.{specs.{Step.{IsRun, Step}, Laws.{AcceptsOnce, AcceptsWithOk, AlwaysWaitsForOne, AnswersAccepted, AreTyped, BootsLocally, CountsAnswerOnce, CountsOwnBoot, CountsStartedFirst, CountsVerdictOnce, DeploysRightly, EntersByTable, ErasesRightly, GivesScripts, KeepsMachines, NumbersOnce, QueuesAtEntries, RefusesWithoutChange, RepeatsFirst, ScriptIsAsked, WaitsNoMore}, Later.KeepsLaws, Origin.{carried_over, created}}, proofs.{FirstRuns.{new_spares, next_is, run_append, typed_append, typed_whole, whole_of}, Forgetting.new_forgotten, Later.{accepts_once, answers_accepted, answers_once, at_later, counts_own_boot, deploys, erases, numbers_once, repeats_first, started_first, verdict_once}, Twins.{AreTwins, twins_plain}}}
+use Rattle.hall_laws.{specs.{Prelude.{Hall, first, new_hall, second}, Step.{IsRun, Step}, Laws.{AcceptsOnce, AcceptsWithOk, AlwaysWaitsForOne, AnswersAccepted, AreTyped, BootsLocally, CountsAnswerOnce, CountsOwnBoot, CountsStartedFirst, CountsVerdictOnce, DeploysRightly, EntersByTable, ErasesRightly, GivesScripts, KeepsMachines, NumbersOnce, QueuesAtEntries, RefusesWithoutChange, RepeatsFirst, ScriptIsAsked, WaitsNoMore}, Later.KeepsLaws, Origin.{carried_over, created}}, proofs.{FirstRuns.{new_spares, next_is, run_append, typed_append, typed_whole, whole_of}, Forgetting.new_forgotten, Later.{accepts_once, answers_accepted, answers_once, at_later, counts_own_boot, deploys, erases, numbers_once, repeats_first, started_first, verdict_once}, Twins.{AreTwins, twins_plain}}}
 use Rattle.hall_laws.proofs.migration.laws_hold_from_origins.Goals as goal
 
 -- a run of the second schema of which the first steps are like those of the first schema

@@ -1,5 +1,4 @@
-use Rattle.hall_types.specs.Hall.{second}
-use Rattle.hall_laws.{specs.{Step.IsTypedStep, Laws.DeploysRightly}, proofs.{Frame.from_new_given, Deploying.{KnowsDeploys, deploys_rightly, deploys_step, new_deploys}}}
+use Rattle.hall_laws.{specs.{Prelude.second, Step.IsTypedStep, Laws.DeploysRightly}, proofs.{Frame.from_new_given, Deploying.{KnowsDeploys, deploys_rightly, deploys_step, new_deploys}}}
 use Rattle.hall_laws.proofs.past.deploying_is_commanded.Goals as goal
 
 pub returns : goal.returns

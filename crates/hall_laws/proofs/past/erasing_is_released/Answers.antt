@@ -1,5 +1,4 @@
-use Rattle.hall_types.specs.Hall.{second}
-use Rattle.hall_laws.{specs.{Step.IsTypedStep, Laws.ErasesRightly}, proofs.{Frame.from_new_given, Erasing.{KnowsReleases, erases_rightly, new_releases, releases_step}}}
+use Rattle.hall_laws.{specs.{Prelude.second, Step.IsTypedStep, Laws.ErasesRightly}, proofs.{Frame.from_new_given, Erasing.{KnowsReleases, erases_rightly, new_releases, releases_step}}}
 use Rattle.hall_laws.proofs.past.erasing_is_released.Goals as goal
 
 pub returns : goal.returns

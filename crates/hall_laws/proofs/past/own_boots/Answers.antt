@@ -1,5 +1,4 @@
-use Rattle.hall_types.specs.Hall.{second}
-use Rattle.hall_laws.{specs.Laws.CountsOwnBoot, proofs.{Frame.from_new, OwnBoots.{OwnsBoots, counts_own, new_owns, owns_step}}}
+use Rattle.hall_laws.{specs.{Prelude.second, Laws.CountsOwnBoot}, proofs.{Frame.from_new, OwnBoots.{OwnsBoots, counts_own, new_owns, owns_step}}}
 use Rattle.hall_laws.proofs.past.own_boots.Goals as goal
 
 pub returns : goal.returns

@@ -1,8 +1,8 @@
 use Rattle.hall_laws.{specs.Laws.{CountsStartedFirst, CountsVerdictOnce}, proofs.{Frame.always, Counts.{KnowsCounts, counts_step, new_counts, started_first, verdict_once}}}
 use Rattle.hall_laws.proofs.past.reports_count_once.Goals as goal
 
-pub returns-clause-started : goal.returns-clause-started
-returns-clause-started c = always c.steps_keep_halls_sound.ensures.step KnowsCounts counts_step new_counts CountsStartedFirst started_first
-
-pub returns-clause-verdict : goal.returns-clause-verdict
-returns-clause-verdict c = always c.steps_keep_halls_sound.ensures.step KnowsCounts counts_step new_counts CountsVerdictOnce verdict_once
+pub returns : goal.returns
+returns c = record {
+  started = always c.steps_keep_halls_sound.ensures.step KnowsCounts counts_step new_counts CountsStartedFirst started_first;
+  verdict = always c.steps_keep_halls_sound.ensures.step KnowsCounts counts_step new_counts CountsVerdictOnce verdict_once;
+}

@@ -1,5 +1,4 @@
-use Rattle.hall_types.specs.Hall.{second}
-use Rattle.hall_laws.{specs.{Step.IsTypedStep, Laws.GivesScripts}, proofs.{Frame.from_new_given, Scripts.{KnowsRows, gives_scripts, knows_step, new_rows}}}
+use Rattle.hall_laws.{specs.{Prelude.second, Step.IsTypedStep, Laws.GivesScripts}, proofs.{Frame.from_new_given, Scripts.{KnowsRows, gives_scripts, knows_step, new_rows}}}
 use Rattle.hall_laws.proofs.past.texts_are_scripts.Goals as goal
 
 pub returns : goal.returns

@@ -1,7 +1,6 @@
 use Rattle.std.{proofs.{Common.{◌≡◌, ◌==◌, ◌++◌, ◌∙◌, filter, ap, subst, IfOk, string_bytes, List, [], sym}, lemmas.List.{append-nil, take_all}}, specs.List.flat_map}
-use Rattle.csv.specs.Records.{AllText, fields_of}
-use Rattle.hall_types.specs.declared.machine.{Interface.Interface, Machine.Machine}
-use Rattle.hall_report.{specs.Export.{HasWritten, header, machine_fields, record_text}, proofs.ExportLemmas.{machine_written, none_written}}
+use Rattle.csv.specs.Records.{AllText}
+use Rattle.hall_report.{specs.{Prelude.{fields_of, Interface, Machine}, Export.{HasWritten, header, machine_fields, record_text}}, proofs.ExportLemmas.{machine_written, none_written}}
 use Rattle.hall_report.proofs.export.sorted_export.Goals as goal
 
 pub loop-machine-init : goal.loop-machine-init

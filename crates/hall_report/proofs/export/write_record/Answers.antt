@@ -1,6 +1,5 @@
 use Rattle.std.proofs.Common.{◌∙◌, sym}
-use Rattle.csv.specs.Records.{fields_of}
-use Rattle.hall_report.proofs.ExportLemmas.{no_error, record_written}
+use Rattle.hall_report.{specs.Prelude.fields_of, proofs.ExportLemmas.{no_error, record_written}}
 use Rattle.hall_report.proofs.export.write_record.Goals as goal
 
 pub returns : goal.returns

@@ -1,7 +1,7 @@
 use Rattle.std.{proofs.{Common.{Bor, List, ℕ, ◌≡◌, ◌∙◌, sym, refl, rules, inl, inr, true, map, Some, ◌∷◌, []}, lemmas.List.map-append}, specs.Result.is_ok}
-use Rattle.csv.{specs.{Reading.{Reached, default_config, strip_bom}, Records.fields_of}, proofs.ReadFacts.{rows-end, rows-more}}
+use Rattle.csv.{specs.Reading.Reached, proofs.ReadFacts.{rows-end, rows-more}}
 use Rattle.csv.specs.declared.parser.State.TheVariants as st
-use Rattle.hall_report.proofs.RecordLemmas.{all_records}
+use Rattle.hall_report.{specs.Prelude.{default_config, strip_bom, fields_of}, proofs.RecordLemmas.all_records}
 use Rattle.hall_report.proofs.import.records_of.Goals as goal
 
 pub loop-record-init : goal.loop-record-init

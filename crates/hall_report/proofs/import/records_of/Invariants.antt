@@ -1,5 +1,6 @@
 use Rattle.std.proofs.Common.{◌≡◌, ◌<◌, ℕ, List, Some, map}
-use Rattle.csv.specs.{Reading.{Reached, Ready, default_config, source_of, strip_bom}, Records.fields_of}
+use Rattle.hall_report.specs.Prelude.{Ready, default_config, source_of, strip_bom, fields_of}
+use Rattle.csv.specs.Reading.{Reached}
 use Rattle.csv.specs.declared.parser.State.TheVariants as st
 use Rattle.csv.specs.declared.reader.Trim.TheVariants as trim
 use Rattle.hall_report.proofs.import.records_of.Given as goal

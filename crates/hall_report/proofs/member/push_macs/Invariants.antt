@@ -1,5 +1,5 @@
 use Rattle.std.{proofs.Common.{◌≡◌, ◌++◌, ◌∷◌, [], string_bytes, take}, specs.List.flat_map}
-use Rattle.pxe_vendor.specs.MacText.{mac_text}
+use Rattle.hall_report.specs.Prelude.{mac_text}
 use Rattle.hall_report.proofs.member.push_macs.Given as goal
 
 -- the addresses so far stand in the text

@@ -1,6 +1,5 @@
 use Rattle.std.proofs.Common.{◌≡◌, ◌++◌, ◌+◌, drop, map}
-use Rattle.csv.specs.Records.{fields_of}
-use Rattle.hall_report.specs.Import.{rows_from, with_ok}
+use Rattle.hall_report.specs.{Prelude.fields_of, Import.{rows_from, with_ok}}
 use Rattle.hall_report.proofs.row.rows_of.Given as goal
 
 -- the rows so far are those before the later ones

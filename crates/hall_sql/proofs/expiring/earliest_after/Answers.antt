@@ -1,4 +1,4 @@
-use Rattle.sql_schema.specs.Words.{AllByRecursion, next_item, no_item}
+use Rattle.sql_schema.specs.Words.{AllByRecursion, drop_all, next_item}
 use Rattle.std.proofs.Common.{subst, sym, arith}
 use Rattle.hall_sql.{specs.Expiring.PutsNoEarlier, proofs.ExpiryLemmas.lower_puts}
 use Rattle.hall_sql.proofs.expiring.earliest_after.Goals as goal
@@ -16,4 +16,4 @@ writes-preserved c = (
 pub returns-clause-put : goal.returns-clause-put
 returns-clause-put c =
     c.writes.invariant.1 c.writes.known (omega arith)
-    (subst (AllByRecursion (PutsNoEarlier c.writes.known)) (sym (no_item c.args.writes.now c.writes.write-index (omega (arith, c.writes-test.false)))) tt)
+    (subst (AllByRecursion (PutsNoEarlier c.writes.known)) (sym (drop_all c.writes.write-index c.args.writes.now (omega (arith, c.writes-test.false)))) tt)

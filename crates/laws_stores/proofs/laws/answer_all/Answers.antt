@@ -1,7 +1,5 @@
 use Rattle.std.proofs.Common.{[], refl, subst}
-use Rattle.hall_laws.specs.Origin.{created}
-use Rattle.hall_types.specs.Hall.{new_hall, second}
-use Rattle.hall_desk.specs.{Headline.Headline, History.exchanges}
+use Rattle.laws_stores.specs.Prelude.{created, new_hall, second, Headline, exchanges}
 use Rattle.laws_stores.proofs.laws.answer_all.Goals as goal
 
 pub returns-in-Ok-clause-headline : goal.returns-in-Ok-clause-headline

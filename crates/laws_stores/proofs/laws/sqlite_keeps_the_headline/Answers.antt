@@ -1,5 +1,5 @@
 use Rattle.std.proofs.Common.{subst}
-use Rattle.sqlite.specs.{Held.state, State.HasCleanDisk}
+use Rattle.laws_stores.specs.Prelude.{state, HasCleanDisk}
 use Rattle.laws_stores.proofs.laws.sqlite_keeps_the_headline.Goals as goal
 
 pub returns-clause-headline : goal.returns-clause-headline

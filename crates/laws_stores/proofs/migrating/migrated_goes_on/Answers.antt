@@ -1,6 +1,4 @@
-use Rattle.sqlite.specs.Held.{state}
-use Rattle.hall_laws.specs.Origin.{carried_over}
-use Rattle.laws_stores.proofs.MigratingLemmas.{become, begun, goes_on, left}
+use Rattle.laws_stores.{specs.Prelude.{state, carried_over}, proofs.MigratingLemmas.{become, begun, goes_on, left}}
 use Rattle.laws_stores.proofs.migrating.migrated_goes_on.Goals as goal
 
 pub returns-clause-goes_on : goal.returns-clause-goes_on

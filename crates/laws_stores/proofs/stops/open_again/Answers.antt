@@ -1,5 +1,4 @@
-use Rattle.sqlite.specs.Held.{state}
-use Rattle.laws_stores.proofs.StopLemmas.{opened}
+use Rattle.laws_stores.{specs.Prelude.state, proofs.StopLemmas.opened}
 use Rattle.laws_stores.proofs.stops.open_again.Goals as goal
 
 pub returns : goal.returns

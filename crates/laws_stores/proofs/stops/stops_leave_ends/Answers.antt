@@ -1,5 +1,4 @@
-use Rattle.hall_desk.specs.Stops.{AndCutRun, OrUnanswered, OrUnreplied}
-use Rattle.laws_stores.proofs.StopLemmas.{of_halls}
+use Rattle.laws_stores.{specs.Prelude.{AndCutRun, OrUnanswered, OrUnreplied}, proofs.StopLemmas.of_halls}
 use Rattle.laws_stores.proofs.stops.stops_leave_ends.Goals as goal
 
 pub returns-clause-answer : goal.returns-clause-answer

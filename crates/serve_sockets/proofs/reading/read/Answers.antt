@@ -1,6 +1,5 @@
 use Rattle.std.proofs.{Common.{inl, inr, sym, subst}, lemmas.List.length-take-le}
-use Rattle.hall_http.specs.Decided.{IsDecided}
-use Rattle.serve_sockets.{proofs.ConnectionLemmas.{has_room, moved, moved_none, smaller_within, within_more}}
+use Rattle.serve_sockets.{specs.Prelude.IsDecided, proofs.ConnectionLemmas.{has_room, moved, moved_none, smaller_within, within_more}}
 use Rattle.serve_sockets.proofs.reading.read.Goals as goal
 
 pub overflow_sub-len : goal.overflow_sub-len

@@ -1,4 +1,4 @@
-use Rattle.serve_sockets.proofs.ServingLemmas.{read_same}
+use Rattle.serve_sockets.specs.Prelude.{read_same}
 use Rattle.serve_sockets.proofs.serving.may_wait.Goals as goal
 
 pub returns-then-is_called-clause-read : goal.returns-then-is_called-clause-read

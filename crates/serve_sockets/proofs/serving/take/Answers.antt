@@ -8,21 +8,12 @@ pub returns-in-More : goal.returns-in-More
 returns-in-More g c = only_moved g.S.HallStore _ _ Step.Moved tt
 
 pub returns-in-Whole : goal.returns-in-Whole
-returns-in-Whole g c =
-    let it = c.decide.ensures in
-    record {
-      kept = it.kept;
-      request = λ clean. whole_step _ _ _ _ _ _ c.decide.result _ _ _ _ _ c.in-Whole.ensures.taken.0 c.in-Whole.ensures.taken.1 (it.request clean);
-      same = it.same;
-      read = it.read;
-    }
+returns-in-Whole g c = whole_step g.S.HallStore _ _ _ _ c.decide.result _ _ _ _ _ c.in-Whole.ensures.taken.0 c.in-Whole.ensures.taken.1 c.decide.ensures
 
 pub returns-in-NoMemory : goal.returns-in-NoMemory
 returns-in-NoMemory g c = record {
   kept = keeps_same g.S.HallStore _;
-  request = λ clean. refused_request _ g.S.HallStore.wider _ _ _ _ _ _ _ _ _ c.refuse.ensures.tells c.refuse.ensures.waits;
-  same = λ moved. absurd moved;
-  read = λ clean off. absurd off;
+  did = λ clean. refused_request _ g.S.HallStore.wider _ _ _ _ _ _ _ _ _ c.refuse.ensures.tells c.refuse.ensures.waits;
 }
 
 pub returns-in-Failed : goal.returns-in-Failed

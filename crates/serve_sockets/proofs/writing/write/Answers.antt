@@ -1,6 +1,5 @@
 use Rattle.std.proofs.{Common.{◌∙◌, ap, arith, refl, sym}, KnownBytes.Keeps-refl}
-use Rattle.hall_desk.specs.Octets.{octets_of}
-use Rattle.serve_sockets.{proofs.{ConnectionLemmas.{written_all, written_fits, written_more, written_none, written_same, written_within}, writing.write.Goals.{then-sending-len+in-Ok, else-sending-len}}, specs.{declared.connection.Sending.Sending}}
+use Rattle.serve_sockets.{specs.{Prelude.octets_of, declared.connection.Sending.Sending}, proofs.{ConnectionLemmas.{written_all, written_fits, written_more, written_none, written_same, written_within}, writing.write.Goals.{then-sending-len+in-Ok, else-sending-len}}}
 use Rattle.serve_sockets.proofs.writing.write.Goals as goal
 
 pub returns-in-Ok-eq0-clause-octets : goal.returns-in-Ok-eq0-clause-octets

@@ -1,4 +1,4 @@
-use Rattle.sql_schema.specs.Words.{state, HasCleanDisk, next_item, no_item}
+use Rattle.sql_schema.specs.Words.{state, HasCleanDisk, drop_all, next_item}
 use Rattle.std.{specs.Prelude.IsErr, proofs.Common.{◌≡◌, refl, ◌∙◌, rules, arith, subst}}
 use Rattle.sql_writes.{specs.Applying.IsTold, proofs.ApplyingLemmas.{begins, steps, refused, commits}}
 use Rattle.sql_writes.proofs.applying.write_rows.Goals as goal
@@ -24,6 +24,6 @@ returns-in_err-write_row-clause-told g c =
 pub returns-clause-told : goal.returns-clause-told
 returns-clause-told g c =
     let same : c.commit.new.self.0 ≡ c.conn-2-1.given.0 = search rules in
-    let going = rw (no_item c.args.writes.now c.writes.write-index (omega (arith, c.writes-test.false))) at c.writes.invariant.1 in
+    let going = rw (drop_all c.writes.write-index c.args.writes.now (omega (arith, c.writes-test.false))) at c.writes.invariant.1 in
     subst (λ t. HasCleanDisk (state g.S.Store t) → IsTold (state g.S.Store c.args.conn.now) (state g.S.Store t) c.commit.result c.args.writes.now) same
     (λ clean. commits _ _ _ c.args.writes.now going c.commit.ensures.survives clean c.commit.result (c.commit.ensures.ok clean) (c.commit.ensures.err clean))

@@ -1,6 +1,5 @@
 use Rattle.std.proofs.Common.{◌≡◌, ◌+◌, ℕ, List, filter_map}
-use Rattle.hall_types.specs.declared.status.Status.{Status}
-use Rattle.store_memory.specs.{Counted.{AreEntries, counted_in, many}, Table.rows_of}
+use Rattle.store_memory.specs.{Prelude.Status, Counted.{AreEntries, counted_in, many}, Table.rows_of}
 use Rattle.store_memory.proofs.counting.count_all.Given as goal
 
 -- what was counted so far, with what the rows that are left have, is what all have

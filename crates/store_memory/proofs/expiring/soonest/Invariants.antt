@@ -1,6 +1,5 @@
 use Rattle.std.proofs.Common.{◌≡◌, filter_map}
-use Rattle.hall_types.specs.Lookup.{soonest}
-use Rattle.store_memory.specs.{Expiry.joined, Table.rows_of}
+use Rattle.store_memory.specs.{Prelude.soonest, Expiry.joined, Table.rows_of}
 use Rattle.store_memory.proofs.expiring.soonest.Given as goal
 
 -- what was found so far, joined with what the rows that are left have, is what all have

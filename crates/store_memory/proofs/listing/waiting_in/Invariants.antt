@@ -1,6 +1,5 @@
 use Rattle.std.proofs.Common.{◌≡◌, ◌++◌, filter, filter_map}
-use Rattle.hall_types.specs.Lookup.{waits}
-use Rattle.store_memory.specs.Table.{rows_of}
+use Rattle.store_memory.specs.{Prelude.waits, Table.rows_of}
 use Rattle.store_memory.proofs.listing.waiting_in.Given as goal
 
 -- the orders so far, and those that wait among the rows that are left, are all that wait

@@ -1,7 +1,5 @@
 use Rattle.std.proofs.Common.{sym, ap, ◌∙◌}
-use Rattle.hall_types.specs.Hall.{written}
-use Rattle.hall_store.specs.Versions.{version_of}
-use Rattle.store_memory.proofs.VersionLemmas.{put_here, put_other, gone_here, gone_other}
+use Rattle.store_memory.{specs.Prelude.{written, version_of}, proofs.VersionLemmas.{put_here, put_other, gone_here, gone_other}}
 use Rattle.store_memory.proofs.versions.version_after.Goals as goal
 
 pub returns-then-eq : goal.returns-then-eq

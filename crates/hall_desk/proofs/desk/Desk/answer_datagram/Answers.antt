@@ -1,7 +1,6 @@
 use Rattle.std.proofs.Common.{◌≡◌, refl, rules, subst}
-use Rattle.pxe_vendor.specs.declared.clients.Client.{Client}
 use Rattle.hall_events.specs.declared.event.Event.TheVariants.{Frame}
-use Rattle.hall_desk.{specs.{Account.{IsDecided, IsMoved}, AttemptLaws.missed_same, Desk.site_of, Octets.frame_answer}, proofs.{AccountLemmas.frame_moved, AttemptLemmas.{answered_so, attempt_asked}}}
+use Rattle.hall_desk.{specs.{Prelude.Client, Account.{IsDecided, IsMoved}, AttemptLaws.{gives_missed, read_same}, Desk.site_of, Octets.frame_answer}, proofs.{AccountLemmas.frame_moved, AttemptLemmas.gives_asked}}
 use Rattle.hall_desk.specs.declared.account.Came.TheVariants as came
 use Rattle.hall_desk.specs.declared.arrival.Input.TheVariants as input
 use Rattle.hall_desk.proofs.desk.Desk.answer_datagram.Goals as goal
@@ -10,20 +9,20 @@ pub returns-in-Err : goal.returns-in-Err
 returns-in-Err g c = record {
   site = refl;
   enlists = refl;
-  answer = λ clean. (clean, missed_same g.S.HallStore g.S.HallStore.wider _ _ _ _ (input.Datagram c.args.port c.args.octets.now));
+  answer = gives_missed g.S.HallStore g.S.HallStore.wider _ _ _ _ (input.Datagram c.args.port c.args.octets.now);
   came = search rules;
   found = search rules;
-  unlisted = λ off datagram clean. record { same = λ h held. held; stop = λ h held hs left. left };
+  unlisted = λ off datagram clean. read_same g.S.HallStore _;
 }
 
 pub returns-in-Err-client : goal.returns-in-Err-client
 returns-in-Err-client g c = record {
   site = refl;
   enlists = refl;
-  answer = λ clean. (clean, missed_same g.S.HallStore g.S.HallStore.wider _ _ _ _ (input.Datagram c.args.port c.args.octets.now));
+  answer = gives_missed g.S.HallStore g.S.HallStore.wider _ _ _ _ (input.Datagram c.args.port c.args.octets.now);
   came = search rules;
   found = search rules;
-  unlisted = λ off datagram clean. record { same = λ h held. held; stop = λ h held hs left. left };
+  unlisted = λ off datagram clean. read_same g.S.HallStore _;
 }
 
 one_client : (a b : Client) → came.Client a ≡ came.Client b → a ≡ b
@@ -35,29 +34,24 @@ returns g c =
     record {
       site = carried.stays.site;
       enlists = carried.stays.enlists;
-      answer = λ clean.
-          let done = carried.carried c.args.stamp.moment c.args.stamp.fresh clean in (
-            done.0,
-            rw c.given_or.ensures (answered_so g.S.HallStore _ _ _ (input.Datagram c.args.port c.args.octets.now) _ _ c.carry_frame-answer.result
-                (attempt_asked g.S.HallStore
-                (record { keep = c.decisions_keep_the_rules.ensures; sound = c.steps_keep_halls_sound.ensures.rows }) g.S.HallStore.second_schema
-                _ _ (site_of c.args.self.now) (input.Datagram c.args.port c.args.octets.now) c.args.stamp.moment c.args.stamp.fresh
-                (Frame c.args.port c.in-Ok-client.client) (frame_answer (site_of c.args.self.now) c.in-Ok.frame c.in-Ok-client.client)
-                (record {
-                  message = c.in-Ok.frame;
-                  client = c.in-Ok-client.client;
-                  from = record { carries = c.in-Ok.ensures.frame; sent = c.in-Ok-client.ensures.client };
-                  event = refl;
-                  sends = refl;
-                }) c.frame_is_typed.ensures c.carry_frame-answer.result done.1)),
-          );
+      answer = gives_asked g.S.HallStore (record { keep = c.decisions_keep_the_rules.ensures; sound = c.steps_keep_halls_sound.ensures.rows })
+          g.S.HallStore.second_schema _ _ (site_of c.args.self.now) (input.Datagram c.args.port c.args.octets.now) _ _
+          (Frame c.args.port c.in-Ok-client.client) (frame_answer (site_of c.args.self.now) c.in-Ok.frame c.in-Ok-client.client)
+          (record {
+            message = c.in-Ok.frame;
+            client = c.in-Ok-client.client;
+            from = record { carries = c.in-Ok.ensures.frame; sent = c.in-Ok-client.ensures.client };
+            event = refl;
+            sends = refl;
+          })
+          c.frame_is_typed.ensures c.carry_frame-answer.result c.given_or.result c.given_or.ensures (carried.carried c.args.stamp.moment c.args.stamp.fresh);
       came = search rules;
       found = λ clean h held client is.
           let same : c.in-Ok-client.client ≡ client = one_client _ _ is in
           subst (λ its. IsDecided c.args.self.now.enlists h c.args.port its c.carry_frame-answer.new.notes
           × IsMoved (site_of c.args.self.now) h c.args.port its c.args.stamp.moment c.args.stamp.fresh c.given_or.result c.carry_frame-answer.new.notes) same (
             carried.decided refl refl clean h held,
-            rw c.given_or.ensures (frame_moved (g.S.HallStore.holds c.args.self.now.store) (site_of c.args.self.now) c.in-Ok.frame c.args.port c.args.octets.now c.in-Ok-client.client
+            rw c.given_or.ensures (frame_moved (g.S.HallStore.holds c.args.self.now.store) (site_of c.args.self.now) c.in-Ok.frame c.args.port c.in-Ok-client.client
                 c.args.stamp.moment c.args.stamp.fresh c.carry_frame-answer.result _ c.carry_frame-answer.new.notes refl
                 (carried.moved c.args.stamp.moment c.args.stamp.fresh clean) carried.unmoved (carried.carried c.args.stamp.moment c.args.stamp.fresh clean).1.answer h held),
           );

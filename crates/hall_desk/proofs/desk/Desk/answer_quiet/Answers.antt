@@ -1,6 +1,6 @@
 use Rattle.std.proofs.Common.{◌≡◌, refl, rules}
-use Rattle.hall_events.specs.{Reply.Content, declared.event.Event.TheVariants.Quiet}
-use Rattle.hall_desk.{specs.{Desk.{site_of, store_of}, Octets.no_answer, declared.arrival.Answer.TheVariants.Unavailable}, proofs.{AccountLemmas.event_noted, AttemptLemmas.{answered_so, attempt_asked}}}
+use Rattle.hall_events.specs.declared.event.Event.TheVariants.{Quiet}
+use Rattle.hall_desk.{specs.{Prelude.Content, Desk.{site_of, store_of}, Octets.no_answer, declared.arrival.Answer.TheVariants.Unavailable}, proofs.{AccountLemmas.event_noted, AttemptLemmas.gives_asked}}
 use Rattle.hall_desk.specs.declared.arrival.Input.TheVariants as input
 use Rattle.hall_desk.proofs.desk.Desk.answer_quiet.Goals as goal
 
@@ -11,15 +11,9 @@ pub returns : goal.returns
 returns g c = record {
   site = search rules;
   enlists = search rules;
-  answer = λ clean.
-      let done = c.carry_quiet-answer.ensures.carried clean in (
-        done.0,
-        rw c.given_or.ensures (answered_so g.S.HallStore _ _ (site_of c.args.self.now) input.Quiet c.args.stamp.moment c.args.stamp.fresh c.carry_quiet-answer.result
-            (attempt_asked g.S.HallStore
-            (record { keep = c.decisions_keep_the_rules.ensures; sound = c.steps_keep_halls_sound.ensures.rows }) g.S.HallStore.second_schema
-            _ _ (site_of c.args.self.now) input.Quiet c.args.stamp.moment c.args.stamp.fresh
-            Quiet no_answer (refl, refl) c.event_is_typed.ensures c.carry_quiet-answer.result done.1)),
-      );
+  answer = gives_asked g.S.HallStore (record { keep = c.decisions_keep_the_rules.ensures; sound = c.steps_keep_halls_sound.ensures.rows })
+      g.S.HallStore.second_schema _ _ (site_of c.args.self.now) input.Quiet _ _ Quiet no_answer (refl, refl)
+      c.event_is_typed.ensures c.carry_quiet-answer.result c.given_or.result c.given_or.ensures c.carry_quiet-answer.ensures.carried;
   came = search rules;
   found = λ clean h held.
       rw c.given_or.ensures (event_noted (g.S.HallStore.holds (store_of c.args.self.now)) (site_of c.args.self.now) Quiet c.args.stamp.moment c.args.stamp.fresh no_answer

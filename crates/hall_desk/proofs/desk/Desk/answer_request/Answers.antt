@@ -1,6 +1,5 @@
 use Rattle.std.proofs.Common.{◌≡◌, refl, rules, subst}
-use Rattle.hall_events.specs.{Reply.Content, declared.event.Event.Event}
-use Rattle.hall_desk.{specs.{Account.IsNoted, Desk.{site_of, store_of}, Octets.response_answer, declared.arrival.Answer.TheVariants.Unavailable}, proofs.{AccountLemmas.event_noted, AttemptLemmas.{answered_so, attempt_asked, attempt_refused}}}
+use Rattle.hall_desk.{specs.{Prelude.{Content, Event}, Account.IsNoted, Desk.{site_of, store_of}, Octets.response_answer, declared.arrival.Answer.TheVariants.Unavailable}, proofs.{AccountLemmas.event_noted, AttemptLemmas.{gives_asked, gives_refused}}}
 use Rattle.hall_desk.specs.declared.account.Came.TheVariants as came
 use Rattle.hall_desk.specs.declared.arrival.Input.TheVariants as input
 use Rattle.hall_desk.proofs.desk.Desk.answer_request.Goals as goal
@@ -9,12 +8,8 @@ pub returns-in-Err : goal.returns-in-Err
 returns-in-Err g c = record {
   site = refl;
   enlists = refl;
-  answer = λ clean. (
-    clean,
-    rw c.given_or-answer.ensures (answered_so g.S.HallStore _ _ _ (input.Request c.args.octets.now) _ _ c.fault_response.result
-        (attempt_refused g.S.HallStore g.S.HallStore.wider _ (site_of c.args.self.now) c.args.octets.now c.args.stamp.moment c.args.stamp.fresh
-        c.in-Err.fault c.in-Err.ensures c.fault_response.result c.fault_response.ensures.known c.fault_response.ensures.response)),
-  );
+  answer = gives_refused g.S.HallStore g.S.HallStore.wider _ (site_of c.args.self.now) c.args.octets.now _ _ c.in-Err.fault c.in-Err.ensures
+      c.fault_response.result c.given_or-answer.result c.given_or-answer.ensures c.fault_response.ensures.known c.fault_response.ensures.response;
   came = search rules;
   found = search rules;
   unlisted = λ off datagram. absurd datagram;
@@ -32,15 +27,9 @@ returns g c =
     record {
       site = carried.stays.site;
       enlists = carried.stays.enlists;
-      answer = λ clean.
-          let done = carried.carried clean in (
-            done.0,
-            rw c.given_or.ensures (answered_so g.S.HallStore _ _ _ (input.Request c.args.octets.now) _ _ c.carry_request-answer.result
-                (attempt_asked g.S.HallStore
-                (record { keep = c.decisions_keep_the_rules.ensures; sound = c.steps_keep_halls_sound.ensures.rows }) g.S.HallStore.second_schema
-                _ _ (site_of c.args.self.now) (input.Request c.args.octets.now) c.args.stamp.moment c.args.stamp.fresh
-                c.in-Ok.event response_answer (c.in-Ok.ensures, refl) c.event_is_typed.ensures c.carry_request-answer.result done.1)),
-          );
+      answer = gives_asked g.S.HallStore (record { keep = c.decisions_keep_the_rules.ensures; sound = c.steps_keep_halls_sound.ensures.rows })
+          g.S.HallStore.second_schema _ _ (site_of c.args.self.now) (input.Request c.args.octets.now) _ _ c.in-Ok.event response_answer (c.in-Ok.ensures, refl)
+          c.event_is_typed.ensures c.carry_request-answer.result c.given_or.result c.given_or.ensures carried.carried;
       came = search rules;
       found = λ clean h held e is.
           subst (λ its. IsNoted (site_of c.args.self.now) h its c.args.stamp.moment c.args.stamp.fresh c.given_or.result c.carry_request-answer.new.notes) (one_event _ _ is)

@@ -1,4 +1,4 @@
-use Rattle.hall_desk.{specs.Desk.{site_of, store_of}, proofs.{HistoryLemmas.after_answer, StopLemmas.{after_given, after_stop}}}
+use Rattle.hall_desk.specs.{Desk.{site_of, store_of}, HistoryLaws.{after_answer, after_given, after_stop}}
 use Rattle.hall_desk.proofs.desk.Desk.answer_with_account.Goals as goal
 
 pub returns-clause-answered : goal.returns-clause-answered

@@ -1,7 +1,5 @@
 use Rattle.std.proofs.Common.{◌≡◌, ◌∙◌, [], false, sym, subst, ap}
-use Rattle.hall_types.specs.Hall.{Hall}
-use Rattle.boot_desk.specs.FrameEvent.{frame_decision, frame_view}
-use Rattle.hall_desk.{specs.Account.is_unlisted, proofs.FrameLemmas.no_rows}
+use Rattle.hall_desk.{specs.{Prelude.{Hall, frame_decision, frame_view}, Account.is_unlisted}, proofs.FrameLemmas.no_rows}
 use Rattle.hall_desk.proofs.desk.Desk.carry_frame.Goals as goal
 
 pub returns-clause-unlisted : goal.returns-clause-unlisted

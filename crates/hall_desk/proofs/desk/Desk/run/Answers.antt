@@ -1,5 +1,5 @@
 use Rattle.std.proofs.{Common.{rules, arith, ◌≡◌, ◌<◌, List, [], refl, sym, ◌∙◌, length, take, subst}, lemmas.{Grind.common_steps, List.take_more}}
-use Rattle.hall_desk.{specs.{Desk.{site_of, store_of}, Stops.HasRun, declared.arrival.{Answer.Answer, Arrival.Arrival}}, proofs.{HistoryLemmas.after_run, RunLemmas.{idle_more, ran_more, ran_none}, StopLemmas.{run_given, run_stop}}}
+use Rattle.hall_desk.{specs.{AttemptLaws.read_same, Desk.{site_of, store_of}, HistoryLaws.{after_run, run_given, run_stop}, RunLaws.has_run_none, Stops.HasRun, declared.arrival.{Answer.Answer, Arrival.Arrival}}, proofs.RunLemmas.{idle_more, ran_more}}
 use Rattle.hall_desk.proofs.desk.Desk.run.Goals as goal
 
 pub loop-arrival-init : goal.loop-arrival-init
@@ -9,7 +9,7 @@ loop-arrival-init g c = record {
   enlists = refl;
   ran = λ clean h held sound.
       subst (λ (answers : List Answer). HasRun g.S.HallStore (store_of c.args.self.now) (store_of c.args.self.now) (site_of c.args.self.now) h [] answers) (sym c.in_ok-answers.ensures.items)
-      (ran_none g.S.HallStore (site_of c.args.self.now) (store_of c.args.self.now) h held sound);
+      (has_run_none g.S.HallStore (site_of c.args.self.now) h _ _ (read_same g.S.HallStore _) held sound);
   idle = λ clean h held none. (held, none);
   count = search rules;
   room = search rules;

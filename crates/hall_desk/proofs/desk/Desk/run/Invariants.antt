@@ -1,7 +1,5 @@
 use Rattle.std.{proofs.Common.{◌≡◌, ◌≤◌, drop, take, length, vec_len}, specs.Prelude.vec_capacity}
-use Rattle.hall_types.specs.Hall.{Hall}
-use Rattle.boot_desk.specs.Sound.{IsSound}
-use Rattle.hall_desk.specs.{Attempt.ChangeNothing, Desk.{enlists_of, site_of, store_of}, Stops.HasRun}
+use Rattle.hall_desk.specs.{Prelude.{Hall, IsSound}, Attempt.ChangeNothing, Desk.{enlists_of, site_of, store_of}, Stops.HasRun}
 use Rattle.hall_desk.proofs.desk.Desk.run.Given as goal
 
 -- what was answered so far is a run, and there is room for the rest

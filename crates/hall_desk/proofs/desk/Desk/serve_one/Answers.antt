@@ -1,5 +1,5 @@
 use Rattle.std.proofs.Common.{inl, inr, refl, sym, subst}
-use Rattle.hall_desk.{specs.{Desk.{site_of, store_of}, Headline.{HasHistory, requested}, Stops.{IsLeft, OrSomeRequest}}, proofs.{HistoryLemmas.{after_answer, after_served}, ServedLemmas.served_from, StopLemmas.{nothing_came, request_stop}}}
+use Rattle.hall_desk.{specs.{Desk.{site_of, store_of}, Headline.{HasHistory, requested}, HistoryLaws.{after_answer, after_served, nothing_came, request_stop}, Stops.{IsLeft, OrSomeRequest}}, proofs.ServedLemmas.served_from}
 use Rattle.hall_desk.proofs.desk.Desk.serve_one.Goals as goal
 
 pub returns-in-Some-clause-served : goal.returns-in-Some-clause-served

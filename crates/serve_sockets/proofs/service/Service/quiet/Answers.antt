@@ -1,6 +1,5 @@
-use Rattle.std.proofs.Common.{◌∙◌, ◌&&◌, ◌||◌, Bool, ap, sym}
-use Rattle.hall_desk.specs.declared.arrival.Input.{Input}
-use Rattle.serve_sockets.{specs.{Turn.is_unavailable}, proofs.TurnLemmas.{of_quiet, still_opening, told_unavailable}}
+use Rattle.std.proofs.Common.{◌∙◌, ◌&&◌, ◌||◌, Bool, ap, subst, sym}
+use Rattle.serve_sockets.{specs.{Prelude.Input, Turn.{IsOfDatagram, is_unavailable}}, proofs.TurnLemmas.{still_opening, told_unavailable}}
 use Rattle.serve_sockets.proofs.service.Service.quiet.Goals as goal
 
 pub returns-clause-desk : goal.returns-clause-desk
@@ -8,15 +7,13 @@ returns-clause-desk g c =
     let it = c.hand-answer.ensures in
     record {
       kept = record { clean = λ clean. (it.given clean).0; site = it.site; enlists = it.enlists };
-      handed = λ clean. record {
+      did = λ clean. record {
         what = Input.Quiet;
         said = c.hand-answer.result.0;
         tells = record { kind = c.handover.ensures.kind; size = c.handover.ensures.len; said = c.handover.ensures.said };
         answered = (it.given clean).1;
       };
-      same = λ nothing. absurd nothing;
-      read = λ clean off. absurd off;
-      unlisted = λ off frame. absurd (of_quiet _ c.handover.ensures.kind frame);
+      unlisted = λ off frame. absurd (subst IsOfDatagram c.handover.ensures.kind frame);
     }
 
 pub returns-clause-opened : goal.returns-clause-opened

@@ -1,5 +1,5 @@
 use Rattle.std.proofs.Common.{arith}
-use Rattle.serve_sockets.proofs.{PastLemmas.went_on, TurnLemmas.{keeps_same, keeps_then}, WentOnLemmas.{served_none, served_then, served_within}}
+use Rattle.serve_sockets.proofs.{TurnLemmas.{keeps_same, keeps_then}, WentOnLemmas.{served_none, served_then, served_within, went_on}}
 use Rattle.serve_sockets.proofs.service.Service.serve_turns.Goals as goal
 
 pub loop-served-init : goal.loop-served-init

@@ -1,5 +1,4 @@
-use Rattle.hall_desk.specs.Desk.{site_of, store_of}
-use Rattle.serve_sockets.specs.{Service.desk_of, Turn.{AreServed, KeepsDesk}}
+use Rattle.serve_sockets.specs.{Prelude.{site_of, store_of}, Service.desk_of, Turn.{AreServed, KeepsDesk}}
 use Rattle.serve_sockets.proofs.service.Service.serve_turns.Given as goal
 
 -- as many arrivals at most were handed over as there were turns

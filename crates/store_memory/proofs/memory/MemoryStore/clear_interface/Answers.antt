@@ -1,6 +1,5 @@
 use Rattle.std.proofs.Common.{rules}
-use Rattle.hall_types.specs.declared.change.RowWrite.TheVariants.{InterfaceGone}
-use Rattle.store_memory.proofs.{SlotLemmas.slots_interfaces, TableLemmas.{by_hash, by_text, gone_row}}
+use Rattle.store_memory.{specs.Prelude.InterfaceGone, proofs.{SlotLemmas.slots_interfaces, TableLemmas.{by_hash, by_text, gone_row}}}
 use Rattle.store_memory.proofs.memory.MemoryStore.clear_interface.Goals as goal
 
 pub returns-clause-held : goal.returns-clause-held

@@ -1,7 +1,6 @@
 use Rattle.std.proofs.Common.{◌+◌, ◌==◌, is_some, rules, ap, ◌∙◌}
-use Rattle.hall_types.specs.{Rows.{gone, one_if, size}, RowLaws.{size-gone}, declared.change.RowWrite.TheVariants.{MachineGone}}
-use Rattle.hall_store.specs.ExpiryLaws.{gone_earliest}
-use Rattle.store_memory.proofs.{HeldLemmas.{one_less}, IndexLemmas.{index_gone}, SlotLemmas.{slots_boots, slots_interfaces, slots_machines, slots_orders}, TableLemmas.{by_hash, by_number, by_text, gone_row, where_rows}}
+use Rattle.hall_types.specs.Rows.{size}
+use Rattle.store_memory.{specs.Prelude.{gone, one_if, size-gone, MachineGone, gone_earliest}, proofs.{HeldLemmas.one_less, IndexLemmas.index_gone, SlotLemmas.{slots_boots, slots_interfaces, slots_machines, slots_orders}, TableLemmas.{by_hash, by_number, by_text, gone_row, where_rows}}}
 use Rattle.store_memory.proofs.memory.MemoryStore.clear_machine.Goals as goal
 
 pub returns-clause-held : goal.returns-clause-held

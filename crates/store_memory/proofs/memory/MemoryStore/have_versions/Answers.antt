@@ -1,6 +1,5 @@
 use Rattle.std.proofs.Common.{◌+◌, take, drop, sym, subst, ◌∙◌}
-use Rattle.hall_store.specs.Versions.{HaveVersions}
-use Rattle.store_memory.proofs.VersionLemmas.{split_here, take_next, versions_in, versions_last}
+use Rattle.store_memory.{specs.Prelude.HaveVersions, proofs.VersionLemmas.{split_here, take_next, versions_in, versions_last}}
 use Rattle.store_memory.proofs.memory.MemoryStore.have_versions.Goals as goal
 
 pub returns-then-not-has_version-clause-only : goal.returns-then-not-has_version-clause-only

@@ -1,7 +1,5 @@
 use Rattle.std.proofs.Common.{take}
-use Rattle.hall_types.specs.Hall.{Hall}
-use Rattle.hall_store.specs.Versions.{HaveVersions}
-use Rattle.store_memory.specs.Held.{IsHeld}
+use Rattle.store_memory.specs.{Prelude.{Hall, HaveVersions}, Held.IsHeld}
 use Rattle.store_memory.proofs.memory.MemoryStore.have_versions.Given as goal
 
 -- the writes so far have their versions

@@ -1,6 +1,6 @@
 use Rattle.std.{proofs.Common.{◌≡◌, true, false, sym, ◌∙◌}, specs.{List.list_any, Str.bytes_eq}}
-use Rattle.hall_types.specs.{Rows.listed, declared.image.Live.Live}
-use Rattle.store_memory.proofs.TableLemmas.{numbers_listed}
+use Rattle.hall_types.specs.Rows.{listed}
+use Rattle.store_memory.{specs.Prelude.Live, proofs.TableLemmas.numbers_listed}
 use Rattle.store_memory.proofs.memory.MemoryStore.is_image_used.Goals as goal
 
 pub returns-then-live : goal.returns-then-live

@@ -1,7 +1,6 @@
 use Rattle.std.proofs.Common.{◌<◌, ap, sym, subst, ◌∙◌}
-use Rattle.hall_types.specs.{Lookup.{soonest, if_due}, Rows.listed}
-use Rattle.hall_store.specs.{Expiry.IsEarliest, ExpiryLaws.{none_due, soonest_due}}
-use Rattle.store_memory.proofs.{ExpiryLemmas.{earliest_empty, earliest_of}, HeldLemmas.held_earliest, TableLemmas.numbers_listed}
+use Rattle.hall_types.specs.Rows.{listed}
+use Rattle.store_memory.{specs.Prelude.{soonest, if_due, IsEarliest, none_due, soonest_due}, proofs.{ExpiryLemmas.{earliest_empty, earliest_of}, HeldLemmas.held_earliest, TableLemmas.numbers_listed}}
 use Rattle.store_memory.proofs.memory.MemoryStore.next_due.Goals as goal
 
 pub returns-then-get-self-clause-answer : goal.returns-then-get-self-clause-answer

@@ -1,6 +1,5 @@
 use Rattle.std.proofs.{Common.{filter, ap, ◌∙◌}, lemmas.Result.IfOk-weaker}
-use Rattle.store_memory.proofs.TableLemmas.{numbers_listed}
-use Rattle.hall_types.specs.Lookup.{waits}
+use Rattle.store_memory.{specs.Prelude.waits, proofs.TableLemmas.numbers_listed}
 use Rattle.store_memory.proofs.memory.MemoryStore.orders_that_wait.Goals as goal
 
 pub returns : goal.returns

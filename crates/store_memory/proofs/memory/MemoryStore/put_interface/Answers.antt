@@ -1,6 +1,5 @@
 use Rattle.std.proofs.Common.{rules}
-use Rattle.hall_types.specs.declared.change.RowWrite.TheVariants.{PutInterface}
-use Rattle.store_memory.proofs.{SlotLemmas.slots_interfaces, TableLemmas.{by_hash, by_text, put_row}}
+use Rattle.store_memory.{specs.Prelude.PutInterface, proofs.{SlotLemmas.slots_interfaces, TableLemmas.{by_hash, by_text, put_row}}}
 use Rattle.store_memory.proofs.memory.MemoryStore.put_interface.Goals as goal
 
 pub returns-clause-held : goal.returns-clause-held

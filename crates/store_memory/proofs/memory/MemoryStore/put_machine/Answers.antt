@@ -1,7 +1,6 @@
 use Rattle.std.proofs.Common.{◌+◌, None, is_some, rules, ap, ◌∙◌}
-use Rattle.hall_types.specs.{Rows.{one_if, put, size}, RowLaws.{size-put}, declared.change.RowWrite.TheVariants.{PutMachine}}
-use Rattle.hall_store.specs.ExpiryLaws.{lower_earliest, put_earliest}
-use Rattle.store_memory.proofs.{HeldLemmas.{few, same_count}, IndexLemmas.{index_put}, SlotLemmas.{slots_machines}, TableLemmas.{by_number, put_row}}
+use Rattle.hall_types.specs.Rows.{size}
+use Rattle.store_memory.{specs.Prelude.{one_if, put, size-put, PutMachine, lower_earliest, put_earliest}, proofs.{HeldLemmas.{few, same_count}, IndexLemmas.index_put, SlotLemmas.slots_machines, TableLemmas.{by_number, put_row}}}
 use Rattle.store_memory.proofs.memory.MemoryStore.put_machine.Goals as goal
 
 pub returns-clause-held : goal.returns-clause-held

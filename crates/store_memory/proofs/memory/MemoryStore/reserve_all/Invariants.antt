@@ -1,6 +1,5 @@
 use Rattle.std.proofs.Common.{take}
-use Rattle.hall_types.specs.Hall.{Hall}
-use Rattle.store_memory.specs.Held.{HaveAllSlots, IsHeld}
+use Rattle.store_memory.specs.{Prelude.Hall, Held.{HaveAllSlots, IsHeld}}
 use Rattle.store_memory.proofs.memory.MemoryStore.reserve_all.Given as goal
 
 -- the writes so far have slots, and the rows are as before

@@ -1,7 +1,5 @@
 use Rattle.std.proofs.Common.{take, ap, sym, ◌∙◌}
-use Rattle.hall_types.specs.Hall.{applied}
-use Rattle.hall_store.specs.Versions.{version_of}
-use Rattle.store_memory.proofs.VersionLemmas.{applied_last, take_next}
+use Rattle.store_memory.{specs.Prelude.{applied, version_of}, proofs.VersionLemmas.{applied_last, take_next}}
 use Rattle.store_memory.proofs.memory.MemoryStore.version_after_all.Goals as goal
 
 pub writes-preserved : goal.writes-preserved

@@ -1,6 +1,6 @@
 use Rattle.std.{proofs.Common.refl, specs.Ordering.nat_cmp}
-use Rattle.hall_types.specs.{Hall.{default_pool, second}, Rows.{numbers, pairs, texts}}
-use Rattle.store_memory.{specs.Held.{as_pair, itself, pair_cmp, text_cmp}, proofs.{NewLemmas.{new_count, new_earliest, new_index, none_found}, TableLemmas.{by_text, empty_table, sole_row}}}
+use Rattle.hall_types.specs.Rows.{numbers, pairs, texts}
+use Rattle.store_memory.{specs.{Prelude.{default_pool, second}, Held.{as_pair, itself, pair_cmp, text_cmp}}, proofs.{NewLemmas.{new_count, new_earliest, new_index, none_found}, TableLemmas.{by_text, empty_table, sole_row}}}
 use Rattle.store_memory.proofs.memory.MemoryStore.with_admin.Goals as goal
 
 pub returns : goal.returns

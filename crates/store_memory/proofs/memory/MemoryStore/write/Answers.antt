@@ -1,6 +1,5 @@
 use Rattle.std.proofs.Common.{rules}
-use Rattle.hall_types.specs.{Kinds.{arch_number}, declared.change.RowWrite.TheVariants.{PutOperator, PutPool, PutMember, PutImage, ImageGone, PutLive, PutBoot, PutOrder, PutReceipt, PutNumbers}}
-use Rattle.store_memory.proofs.{SlotLemmas.{slots_members, slots_receipts}, TableLemmas.{by_number, by_pair, by_text, gone_row, put_row}}
+use Rattle.store_memory.{specs.Prelude.{arch_number, PutOperator, PutPool, PutMember, PutImage, ImageGone, PutLive, PutBoot, PutOrder, PutReceipt, PutNumbers}, proofs.{SlotLemmas.{slots_members, slots_receipts}, TableLemmas.{by_number, by_pair, by_text, gone_row, put_row}}}
 use Rattle.store_memory.proofs.memory.MemoryStore.write.Goals as goal
 
 pub returns-in-PutOperator-clause-held : goal.returns-in-PutOperator-clause-held

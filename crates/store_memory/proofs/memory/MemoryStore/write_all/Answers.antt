@@ -1,7 +1,5 @@
 use Rattle.std.{proofs.Common.{◌≡◌, rules, ap, sym, subst, ◌∙◌}, specs.Vec.Iter.into_iter_items}
-use Rattle.hall_types.specs.Hall.{applied, written}
-use Rattle.hall_store.specs.Rules.{AllKeep}
-use Rattle.store_memory.{specs.Held.HaveAllSlots, proofs.SlotLemmas.slots_kept}
+use Rattle.store_memory.{specs.{Prelude.{applied, written, AllKeep}, Held.HaveAllSlots}, proofs.SlotLemmas.slots_kept}
 use Rattle.store_memory.proofs.memory.MemoryStore.write_all.Goals as goal
 
 pub writes-init : goal.writes-init

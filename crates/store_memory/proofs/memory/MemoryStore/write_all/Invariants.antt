@@ -1,7 +1,5 @@
 use Rattle.std.{proofs.Common.◌≡◌, specs.Vec.Iter.into_iter_items}
-use Rattle.hall_types.specs.Hall.{Hall, applied}
-use Rattle.hall_store.specs.Rules.{AllKeep}
-use Rattle.store_memory.specs.Held.{HaveAllSlots, IsHeld}
+use Rattle.store_memory.specs.{Prelude.{Hall, applied, AllKeep}, Held.{HaveAllSlots, IsHeld}}
 use Rattle.store_memory.proofs.memory.MemoryStore.write_all.Given as goal
 
 -- the writes that are left have slots, and lead from the hall that the store has to the one after all

@@ -1,4 +1,0 @@
-use Rattle.hallboot_tasks.proofs.stack.+has_frames.Given as goal
-
-abbrev pub decreases-has_frames : goal.decreases-has_frames
-decreases-has_frames g l = l.frames
