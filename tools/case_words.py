@@ -63,9 +63,8 @@ def variants(path, enum):
 
 
 def laws():
-    """Returns the names of the laws of docs/LAWS.md: the first column of each of its tables that says what a law says."""
-    tables = re.findall(r"^\| Law \| Says \|.*?\n\n", text_of("docs/LAWS.md"), re.DOTALL | re.MULTILINE)
-    return [name for table in tables for name in re.findall(r"^\| `(\w+)`", table, re.MULTILINE)]
+    """Returns the names of the laws of docs/LAWS.md: what each item of its lists of laws begins with."""
+    return re.findall(r"^- \*\*`(\w+)`\*\*", text_of("docs/LAWS.md"), re.MULTILINE)
 
 
 def lists():
