@@ -3,7 +3,7 @@ use Rattle.std.{proofs.Common.{◌≡◌, ℕ, true, false, List, [], ◌∷◌,
 use Rattle.hex.proofs.OnLiterals.{hex_on_literals}
 use Rattle.pxe_vendor.specs.declared.arch.Arch.TheVariants.{Uefi64}
 use Rattle.ipxe_script.specs.Script.{spelling}
-use Rattle.hall_types.specs.{Image.BootImage, Kinds.{purpose_text, erase_text}, Status.status_number, declared.{boot.Boot.Boot, change.RowWrite.TheVariants.{PutMachine, PutBoot, PutOrder, PutNumbers}, kinds.OrderKind.TheVariants.{Cycle, Off}, machine.Machine.Machine, order.Order.Order}}
+use Rattle.hall_types.specs.{Image.BootImage, Machine.blank_machine, Kinds.{purpose_text, erase_text}, Status.status_number, declared.{boot.Boot.Boot, change.RowWrite.TheVariants.{PutMachine, PutBoot, PutOrder, PutNumbers}, kinds.OrderKind.TheVariants.{Cycle, Off}, machine.Machine.Machine, order.Order.Order}}
 use Rattle.hall_types.specs.declared.kinds.Erase.TheVariants as erase
 use Rattle.hall_types.specs.declared.kinds.OrderStage.TheVariants as order
 use Rattle.hall_types.specs.declared.kinds.Outcome.TheVariants as outcome
@@ -36,22 +36,11 @@ live = record {
 
 -- machine 1, commissioned with tests at 1000
 abbrev commissioning : Machine
-commissioning = record {
-  id = 1;
-  arch = Uefi64;
-  uuid = None;
-  pool = codes "lab";
+commissioning = record (blank_machine 1 Uefi64 (codes "lab") None) {
   status = status.Commissioning;
-  owner = None;
-  image = None;
   tests = true;
-  back = None;
-  erase = None;
-  locked = false;
   version = 2;
   deadline = Some 2800;
-  boot = None;
-  boots = 0;
   waiting = Some 1;
 }
 

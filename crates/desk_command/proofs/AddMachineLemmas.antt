@@ -1,7 +1,7 @@
 -- A sound hall stays sound with a machine that an operator adds.
 use Rattle.std.{specs.Prelude.{◌≡◌, ◌||◌, ℕ, not, nat_le, List, [], ◌∷◌, Option, Some, None, is_some, false}, proofs.{Common.{refl, sym, subst}, lemmas.Bool.{leb-false, or_parts}}}
 use Rattle.hall_types.specs.declared.refusal.Refusal.TheVariants as cause
-use Rattle.desk_command.{specs.{Prelude.{Arch, next_number, at, size, Hall, applied, machine_with_uuid, PutInterface, PutMachine, PutNumbers, MAX_MACHINES, blank_machine, machine_with, blank_is_new, new_machine_sound, IsSound}, Causes.{first_of, when}, Effect.added, View.{by_mac, by_uuid, has_pool}, declared.view.CommandView.CommandView, AllowedLaws.{first_none, none_mapped, unless_none, when_none}}, proofs.ActionLemmas.Keeps}
+use Rattle.desk_command.{specs.{Prelude.{Arch, next_number, at, size, Hall, applied, machine_with_uuid, PutInterface, PutMachine, PutNumbers, MAX_MACHINES, blank_machine, machine_with, blank_is_new, new_machine_sound, IsSound}, Causes.{by_mac, by_uuid, first_of, has_pool, when}, Effect.added, declared.view.CommandView.CommandView, AllowedLaws.{first_none, none_mapped, unless_none, when_none}}, proofs.ActionLemmas.Keeps}
 
 no_machine : (h : Hall) (uuid : Option (List ℕ)) → is_some (by_uuid h uuid) ≡ false → machine_with h uuid ≡ None
 no_machine h None free = refl

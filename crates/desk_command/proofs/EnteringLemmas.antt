@@ -8,7 +8,7 @@ use Rattle.hall_events.specs.declared.command.MachineCommand.TheVariants as on
 use Rattle.life_cycle.specs.{Entering.{back_after, keeps_erase, keeps_owner}, Table.step_of}
 use Rattle.life_cycle.specs.declared.action.Action.TheVariants as act
 use Rattle.boot_desk.specs.Class.{class_in}
-use Rattle.desk_command.{specs.{Prelude.{Arch, second, Hall, applied, BootImage, at, Erase, Purpose, Machine, Operator, Status, Deploying, HasRow, HasRowIf, MachineCommand, entered, kept, machine_in, is_signal, same_status, Action, By, Step, step_cases, image_for, IsSound, entry_rows, row_at, view_of, Work, BootView, same_purpose}, Causes.{first_of, is_arch, no_live, no_step, when}, Effect.{acted, entry_effect, prepared, step_effect}, View.{image_arch, of_machine, with_live, machine_view}, declared.view.CommandView.CommandView, AllowedLaws.{IsAllowed, first_none, unless_none}}, proofs.ActionLemmas.{Keeps, WorksIn, act_sound, begins, entering, erasing_by, has_erase, is_this, live_found, work_of}}
+use Rattle.desk_command.{specs.{Prelude.{Arch, second, Hall, applied, BootImage, at, Erase, Purpose, Machine, Operator, Status, Deploying, HasRow, HasRowIf, MachineCommand, entered, kept, machine_in, is_signal, same_status, Action, By, Step, step_cases, image_for, IsSound, entry_rows, row_at, view_of, Work, BootView, same_purpose}, Causes.{first_of, image_arch, is_arch, machine_view, no_live, no_step, of_machine, when, with_live}, Effect.{acted, entry_effect, prepared, step_effect}, declared.view.CommandView.CommandView, AllowedLaws.{IsAllowed, first_none, unless_none}}, proofs.ActionLemmas.{Keeps, WorksIn, act_sound, begins, entering, erasing_by, has_erase, is_this, live_found, work_of}}
 
 -- ---- what a machine works with in its new status
 

@@ -2,7 +2,6 @@ pub mod ActionLemmas
 pub mod AddMachineLemmas
 pub mod CommandRows
 pub mod DeleteLemmas
-pub mod EditLemmas
 pub mod EnteringLemmas
 pub mod OtherRowLemmas
 pub mod PlainLemmas

@@ -1,7 +1,7 @@
 -- A hall stays sound with each command that names no machine, except for a new machine.
 use Rattle.std.{specs.{Prelude.{◌≡◌, ℕ, Bool, true, false, List, [], ◌∷◌, Option, Some, None, Ok, is_some, option_map, if◌then◌else◌}, Str.bytes_eq}, proofs.{Common.{refl, ap}, lemmas.{Bool.both_ways, Slice.Eq.bytes_eq-Decides}}}
 use Rattle.hall_types.specs.declared.change.RowWrite.TheVariants as write
-use Rattle.desk_command.{specs.{Prelude.{Hall, applied, BootImage, is_image_used, operator_with_digest, image_unused, none_listed, row_cases, at, Role, Operator, done, IsSound}, AllowedLaws.none_is, Effect.{disabled, live_image}, View.image_arch}, proofs.{ActionLemmas.Keeps, OtherRowLemmas.{image_gone_sound, live_sound, operator_sound}}}
+use Rattle.desk_command.{specs.{Prelude.{Hall, applied, BootImage, is_image_used, operator_with_digest, image_unused, none_listed, row_cases, at, Role, Operator, done, IsSound}, AllowedLaws.none_is, Effect.{disabled, live_image}, Causes.image_arch}, proofs.{ActionLemmas.Keeps, OtherRowLemmas.{image_gone_sound, live_sound, operator_sound}}}
 
 module _ (h : Hall) (s : IsSound h) where
   -- a new operator

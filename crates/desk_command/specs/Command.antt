@@ -2,7 +2,7 @@
 use Rattle.std.specs.{Prelude.{ℕ, Bool, true, false, List, [], ◌∷◌, ◌++◌, Option, Some, None, Result, Ok, Err, if◌then◌else◌}, Str.bytes_eq}
 use Rattle.hall_types.specs.declared.kinds.Role.TheVariants as role
 use Rattle.hall_types.specs.declared.refusal.Refusal.TheVariants as cause
-use Rattle.desk_command.specs.{Prelude.{Hall, second, pair, operator_with_digest, at, RowWrite, PutReceipt, Role, Operator, Receipt, Refusal, command_text, Content, reply_of, stored, HallCommand, OnMachine, Reply, Http, who_acts, Who, Admin, Action}, Causes.{action_of, causes, first_of}, Effect.{Effect, effect}, View.command_view, declared.view.CommandView.CommandView}
+use Rattle.desk_command.specs.{Prelude.{Hall, second, pair, operator_with_digest, at, RowWrite, PutReceipt, Role, Operator, Receipt, Refusal, command_text, Content, reply_of, stored, HallCommand, OnMachine, Reply, Http, who_acts, Who, Admin, Action}, Causes.{action_of, causes, command_view, first_of}, Effect.{Effect, effect}, declared.view.CommandView.CommandView}
 
 -- ---- who may send it
 

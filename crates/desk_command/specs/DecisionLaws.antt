@@ -2,7 +2,7 @@
 use Rattle.std.{specs.{Prelude.{◌≡◌, ℕ, Bool, true, false, List, [], Option, Some, None, Ok, Err, if◌then◌else◌}, Str.bytes_eq}, proofs.{Common.{refl, sym, ap, subst, ◌∙◌}, lemmas.Slice.Eq.bytes_eq-Decides}}
 use Rattle.hall_types.specs.declared.act.Act.TheVariants as does
 use Rattle.hall_events.specs.declared.command.MachineCommand.TheVariants as on
-use Rattle.desk_command.specs.{Prelude.{Hall, pair, StandUnder, found_listed, row_cases, at, Machine, Operator, Receipt, Refusal, KeyReused, NoMachine, RoleNeeded, UnknownToken, command_text, stored, HallCommand, MachineCommand}, AllowedLaws.{IsAllowed, allowed, may_act}, Causes.{action_of, causes, causes_at, first_of, forbidden}, Command.{command_decision, commanded, keyed, may_send, needs_admin, of_sender, sender, unless, with_receipt}, Effect.{Effect, effect, machine_effect, machine_effect_if}, View.{command_view, machine_view, machine_view_if}}
+use Rattle.desk_command.specs.{Prelude.{Hall, pair, StandUnder, found_listed, row_cases, at, Machine, Operator, Receipt, Refusal, KeyReused, NoMachine, RoleNeeded, UnknownToken, command_text, stored, HallCommand, MachineCommand}, AllowedLaws.{IsAllowed, allowed, may_act}, Causes.{action_of, causes, causes_at, command_view, first_of, forbidden, machine_view, machine_view_if}, Command.{command_decision, commanded, keyed, may_send, needs_admin, of_sender, sender, unless, with_receipt}, Effect.{Effect, effect, machine_effect, machine_effect_if}}
 
 -- ---- a command that isn't refused on a machine
 

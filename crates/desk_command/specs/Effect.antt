@@ -49,6 +49,10 @@ raised m = record m { version = next_version m.version }
 abbrev pub edited : Machine → Machine → List RowWrite → Effect
 edited m after rows = Ok (machine_row m after ∷ rows, about after)
 
+-- the machine with what such commands change of it, as another one has that
+abbrev pub edit_of : Machine → Machine → Machine
+edit_of m after = record m { version = after.version; pool = after.pool; locked = after.locked }
+
 -- a machine that is in the pool already stays as it is
 abbrev pub moved_to_pool : Machine → List ℕ → Effect
 moved_to_pool m pool =

@@ -4,6 +4,5 @@ pub mod Causes
 pub mod Command
 pub mod DecisionLaws
 pub mod Effect
-pub mod View
 pub mod Client
 pub mod Look

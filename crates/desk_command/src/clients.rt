@@ -1,6 +1,6 @@
 //! What a hall has of a PXE client, read from a store.
 ghost use Rattle.std.specs.Prelude.{◌≡◌};
-ghost use Rattle.desk_command.specs.{View.by_uuid, Client.IsEnough, Look.Looks};
+ghost use Rattle.desk_command.specs.{Causes.by_uuid, Client.IsEnough, Look.Looks};
 
 use crate::view::Read;
 use boot_desk::FrameView;

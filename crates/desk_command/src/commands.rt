@@ -1,7 +1,7 @@
 //! The rows that a command names, read from a store.
 ghost use Rattle.std.specs.Prelude.{◌≡◌, is_some};
 ghost use Rattle.desk_command.specs.Command as made;
-ghost use Rattle.desk_command.specs.View as view;
+ghost use Rattle.desk_command.specs.Causes as view;
 ghost use Rattle.desk_command.specs.{Prelude.{is_image_used, operator_with_digest, at, size}, Look.Looks};
 
 use crate::clients::by_uuid;
@@ -140,7 +140,7 @@ fn numbered_view<S: HallStore>(
 }
 
 /// What a hall has of an operator's command: the rows that the command names.
-#[tactic(auto, unfolding(crate::specs::View::command_view))]
+#[tactic(auto, unfolding(crate::specs::Causes::command_view))]
 pub fn command_view<S: HallStore>(
     alloc: Global,
     store: &mut S,

@@ -1,6 +1,6 @@
 //! The rows that a command on a machine names, read from a store.
 ghost use Rattle.std.specs.Prelude.{◌≡◌, length};
-ghost use Rattle.desk_command.specs.View as view;
+ghost use Rattle.desk_command.specs.Causes as view;
 ghost use Rattle.desk_command.specs.{Prelude.interfaces_of, Look.Looks};
 
 use crate::boots::order_at;

@@ -1,6 +1,6 @@
 //! What a hall has under the names that a command has, read from a store.
 ghost use Rattle.std.specs.Prelude.{◌≡◌, is_some};
-ghost use Rattle.desk_command.specs.View as view;
+ghost use Rattle.desk_command.specs.Causes as view;
 ghost use Rattle.desk_command.specs.{Prelude.{arch_number, operator_with_digest, at}, Look.Looks};
 
 use crate::view::{CommandView, Read};

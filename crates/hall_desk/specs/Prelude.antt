@@ -1,6 +1,6 @@
 -- The names of libraries that the definitions and proofs of hall_desk use, but those of std.
 pub use Rattle.boot_desk.specs.{FrameEvent.{frame_decision, frame_view, enlisted}, declared.frames.{Decision.{Decision, TheVariants.{Enlist, Silent}}, FrameView.FrameView}, Views.{machine_view, order_view, report_view, view_at}, Sound.IsSound, Decided.Decides, Expiry.swept, Fetch.Fetched, Report.{Judged, reported}}
-pub use Rattle.desk_command.specs.{Command.{may_send, needs_admin, sender, replied}, View.command_view, Client.IsEnough, Look.Looks, Effect.Effect}
+pub use Rattle.desk_command.specs.{Command.{may_send, needs_admin, sender, replied}, Causes.command_view, Client.IsEnough, Look.Looks, Effect.Effect}
 pub use Rattle.dhcp_frame.specs.{Message.{Message, IsFrame}, Understood.understood, Reply.reply_octets}
 pub use Rattle.hall_events.specs.{declared.{command.HallCommand.HallCommand, event.Event.Event, reply.Reply.{Reply, TheVariants.Http}}, Reply.{Content, reply_of, refused, boot_file, ListedMachine, listed, machine_list, listing, with_machine, nothing, waiting_orders}}
 pub use Rattle.hall_http.specs.{Request.IsEvent, declared.{fault.HttpFault.HttpFault, response.TheConstants.UNAVAILABLE}, Response.response_of, Decided.Ends, Noted.{failed_of, inner_of, takes_of}}

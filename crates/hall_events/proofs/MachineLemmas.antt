@@ -3,7 +3,7 @@ use Rattle.std.proofs.{Common.{◌≡◌, ℕ, ◌+◌, ◌<◌, Bool, List, [],
 use Rattle.json.specs.Print.{quoted}
 use Rattle.serde_json.specs.{Data.{object, Members, no_members, member}, View.items_of, Written.{comma_if, compact_text, items_text, members_text}}
 use Rattle.hall_types.specs.{Hall.second, declared.machine.Interface.Interface}
-use Rattle.hall_events.specs.{Command.mac_data, Object.Member, Reply.{ListedMachine, machine_data}, WrittenMachine.{before, written, first_members, middle_members, last_members}}
+use Rattle.hall_events.specs.{Command.mac_data, Object.Member, Reply.{ListedMachine, machine_data, first_members, middle_members, last_members}, WrittenMachine.{before, written}}
 
 regroup_item : (text comma one rest : List ℕ) → (text ++ (comma ++ one)) ++ rest ≡ text ++ (comma ++ (one ++ rest))
 regroup_item text comma one rest = simp append_assoc
@@ -44,28 +44,28 @@ joined : (first middle last : List Member) (f : Member) (fs : List Member) (m : 
     → 123 ∷ (written false first ++ (written true middle ++ (written true last ++ 125 ∷ []))) ≡ compact_text (object (members_of (first ++ (middle ++ last))))
 joined first middle last f fs m ms is_first is_middle = rw (is_first, is_middle) (parts_joined f fs m ms last)
 
-in_order : (l : ListedMachine) → object (members_of (first_members l.machine ++ (middle_members l ++ last_members l.machine))) ≡ machine_data second l
+in_order : (l : ListedMachine) → object (members_of (first_members second l.machine ++ (middle_members l ++ last_members l.machine))) ≡ machine_data second l
 unfolding machine_data
 in_order l = refl
 
 -- all members of a machine, in three parts
 pub machine_written : (l : ListedMachine)
-    → 123 ∷ (written false (first_members l.machine) ++ (written true (middle_members l) ++ (written true (last_members l.machine) ++ 125 ∷ []))) ≡ compact_text (machine_data second l)
+    → 123 ∷ (written false (first_members second l.machine) ++ (written true (middle_members l) ++ (written true (last_members l.machine) ++ 125 ∷ []))) ≡ compact_text (machine_data second l)
 machine_written l =
-    joined (first_members l.machine) (middle_members l) (last_members l.machine) _ _ _ _ refl refl
+    joined (first_members second l.machine) (middle_members l) (last_members l.machine) _ _ _ _ refl refl
     ∙ ap compact_text (in_order l)
 
 five_parts : (t f m l : List ℕ) → ((((t ++ 123 ∷ []) ++ f) ++ m) ++ l) ++ 125 ∷ [] ≡ t ++ 123 ∷ (f ++ (m ++ (l ++ 125 ∷ [])))
 five_parts t f m l = simp append_assoc
 
 -- a machine is written after a text: a brace, the three parts, and a brace
-pub machine_pushed : (l : ListedMachine) (t u v w x y : List ℕ) → u ≡ t ++ 123 ∷ [] → v ≡ u ++ written false (first_members l.machine) → w ≡ v ++ written true (middle_members l)
+pub machine_pushed : (l : ListedMachine) (t u v w x y : List ℕ) → u ≡ t ++ 123 ∷ [] → v ≡ u ++ written false (first_members second l.machine) → w ≡ v ++ written true (middle_members l)
     → x ≡ w ++ written true (last_members l.machine) → y ≡ x ++ 125 ∷ [] → y ≡ t ++ compact_text (machine_data second l)
 machine_pushed l t u v w x y opened first middle last closed =
     closed
     ∙ ap (λ (text : List ℕ). text ++ 125 ∷ []) (last ∙ ap (λ (text : List ℕ). text ++ written true (last_members l.machine)) (middle
-    ∙ ap (λ (text : List ℕ). text ++ written true (middle_members l)) (first ∙ ap (λ (text : List ℕ). text ++ written false (first_members l.machine)) opened)))
-    ∙ five_parts t (written false (first_members l.machine)) (written true (middle_members l)) (written true (last_members l.machine))
+    ∙ ap (λ (text : List ℕ). text ++ written true (middle_members l)) (first ∙ ap (λ (text : List ℕ). text ++ written false (first_members second l.machine)) opened)))
+    ∙ five_parts t (written false (first_members second l.machine)) (written true (middle_members l)) (written true (last_members l.machine))
     ∙ ap (λ (text : List ℕ). t ++ text) (machine_written l)
 
 placed : (t comma name value rest : List ℕ) → ((t ++ (comma ++ (name ++ 58 ∷ []))) ++ value) ++ rest ≡ t ++ (comma ++ (name ++ 58 ∷ (value ++ rest)))

@@ -59,49 +59,41 @@ order_data o =
 
 -- ---- machines
 
--- what a machine is made of
-abbrev pub hardware_members : ListedMachine → List Member
-hardware_members listed =
-    (codes "arch", string (arch_text listed.machine.arch))
-    ∷ (codes "interfaces", array (items_of (map mac_data listed.macs)))
-    ∷ (codes "uuid", or_null uuid_data listed.machine.uuid)
-    ∷ []
-
--- who holds a machine, and what it was deployed with
-abbrev pub holder_members : Machine → List Member
-holder_members m =
-    (codes "image", or_null string m.image)
-    ∷ (codes "locked", boolean m.locked)
-    ∷ (codes "owner", or_null string m.owner)
-    ∷ (codes "pool", string m.pool)
-    ∷ []
-
 -- the first schema keeps no kind of erasing
 abbrev pub erase_members : Schema → Option Erase → List Member
 erase_members first erase = []
 erase_members second erase = (codes "erase", or_null (λ e. string (erase_text e)) erase) ∷ []
 
--- where a machine stands in its life
-abbrev pub status_members : Machine → List Member
-status_members m =
-    (codes "boot", or_null count m.boot)
+-- the members of a machine in the order of their names' octets, in three parts: `arch` to `id`, `image` to `order`, and those from `owner` on
+abbrev pub first_members : Schema → Machine → List Member
+first_members schema m =
+    (codes "arch", string (arch_text m.arch))
+    ∷ (codes "boot", or_null count m.boot)
     ∷ (codes "deadline", or_null count m.deadline)
-    ∷ (codes "order", or_null count m.waiting)
+    ∷ erase_members schema m.erase
+    ++ (codes "id", count m.id)
+    ∷ []
+
+abbrev pub middle_members : ListedMachine → List Member
+middle_members listed =
+    (codes "image", or_null string listed.machine.image)
+    ∷ (codes "interfaces", array (items_of (map mac_data listed.macs)))
+    ∷ (codes "locked", boolean listed.machine.locked)
+    ∷ (codes "order", or_null count listed.machine.waiting)
+    ∷ []
+
+abbrev pub last_members : Machine → List Member
+last_members m =
+    (codes "owner", or_null string m.owner)
+    ∷ (codes "pool", string m.pool)
     ∷ (codes "status", string (status_text m.status))
+    ∷ (codes "uuid", or_null uuid_data m.uuid)
+    ∷ (codes "version", count m.version)
     ∷ []
 
 -- a machine as answers list it
 unfoldable pub machine_data : Schema → ListedMachine → Data
-machine_data schema listed =
-    let m = listed.machine in
-    object_of (
-    (codes "id", count m.id)
-    ∷ (codes "version", count m.version)
-    ∷ hardware_members listed
-    ++ holder_members m
-    ++ erase_members schema m.erase
-    ++ status_members m
-    )
+machine_data schema listed = object_of (first_members schema listed.machine ++ middle_members listed ++ last_members listed.machine)
 
 -- ---- answers
 

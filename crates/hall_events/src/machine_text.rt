@@ -2,7 +2,7 @@
 ghost use Rattle.std.specs.Prelude.{◌≡◌, ◌++◌, codes, false, true, map, OnOk, string_bytes};
 ghost use Rattle.serde_json.specs.{Data.{array, boolean, string}, View.items_of, Written.{comma_if as comma_before, compact_text}};
 ghost use Rattle.hall_types.specs.{Hall.second, Kinds.erase_text};
-ghost use Rattle.hall_events.specs.{Command.{mac_data, uuid_data}, Object.{count, or_null}, Reply.{listed, machine_data}, WrittenMachine.{first_members, last_members, middle_members, written}};
+ghost use Rattle.hall_events.specs.{Command.{mac_data, uuid_data}, Object.{count, or_null}, Reply.{first_members, last_members, listed, machine_data, middle_members}, WrittenMachine.written};
 
 use crate::list_text::comma_if;
 use crate::plain_text::push_text;
@@ -104,7 +104,7 @@ fn push_macs(text: &mut String, interfaces: &[Interface]) -> Result<(), AllocErr
 }
 
 fn push_first(alloc: Global, text: &mut String, machine: &Machine) -> Result<(), AllocError>
-    ensures { OnOk result (string_bytes text.new ≡ string_bytes text.old ++ written false (first_members machine.now)) }
+    ensures { OnOk result (string_bytes text.new ≡ string_bytes text.old ++ written false (first_members second machine.now)) }
 {
     text.push_str("\"arch\":")?;
     push_text(alloc, text, machine.arch.text())?;

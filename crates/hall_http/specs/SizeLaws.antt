@@ -1,20 +1,14 @@
 -- Laws of sizes: how many octets the texts of members and objects have.
-use Rattle.std.{proofs.{Common.{◌≡◌, ◌+◌, ◌*◌, ◌/◌, ◌%◌, ◌<◌, ◌⊎◌, inl, inr, sym, ◌≤◌, ℕ, Bool, true, false, cond, List, [], ◌∷◌, ◌++◌, Option, Some, None, map, length, refl, ap, subst, ◌∙◌, arith, length-append, lit≤}, lemmas.{Bool.{and_parts, and_from, agree_below_at, leb-true, ltb-true, or_left, cases_lt, false≢true}, Fmt.length-decimal-le, List.Elements.recursion_from_All}}, specs.{Prelude.{codes, option_map, nat_eq, nat_lt, nat_le, ◌&&◌, IfSome}, Char.{digit_char, is_ascii_lowercase}, List.{list_all, AllByRecursion, starts_with}, Ordering.{nat_cmp, match_ordering}, Cmp.Lexicographic.slice_cmp, declared.cmp.Ordering.{Ordering, TheVariants.{Less, Equal, Greater}}}}
+use Rattle.std.{proofs.{Common.{◌≡◌, ◌+◌, ◌*◌, ◌/◌, ◌%◌, ◌<◌, ◌⊎◌, inl, inr, sym, ◌≤◌, ℕ, Bool, true, false, cond, List, [], ◌∷◌, ◌++◌, map, length, refl, ap, subst, ◌∙◌, arith, length-append, lit≤}, lemmas.{Bool.{and_parts, and_from, agree_below_at, leb-true, ltb-true, or_left, cases_lt, false≢true}, Fmt.length-decimal-le}}, specs.{Prelude.{codes, nat_eq, nat_lt, nat_le, ◌&&◌}, Char.{digit_char, is_ascii_lowercase}, List.{list_all, AllByRecursion, starts_with}, Ordering.{nat_cmp, match_ordering}, Cmp.Lexicographic.slice_cmp, declared.cmp.Ordering.{Ordering, TheVariants.{Less, Equal, Greater}}}}
 use Rattle.pxe_vendor.specs.Arch.{arch_text}
 use Rattle.json.specs.Print.{escape_byte}
 use Rattle.ipxe_script.specs.Word.{is_first_octet, is_word_octet, is_word, is_uri}
-use Rattle.hall_types.specs.{Kinds.{role_text, erase_text}, Name.is_name, Act.act_text}
-use Rattle.hall_types.specs.declared.kinds.Erase.TheVariants as erase
-use Rattle.hall_types.specs.declared.act.Act.TheVariants as does
-use Rattle.hall_events.specs.{Object.count, Command.{request_text, members_of, kind_word, machine_word}}
-use Rattle.hall_events.specs.declared.command.HallCommand.TheVariants as hall
-use Rattle.hall_events.specs.declared.command.MachineCommand.TheVariants as act
-use Rattle.hall_events.specs.declared.command.CommandKind.TheVariants as kind
-use Rattle.hall_events.specs.declared.command.MachineKind.TheVariants as done
+use Rattle.hall_types.specs.{Kinds.role_text, Name.is_name}
+use Rattle.hall_events.specs.Object.{count}
 use Rattle.hex.proofs.HexLemmas.{length-encode_with}
 use Rattle.uuid.proofs.TextLemmas.{by_index_length}
 use Rattle.json.proofs.Printed.Strings.{escape_byte_plain}
-use Rattle.hall_http.specs.{Prelude.{encode_lower, lower_digits, lower, hyphenated_text, mac_text, IsMacText-mac_text, length-IsMacText, Arch, Bios, escape_letter, escape, quoted, Data, boolean, string, array, Members, no_members, member, put, items_of, comma_if, compact_text, items_text, members_text, IsWord, IsUri, IsName, is_name_octet, IsNumber, AreOctets, Role, Admin, Member, put_all, object_of, member_if, own_members, command_member, machine_kind, uuid_data, IsCommand, IsMachineCommand, HallCommand, MachineCommand, CommandKind, MachineKind}, Command.{HasNames, HasParts}}
+use Rattle.hall_http.specs.Prelude.{encode_lower, lower_digits, lower, hyphenated_text, mac_text, IsMacText-mac_text, length-IsMacText, Arch, Bios, escape_letter, escape, quoted, Data, boolean, string, array, Members, no_members, member, put, items_of, comma_if, compact_text, items_text, members_text, IsWord, IsUri, IsName, is_name_octet, IsNumber, AreOctets, Role, Admin, Member, put_all, object_of}
 
 -- ---- texts
 

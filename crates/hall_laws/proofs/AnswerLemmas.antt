@@ -4,7 +4,7 @@ use Rattle.ipxe_script.specs.declared.command.Command.{Command as Line}
 use Rattle.hall_types.specs.Rows.{at, listed as rows_of}
 use Rattle.hall_events.specs.declared.event.Event.TheVariants as event
 use Rattle.boot_desk.specs.{Fetch.fetched, FrameEvent.frame_decision, OrderAnswer.answered, Report.reported, declared.frames.Decision.Decision as FrameDecision}
-use Rattle.desk_command.specs.{Command.{command_decision, with_receipt}, Effect.{Effect, effect}, View.command_view}
+use Rattle.desk_command.specs.{Command.{command_decision, with_receipt}, Effect.{Effect, effect}, Causes.command_view}
 use Rattle.hall_laws.{specs.{Prelude.{Site, Client, Hall, applied, RowWrite, Operator, Port, Refusal, waiting, Content, machine_list, nothing, refused, script, waiting_orders, Event, HallCommand, Fetched, frame_view, Judged, IsSound, some_is, order_view, report_view, view_at, Counted, Repeat, Loader, Enlist, BootView, sender, command_cases}, Decision.{Decided, decision_of, listed_of, framed, given, given_if, judged, listed_if, commanded, refuses, says, may_see_orders, may_answer, may_see_machines}, CommandLaws.{SaysDone, effect_says}, Laws.{IsFrame, RefusesWithoutChange, ScriptIsAsked}, Past.{AtEachStep, IsAccepted, WasAnswered}, Refusing.IsRefusal, Step.{IsRun, IsStep, Step}, Writes.is_done, WritesLaws.{listed_cases, role_cases}}, proofs.{Effects.decided, Frame.run_split}}
 
 -- ---- what is answered

@@ -11,7 +11,7 @@ use Rattle.hall_types.specs.declared.act.Act.TheVariants as does
 use Rattle.hall_events.specs.declared.command.MachineCommand.TheVariants as on
 use Rattle.life_cycle.specs.{Entering.{back_after, boot_after, is_origin, is_rescue, keeps_erase, keeps_owner, limit_of}, Table.{step_of, who_gives}}
 use Rattle.boot_desk.specs.{Class.class_in, Fetch.fetched, Following.followed, FrameEvent.{frame_decision, new_machine as new_machine_of}, OrderAnswer.answered, Report.reported, Texts.{local_script, work_script}}
-use Rattle.desk_command.specs.{Causes.causes, Command.{command_decision, commanded}, Effect.effect, View.command_view}
+use Rattle.desk_command.specs.{Causes.{causes, command_view}, Command.{command_decision, commanded}, Effect.effect}
 
 -- ---- what is decided
 

@@ -5,7 +5,7 @@ use Rattle.hall_types.specs.declared.change.RowWrite.TheVariants as write
 use Rattle.hall_types.specs.declared.refusal.Refusal.TheVariants as cause
 use Rattle.hall_events.specs.Reply.{reply_of}
 use Rattle.hall_events.specs.declared.event.Event.TheVariants as event
-use Rattle.desk_command.specs.{Command.{command_decision, with_receipt as receipted}, Effect.{Effect, effect}, View.command_view}
+use Rattle.desk_command.specs.{Command.{command_decision, with_receipt as receipted}, Effect.{Effect, effect}, Causes.command_view}
 use Rattle.hall_laws.{specs.{Prelude.{Hall, applied, new_hall, pair, second, refusal_status, same_key, at-no_rows, at-put, at-put-same, key-same, RowWrite, Operator, Receipt, Refusal, command_text, Content, refused, stored, HallCommand, IsSound, some_is, receipt_of, sender, command_cases}, Decision.{Decided, commanded, decision_of}, Step.{IsStep, Step}, Writes.{LeavesReceipt, WritesAll, is_command, is_done, with_receipt, without_receipt}, Laws.{AnswersAccepted, HasStatus, WasAccepted}, Past.{IsAccepted, SomeOf}}, proofs.{AnswerLemmas.{CameSo, came_so, was_accepted}, Effects.{StepDoes, decided, did, missed, step_does}, Frame.{some_before, some_now}, Keys.{ReceiptsMove, command_of, new_key, receipt_put, receipts_move, same_keys, stored_same}}}
 
 -- ---- statuses

@@ -8,7 +8,7 @@ use Rattle.hall_types.specs.declared.act.Act.TheVariants as does
 use Rattle.hall_events.specs.declared.command.MachineCommand.TheVariants as on
 use Rattle.hall_events.specs.declared.event.Event.TheVariants as event
 use Rattle.life_cycle.specs.declared.action.Action.TheVariants as act
-use Rattle.desk_command.specs.{Causes.causes, Command.{command_decision, with_receipt}, Effect.{Effect, disabled, effect}, View.{command_view, machine_view}}
+use Rattle.desk_command.specs.{Causes.{causes, command_view, machine_view}, Command.{command_decision, with_receipt}, Effect.{Effect, disabled, effect}}
 
 -- ---- answers
 

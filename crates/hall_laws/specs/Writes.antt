@@ -6,7 +6,7 @@ use Rattle.hall_events.specs.declared.command.MachineCommand.TheVariants as on
 use Rattle.hall_events.specs.declared.event.Event.TheVariants as event
 use Rattle.life_cycle.specs.{Table.step_of, declared.{signal.Signal.TheVariants.Report, step.Step.Step}}
 use Rattle.boot_desk.specs.{Fetch.booted, Texts.hold_script}
-use Rattle.hall_laws.specs.{Prelude.{Arch, Client, Hall, pair, stage_after, next_number, Boot, RowWrite, Waiting, Outcome, Progress, Purpose, Interface, Machine, Operator, Order, Port, blank_machine, IsFree, Keeps, Content, counted, done, machine_gone, machine_is, script, HallCommand, AddImage, AddMachine, OnMachine, MachineCommand, Event, entered, permission_for, who_acts, Action, Entered, Signal, Answer, By, Expired, FourthBoot, Work, class_of, is_due, is_fourth, new_boot, offered_boot, entry_rows, machine_row, idle, stage_for, Takes, row_at, action_of, receipt_of, sender, prepared}, Decision.Decided}
+use Rattle.hall_laws.specs.{Prelude.{Arch, edit_of, Client, Hall, pair, stage_after, next_number, Boot, RowWrite, Waiting, Outcome, Progress, Purpose, Interface, Machine, Operator, Order, Port, blank_machine, IsFree, Keeps, Content, counted, done, machine_gone, machine_is, script, HallCommand, AddImage, AddMachine, OnMachine, MachineCommand, Event, entered, permission_for, who_acts, Action, Entered, Signal, Answer, By, Expired, FourthBoot, Work, class_of, is_due, is_fourth, new_boot, offered_boot, entry_rows, machine_row, idle, stage_for, Takes, row_at, action_of, receipt_of, sender, prepared}, Decision.Decided}
 
 -- ---- why a machine takes a step of the table
 
@@ -174,13 +174,13 @@ EditsInterfaces h m (write.PutInterface i ∷ []) = IsFree h.interfaces i.mac ×
 EditsInterfaces h m (write.InterfaceGone mac ∷ []) = ⊤
 EditsInterfaces h m other = ⊥
 
--- a machine's version, its pool, its lock or its interfaces change
+-- a machine changes as an edit does, or its interfaces do
 pub record IsEditing (h : Hall) (rows : List RowWrite) : Type 0 where
   pub machine : Machine
   pub after : Machine
   pub interfaces : List RowWrite
   pub found : at h.machines machine.id ≡ Some machine
-  pub same : after ≡ record machine { pool = after.pool; locked = after.locked; version = after.version }
+  pub same : after ≡ edit_of machine after
   pub edits : EditsInterfaces h machine interfaces
   pub rows_are : rows ≡ machine_row machine after ∷ interfaces
 

@@ -1,7 +1,7 @@
 -- What the statements on machines write: a row that still has its version, with RETURNING, and a row that goes after its children.
-use Rattle.sql_schema.specs.{Words.{number_key, number_is_free, equal_keys, adds_kept, sets_kept_if, removes_alone, IsKept, TableOf, kept_row, parameters_from, machines, interfaces, boots, orders, wipes, HallRows, cell, equals, lit, Null, Text, Keys, Rows, numbers, at, listed, same_key, of_boots, of_interfaces, of_machines, of_orders, of_wipes, list_any, take-map, Value, Row, cast, cast_row, row_at, with_rowid, Chosen, bound, bound_value, State, ExecutesInside, Shown, ValueRef, all_from, Has, filter_same, any_from_none, key-same, same_number, arch_number, status_number, Hall, Machine, no_row_points, list_any-IsPermutation, uncounted, hall_schema, machines_table, interfaces_table, boots_table, orders_table, wipes_table, belongs_to_machine, never_follows, machines_go_alone, number, truth_number, or_null, machine_columns, machine_values, sets, IsWithin, within, shown_within, add_is}, declared.creating.TheConstants.ADD_MACHINE, TableStatements.{with_item, without_item}}
+use Rattle.sql_schema.specs.{Words.{number_key, number_is_free, equal_keys, adds_kept, sets_kept_if, removes_alone, IsKept, TableOf, kept_row, machines, interfaces, boots, orders, wipes, HallRows, cell, equals, Keys, Rows, numbers, at, listed, same_key, of_boots, of_interfaces, of_machines, of_orders, of_wipes, list_any, take-map, Value, Row, cast, cast_row, row_at, with_rowid, Chosen, bound, bound_value, State, ExecutesInside, Shown, ValueRef, all_from, Has, filter_same, any_from_none, key-same, same_number, arch_number, status_number, Hall, Machine, no_row_points, list_any-IsPermutation, uncounted, hall_schema, machines_table, interfaces_table, boots_table, orders_table, wipes_table, belongs_to_machine, never_follows, machines_go_alone, number, truth_number, or_null, machine_columns, machine_values, sets, IsWithin, within, shown_within, add_is}, declared.creating.TheConstants.ADD_MACHINE, TableStatements.{with_item, without_item}}
 use Rattle.sql_items.specs.{MachineRowLaws.cast_machine, MachineStatements.{set_machine_is, remove_machine_is}, Machines.{checked_values, HasNoChild, HasVersion}, declared.machines.TheConstants.{REMOVE_MACHINE, SET_MACHINE}}
-use Rattle.std.proofs.Common.{◌≡◌, ◌&&◌, ◌||◌, ◌==◌, inl, inr, ℕ, pos, List, [], ◌∷◌, map, length, take, Bool, false, Option, Some, None, Ok, refl, sym, ap, ap₂, subst, ◌∙◌, int_eq, IsPermutation, arith}
+use Rattle.std.proofs.Common.{◌≡◌, ◌&&◌, ◌||◌, ◌==◌, inl, inr, ℕ, pos, List, [], ◌∷◌, map, drop, length, take, Bool, false, Option, Some, None, Ok, refl, sym, ap, ap₂, subst, ◌∙◌, int_eq, IsPermutation, arith}
 use Rattle.sql_schema.specs.ValueLaws as value
 
 -- ---- a new row, and a row that still has its version
@@ -11,7 +11,7 @@ pub adds_machine : (old new : State) (before : Hall) (c : HallRows) → IsWithin
 adds_machine old new before c held m count ran =
     let free = number_is_free machines.key_of machine_columns (old.now.trees 11) c.hall.machines (held.spelt.tables.each of_machines) m.id in
     let it = adds_kept numbers machines.rowid machines.item machines.key_of machine_columns (old.now.trees 11) c.hall.machines (held.spelt.tables.each of_machines) hall_schema 6 machines_table refl old new held.spelt.schema refl
-    ADD_MACHINE.now (machine_values m) count ran.0 machines.given 16 (add_is of_machines) m free (machines.source m) refl (ap (with_rowid Chosen (old.now.trees 11)) (cast_machine m)) in
+    ADD_MACHINE.now (machine_values m) count ran.0 machines.given (length machines.given) (add_is of_machines) m free (machines.source m) refl (ap (with_rowid Chosen (old.now.trees 11)) (cast_machine m)) in
     (within ADD_MACHINE.now (machine_values m) old new before c _ count held ran (sets of_machines old.now new.now c held.spelt it.0.0 _ it.0.1 it.0.2), free it.1)
 
 -- where one row is shown, the row had the version, and was changed
@@ -19,7 +19,7 @@ pub sets_machine : (old new : State) (before : Hall) (c : HallRows) → IsWithin
     → length rows ≡ 1 → IsWithin new before (with_item machines c m) × HasVersion c m.id was
 sets_machine old new before c held m was rows shown single =
     let it = sets_kept_if numbers machines.rowid machines.item machines.key_of machine_columns (old.now.trees 11) c.hall.machines (held.spelt.tables.each of_machines) hall_schema 6 machines_table refl old new held.spelt.schema refl
-    SET_MACHINE.now (checked_values m was) (equals 0 0 ∷ equals 11 15 ∷ []) refl (cell 0 ∷ lit Null ∷ parameters_from 1 14) never_follows m (λ y. same_key numbers y.version was)
+    SET_MACHINE.now (checked_values m was) (equals 0 0 ∷ equals 11 (length machines.shown) ∷ []) refl (cell 0 ∷ drop 1 machines.given) never_follows m (λ y. same_key numbers y.version was)
     (λ y. record m { id = y.id }) (λ y. refl) (λ y t. ap (λ n. record m { id = n }) (key-same numbers y.id m.id t)) (λ y. cast_machine (record m { id = y.id }))
     (λ y. ap₂ (λ a b. a && b) (value.same_number (pos y.id) (pos m.id) ∙ number_key y.id m.id) (equal_keys y.version was)) _ _ 1 refl set_machine_is rows shown in
     elim it.2 [
@@ -70,5 +70,5 @@ bound_optional value bound None = refl
 bound_optional value bound (Some x) = bound x
 
 -- the values of a row are all of those with the version but the last
-pub row_bound : (checked : List ValueRef) (m : Machine) (was : ℕ) → bound checked ≡ checked_values m was → bound (take 15 checked) ≡ machine_values m
-row_bound checked m was is = sym (take-map _ 15 checked) ∙ ap (take 15) is
+pub row_bound : (checked : List ValueRef) (m : Machine) (was : ℕ) → bound checked ≡ checked_values m was → bound (take (length machines.shown) checked) ≡ machine_values m
+row_bound checked m was is = sym (take-map _ (length machines.shown) checked) ∙ ap (take (length machines.shown)) is

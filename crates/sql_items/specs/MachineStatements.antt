@@ -1,8 +1,8 @@
 -- Statements on machines and kinds of erasing: each text, and what it is over the tables of a hall. RETURNING reads the parameters, NULL, and then the stored row with its rowid.
 use Rattle.sqlite.specs.Listing.{understood}
 use Rattle.sqlite_tied.specs.Compute.{everything}
-use Rattle.sql_schema.specs.{TableStatements.{shows_query, remove_command}, Queries.first_from, Words.{machines, wipes, Null, lit, Query, Update, Values, parameter, cell, equals, at_most, rising, from_one, only, IsQueryText, IsCommandText, IsReturningText, hall_schema}}
-use Rattle.std.proofs.Common.{refl, [], ◌∷◌, codes}
+use Rattle.sql_schema.specs.{TableStatements.{shows_query, remove_command}, Queries.first_from, Words.{machines, wipes, Query, Update, Values, parameter, cell, equals, at_most, rising, from_one, only, IsQueryText, IsCommandText, IsReturningText, hall_schema}}
+use Rattle.std.proofs.Common.{refl, [], ◌∷◌, ◌+◌, codes, drop, length}
 use Rattle.sql_items.specs.declared.{finding.TheConstants.{FIND_UUID, FIND_MACHINE_WITH_IMAGE}, machines.TheConstants.{FIND_EXPIRED, SET_MACHINE, REMOVE_MACHINE}, wipes.TheConstants.{LIST_WIPES, REMOVE_WIPE}}
 
 -- the machines with a UUID
@@ -17,14 +17,14 @@ find_machine_with_image_is = record { names = _; is = refl; plain = (refl, refl)
 
 -- the machine whose deadline comes first, at most at a moment
 abbrev pub find_expired_query : Query
-find_expired_query = first_from 11 (at_most 12 0 ∷ []) (cell 0 ∷ cell 2 ∷ cell 3 ∷ cell 4 ∷ cell 5 ∷ cell 6 ∷ cell 7 ∷ cell 8 ∷ cell 9 ∷ cell 10 ∷ cell 11 ∷ cell 12 ∷ cell 13 ∷ cell 14 ∷ cell 15 ∷ []) (rising 12 ∷ rising 0 ∷ [])
+find_expired_query = first_from 11 (at_most 12 0 ∷ []) machines.shown (rising 12 ∷ rising 0 ∷ [])
 
 pub find_expired_is : IsQueryText hall_schema FIND_EXPIRED.now find_expired_query
 unfolding understood everything
 find_expired_is = record { names = _; is = refl; plain = (refl, refl); unlisted = refl }
 
--- a machine, changed where it still has a version
-pub set_machine_is : IsReturningText hall_schema SET_MACHINE.now (Update 6 (only (from_one 11 (equals 0 0 ∷ equals 11 15 ∷ []) (cell 0 ∷ cell 0 ∷ lit Null ∷ parameter 1 ∷ parameter 2 ∷ parameter 3 ∷ parameter 4 ∷ parameter 5 ∷ parameter 6 ∷ parameter 7 ∷ parameter 8 ∷ parameter 9 ∷ parameter 10 ∷ parameter 11 ∷ parameter 12 ∷ parameter 13 ∷ parameter 14 ∷ []) []))) (record { names = codes "version" ∷ []; row = Values (parameter 28 ∷ []) 1 })
+-- a machine, changed where it still has a version, which is the parameter after those of its row
+pub set_machine_is : IsReturningText hall_schema SET_MACHINE.now (Update 6 (only (from_one 11 (equals 0 0 ∷ equals 11 (length machines.shown) ∷ []) (cell 0 ∷ cell 0 ∷ drop 1 machines.given) []))) (record { names = codes "version" ∷ []; row = Values (parameter (13 + length machines.shown) ∷ []) 1 })
 unfolding understood everything
 set_machine_is = record { is = refl; returning = refl; untimed = refl }
 

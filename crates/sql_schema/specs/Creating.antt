@@ -1,5 +1,5 @@
 -- The texts that make the tables and indexes of a hall, and those that read its tables.
-use Rattle.sql_schema.specs.{Prelude.{created, indexed, CreateTable, CreateIndex, table_defined_by, index_defined_by, lacks_sequence, Schema, Table, Index, Key, Term}, Queries.{cell, from_one}, Statements.{IsKeptText, IsQueryText}, TableOf.cells_from, Tables.hall_schema}
+use Rattle.sql_schema.specs.{Prelude.{created, indexed, CreateTable, CreateIndex, table_defined_by, index_defined_by, lacks_sequence, Schema, Table, Index, Key, Term}, Queries.{cell, from_one}, Statements.{IsKeptText, IsQueryText}, TableOf.cells_from, Described.hall_schema}
 use Rattle.std.specs.Prelude.{◌≡◌, ◌⊎◌, ⊤, ℕ, List, [], ◌∷◌, Ok, Option, Some, None, false, length, drop, slice_get}
 
 -- over the first schema the text defines this table, and the second schema has it too

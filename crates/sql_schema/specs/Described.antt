@@ -1,14 +1,25 @@
--- The tables of a hall, each described once: the columns of its rows after the rowid, what its statements say, and its place among all. The column of an INTEGER PRIMARY KEY is stored as NULL.
-use Rattle.sql_schema.specs.{Prelude.{option_to_list, Null, Int, Text, Blob, lit, Query, Row, Trees, Rows, numbers, texts, pairs, at, pair, arch_number, role_number, purpose_number, stage_number, order_kind_number, order_stage_number, erase_number, status_number, BootImage, Operator, Pool, Member, Live, Machine, Interface, Boot, Order, Receipt, Numbers}, Columns.{number, truth_number, or_null, joined, HasWords}, HallRows.{Counts, HallRows, Wipe}, Rows.Entry, TableOf.{HallTable, IsNamed, TableOf, named, numbered, of_table, pair_values, parameters_from}, Queries.{cell, from_one, rising}, Tables.{hall_table, operators_table, pools_table, members_table, images_table, lives_table, machines_table, interfaces_table, boots_table, orders_table, receipts_table, counts_table, wipes_table}, declared.creating.TheConstants.{CREATE_BOOTS, CREATE_COUNTS, CREATE_HALL, CREATE_IMAGES, CREATE_INTERFACES, CREATE_LIVES, CREATE_MACHINES, CREATE_MEMBERS, CREATE_OPERATORS, CREATE_ORDERS, CREATE_POOLS, CREATE_RECEIPTS, CREATE_WIPES, ADD_BOOT, ADD_COUNT, ADD_IMAGE, ADD_INTERFACE, ADD_LIVE, ADD_MACHINE, ADD_MEMBER, ADD_OPERATOR, ADD_ORDER, ADD_POOL, ADD_RECEIPT, ADD_WIPE, FIND_BOOT, FIND_IMAGE, FIND_INTERFACE, FIND_LIVE, FIND_MACHINE, FIND_MEMBER, FIND_NUMBERS, FIND_OPERATOR, FIND_ORDER, FIND_POOL, FIND_RECEIPT, FIND_WIPE, FIRST_NUMBERS, LIST_COUNTS}}
-use Rattle.std.specs.Prelude.{◌≡◌, ◌==◌, ℕ, pos, zero, suc, List, [], ◌∷◌, map, drop, Some, cond}
+-- The thirteen tables and three indexes of a hall, second schema, each described once: its columns for SQLite, the columns of its rows after the rowid, what its statements say, and its place among all. The column of an INTEGER PRIMARY KEY is stored as NULL.
+use Rattle.sql_schema.specs.{Prelude.{option_to_list, Schema, Table, Index, op2, col, Compare, Eq, Binary, automatic, Null, Int, Text, Blob, lit, Query, Row, Trees, Rows, numbers, texts, pairs, at, pair, arch_number, role_number, purpose_number, stage_number, order_kind_number, order_stage_number, erase_number, status_number, BootImage, Operator, Pool, Member, Live, Machine, Interface, Boot, Order, Receipt, Numbers}, Columns.{number, truth_number, or_null, joined, HasWords}, HallRows.{Counts, HallRows, Wipe}, Rows.Entry, TableOf.{HallTable, IsNamed, TableOf, named, numbered, of_table, pair_values, parameters_from}, Queries.{cell, from_one, rising}, Tables.{required, optional, refers_to, belongs_to_machine, by_number, by_name, on_machine}, declared.creating.TheConstants.{CREATE_BOOTS, CREATE_COUNTS, CREATE_HALL, CREATE_IMAGES, CREATE_INTERFACES, CREATE_LIVES, CREATE_MACHINES, CREATE_MEMBERS, CREATE_OPERATORS, CREATE_ORDERS, CREATE_POOLS, CREATE_RECEIPTS, CREATE_WIPES, ADD_BOOT, ADD_COUNT, ADD_IMAGE, ADD_INTERFACE, ADD_LIVE, ADD_MACHINE, ADD_MEMBER, ADD_OPERATOR, ADD_ORDER, ADD_POOL, ADD_RECEIPT, ADD_WIPE, FIND_BOOT, FIND_IMAGE, FIND_INTERFACE, FIND_LIVE, FIND_MACHINE, FIND_MEMBER, FIND_NUMBERS, FIND_OPERATOR, FIND_ORDER, FIND_POOL, FIND_RECEIPT, FIND_WIPE, FIRST_NUMBERS, LIST_COUNTS}}
+use Rattle.std.specs.Prelude.{◌≡◌, ◌==◌, ℕ, pos, zero, suc, List, [], ◌∷◌, map, drop, take, Some, cond, codes}
+use Rattle.sqlite.specs.Kind.TheVariants as kind
 
 -- ---- the last numbers
+
+abbrev pub hall_table : Table
+hall_table = by_number (codes "hall") 0
+    (optional kind.Integer (codes "one") ∷ required kind.Integer (codes "schema") ∷ required kind.Integer (codes "machine") ∷ required kind.Integer (codes "boot") ∷ required kind.Integer (codes "orders") ∷ [])
+    [] (op2 (Compare Eq Binary) (col 1 0) (lit (Int (pos 1))) ∷ []) []
 
 -- the one row of the last numbers, under the key 1, with the number of the schema
 abbrev pub numbers_row : Numbers → Row
 numbers_row last = number 1 ∷ Null ∷ number 2 ∷ number last.machine ∷ number last.boot ∷ number last.order ∷ []
 
 -- ---- operators
+
+abbrev pub operators_table : Table
+operators_table = by_name (codes "operators") 1
+    (required kind.Text (codes "name") ∷ required kind.Integer (codes "role") ∷ required kind.Blob (codes "digest") ∷ required kind.Integer (codes "enabled") ∷ [])
+    (1 ∷ []) ((3 ∷ []) ∷ []) []
 
 abbrev pub operator_columns : Operator → Row
 operator_columns o = Text o.name ∷ number (role_number o.role) ∷ Blob o.digest ∷ number (truth_number o.enabled) ∷ []
@@ -18,6 +29,11 @@ operators = named operators_table 1 (λ o. o.name) (λ name. Text name ∷ []) 1
 
 -- ---- pools
 
+abbrev pub pools_table : Table
+pools_table = by_name (codes "pools") 4
+    (required kind.Text (codes "name") ∷ [])
+    (1 ∷ []) [] []
+
 abbrev pub pool_columns : Pool → Row
 pool_columns p = Text p.name ∷ []
 
@@ -26,6 +42,11 @@ pools = named pools_table 2 (λ p. p.name) (λ name. Text name ∷ []) 1 pool_co
 
 -- ---- members
 
+abbrev pub members_table : Table
+members_table = by_name (codes "members") 6
+    (required kind.Text (codes "pool") ∷ required kind.Text (codes "operator") ∷ [])
+    (1 ∷ 2 ∷ []) [] (refers_to (codes "pools") 1 ∷ refers_to (codes "operators") 2 ∷ [])
+
 abbrev pub member_columns : Member → Row
 member_columns m = Text m.pool ∷ Text m.operator ∷ []
 
@@ -33,6 +54,11 @@ abbrev pub members : TableOf pairs Member (Entry Member)
 members = named members_table 3 (λ m. pair m.pool m.operator) (pair_values Text) 2 member_columns 2 (λ c. c.hall.members) (λ c rows. record c { hall = record c.hall { members = rows } })
 
 -- ---- images
+
+abbrev pub images_table : Table
+images_table = by_name (codes "images") 8
+    (required kind.Text (codes "name") ∷ required kind.Integer (codes "arch") ∷ required kind.Text (codes "kernel") ∷ required kind.Text (codes "initrd") ∷ required kind.Text (codes "args") ∷ [])
+    (1 ∷ []) [] []
 
 abbrev pub image_columns : BootImage → Row
 image_columns i = Text i.name ∷ number (arch_number i.arch) ∷ Text i.kernel ∷ Text i.initrd ∷ Text (joined i.args) ∷ []
@@ -47,6 +73,11 @@ pub record AreImages (stored : List Row) (rows : Rows texts BootImage) : Type 0 
 
 -- ---- lives
 
+abbrev pub lives_table : Table
+lives_table = by_number (codes "lives") 10
+    (optional kind.Integer (codes "arch") ∷ required kind.Text (codes "image") ∷ [])
+    [] [] (refers_to (codes "images") 2 ∷ [])
+
 abbrev pub live_columns : Live → Row
 live_columns l = Null ∷ Text l.image ∷ []
 
@@ -57,6 +88,11 @@ abbrev pub lives : TableOf numbers Live Live
 lives = numbered lives_table 5 (λ l. arch_number l.arch) live_columns 1 (λ c. c.hall.lives) (λ c rows. record c { hall = record c.hall { lives = rows } })
 
 -- ---- machines
+
+abbrev pub machines_table : Table
+machines_table = by_number (codes "machines") 11
+    (optional kind.Integer (codes "id") ∷ required kind.Integer (codes "arch") ∷ optional kind.Blob (codes "uuid") ∷ required kind.Text (codes "pool") ∷ required kind.Integer (codes "status") ∷ optional kind.Text (codes "owner") ∷ optional kind.Text (codes "image") ∷ required kind.Integer (codes "tests") ∷ optional kind.Integer (codes "back") ∷ required kind.Integer (codes "locked") ∷ required kind.Integer (codes "version") ∷ optional kind.Integer (codes "deadline") ∷ optional kind.Integer (codes "boot") ∷ required kind.Integer (codes "boots") ∷ optional kind.Integer (codes "waiting") ∷ [])
+    ((3 ∷ []) ∷ []) [] (refers_to (codes "pools") 4 ∷ refers_to (codes "operators") 6 ∷ refers_to (codes "images") 7 ∷ [])
 
 -- how the disks of a machine are erased has a table of its own
 abbrev pub machine_columns : Machine → Row
@@ -74,6 +110,14 @@ machines = numbered machines_table 6 (λ m. m.id) machine_columns 14 (λ c. c.ha
 
 -- ---- interfaces
 
+abbrev pub interfaces_table : Table
+interfaces_table = by_name (codes "interfaces") 13
+    (required kind.Blob (codes "mac") ∷ required kind.Integer (codes "machine") ∷ [])
+    (1 ∷ []) [] (belongs_to_machine 2 ∷ [])
+
+abbrev pub interfaces_index : Index
+interfaces_index = on_machine (codes "interfaces_machine") 21 13
+
 abbrev pub interface_columns : Interface → Row
 interface_columns i = Blob i.mac ∷ number i.machine ∷ []
 
@@ -81,6 +125,14 @@ abbrev pub interfaces : TableOf texts Interface (Entry Interface)
 interfaces = named interfaces_table 7 (λ i. i.mac) (λ mac. Blob mac ∷ []) 1 interface_columns 2 (λ c. c.hall.interfaces) (λ c rows. record c { hall = record c.hall { interfaces = rows } })
 
 -- ---- boots
+
+abbrev pub boots_table : Table
+boots_table = by_number (codes "boots") 15
+    (optional kind.Integer (codes "number") ∷ required kind.Integer (codes "machine") ∷ required kind.Integer (codes "purpose") ∷ required kind.Blob (codes "token") ∷ required kind.Integer (codes "stage") ∷ [])
+    [] [] (belongs_to_machine 2 ∷ [])
+
+abbrev pub boots_index : Index
+boots_index = on_machine (codes "boots_machine") 22 15
 
 abbrev pub boot_columns : Boot → Row
 boot_columns b = Null ∷ number b.machine ∷ number (purpose_number b.purpose) ∷ Blob b.token ∷ number (stage_number b.stage) ∷ []
@@ -93,6 +145,14 @@ boots = numbered boots_table 8 (λ b. b.number) boot_columns 4 (λ c. c.hall.boo
 
 -- ---- orders
 
+abbrev pub orders_table : Table
+orders_table = by_number (codes "orders") 16
+    (optional kind.Integer (codes "number") ∷ required kind.Integer (codes "machine") ∷ required kind.Integer (codes "kind") ∷ required kind.Integer (codes "stage") ∷ [])
+    [] [] (belongs_to_machine 2 ∷ [])
+
+abbrev pub orders_index : Index
+orders_index = on_machine (codes "orders_machine") 23 16
+
 abbrev pub order_columns : Order → Row
 order_columns o = Null ∷ number o.machine ∷ number (order_kind_number o.kind) ∷ number (order_stage_number o.stage) ∷ []
 
@@ -104,6 +164,11 @@ orders = numbered orders_table 9 (λ o. o.number) order_columns 3 (λ c. c.hall.
 
 -- ---- receipts
 
+abbrev pub receipts_table : Table
+receipts_table = by_name (codes "receipts") 17
+    (required kind.Text (codes "operator") ∷ required kind.Blob (codes "request") ∷ required kind.Text (codes "command") ∷ required kind.Integer (codes "status") ∷ required kind.Text (codes "body") ∷ [])
+    (1 ∷ 2 ∷ []) [] (refers_to (codes "operators") 1 ∷ [])
+
 abbrev pub receipt_columns : Receipt → Row
 receipt_columns r = Text r.operator ∷ Blob r.key ∷ Text r.command ∷ number r.status ∷ Text r.body ∷ []
 
@@ -111,6 +176,11 @@ abbrev pub receipts : TableOf pairs Receipt (Entry Receipt)
 receipts = named receipts_table 10 (λ r. pair r.operator r.key) (pair_values Blob) 2 receipt_columns 5 (λ c. c.hall.receipts) (λ c rows. record c { hall = record c.hall { receipts = rows } })
 
 -- ---- counts
+
+abbrev pub counts_table : Table
+counts_table = by_name (codes "counts") 19
+    (required kind.Text (codes "pool") ∷ required kind.Integer (codes "status") ∷ required kind.Integer (codes "machines") ∷ [])
+    (1 ∷ 2 ∷ []) [] []
 
 -- how many machines a pool has in a status
 pub record CountRow : Type 0 where
@@ -137,6 +207,11 @@ pub record AreCounts (stored : List Row) (all : Counts) : Type 0 where
   pub counted : (pool : List ℕ) (status : ℕ) → map (λ (c : CountRow). c.machines) (option_to_list (at rows (count_key pool status))) ≡ in_rows (all pool status)
 
 -- ---- kinds of erasing
+
+abbrev pub wipes_table : Table
+wipes_table = by_number (codes "wipes") 24
+    (optional kind.Integer (codes "machine") ∷ required kind.Integer (codes "erase") ∷ [])
+    [] [] (belongs_to_machine 0 ∷ [])
 
 abbrev pub wipe_columns : Wipe → Row
 wipe_columns w = Null ∷ number (erase_number w.erase) ∷ []
@@ -207,6 +282,31 @@ described of_counts = record {
   given = lit Null ∷ parameters_from 0 3;
 }
 described of_wipes = of_table wipes CREATE_WIPES.now FIND_WIPE.now ADD_WIPE.now
+
+-- ---- the schema
+
+-- all tables, in the order in which they are made
+abbrev pub all_tables : List Table
+all_tables = hall_table ∷ operators_table ∷ pools_table ∷ members_table ∷ images_table ∷ lives_table ∷ machines_table ∷ interfaces_table ∷ boots_table ∷ orders_table ∷ receipts_table ∷ counts_table ∷ wipes_table ∷ []
+
+-- all indexes, those of UNIQUE keys first, in the order in which they are made
+abbrev pub all_indexes : List Index
+all_indexes = automatic operators_table 0 (1 ∷ []) 2 ∷ automatic operators_table 1 (3 ∷ []) 3 ∷ automatic pools_table 0 (1 ∷ []) 5 ∷ automatic members_table 0 (1 ∷ 2 ∷ []) 7 ∷ automatic images_table 0 (1 ∷ []) 9 ∷ automatic machines_table 0 (3 ∷ []) 12 ∷ automatic interfaces_table 0 (1 ∷ []) 14 ∷ automatic receipts_table 0 (1 ∷ 2 ∷ []) 18 ∷ automatic counts_table 0 (1 ∷ 2 ∷ []) 20
+    ∷ interfaces_index ∷ boots_index ∷ orders_index ∷ []
+
+-- the schema while it is made, with so many tables and indexes
+abbrev pub stage : ℕ → ℕ → Schema
+stage tables indexes = record { tables = take tables all_tables; indexes = take indexes all_indexes; views = [] }
+
+-- nothing is made yet
+abbrev pub no_schema : Schema
+no_schema = record { tables = []; indexes = []; views = [] }
+
+-- all is made
+abbrev pub hall_schema : Schema
+hall_schema = record { tables = all_tables; indexes = all_indexes; views = [] }
+
+-- ---- what a table stores
 
 -- the trees, with these rows in the place of those of one of them
 abbrev pub with_tree : ℕ → List Row → Trees → Trees

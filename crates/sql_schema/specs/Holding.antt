@@ -1,5 +1,5 @@
 -- Which hall a connection holds, between calls and inside a transaction, and what a call on it promises.
-use Rattle.sql_schema.specs.{Prelude.{Trees, State, Has, Hall}, Tables.hall_schema, HallRows.HallRows, Spelling.{Spells, SpellHall}}
+use Rattle.sql_schema.specs.{Prelude.{Trees, State, Has, Hall}, Described.hall_schema, HallRows.HallRows, Spelling.{Spells, SpellHall}}
 use Rattle.std.specs.Prelude.{◌≡◌, List, true, false, IsTrue, Result, IfOk, OnOk, OnErr}
 
 -- between calls: the connection is open, its tables spell this hall, and all of it is committed

@@ -1,5 +1,5 @@
 -- Laws of connections that hold a hall, for the proofs of callers: what goes through a call.
-use Rattle.sql_schema.specs.{Prelude.{Error, Row, Query, IsAnswer, overlay, Database, State, HasCleanDisk, IsUnchanged, Survives, Shown, FailsToQuery, CommitsShowing, ExecutesInside, Hall, Command, Returning, Trees, survives_then}, Statements.{IsBack, IsQueryText, IsReturningText}, WriteLaws.shown_wrote, StatementLaws.{query_refused, shown_same, query_survives}, QueryLaws.shown_answer, Tables.hall_schema, HallRows.HallRows, Spelling.{Spells, SpellHall}, Holding.{Holds, Leaves, IsWithin, IsTableRead, IsHeld}}
+use Rattle.sql_schema.specs.{Prelude.{Error, Row, Query, IsAnswer, overlay, Database, State, HasCleanDisk, IsUnchanged, Survives, Shown, FailsToQuery, CommitsShowing, ExecutesInside, Hall, Command, Returning, Trees, survives_then}, Statements.{IsBack, IsQueryText, IsReturningText}, WriteLaws.shown_wrote, StatementLaws.{query_refused, shown_same, query_survives}, QueryLaws.shown_answer, Described.hall_schema, HallRows.HallRows, Spelling.{Spells, SpellHall}, Holding.{Holds, Leaves, IsWithin, IsTableRead, IsHeld}}
 use Rattle.std.proofs.Common.{◌≡◌, ◌⊎◌, inl, inr, ℕ, nat_eq, MatchBool, List, [], ◌∷◌, Ok, Err, Result, IfOk, IfErr, sym, ap, subst, ◌∙◌, IsTrue, refl, arith}
 
 pub same_held : (old new : State) (h : Hall) → IsUnchanged old new → Holds old h → Holds new h

@@ -1,6 +1,6 @@
 -- Laws of the schema of a hall, for the proofs of callers: the texts make it, each its table or index; what reads the tables and adds rows is a statement over it; and what a write of a table sets off in the others.
 use Rattle.std.proofs.Common.{refl, ◌++◌, ℕ, List, map, drop, get_or, length, ◌+◌, inl, inr, ◌≡◌, ◌≢◌, [], ◌∷◌, Some}
-use Rattle.sql_schema.specs.{Prelude.{AllByRecursion, IsPlain, Table, Term, Key, filter_map, Row, Trees, plain, parent_key, Enforced, works, work_for, all-flat_map, Insert, Values}, Creating.{MakesAll, MakesIndex, MakesTable, Reads, ReadsEach, all_cells}, Described.{TableName, of_operators, of_pools, of_members, of_images, of_lives, of_machines, of_interfaces, of_boots, of_orders, of_receipts, of_counts, of_wipes, of_last, described, machines}, Queries.from_one, Statements.{IsCommandText, IsQueryText}, Tables.{stage, no_schema, hall_schema, all_tables, interfaces_table, boots_table, orders_table, wipes_table, interfaces_index, boots_index, orders_index, belongs_to_machine}, declared.creating.TheConstants.{CREATE_ALL, INDEX_BOOTS, INDEX_INTERFACES, INDEX_ORDERS, LIST_MACHINES, READ_FIRST, READ_SECOND}, Cascades.{IsIdle, cascade, NeverFollows}, CascadeStepLaws.child_is_idle}
+use Rattle.sql_schema.specs.{Prelude.{AllByRecursion, IsPlain, Table, Term, Key, filter_map, Row, Trees, plain, parent_key, Enforced, works, work_for, all-flat_map, Insert, Values}, Creating.{MakesAll, MakesIndex, MakesTable, Reads, ReadsEach, all_cells}, Described.{TableName, of_operators, of_pools, of_members, of_images, of_lives, of_machines, of_interfaces, of_boots, of_orders, of_receipts, of_counts, of_wipes, of_last, described, machines, stage, no_schema, hall_schema, all_tables, interfaces_table, boots_table, orders_table, wipes_table, interfaces_index, boots_index, orders_index}, Queries.from_one, Statements.{IsCommandText, IsQueryText}, Tables.belongs_to_machine, declared.creating.TheConstants.{CREATE_ALL, INDEX_BOOTS, INDEX_INTERFACES, INDEX_ORDERS, LIST_MACHINES, READ_FIRST, READ_SECOND}, Cascades.{IsIdle, cascade, NeverFollows}, CascadeStepLaws.child_is_idle}
 use Rattle.sqlite_tied.specs.Compute.{everything}
 use Rattle.sqlite.specs.Listing.{understood}
 

@@ -1,5 +1,5 @@
 -- Which rows of the tables spell a hall.
-use Rattle.sql_schema.specs.{Prelude.{Hall, second, at, how_many, bytes_eq, Trees, Database, IsSound, status_number, Machine}, Described.{TableName, described}, HallRows.{HallRows, Wipe}, Tables.hall_schema}
+use Rattle.sql_schema.specs.{Prelude.{Hall, second, at, how_many, bytes_eq, Trees, Database, IsSound, status_number, Machine}, Described.{TableName, described, hall_schema}, HallRows.{HallRows, Wipe}}
 use Rattle.std.specs.Prelude.{◌≡◌, ◌==◌, ◌&&◌, ℕ, Bool, List, Option, option_map, option_and_then}
 
 -- the trees of the tables have these rows

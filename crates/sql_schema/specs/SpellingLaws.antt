@@ -1,5 +1,5 @@
 -- Laws of the spelling of a hall, for the proofs of callers: one table that changes, while the others stay.
-use Rattle.sql_schema.specs.{Prelude.{all-slice_get, AllByRecursion, nat_tests, Row, Database, Table}, Statements.SetsRows, Tables.hall_schema, Described.{TableName, of_last, described, each_stores, with_tree}, HallRows.HallRows, Spelling.Spells}
+use Rattle.sql_schema.specs.{Prelude.{all-slice_get, AllByRecursion, nat_tests, Row, Database, Table}, Statements.SetsRows, Described.{TableName, of_last, described, each_stores, with_tree, hall_schema}, HallRows.HallRows, Spelling.Spells}
 use Rattle.std.proofs.Common.{◌≡◌, ◌≢◌, ◌==◌, Bool, true, false, cond, List, Some, slice_get, refl, sym, ap, subst, ◌∙◌, arith}
 
 -- each table is in its place of the schema

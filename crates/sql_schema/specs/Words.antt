@@ -4,7 +4,7 @@ pub use Rattle.sql_schema.specs.SchemaLaws.{add_is, find_is, goes_alone, list_ma
 pub use Rattle.sql_schema.specs.CascadeStepLaws.{no_row_points}
 pub use Rattle.sql_schema.specs.ColumnLaws.{same_kind, same_truth}
 pub use Rattle.sql_schema.specs.Columns.{HasWords, joined, number, or_null, truth_number, words_in}
-pub use Rattle.sql_schema.specs.Described.{CountRow, TableName, boot_columns, boot_values, boots, count_columns, count_key, described, find_numbers_query, image_columns, images, in_rows, interface_columns, interfaces, list_counts_query, live_columns, live_values, lives, machine_columns, machine_values, machines, member_columns, members, numbers_row, of_boots, of_counts, of_images, of_interfaces, of_last, of_lives, of_machines, of_members, of_operators, of_orders, of_pools, of_receipts, of_wipes, operator_columns, operators, order_columns, order_values, orders, pool_columns, pools, receipt_columns, receipts, wipe_columns, wipes}
+pub use Rattle.sql_schema.specs.Described.{CountRow, TableName, all_tables, boot_columns, boot_values, boots, boots_table, count_columns, count_key, counts_table, described, find_numbers_query, hall_schema, hall_table, image_columns, images, images_table, in_rows, interface_columns, interfaces, interfaces_table, list_counts_query, live_columns, live_values, lives, machine_columns, machine_values, machines, machines_table, member_columns, members, no_schema, numbers_row, of_boots, of_counts, of_images, of_interfaces, of_last, of_lives, of_machines, of_members, of_operators, of_orders, of_pools, of_receipts, of_wipes, operator_columns, operators, operators_table, order_columns, order_values, orders, orders_table, pool_columns, pools, pools_table, receipt_columns, receipts, stage, wipe_columns, wipes, wipes_table}
 pub use Rattle.sql_schema.specs.HallRows.{Counts, HallRows, Wipe}
 pub use Rattle.sql_schema.specs.Spelling.{AreRowsOf, AreTables, SpellHall, Spells, is_in, wipe_of}
 pub use Rattle.sql_schema.specs.SpellingLaws.{at_table, sets}
@@ -23,4 +23,4 @@ pub use Rattle.sql_schema.specs.Rows.{Entry, item_of, row_of, rowid_of, uncounte
 pub use Rattle.sql_schema.specs.StatementLaws.{execute_keeps, execute_mode, if_ok, makes_index, makes_table, on_made, query_keeps, query_mode, shown_same}
 pub use Rattle.sql_schema.specs.Statements.{IsBack, IsCommandText, IsQueryText, IsReturningText, SetsRows, only}
 pub use Rattle.sql_schema.specs.TableLaws.{changes, inserts}
-pub use Rattle.sql_schema.specs.Tables.{all_tables, belongs_to_machine, boots_table, counts_table, hall_schema, hall_table, images_table, interfaces_table, machines_table, no_schema, operators_table, orders_table, pools_table, stage, wipes_table}
+pub use Rattle.sql_schema.specs.Tables.{belongs_to_machine}

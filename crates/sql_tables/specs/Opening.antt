@@ -1,5 +1,5 @@
 -- What is asked of a file before its hall is used, and what each refusal says.
-use Rattle.sql_schema.specs.{Words.{AllByRecursion, Null, Int, Database, understood, Row, Schema, State, Compiled, Index, IsQueryText, column, find_numbers_query, list_all}, Tables.{boots_index, interfaces_index, orders_index}, declared.creating.TheConstants.{FIND_NUMBERS, READ_FIRST, READ_SECOND}}
+use Rattle.sql_schema.specs.{Words.{AllByRecursion, Null, Int, Database, understood, Row, Schema, State, Compiled, Index, IsQueryText, column, find_numbers_query, list_all}, Described.{boots_index, interfaces_index, orders_index}, declared.creating.TheConstants.{FIND_NUMBERS, READ_FIRST, READ_SECOND}}
 use Rattle.sqlite_schema.specs.Names.{index_named}
 use Rattle.std.specs.Prelude.{◌≡◌, ◌≢◌, ℕ, ℤ, pos, Bool, true, false, if◌then◌else◌, List, [], ◌∷◌, ◌++◌, map, is_some, ⊤, Result, Ok, Err, IsTrue}
 use Rattle.sqlite.specs.Effect.{Reads}

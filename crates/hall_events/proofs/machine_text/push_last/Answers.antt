@@ -1,6 +1,6 @@
 use Rattle.std.{proofs.Common.{◌++◌, List, ℕ, ap, ◌∙◌}, specs.Prelude.{true, decimal, string_bytes}}
 use Rattle.json.specs.Print.{escape_byte, quoted}
-use Rattle.hall_events.{specs.WrittenMachine.last_members, proofs.MachineLemmas.{members_pushed, pushed, pushed_all}}
+use Rattle.hall_events.{specs.Reply.last_members, proofs.MachineLemmas.{members_pushed, pushed, pushed_all}}
 use Rattle.hall_events.proofs.machine_text.push_last.Goals as goal
 
 pub returns : goal.returns

@@ -1,6 +1,6 @@
 use Rattle.std.specs.Prelude.{true}
 use Rattle.json.specs.Print.{escape_byte}
-use Rattle.hall_events.{specs.{Reply.listed, WrittenMachine.middle_members}, proofs.MachineLemmas.{members_pushed, pushed, pushed_all}}
+use Rattle.hall_events.{specs.Reply.{listed, middle_members}, proofs.MachineLemmas.{members_pushed, pushed, pushed_all}}
 use Rattle.hall_events.proofs.machine_text.push_middle.Goals as goal
 
 pub returns : goal.returns
