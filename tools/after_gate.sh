@@ -16,6 +16,8 @@ tools=(
     program_rows.sh
     hallctl_peer.sh
     token_trial.sh
+    lists_trial.sh
+    openapi_trial.sh
     stop_everywhere.sh
     refuse_memory.sh
     'old_file.sh 2'

@@ -1,20 +1,23 @@
 #!/usr/bin/env bash
-# docs/OPERATING.md and loader/README.md, followed word by word, from `init` to a machine that was commissioned, deployed, erased and
-# backed up. The commands, programs and files are taken out of the guide as they stand there (guide_blocks.py) and run on hosts of this
-# run's own: network namespaces with the guide's addresses. The machine is a virtual one that starts by network, with UEFI, in software.
-# It is root's, and leaves nothing behind: folders that it writes to are overlaid, the one setting of the kernel is set back, and all
-# processes end with it. A run takes ten to fifteen minutes.
-# Usage: tools/follow_guide.sh     HALLBOOT=PROGRAM and HALLCTL=PROGRAM name programs that are built already, GUIDE=FILE another guide,
+# The operator's four books (docs/INSTALL.md, DAILY.md, TROUBLE.md, REFERENCE.md) and loader/README.md, followed word by word, from packages to a
+# machine that was commissioned, deployed, erased and backed up. The commands, programs and files are taken out of the books as they stand there
+# (guide_blocks.py) and run on hosts of this run's own: network namespaces with the books' addresses. The machine is a virtual one that starts by
+# network, with UEFI, in software. It is root's, and leaves nothing behind: folders that it writes to are overlaid, the one setting of the kernel
+# is set back, and all processes end with it. A run takes a quarter of an hour to twenty minutes.
+# Usage: tools/follow_guide.sh     HALLBOOT=PROGRAM and HALLCTL=PROGRAM name programs that are built already, GUIDE=FILE:FILE.. other books,
 #     IPXE=FOLDER and LINUX=FOLDER where Debian 13's package ipxe and a kernel's package (linux-image-cloud-amd64's) are unpacked, if they
 #     aren't installed, KEEP=FOLDER, an empty one, what is kept: what each line printed, logs and consoles.
 # It needs what is asked for below by `need`, with the package beside it.
 set -euo pipefail
 here=$(cd "$(dirname "$0")" && pwd)
-guide=$(realpath "${GUIDE:-$here/../docs/OPERATING.md}") loader=$(realpath "$here/../loader")
+docs=$(realpath "$here/../docs") loader=$(realpath "$here/../loader")
+guide=${GUIDE:-$docs/INSTALL.md:$docs/DAILY.md:$docs/TROUBLE.md:$docs/REFERENCE.md}
 
-# All that the guide leaves to its reader, and what stands here for it. In what the guide has, nothing else is put in:
+# All that the books leave to their reader, and what stands here for it. In what the books have, nothing else is put in:
+#     tools/          this folder; HALLBOOT and HALLCTL name the programs that are packed
+#     apt install     dpkg --install: what the packages need is there
 #     DIGEST          what its own line printed
-#     machine 7       in examples: a machine that there is (`of_machine`)
+#     machine 7       in examples: a machine that there is (`of_machine`); orders/5: an order that waits
 #     the tokens      TOKEN is carried over to the desk's host, olga.token to olga, pow.token to the power program's host
 #     --yes           behind what erases or deletes, since nobody is asked here
 #     --log-format    json, behind what the unit starts, from the erasing on
@@ -32,9 +35,9 @@ need() { has "$1" || { echo "follow_guide: $1 is missing (Debian's package $2)" 
 need_file() { [ -e "$1" ] || { echo "follow_guide: $1 is missing (Debian's package $2)" >&2; exit 1; }; }
 PATH=$PATH:/usr/sbin:/sbin
 if [ $$ != 1 ]; then    # not yet the first process of a namespace
-    need python3 python3; need curl curl; need sqlite3 sqlite3; need jq jq; need ip iproute2; need ss iproute2; need unshare util-linux; need nsenter util-linux
+    need python3 python3; need curl curl; need jq jq; need ip iproute2; need ss iproute2; need unshare util-linux; need nsenter util-linux
     need setpriv util-linux; need script bsdutils; need sysctl procps; need dnsmasq dnsmasq-base; need dhcrelay isc-dhcp-relay; need tcpdump tcpdump; need sudo sudo
-    need useradd passwd; need systemd-analyze systemd; need qemu-system-x86_64 qemu-system-x86; need_file /usr/share/OVMF/OVMF_CODE_4M.fd ovmf; need cpio cpio
+    need dpkg dpkg; need dpkg-deb dpkg; need strip binutils; need adduser adduser; need systemd-analyze systemd; need qemu-system-x86_64 qemu-system-x86; need_file /usr/share/OVMF/OVMF_CODE_4M.fd ovmf; need cpio cpio
     need_file /bin/busybox busybox-static; need modinfo kmod; need mkfs.vfat dosfstools; need mcopy mtools; need_file /dev/net/tun 'none: the kernel is without it'
     need_file "${IPXE:-}/usr/lib/ipxe/ipxe.efi" 'ipxe, of Debian 13'
     ls "${LINUX:-}"/boot/vmlinuz-*-amd64 > /dev/null 2>&1 || { echo 'follow_guide: there is no kernel (Debian'"'"'s package linux-image-cloud-amd64)' >&2; exit 1; }
@@ -71,7 +74,7 @@ line() { taken line "$1"; }
 span() { taken span "$1"; }
 has_all() { [ ! -s "$work/missing" ] || { cp "$work/missing" "$work/errors"; bad 'the guide has what is followed'; }; }
 fitted() { sed -e "s/DIGEST/$digest/g"; }
-of_machine() { sed -e "s/\"machine\":7/\"machine\":$1/; s/--what 7\$/--what $1/; s/of machine 7 by/of machine $1 by/"; }
+of_machine() { sed -e "s/\"machine\":7/\"machine\":$1/; s/--what 7\$/--what $1/; s/--machine 7/--machine $1/; s/of machine 7 by/of machine $1 by/"; }
 within() {    # within SECONDS WHAT COMMAND..: waits until the command is true
     local end=$((SECONDS + $1)) what=$2
     shift 2
@@ -89,11 +92,9 @@ own() {    # what is written to this folder from now on is this run's own
     mount -t overlay overlay -o "lowerdir=$1,upperdir=$work/own$1/upper,workdir=$work/own$1/work" "$1"
 }
 mount -t tmpfs -o mode=755 own "$work/own"
-for folder in /etc /var /srv /usr/local; do own $folder; done
+for folder in /etc /var /srv /usr; do own $folder; done
 mount -t tmpfs -o mode=755 run /run
 mkdir -p /run/netns
-install -m 0755 "$HALLBOOT" /usr/local/bin/hallboot
-install -m 0755 "$HALLCTL" /usr/local/bin/hallctl
 ip link set lo up
 ip link add hall type bridge
 ip link set hall up
@@ -225,7 +226,7 @@ live_image() {    # live_image FILE
     }
     for name in virtio_pci virtio_blk virtio_net; do module $name; done
     if compgen -G "$root/modules/*.xz" > /dev/null; then xz -d "$root"/modules/*.xz; fi
-    block 'Run once the network is up' > "$root/hall.sh"
+    cp "$here/../live/hall-live" "$root/hall.sh"
     cat > "$root/init" <<'INIT'
 #!/bin/busybox sh
 /bin/busybox --install -s /bin
@@ -276,25 +277,34 @@ ln -s live/initrd "$work/www/i"
 on dns dnsmasq --keep-in-foreground --conf-file=/dev/null --listen-address=10.0.0.2 --bind-interfaces --no-resolv --no-hosts --pid-file= \
     --address=/desk.hall.example/10.0.0.5 --address=/files.example/$files > "$work/log/dns" 2>&1 &
 
-# ---- 1. Make the hall
-step '1. Make the hall'
+# ---- 1. Packages
+step '1. Packages'
 shell_of ada operators bash --norc
 shell_of desk desk bash --norc
+done_by desk 600 <<< "export HALLBOOT=$HALLBOOT HALLCTL=$HALLCTL
+$(block 'tools/make_deb.sh' | sed "s|^tools/|$here/|; s|^apt install|dpkg --install|; s| *#.*||")"
+for user in hallboot hall-power; do getent passwd $user > "$work/said" || bad "the user $user"; done
+for program in hallboot hall-lists hallctl hall-power; do [ "$(type -P $program)" = /usr/bin/$program ] || bad "/usr/bin/$program"; done
+good 'three packages, made and installed'
+
+# ---- 2. The hall
+step '2. The hall'
 done_by ada 120 <<< "$(block 'TOKEN=$(head')"
 digest=$(cat "$work/said")
 [[ $digest =~ ^[0-9a-f]{64}$ ]] || bad 'the digest has 64 digits'
 good 'a token, and its digest of 64 digits'
-done_by desk 120 <<< "$(block 'hallboot init --db hall.db' | fitted)"
+done_by desk 120 <<< "$(block 'hallboot init' | fitted)"
 says '^hall created$'
 good 'init: hall created'
 for text in 'hallboot help' 'hallboot --version' 'hallboot serve --help'; do done_by desk 120 <<< "$(span "$text")"; says .; done
 says '^Example: hallboot serve --db'
 good 'help, --version, and the options of serve with an example'
 
-# ---- 2. Serve it
-step '2. Serve it'
+# ---- 3. Serve it
+step '3. Serve it: in a shell'
 is_ready() { grep -q "^$(span 'hall desk ready')\$" "$work/ready"; }
-done_by desk 120 <<< "$(block 'install -d -m 0700 /var/log/hallboot')"
+here_hall() { block 'hallboot init' | sed 's,sudo -u hallboot ,,; s,/var/lib/hallboot/,,' | fitted; }    # a hall in the folder at hand
+done_by desk 120 <<< "$(here_hall)"
 (cd "$work/at/desk" && exec ip netns exec desk bash -c "exec $(block '--log /var/log/hallboot/desk.log')") > "$work/ready" 2> "$work/log/first" & server=$!
 within 120 'it prints `hall desk ready`' is_ready
 types desk 120 <<< 'hallboot report --db hall.db'
@@ -304,22 +314,19 @@ wait $server 2> /dev/null || true
 [ ! -s "$work/log/first" ] || { cp "$work/log/first" "$work/errors"; bad 'serve has nothing to say'; }
 good "in the reader's shell: ready, and no second program has the file meanwhile"
 
-step '2. Serve it: as a service'
-done_by desk 120 <<< "$(block 'useradd --system' | fitted)"
-says '^hall created$'
-unit_file=$(span /etc/systemd/system/hallboot.service)
-block '[Unit]' > $unit_file
-systemd-analyze verify $unit_file > "$work/said" 2> "$work/errors" || bad 'systemd-analyze verify'
+step '3. Serve it: by the unit'
+unit_file=/lib/systemd/system/hallboot.service
+systemd-analyze verify --man=no $unit_file > "$work/said" 2> "$work/errors" || bad 'systemd-analyze verify'
 [ ! -s "$work/errors" ] || bad 'systemd-analyze verify says nothing'
-done_by desk 120 <<< "$(span 'systemd-analyze security --offline=true')"
-good "a user, a hall of its own, and a unit that systemd-analyze has nothing to say of: $(tail -n 1 "$work/said")"
+systemd-analyze security --offline=true --threshold=20 $unit_file > "$work/said" 2> "$work/errors" || bad 'systemd-analyze security'
+good "a unit that systemd-analyze has nothing to say of: $(tail -n 1 "$work/said")"
 unit() { sed -e ':whole' -e '/\\$/{N;s/\\\n *//;bwhole' -e '}' $unit_file | sed -n "s/^$1=//p"; }
 capability=$(unit AmbientCapabilities | sed 's/^CAP_//' | tr A-Z a-z)
 [ "$(unit WorkingDirectory)" = %S/hallboot ] || bad "the unit's folder is its state"
 strict() {    # what ProtectSystem=strict does, of what the unit may write
     [ "$(unit ProtectSystem)" = strict ] || bad 'the unit protects the system'
     echo 'cd /; mount --bind /var/lib/hallboot /var/lib/hallboot'
-    echo 'for at in / /etc /var /srv /usr/local /run; do mount -o remount,bind,ro $at; done; cd /var/lib/hallboot'
+    echo 'for at in / /etc /var /srv /usr /run; do mount -o remount,bind,ro $at; done; cd /var/lib/hallboot'
 }
 serve() {    # serve LOG WORD..: what the unit starts, by the rights that it gives, with these words behind; the journal is LOG
     local log=$1
@@ -327,7 +334,7 @@ serve() {    # serve LOG WORD..: what the unit starts, by the rights that it giv
     : > "$work/ready"
     (cd /var/lib/hallboot && exec ip netns exec desk bash -c "$(strict)"$'\nexec "$@"' strict setpriv --reuid "$(unit User)" --regid "$(unit User)" \
         --init-groups --inh-caps "-all,+$capability" --ambient-caps "-all,+$capability" --bounding-set "-all,+$capability" --no-new-privs \
-        bash -c "umask $(unit UMask); ulimit -n $(unit LimitNOFILE); exec $(unit ExecStart) $*") > "$work/ready" 2>> "$log" & server=$!
+        bash -c "umask $(unit UMask); ulimit -n $(unit LimitNOFILE); set -a; . $(unit EnvironmentFile); exec $(unit ExecStart) $*") > "$work/ready" 2>> "$log" & server=$!
     within 120 'the service is ready' is_ready
 }
 stop() { kill -TERM $server; wait $server 2> /dev/null || true; }
@@ -340,8 +347,8 @@ on desk ss -lunm > "$work/said"
 says 'rb16777216'
 good 'the service is ready, and its sockets hold 16 MiB by the sysctl line'
 
-# ---- 3. Relay
-step '3. Relay'
+# ---- 4. DHCP and relay
+step '4. DHCP and relay'
 on dhcp bash -c "exec $(block 'dnsmasq --keep-in-foreground --port=0 --listen-address=10.0.0.4')" > "$work/log/dhcp" 2>&1 &
 on relay bash -c "exec $(block 'dhcrelay -4')" > "$work/log/relay" 2>&1 &
 listens() { on "$1" ss -lunH "sport = $2" | grep -q .; }
@@ -349,38 +356,39 @@ within 120 'the DHCP server listens' listens dhcp 67
 within 120 'the relay agent listens on both cards' has_line "$work/log/relay" 'Sending on +Socket/fallback'
 good 'the DHCP server and the relay agent run'
 
-# ---- 4. Loaders
-step '4. Loaders by TFTP'
+# ---- 5. Loaders
+step '5. Loaders by TFTP'
 mkdir -p /srv/tftp
 cp "${IPXE:-}$(guide=$loader/README.md span /usr/lib/ipxe/ipxe.efi)" "/srv/tftp/$(guide=$loader/README.md span ipxe-x86_64.efi)"
-cp "$loader/autoexec.ipxe" /srv/tftp/
+cp /usr/share/hallboot/autoexec.ipxe /srv/tftp/
 on tftp bash -c "exec $(block 'dnsmasq --keep-in-foreground --port=0 --enable-tftp')" > "$work/log/tftp" 2>&1 &
 within 120 'the TFTP server listens' listens tftp 69
 good 'the TFTP server has the files of loader/README.md'
 
-# ---- 5. Operators, pools, images
-step '5. Operators, pools, images'
+# ---- 6. Operators, pools, images
+step '6. Operators, pools, images'
 done_by ada 120 <<< "$(block 'hallctl add-operator pow')"
 for text in 'operator pow' 'operator olga' "$(span 'pool lab added' | sed 's/ added//')" 'image live64'; do says "^$text added\$"; done
 says '^operator olga is a member of pool lab$'
 says '^image live64 is live$'
-mkdir -p /etc/bash_completion.d
-done_by ada 120 <<< "$(span 'hallctl completion > /etc/bash_completion.d/hallctl'); bash -n /etc/bash_completion.d/hallctl; hallctl --help; hallctl add-image --help"
-good 'hallctl: operators, a pool, an image, a live image, and its completion'
+done_by ada 120 <<< "bash -n /usr/share/bash-completion/completions/hallctl; $(span 'hallctl --help'); hallctl add-image --help"
+done_by ada 120 <<< "$(block 'hallctl hello')"
+says .
+good 'hallctl: operators, a pool, an image, a live image, its completion, and hello'
 done_by ada 120 <<< "$(block 'until answer=$(curl')"
 [ "$(cat "$work/said")" = "$(span '{} 200')" ] || bad 'the same by curl is answered {} 200'
 good 'the same by curl'
 
-# ---- 6. Machines
-step '6. Machines'
+# ---- 7. Machines
+step '7. Machines'
 done_by ada 120 <<< "$(block 'hallctl add-machine')"
-[ "$(head -n 1 "$work/said")" = "$(span 'machine 1: New, version 1')" ] || bad 'it prints what the guide says'
+[ "$(head -n 1 "$work/said")" = "$(span 'machine 1: New, version 1, 52')" ] || bad 'it prints what the guide says'
 done_by ada 120 <<< "$(block 'import sys, uuid')"
 [[ $(block 'hallctl add-machine') == *"--uuid $(cat "$work/said")"$'\n'* && $(block 'import sys, uuid') == *" $board" ]] || bad 'the UUID in wire order'
 good 'a machine with two cards, and its UUID in wire order'
 block 'key,mac,arch' > "$work/at/ada/machines.csv"
 done_by ada 120 <<< "$(block 'hallctl import')"
-says '^machine 2: New, version 1$'
+says '^machine 2: New, version 1, 52:54:00:12:34:58$'
 cp "$work/at/ada/machines.csv" /var/lib/hallboot/
 chown hallboot: /var/lib/hallboot/machines.csv
 stop
@@ -394,24 +402,30 @@ done_by service 120 <<< "$(block 'hallboot import')"
 serve "$journal"
 good 'a file of machines, by hallctl, and the same again by hallboot while serve is stopped'
 
-# ---- 7. The power program
-step '7. The power program'
-mkdir -p "$work/at/switcher" /etc/desk
-echo 'password of controllers' > /etc/desk/ipmi
-chmod 600 /etc/desk/ipmi
-block 'Polls the desk for power orders' > "$work/at/switcher/power.py"
-cp "$work/at/ada/pow.token" "$work/at/switcher/"
-echo "1 $controller" > "$work/at/switcher/table"
+# ---- 8. The power program
+step '8. The power program'
+(
+    umask 077
+    block 'table = "/etc/hall-power/machines"' > "$(span /etc/hall-power/hall-power.toml)"
+    cp "$work/at/ada/pow.token" /etc/hall-power/token
+    for kind in ipmi redfish; do echo "password of controllers" > /etc/hall-power/$kind.password; done
+    block 'fingerprint=6A' | grep " $controller\$" > /etc/hall-power/machines    # the other machine there is none of this hall
+    chown root:hall-power /etc/hall-power/*
+    chmod 0640 /etc/hall-power/*
+)
 plug $controller 52:54:00:12:34:56 $board "$drive"
-power() { (cd "$work/at/switcher" && exec ip netns exec switcher python3 power.py http://desk.hall.example pow.token table) >> "$work/log/power" 2>&1 & polling=$!; }
+shell_of switcher switcher bash --norc
+done_by switcher 120 <<< "$(block 'hall-power --check')"
+complains "^machine 1, $controller: off\$"
+power() { (exec ip netns exec switcher hall-power) >> "$work/log/power" 2>&1 & polling=$!; }
 power
 sleep 15
 [ ! -s "$work/log/power" ] || { cp "$work/log/power" "$work/errors"; bad 'the power program asks, and has nothing to say'; }
 kill -0 $polling || bad 'the power program runs'
 good 'the power program asks for orders'
 
-# ---- 9. The first commissioned machine
-step '9. The first commissioned machine'
+# ---- 10. The first commissioned machine
+step '10. The first commissioned machine'
 on relay tcpdump -c 1 -nvv -i eth1 'udp port 67 and greater 300' > "$work/log/tcpdump" 2> /dev/null &
 done_by ada 120 <<< "$(span 'hallctl commission 1')"
 [ "$(cat "$work/said")" = "$(taken printed 'hallctl commission 1')" ] || bad 'it prints what the guide says'
@@ -444,11 +458,10 @@ shell_of olga operators bash --norc
 cp "$work/at/ada/olga.token" "$work/at/olga/"
 done_by olga 120 <<< 'export HALL_DESK=http://desk.hall.example HALL_TOKEN_FILE=olga.token'
 done_by ada 120 <<< "$(line 'hallctl add-image jammy')"
-done_by olga 120 <<< "$(line 'hallctl allocate 1')"
+day() { block 'hallctl deploy 1 --image jammy --wait'; }    # of docs/DAILY.md: its last line erases
+done_by olga 2500 <<< "$(day | sed '$d')"
 says ' Allocated, version'
-done_by olga 120 <<< "$(line 'hallctl deploy 1')"
 says ' Deploying, version'
-done_by olga 1900 <<< "hallctl wait 1 --for Deployed --or 'Failed deployment'"
 says '^machine 1: Deployed, version'
 good 'allocated by a member of the pool, and deployed'
 own_disk='This is the deployed system, on the disk of the machine itself'
@@ -484,7 +497,8 @@ says '^machine 1: Ready'
 cmp -n "$(stat -c %s "$drive")" "$drive" /dev/zero || bad 'the disk is zeros'
 is_off $controller || bad 'the machine is off'
 good 'released: the disk is zeros, the machine off and Ready'
-done_by desk 120 <<< "cd $work/log/json; $(span 'jq -r')"
+done_by desk 120 <<< "cd $work/log/json
+$(block 'jq -r')"
 [ "$(wc -l < "$work/said")" = 1 ] && says '^20[0-9-]*T[0-9:]*Z olga POST /commands release full of machine 1 by olga: 200 ' || bad 'who erased what'
 good "who erased what: $(cat "$work/said")"
 block '{"@timestamp"' > "$work/example"
@@ -496,16 +510,23 @@ assert any(set(line) == example for line in lines), example
 PYTHON
 good "the log's objects have the members of the guide's example"
 
+done_by olga 120 <<< "$(line 'hallctl allocate 1')"
+done_by olga 3000 <<< "$(day | tail -n 1) --yes"
+says '^machine 1: Ready, version'
+shown '^hall-erase: quick' || bad 'the live image ran hall-erase for a quick erasing'
+good "a machine's day, to its end: released, and erased quickly"
+
 # ---- Back up and restore
 step 'Back up and restore'
 kill $polling
-done_by ada 120 <<< 'hallctl commission 2'
+done_by ada 120 <<< "$(block 'hallctl commission $(hallctl machines')"    # machine 2 is New
+says '^machine 2: New to Commissioning, version '
 stop
-done_by service 120 <<< "install -d -m 0700 copies && $(span 'hallboot backup --db hall.db --to')"
-says '^copied hall.db to copies/hall.db, [0-9]* octets: '
+done_by service 120 <<< "$(span 'hallboot backup --db hall.db --to')"
+says '^copied hall.db to /var/backups/hallboot/hall.db, [0-9]* octets: '
 good "backed up: $(cat "$work/said")"
 done_by service 120 <<< "$(block 'hallboot restore --db hall.db --from')"
-says '^restored hall.db from copies/hall.db of 20'
+says '^restored hall.db from /var/backups/hallboot/hall.db of 20'
 says '^what was there is kept as /var/lib/hallboot/hall.db.replaced-20'
 good 'restored, and what was there is kept'
 done_by service 120 <<< "$(block "bash -e <<'END'")"
@@ -523,9 +544,10 @@ for text in 'hallboot report --db hall.db' 'hallboot export --db hall.db'; do do
 done_by service 120 <<< "hallboot report --db hall.db $(span '--what orders')"
 done_by service 120 <<< "hallboot report --db hall.db $(span '--what 7' | of_machine 1)"
 says .
-done_by service 120 <<< "$(block 'SELECT name, role, enabled')"
-for text in '^ada\|0\|1$' '^olga\|1\|1$' '^pow\|2\|1$' '^lab$' live64 jammy release; do says "$text"; done
-good 'report, export, and what the backup has of operators, pools, images and receipts'
+done_by service 120 <<< "$(block 'hall-lists' | of_machine 1)"
+for text in '^ada +admin +yes ' '^olga +user +yes ' '^pow +power +yes ' '^olga +deploy +image=jammy machine=1 ' '^olga +release +erase=full machine=1 '; do says "$text"; done
+for list in pools members images lives boots; do done_by service 120 <<< "hall-lists /var/backups/hallboot/hall.db $list"; says .; done
+good 'report, export, and what the backup has of operators, pools, images, boots and receipts'
 
 step 'Faults of the program, and Upgrading'
 block '$ hallboot report' > "$work/example"
@@ -555,7 +577,7 @@ good 'who did what to a machine'
 # ---- Strangers
 step Strangers
 plug stranger 52:54:00:12:34:99 11111111-4455-6677-8899-aabbccddeeff
-PATH=/usr/local/bin:$PATH ipmitool -H stranger -f /etc/desk/ipmi chassis power on > "$work/said"
+PATH=/usr/local/bin:$PATH ipmitool -H stranger -f /etc/hall-power/ipmi.password chassis power on > "$work/said"
 within 600 'an unknown machine enlists itself' has_line "$journal" 'discover DISCOVER 52:54:00:12:34:99 .*New'
 within 600 'the desk holds it: it is switched off' is_off stranger
 has_line "$work/log/console-stranger" 'This machine is held by the hall desk' || bad 'its console says that it is held'
@@ -619,15 +641,19 @@ reports() {    # the machine reports these stages of the boot that its script is
     boot=$(on files curl -sS --max-time 60 http://desk.hall.example/ipxe/52:54:00:12:34:56 | sed -nE 's|.*hall\.boot=([0-9]+) hall\.token=([0-9a-f]+) .*|\1/\2|p')
     for stage; do on files curl -sS --max-time 60 --data "{\"stage\":\"$stage\"}" "http://desk.hall.example/report/$boot" >> "$work/log/reports"; done
 }
-answers() {    # the power program answers what waits
+answers() {    # what waits is answered: by hand as hallctl has it, or as a power program does
     local bearer order
     bearer="Authorization: Bearer $(cat "$work/at/ada/pow.token")"
     for order in $(on switcher curl -sS --max-time 60 -H "$bearer" http://desk.hall.example/orders | jq '.orders[].number'); do
-        on switcher curl -sS --max-time 60 -H "$bearer" --data '{"outcome":"done"}' "http://desk.hall.example/orders/$order" >> "$work/log/reports"
+        if [ $form = hallctl ]; then
+            done_by ada 120 <<< "$(block '/orders/5' | sed "s|orders/5|orders/$order|")"
+        else
+            on switcher curl -sS --max-time 60 -H "$bearer" --data '{"outcome":"done"}' "http://desk.hall.example/orders/$order" >> "$work/log/reports"
+        fi
     done
 }
 for form in hallctl hall; do
-    done_by desk 120 <<< "cd $work/at/desk; rm -f hall.db*; $(block 'hallboot init --db hall.db' | fitted)"
+    done_by desk 120 <<< "cd $work/at/desk; rm -f hall.db*; $(here_hall)"
     (cd "$work/at/desk" && exec ip netns exec desk bash -c "exec $(block '--log /var/log/hallboot/desk.log')") > "$work/ready" 2> "$work/log/commands" & server=$!
     within 120 'it prints `hall desk ready`' is_ready
     done_by ada 120 <<< "$(block 'hallctl add-operator pow' | grep 'add-image live64'); hallctl add-operator pow --role power --digest $pow"

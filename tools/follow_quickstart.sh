@@ -50,7 +50,7 @@ for ((i = 0; i < 600; i++)); do if grep -q "$(span 'hall desk ready')" "$work/de
 says "^$(span 'hall desk ready')\$" desk
 does "$(block 'export HALL_DESK')"
 does "$(block 'hallctl add-machine')"
-says "^$(span 'machine 1: New, version 1')\$" first
+says "^$(span 'machine 1: New, version 1, 52')\$" first
 other machine "$(block 'python3 "$PRETEND" --discover')"
 does "$(block 'hallctl commission 1')"
 says "^$(span 'machine 1: Ready, version 5')\$" first

@@ -47,7 +47,7 @@ print(*(s.getsockname()[1] for s in kept))')
     "$HALLBOOT" init --db "$1.db" --admin ada --digest "$(digest_of ada)" > /dev/null
     : > ready
     "$HALLBOOT" serve --db "$1.db" --discover "127.0.0.1:$discover" --boot "127.0.0.1:$boot" --http "127.0.0.1:$http" \
-        --turns 1000000000000 --server 127.0.0.1 --next 127.0.0.1 --host desk.hall.example > ready & started+=($!)
+        --turns 1000000000000 --server 127.0.0.1 --next 127.0.0.1 --host desk.hall.example --log "$1.log" --log-connections no > ready & started+=($!)
     comes 'hallboot serves' grep -q 'hall desk ready' ready
 }
 
@@ -156,5 +156,10 @@ one, other = (json.load(open(name)) for name in sys.argv[1:])
 assert one == other, (one, other)
 assert len(one["machines"]) == 1 and one["machines"][0]["status"] == "Ready", one
 PYTHON
+good
+# the log has what was asked, and no line of connections
+grep -q ' POST /commands .*: 200 ' straight.log || wrong "the log: $(head -n 3 straight.log)"
+good
+! grep -qE ' (accepted instead of|closed (answered|late|failed|crowded))' straight.log || wrong "a line of a connection: $(grep -E ' (accepted|closed) ' straight.log | head -n 3)"
 good
 all_good "a machine's whole life over whole connections, and over others: $(tail -n 1 proxy)"

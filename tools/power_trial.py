@@ -1,72 +1,28 @@
-"""The power program power.py of the folder at hand, against a hall: power_trial.py PROGRAM. Run by power_trial.sh, which says what is looked at.
-power_trial.py ipmitool FOLDER WORD..: a stand-in of ipmitool. A controller is a file of FOLDER, with the moment from which its machine is off."""
-import json, os, re, socket, subprocess, sys, threading, time
+"""power/hall_power.py against a hall and stand-ins of controllers: power_trial.py HALLBOOT HALL_POWER. Run by power_trial.sh, which says what is looked at."""
+import hashlib, json, os, re, socket, ssl, subprocess, sys, threading, time
+from pretend_controllers import NEVER, ON, UNTIL_OFF, Controller, Redfish
 from served_hall import Hall, address, digest
 
-POWER = "powers-secret-1"
-UNTIL_OFF = 4.0    # seconds that a machine takes to be off
-REFUSED = "Set Chassis Power Control to {} failed: Command not supported in present state"
-ON, NEVER = "1e18", "never"    # of a machine that is on, and of one that can't be switched off
-# Each machine of the trial: its number, what its controller has at first, what it is ordered (commission is a `cycle`, release an `off`), what
-# its controller is told in the end, what is answered, and how it is then.
-CASES = [
-    (1, "0", "commission", ["bootdev", "on"], "done", "on"),
-    (2, ON, "commission", ["bootdev", "off", "on"], "done", "on"),
-    (3, ON, "release", ["off"], "done", "off"),
-    (4, "0", "release", [], "done", "off"),
-    (5, NEVER, "commission", ["bootdev", "off"], "failed", "on"),
-    (6, ON, "aborted in the midst", ["bootdev", "off"], None, "off"),
-    (7, ON, "aborted before, which orders an off", ["off"], "done", "off"),
-    (8, "0", "commission, without a controller", [], "failed", "off"),
+POWER, READER = "powers-secret-1", "readers-secret-1"
+# Each machine of the trial, once for each driver: what its controller has at first, what it is ordered (commission is a `cycle`, release an
+# `off`), what its controller is told in the end, what is answered, and how it is then.
+EACH = [
+    ("0", "commission", ["bootdev", "on"], "done", "on"),
+    (ON, "commission", ["bootdev", "off", "on"], "done", "on"),
+    (ON, "release", ["off"], "done", "off"),
+    ("0", "release", [], "done", "off"),
+    (NEVER, "commission", ["bootdev", "off"], "failed", "on"),
+    (ON, "aborted in the midst", ["bootdev", "off"], None, "off"),
+    (ON, "aborted before, which orders an off", ["off"], "done", "off"),
 ]
+CASES = [(number, driver, *case) for number, (driver, case) in enumerate(((driver, case) for driver in ("ipmi", "redfish") for case in EACH), 1)]
+CASES += [(15, "redfish", ON, "commission, by another certificate than its fingerprint's", [], "failed", "on"),
+          (16, None, "0", "commission, without a controller", [], "failed", "off")]
+BY_ADDRESS = 9      # the machine that the table names by its address, in capitals with hyphens
 
 
-# ---- The stand-in of ipmitool
-def ipmitool(folder, *words):
-    file = os.path.join(folder, words[words.index("-H") + 1])
-    words = " ".join(words[words.index("chassis") + 1:])
-    off_at = open(file).read().strip()
-    is_off = off_at != NEVER and time.time() >= float(off_at)
-    if words != "power status":
-        with open(file + ".told", "a") as told:
-            print(time.time(), words, file=told)
-    if words == "power status":
-        print("Chassis Power is", "off" if is_off else "on")
-    elif words == "bootdev pxe options=efiboot":
-        print("Set Boot Device to pxe")
-    elif words == "power off":
-        if is_off:
-            sys.exit(REFUSED.format("Down/Off"))
-        if off_at == ON:
-            write(file, str(time.time() + UNTIL_OFF))
-        print("Chassis Power Control: Down/Off")
-    elif words == "power on":
-        if not is_off:
-            sys.exit(REFUSED.format("Up/On"))
-        write(file, ON)
-        print("Chassis Power Control: Up/On")
-    else:
-        sys.exit(f"Invalid command: {words}")
-
-
-def write(file, text):
-    with open(file + ".new", "w") as new:
-        new.write(text)
-    os.rename(file + ".new", file)
-
-
-def told(number):
-    """What a machine's controller was told, with its moments."""
-    try:
-        with open(f"controllers/bmc{number}.told") as lines:
-            return [(float(line.split()[0]), re.sub("^power | pxe.*", "", line.split(maxsplit=1)[1].strip())) for line in lines]
-    except FileNotFoundError:
-        return []
-
-
-def is_on(number):
-    off_at = open(f"controllers/bmc{number}").read()
-    return off_at == NEVER or time.time() < float(off_at)
+def controller(number):
+    return Controller("controllers", f"bmc{number}")
 
 
 # ---- The trial
@@ -92,10 +48,11 @@ class Proxy(threading.Thread):
 def made(hall):
     """The hall's machines as the cases want them, and their orders."""
     hall.command(command="add_operator", operator="pow", role="power", digest=digest(POWER))
+    hall.command(command="add_operator", operator="reader", role="user", digest=digest(READER))
     hall.command(command="add_image", image="live64", arch="uefi64", kernel="http://files.example/k", initrd="http://files.example/i", args=[])
     hall.command(command="set_live", image="live64")
     hall.command(command="grant", pool="default", operator="ada")
-    for number, _, what, *_ in CASES:
+    for number, _, _, what, *_ in CASES:
         hall.command(command="add_machine", mac=address(number), arch="uefi64", pool="default")
         hall.command(command="commission", machine=number, tests=False)
         if what == "release":
@@ -120,77 +77,144 @@ def answered(hall, number):
     return next(((one[2], int(one[1])) for one in found if one), (None, None))
 
 
-def power_program(desk, proxy):
-    proxies = {name: proxy.url for name in ["http_proxy", "https_proxy", "all_proxy", "HTTP_PROXY", "ALL_PROXY"]}
-    path = f"{os.getcwd()}/bin:{os.environ['PATH']}"
-    with open("power.err", "a") as log:
-        return subprocess.Popen([sys.executable, "power.py", desk, "token", "table"], stderr=log, env={"PATH": path, **proxies})
+def write(path, text):
+    with open(path, "w") as file:
+        file.write(text)
 
 
-def trial(program):
+class Trial:
+    def __init__(self, hall, power, proxy):
+        self.hall, self.power, self.faults = hall, power, []
+        proxies = {name: proxy.url for name in ["http_proxy", "https_proxy", "all_proxy", "HTTP_PROXY", "ALL_PROXY"]}
+        self.surroundings = {"PATH": f"{os.getcwd()}/bin:{os.environ['PATH']}", **proxies}
+        subprocess.run("openssl req -x509 -newkey rsa:2048 -nodes -days 2 -subj /CN=bmc -keyout bmc.key -out bmc.pem", shell=True, check=True, capture_output=True)
+        self.redfish = Redfish("controllers", "bmc.pem", "bmc.key", "desk:redfish's secret")
+        self.told()
+
+    def told(self):
+        """Its settings, its secrets and its table."""
+        write("token", POWER + "\n")
+        write("reader", READER + "\n")
+        write("ipmi.password", "ipmi's secret\n")
+        write("redfish.password", "redfish's secret\n")
+        self.settings(f"http://127.0.0.1:{self.hall.http}/")
+        fingerprint = hashlib.sha256(ssl.PEM_cert_to_DER_cert(open("bmc.pem").read())).hexdigest().upper()
+        lines = ["# the machines of the trial", ""]
+        for number, driver, *_ in CASES:
+            machine = address(number).upper().replace(":", "-") if number == BY_ADDRESS else number
+            if driver == "ipmi":
+                lines.append(f"{machine} ipmi bmc{number}")
+            elif driver == "redfish":
+                print_of = "00" * 32 if number == 15 else fingerprint
+                lines.append(f"{machine}  redfish  127.0.0.1:{self.redfish.server_address[1]}  system=bmc{number} fingerprint={print_of}   # by Redfish")
+        write("table", "\n".join(lines) + "\n")
+
+    def settings(self, desk):
+        write("hall-power.toml", f'desk = "{desk}"\ntoken = "token"\nreader = "reader"\ntable = "table"\n'
+              '[controllers.ipmi]\ndriver = "ipmitool"\nuser = "desk"\npassword = "ipmi.password"\n'
+              '[controllers.redfish]\ndriver = "redfish"\nuser = "desk"\npassword = "redfish.password"\n')
+
+    def begun(self, *words):
+        with open("power.err", "a") as log:
+            return subprocess.Popen([sys.executable, self.power, "--config", "hall-power.toml", *words], stderr=log, env=self.surroundings)
+
+    def ended(self, *words):
+        """Its status and what it says, where it ends by itself."""
+        it = subprocess.run([sys.executable, self.power, "--config", "hall-power.toml", *words], stderr=subprocess.PIPE, text=True,
+                            env=self.surroundings, timeout=90)
+        return it.returncode, it.stderr
+
+    def wants(self, what, is_so, seen=""):
+        if is_so:
+            print("good:", what)
+        else:
+            self.faults.append(f"{what}: {seen}")
+
+    def refusals(self):
+        """What it doesn't begin with."""
+        os.chmod("token", 0o604)
+        status, said = self.ended("--once")
+        self.wants("a token that others may read ends it", status == 2 and "others may read it" in said, said)
+        os.chmod("token", 0o600)
+        self.settings(f"http://127.0.0.1:{self.hall.http}/desk")
+        status, said = self.ended("--once")
+        self.wants("a path behind the desk's name ends it", status == 2 and "http://HOST" in said, said)
+        self.settings(f"http://127.0.0.1:{self.hall.http}/")
+        table = open("table").read()
+        write("table", table + "1 ipmi bmc1\n")
+        status, said = self.ended("--once")
+        self.wants("a machine that stands twice in the table ends it", status == 2 and "twice" in said, said)
+        write("table", table)
+
+    def looks(self, waiting):
+        """What changes nothing."""
+        status, said = self.ended("--check")
+        self.wants("--check says which controllers are on and off, and which isn't its own", status == 1 and "machine 1, bmc1: off" in said
+                   and "machine 2, bmc2: on" in said and said.count("another certificate") == 1, said)
+        status, said = self.ended("--dry-run")
+        self.wants("--dry-run says what each order would do", status == 0 and said.count("next boot by network, off, on") == 6
+                   and "would fail: the table has no such machine" in said, said)
+        self.wants("and does nothing", orders(self.hall) == waiting and not any(controller(number).told() for number, *_ in CASES))
+
+    def carried_out(self, waiting, running):
+        """What becomes of the orders."""
+        end = time.monotonic() + 120
+        aborted = [number for number, _, _, what, *_ in CASES if what == "aborted in the midst"]
+        for number in aborted:
+            while time.monotonic() < end and "off" not in [what for _, what in controller(number).told()]:
+                time.sleep(0.05)
+            self.hall.command(command="abort", machine=number)
+        while time.monotonic() < end and orders(self.hall) and running.poll() is None:
+            time.sleep(0.3)
+        time.sleep(UNTIL_OFF + 3)    # for what shouldn't come any more
+        self.faults += [f"machine {number} has an order still" for number in orders(self.hall)]
+        for number, driver, _, what, acts, outcome, state in CASES:
+            came, (taken, moment) = controller(number).told(), answered(self.hall, waiting[number])
+            seen = [one for _, one in came], taken, "off" if controller(number).is_off() else "on"
+            what = f"machine {number}, {driver or 'in no table'}, {what}: {', '.join(acts) or 'no act'}; {outcome or 'no outcome'}; {state}"
+            self.wants(what, seen == (acts, outcome, state), seen)
+            if acts[-1:] == ["off"] and taken == "done":
+                self.wants(f"machine {number}: done isn't answered before the controller says that it is off", moment + 1 >= came[-1][0] + UNTIL_OFF)
+
+    def run(self):
+        waiting = orders(self.hall)
+        self.refusals()
+        self.looks(waiting)
+        running = self.begun("--every", "0.5")
+        try:
+            self.carried_out(waiting, running)
+        finally:
+            running.kill()
+            running.wait()
+        status, said = self.ended("--once")
+        self.wants("--once ends where no order waits", status == 0, said)
+        self.wants("no password goes to a controller that isn't its own", self.redfish.strangers == [], self.redfish.strangers)
+        return self.faults
+
+
+def main(hallboot, power):
     proxy = Proxy()
     proxy.start()
     os.makedirs("controllers")
     os.makedirs("bin")
     with open("bin/ipmitool", "w") as stand_in:
-        print(f"#!/bin/sh\nexec {sys.executable} {os.path.abspath(__file__)} ipmitool {os.getcwd()}/controllers \"$@\"", file=stand_in)
+        script = os.path.join(os.path.dirname(os.path.abspath(__file__)), "pretend_controllers.py")
+        print(f"#!/bin/sh\nexec {sys.executable} {script} ipmitool {os.getcwd()}/controllers \"$@\"", file=stand_in)
     os.chmod("bin/ipmitool", 0o700)
-    open("token", "w").write(POWER + "\n")
-    open("table", "w").write("".join(f"{number} bmc{number}\n" for number, *_ in CASES if number != 8))
-    for number, off_at, *_ in CASES:
-        write(f"controllers/bmc{number}", off_at)
-    faults = []
-    with Hall(program, "power") as hall:
+    for number, _, off_at, *_ in CASES:
+        controller(number).set(off_at)
+    with Hall(hallboot, "power") as hall:
         hall.serve()
         made(hall)
-        waiting = orders(hall)
-        running = power_program(f"http://127.0.0.1:{hall.http}/", proxy)
-        try:
-            faults += carried_out(hall, waiting, running)
-        finally:
-            running.kill()
-            running.wait()
-        refused = power_program(f"http://127.0.0.1:{hall.http}/desk", proxy)
-        try:
-            if refused.wait(10) != 1 or "http://HOST" not in open("power.err").read():
-                faults.append("a path behind the desk's name ends the program, which says how it is written")
-        except subprocess.TimeoutExpired:
-            refused.kill()
-            faults.append("a path behind the desk's name ends the program within ten seconds")
+        faults = Trial(hall, power, proxy).run()
     if proxy.came:
         faults.append(f"a proxy got {proxy.came[0][:200]}")
-    return faults
-
-
-def carried_out(hall, waiting, running):
-    """What is wrong with what becomes of the orders."""
-    end = time.monotonic() + 90
-    while time.monotonic() < end and "off" not in [what for _, what in told(6)]:
-        time.sleep(0.05)
-    hall.command(command="abort", machine=6)
-    while time.monotonic() < end and orders(hall) and running.poll() is None:
-        time.sleep(0.3)
-    time.sleep(UNTIL_OFF + 3)    # for what shouldn't come any more
-    faults = [f"machine {number} has an order still" for number in orders(hall)]
-    for number, _, what, acts, outcome, state in CASES:
-        came, (taken, moment) = told(number), answered(hall, waiting[number])
-        seen = [one for _, one in came], taken, "on" if is_on(number) else "off"
-        if seen != (acts, outcome, state):
-            faults.append(f"machine {number}, {what}: {seen}, not {(acts, outcome, state)}")
-        elif acts[-1:] == ["off"] and taken == "done" and moment + 1 < came[-1][0] + UNTIL_OFF:
-            faults.append(f"machine {number}, {what}: done is answered before the controller says that it is off")
-        else:
-            print(f"good: machine {number}, {what}: {', '.join(acts) or 'no act'}; {outcome or 'no outcome'}; {state}")
-    return faults
+    for text in faults:
+        print("BAD:", text)
+    if faults:
+        sys.exit(open("power.err").read()[-3000:])
+    print("good: a proxy of the environment gets nothing")
 
 
 if __name__ == "__main__":
-    if sys.argv[1] == "ipmitool":
-        ipmitool(*sys.argv[2:])
-        sys.exit()
-    found = trial(sys.argv[1])
-    for text in found:
-        print("BAD:", text)
-    if found:
-        sys.exit(open("power.err").read()[-2000:])
-    print("good: the power program, past a proxy, by the desk's name with a slash")
+    main(*sys.argv[1:])

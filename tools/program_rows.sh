@@ -337,17 +337,27 @@ run --help
 kit=$(sed -n 's/.*Proved with `\(.*\)`.*/\1/p' "$here/../README.md")
 want 0 "hallboot 2, schema 2, $kit" '' --version
 
-# What hallctl says of itself and of refusals, by its sources.
+# What hallctl says of itself, and which refusals the books have, with their statuses, by the sources.
 words=$here/../crates/hallctl_words/src
 refusals=$here/../crates/hall_types/src/refusal.rt
 grep -qF "\"2, $kit\"" "$words/command_line.rt" || bad "the kit of hallctl --version"
-python3 - "$here/../docs/OPERATING.md" "$refusals" << 'PYTHON' || bad 'the sentences of refusals'
+python3 - "$here/../docs" "$refusals" << 'PYTHON' || bad 'the refusals of docs/TROUBLE.md and docs/REFERENCE.md'
 import re, sys
-guide, source = (open(name).read() for name in sys.argv[1:])
-table = guide.split("\n## Refusals\n")[1].split("\n## ")[0]
-means = {row[1]: row[3].replace("`", "") for line in table.splitlines() if len(row := re.split(r" *\| *", line)) == 6 and row[2].isdigit()}
-says = dict(re.findall(r'Refusal::(\w+) =>\s*"([^"]*)"', source.split("fn sentence")[1].split("\nfn ")[0]))
-assert means and means == says, set(means.items()) ^ set(says.items())
+docs, source = sys.argv[1], open(sys.argv[2]).read()
+told = set()
+for book, heading in ("TROUBLE", "Refusals"), ("REFERENCE", "Refusals of programs"):
+    names = []
+    for line in open(f"{docs}/{book}.md").read().split(f"\n## {heading}\n")[1].split("\n## ")[0].splitlines():
+        for word in re.findall(r"[A-Z]\w+|\d{3}", line.split("|")[1] if line.startswith("| ") else ""):
+            if word.isdigit():
+                told |= {(name, word) for name in names}
+                names = []
+            elif word != "Refusal":
+                names.append(word)
+    assert not names, names
+body = source.split("pub fn status(self)")[1].split("/// What it means")[0]
+there = {(name, status) for names, status in re.findall(r"((?:Refusal::\w+[\s|]*)+)=> (\d+)", body) for name in re.findall(r"Refusal::(\w+)", names)}
+assert len(there) == source.split("pub const ALL")[1].split("];")[0].count("Refusal::") and told == there, told ^ there
 PYTHON
 good 2
 for file in *-journal; do [ ! -e "$file" ] || bad "$file is left"; done

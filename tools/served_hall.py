@@ -26,6 +26,8 @@ def address(number):
 class Hall:
     """A new hall with the admin ada, which is served by HTTP at this host's address. `with` ends what serves it."""
 
+    restores_signals = True    # whether the program has signals that this one ignores by their default
+
     def __init__(self, program, name, host="127.0.0.1"):
         self.program, self.file, self.host, self.running = program, f"{name}.db", host, None
         self.log, self.discover, self.boot, self.http = f"{name}.log", *ports()
@@ -48,7 +50,7 @@ class Hall:
         self.running = subprocess.Popen(
             [self.program, "serve", "--db", self.file, "--discover", f"127.0.0.1:{self.discover}", "--boot", f"127.0.0.1:{self.boot}",
              "--http", f"{self.host}:{self.http}", "--turns", "1000000000000", "--server", "127.0.0.1", "--next", "127.0.0.1",
-             "--host", f"127.0.0.1:{self.http}", "--log", self.log], stdout=subprocess.PIPE, text=True)
+             "--host", f"127.0.0.1:{self.http}", "--log", self.log], stdout=subprocess.PIPE, text=True, restore_signals=self.restores_signals)
 
     def serve(self):
         self.start()
@@ -87,9 +89,9 @@ class Hall:
                 octets += more
         return whole(bytes(octets))
 
-    def command(self, **members):
-        """A command of the admin's, which must be done."""
-        status, body = self.ask("/commands", ADMIN, json.dumps({"key": str(uuid.uuid4()), **members}))
+    def command(self, token=ADMIN, **members):
+        """A command, of the admin's if nothing else is said, which must be done."""
+        status, body = self.ask("/commands", token, json.dumps({"key": str(uuid.uuid4()), **members}))
         if status != 200:
             raise SystemExit(f"served_hall: {members}: {status} {body.decode()}")
         return json.loads(body)

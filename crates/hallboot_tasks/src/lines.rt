@@ -15,16 +15,24 @@ use std::alloc::Global;
 pub(crate) struct Lines {
     alloc: Global,
     outlet: Option<Outlet>,
+    has_connections: bool,
     // The text of the last arrival, if it's of note and its turn wasn't told of yet. The error is want of memory for it.
     arrival: Option<Text>,
     failures: Failures,
 }
 
+// Whether a turn did nothing but accept or close a connection.
+fn is_of_connection(turn: &Turn) -> bool {
+    matches!(turn, Turn::Accepted { .. } | Turn::Closed { .. })
+}
+
 impl Lines {
-    pub(crate) fn new(alloc: Global, outlet: Option<Outlet>) -> Lines {
+    /// Lines for an outlet, with those of connections or without.
+    pub(crate) fn new(alloc: Global, outlet: Option<Outlet>, has_connections: bool) -> Lines {
         Lines {
             alloc,
             outlet,
+            has_connections,
             arrival: None,
             failures: Failures::NONE,
         }
@@ -63,6 +71,9 @@ impl TurnLog for Lines {
     }
 
     fn note(&mut self, moment: Moment, turn: &Turn) {
+        if !self.has_connections && is_of_connection(turn) {
+            return;
+        }
         let Some(outlet) = &mut self.outlet else {
             return;
         };

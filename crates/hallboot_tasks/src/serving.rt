@@ -112,7 +112,7 @@ fn serve_over<S: HallStore, J: Joining>(
     let desk = desk_over(store, place, part.serving.enlists);
     let mut service = Service::new(rt.alloc(), desk, bound.sockets);
     let mut stamps = Stamps::since(rt, start, SysRng::new(rt));
-    let mut lines = Lines::new(rt.alloc(), bound.log);
+    let mut lines = Lines::new(rt.alloc(), bound.log, part.serving.logs_connections);
     let ended = serve_part(rt, &mut service, &mut stamps, &mut lines, part, &mut copies);
     let (desk, sockets) = service.into_parts();
     let bound = Bound {

@@ -74,6 +74,15 @@ const LOG_FORMAT: OptionRow = OptionRow {
     ..OptionRow::MAYBE
 };
 
+const LOG_CONNECTIONS: OptionRow = OptionRow {
+    name: "log-connections",
+    value: "WHETHER",
+    help: "yes; or no: the log has no lines of connections that are accepted and closed",
+    must: "yes or no",
+    shape: Shape::OrElse("yes"),
+    ..OptionRow::MAYBE
+};
+
 pub(crate) const BACKUP: OptionRow = OptionRow {
     name: "backup",
     value: "FILE",
@@ -104,6 +113,7 @@ pub(crate) const SERVE_ROW: CommandRow = CommandRow {
         LOG,
         LOG_TIME,
         LOG_FORMAT,
+        LOG_CONNECTIONS,
         BACKUP,
         BACKUP_EVERY,
     ],
@@ -122,6 +132,8 @@ pub struct Serving {
     pub http: SocketAddr,
     pub log: Option<String>,
     pub format: LogFormat,
+    /// Whether the log has lines of connections.
+    pub logs_connections: bool,
     pub enlists: bool,
     pub turns: u64,
     pub backup: Option<BackupPlan>,
@@ -159,11 +171,17 @@ fn log_format(options: &Options<'_>) -> Result<LogFormat, Wrong> {
     options.choice(&LOG_FORMAT, &[("text", time), ("json", LogFormat::Json)])
 }
 
+// Whether an option says yes or no.
+fn is_yes(options: &Options<'_>, row: &OptionRow) -> Result<bool, Wrong> {
+    options.choice(row, &[("yes", true), ("no", false)])
+}
+
 impl Serving {
     pub(crate) fn read(options: &Options<'_>) -> Result<Serving, Wrong> {
         Ok(Serving {
             format: log_format(options)?,
-            enlists: options.choice(&ENLIST, &[("yes", true), ("no", false)])?,
+            logs_connections: is_yes(options, &LOG_CONNECTIONS)?,
+            enlists: is_yes(options, &ENLIST)?,
             turns: options.value(&TURNS, |text| count_of(text))?,
             discover: options.parse(&DISCOVER)?,
             boot: options.parse(&BOOT)?,
@@ -203,7 +221,12 @@ impl fmt::Display for Serving {
             LogFormat::Utc => "utc",
             LogFormat::Json => "json",
         };
-        write!(f, ", log {log} in {format}")?;
+        let without = if self.logs_connections {
+            ""
+        } else {
+            " without connections"
+        };
+        write!(f, ", log {log} in {format}{without}")?;
         match &self.backup {
             Some(backup) => write!(f, ", backup {} every {}", backup.path, backup.seconds),
             None => Ok(()),

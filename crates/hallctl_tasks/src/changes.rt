@@ -4,9 +4,10 @@ use crate::looks::{Before, Look};
 use crate::sending::Sending;
 use crate::session::Session;
 use crate::surroundings::Surroundings;
-use hall_events::HallCommand;
-use hall_types::Version;
+use hall_events::{HallCommand, MachineCommand};
+use hall_types::{Act, Status, Version};
 use hallctl_texts::with_version;
+use hallctl_words::{Waited, Which};
 use std::alloc::AllocError;
 
 // The command with the version of the machine's listing, where it has none of its own.
@@ -26,6 +27,39 @@ fn as_listed(command: &HallCommand, listed: Version) -> Option<HallCommand> {
         )),
         _ => None,
     }
+}
+
+// Notes the machine of a command that was done, and the status to which it leads.
+fn note_goal(waited: &mut Waited, command: &HallCommand) -> Result<(), AllocError> {
+    let Some((which, goal)) = goal_of(command) else {
+        return Ok(());
+    };
+    waited.machines.push(which)?;
+    if !waited.statuses.contains(&goal) {
+        waited.statuses.push(goal)?;
+    }
+    Ok(())
+}
+
+// The machine of a command, and the status to which the command leads in the end, where it is one that can be waited for.
+fn goal_of(command: &HallCommand) -> Option<(Which, Status)> {
+    let HallCommand::OnMachine {
+        machine,
+        command,
+        ..
+    } = command
+    else {
+        return None;
+    };
+    let goal = match command {
+        MachineCommand::Commission { .. }
+        | MachineCommand::Release { .. }
+        | MachineCommand::Act(Act::Test) => Status::Ready,
+        MachineCommand::Deploy { .. } => Status::Deployed,
+        MachineCommand::Act(Act::Rescue) => Status::Rescue,
+        _ => return None,
+    };
+    Some((Which::Number(*machine), goal))
 }
 
 impl<S: Surroundings> Session<'_, S> {
@@ -68,13 +102,21 @@ impl<S: Surroundings> Session<'_, S> {
         Ok(())
     }
 
-    // Sends the commands, each after the look at its machine.
-    fn send_all(&mut self, commands: &[HallCommand], looks: &[Look]) -> Step<TaskEnd> {
+    // Sends the commands, each after the look at its machine. What is to be waited for is noted of those that are done.
+    fn send_all(
+        &mut self,
+        commands: &[HallCommand],
+        looks: &[Look],
+        waited: &mut Waited,
+    ) -> Step<TaskEnd> {
         let mut end = TaskEnd::Done;
         for (place, command) in commands.iter().enumerate() {
             let look = looks.get(place).copied().unwrap_or(Look::Unneeded);
             let one = self.send_after(look, command)?;
             end = end.and_then(one);
+            if one == TaskEnd::Done {
+                note_goal(waited, command)?;
+            }
             let sent = place.saturating_add(1);
             if one.is_last() {
                 self.report_unsent(commands.len().saturating_sub(sent))?;
@@ -88,9 +130,22 @@ impl<S: Surroundings> Session<'_, S> {
     }
 
     /// Sends the commands of a line, and prints a line for each. Where one erases or deletes, the machines are looked at first, and the
-    /// operator is asked. A refused command is no reason not to send the others; one without an answer is.
+    /// operator is asked. A refused command is no reason not to send the others; one without an answer is. Where
+    /// the line says so, the machines are waited for afterwards.
     pub(crate) fn change(&mut self, commands: &[HallCommand]) -> Step<TaskEnd> {
         let looks = self.look_before(commands)?;
-        self.send_all(commands, looks.as_slice())
+        let mut waited = Waited {
+            machines: Vec::new(self.alloc),
+            statuses: Vec::new(self.alloc),
+            despite_failures: false,
+        };
+        let end = self.send_all(commands, looks.as_slice(), &mut waited)?;
+        match self.line.wait {
+            Some(seconds) if !waited.machines.is_empty() && !end.is_last() => {
+                let last = self.wait(&waited, seconds)?;
+                Ok(end.and_then(last))
+            }
+            _ => Ok(end),
+        }
     }
 }

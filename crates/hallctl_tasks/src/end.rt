@@ -10,8 +10,10 @@ pub enum TaskEnd {
     Refused,
     /// The command line asks for what can't be done.
     Misused,
-    /// There was no answer of the desk, or none in time.
+    /// There was no answer of the desk.
     NoAnswer,
+    /// The time was over before all that was waited for had come.
+    TimeOver,
     /// There was no connection to the desk: nothing was sent.
     Unsent,
 }
@@ -26,7 +28,7 @@ impl TaskEnd {
     pub(crate) fn is_last(self) -> bool {
         match self {
             TaskEnd::Done | TaskEnd::Refused => false,
-            TaskEnd::Misused | TaskEnd::NoAnswer | TaskEnd::Unsent => true,
+            TaskEnd::Misused | TaskEnd::NoAnswer | TaskEnd::TimeOver | TaskEnd::Unsent => true,
         }
     }
 
@@ -35,7 +37,7 @@ impl TaskEnd {
         match self {
             TaskEnd::Done => "done",
             TaskEnd::Refused => "refused",
-            TaskEnd::NoAnswer => "not known",
+            TaskEnd::NoAnswer | TaskEnd::TimeOver => "not known",
             TaskEnd::Misused | TaskEnd::Unsent => "not sent",
         }
     }
@@ -47,6 +49,7 @@ impl TaskEnd {
             TaskEnd::Refused => 1,
             TaskEnd::Misused => 2,
             TaskEnd::NoAnswer | TaskEnd::Unsent => 3,
+            TaskEnd::TimeOver => 4,
         }
     }
 }

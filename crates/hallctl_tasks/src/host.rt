@@ -10,7 +10,7 @@ use std::alloc::Global;
 use std::fs::{File, OpenOptions, exists, hard_link, remove_file};
 use std::io::{BufRead, BufReader, ErrorKind, IsTerminal, Read, Write};
 use std::os::unix::fs::OpenOptionsExt;
-use std::time::{Duration, Instant};
+use std::time::{Duration, Instant, SystemTime, UNIX_EPOCH};
 use std::{io, thread};
 
 // The maximum of octets of a file that is read.
@@ -103,12 +103,24 @@ pub fn file_octets(rt: &HostRuntime, path: &str) -> Result<Vec<u8>, FileFault> {
     Ok(octets)
 }
 
-// Whether the next line of standard input is `yes`.
+// The octets of standard input.
+fn input_octets(rt: &HostRuntime) -> Result<Vec<u8>, FileFault> {
+    let mut octets = Vec::new(rt.alloc());
+    let mut input = rt.stdin().take(MAX_FILE_LEN + 1);
+    input.read_to_end(&mut octets)?;
+    if octets.len() as u64 > MAX_FILE_LEN {
+        return Err(FileFault::TooLong);
+    }
+    Ok(octets)
+}
+
+// Whether the next line of standard input is `yes` or `y`.
 fn is_yes(rt: &HostRuntime, alloc: Global) -> io::Result<bool> {
     let mut octets = Vec::new(alloc);
     let mut reader = BufReader::new(alloc, rt.stdin().take(MAX_REPLY_LEN))?;
     reader.read_until(b'\n', &mut octets)?;
-    Ok(octets.as_slice() == b"yes\n".as_slice())
+    let line = octets.as_slice();
+    Ok(line == b"yes\n".as_slice() || line == b"y\n".as_slice())
 }
 
 impl Surroundings for Host<'_> {
@@ -118,6 +130,15 @@ impl Surroundings for Host<'_> {
 
     fn eprint(&mut self, text: &str) {
         let _ = self.rt.stderr().write_all(text.as_bytes());
+    }
+
+    fn is_screen(&self) -> bool {
+        self.rt.stdout().is_terminal()
+    }
+
+    fn moment(&mut self) -> Option<u64> {
+        let now = SystemTime::now(self.rt).ok()?;
+        Some(now.duration_since(UNIX_EPOCH).ok()?.as_secs())
     }
 
     fn is_watched(&self) -> bool {
@@ -148,7 +169,10 @@ impl Surroundings for Host<'_> {
     }
 
     fn octets_of(&mut self, _alloc: Global, path: &str) -> Result<Vec<u8>, FileFault> {
-        file_octets(self.rt, path)
+        match path {
+            "-" => input_octets(self.rt),
+            _ => file_octets(self.rt, path),
+        }
     }
 
     fn has_file(&mut self, path: &str) -> bool {

@@ -8,6 +8,8 @@ mod desk;
 mod dial;
 mod end;
 mod exchanging;
+mod hello;
+mod helping;
 mod host;
 mod importing;
 mod keys;

@@ -7,7 +7,7 @@ use crate::looks::Before;
 use crate::session::Session;
 use crate::surroundings::Surroundings;
 use hall_events::HallCommand;
-use hall_types::{RequestKey, Status};
+use hall_types::{Refusal, RequestKey, Status};
 use hallctl_requests::Ask;
 use hallctl_texts::{
     DeskAnswer, MachineState, deleted_line, done_line, refusal_line, state_line, subject,
@@ -59,8 +59,33 @@ impl<'c> Sending<'c> {
         match said {
             DeskAnswer::Done | DeskAnswer::Listed => done_line(alloc, self.command),
             DeskAnswer::Deleted(machine) => deleted_line(alloc, *machine),
-            DeskAnswer::Machine(state) => state_line(alloc, self.status_before(state), state),
+            DeskAnswer::Machine(state) => self.machine_line(alloc, state),
             DeskAnswer::Refused(refusal) => refusal_line(alloc, Some(self.command), *refusal),
+        }
+    }
+
+    // The line of a machine that was changed, or of a new one with its address.
+    fn machine_line(&self, alloc: Global, state: &MachineState) -> Result<String, AllocError> {
+        let line = state_line(alloc, self.status_before(state), state)?;
+        match self.command {
+            HallCommand::AddMachine { mac, .. } => {
+                let mac = pxe_vendor::print_mac(alloc, &mac.octets())?;
+                format!(in alloc; "{line}, {mac}")
+            }
+            _ => Ok(line),
+        }
+    }
+
+    // The desk's object that refuses the command, with the command's key and its machine beside what the desk says.
+    fn refused_json(&self, alloc: Global, text: &str) -> Result<String, AllocError> {
+        let key = key_text(alloc, self.key)?;
+        let said = text.strip_suffix('}').unwrap_or(text);
+        match self.command {
+            HallCommand::OnMachine { machine, .. } => {
+                let machine = machine.get();
+                format!(in alloc; "{said},\"key\":\"{key}\",\"machine\":{machine}}}")
+            }
+            _ => format!(in alloc; "{said},\"key\":\"{key}\"}}"),
         }
     }
 }
@@ -92,6 +117,28 @@ impl<S: Surroundings> Session<'_, S> {
         self.print_unanswered(sending, TaskEnd::NoAnswer, cause.as_str())
     }
 
+    // Prints why the desk refuses a command, and what helps.
+    fn print_refused(
+        &mut self,
+        sending: &Sending<'_>,
+        refusal: Refusal,
+        answer: &Answer,
+    ) -> Step<TaskEnd> {
+        match answer.text() {
+            Some(text) if self.line.json => {
+                self.print_line(sending.refused_json(self.alloc, text)?)?;
+            }
+            _ => {
+                let line = refusal_line(self.alloc, Some(sending.command), refusal)?;
+                match self.help(sending, refusal)? {
+                    Some(help) => self.print_line(format_args!("{line}. {help}"))?,
+                    None => self.print_line(line)?,
+                }
+            }
+        }
+        Ok(TaskEnd::Refused)
+    }
+
     // Prints what the desk says of a command, as it came or as a line.
     fn print_answer(
         &mut self,
@@ -99,6 +146,9 @@ impl<S: Surroundings> Session<'_, S> {
         said: &DeskAnswer,
         answer: &Answer,
     ) -> Step<TaskEnd> {
+        if let DeskAnswer::Refused(refusal) = said {
+            return self.print_refused(sending, *refusal, answer);
+        }
         match answer.text() {
             Some(text) if self.line.json => self.print_line(text)?,
             _ => {
@@ -106,10 +156,7 @@ impl<S: Surroundings> Session<'_, S> {
                 self.print_line(line)?;
             }
         }
-        match said {
-            DeskAnswer::Refused(_) => Ok(TaskEnd::Refused),
-            _ => Ok(TaskEnd::Done),
-        }
+        Ok(TaskEnd::Done)
     }
 
     fn send_noted(&mut self, sending: &Sending<'_>) -> Step<TaskEnd> {

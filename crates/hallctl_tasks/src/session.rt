@@ -28,9 +28,10 @@ impl<S: Surroundings> Session<'_, S> {
         let line = self.line;
         match &line.wish {
             Wish::List(listing) => self.list(listing),
+            Wish::Hello => self.greet(),
             Wish::Change(commands) => self.change(commands.as_slice()),
             Wish::NewOperator(new) => self.add_operator(new),
-            Wish::Wait { machine, statuses } => self.wait(*machine, statuses.as_slice()),
+            Wish::Wait(waited) => self.wait(waited, line.timeout),
             Wish::Import(path) => self.import(path),
             Wish::Completion => Ok(TaskEnd::Done),
         }

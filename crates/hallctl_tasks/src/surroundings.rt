@@ -25,13 +25,19 @@ pub trait Surroundings: Dial {
     /// Writes a text to standard error, if that can be.
     fn eprint(&mut self, text: &str);
 
+    /// Whether standard output is a terminal.
+    fn is_screen(&self) -> bool;
+
+    /// The seconds since 1970, if the system's clock says them.
+    fn moment(&mut self) -> Option<u64>;
+
     /// Whether standard error is a terminal.
     fn is_watched(&self) -> bool;
 
     /// Whether standard input is a terminal.
     fn can_ask(&self) -> bool;
 
-    /// Whether the next line of standard input is `yes`.
+    /// Whether the next line of standard input is `yes` or `y`.
     fn is_agreed(&mut self, alloc: Global) -> bool;
 
     /// How many milliseconds have passed since the line began, or since time was last counted anew.
@@ -43,7 +49,7 @@ pub trait Surroundings: Dial {
     /// Random octets. `None` where the system gives none.
     fn fresh(&mut self) -> Option<[u8; 32]>;
 
-    /// The octets of a file.
+    /// The octets of a file. `-` is standard input.
     fn octets_of(&mut self, alloc: Global, path: &str) -> Result<Vec<u8>, FileFault>;
 
     /// Whether there is a file.

@@ -1,124 +1,126 @@
-//! The texts of lists of machines, and of one machine.
+//! The texts of lists of machines, and a machine in a list.
 use crate::answer_fault::AnswerFault;
-use crate::listings::{
-    Filter, ListedMachine, address_in, addresses, lets_through, listed, objects,
-};
+use crate::columns::Column;
+use crate::listings::{address_in, addresses, objects};
+use crate::machine_value::uuid_at;
 use crate::member_texts::push_item;
+use crate::members::number_at;
 use crate::table::Table;
-use hall_types::{MacAddress, Name};
+use hall_types::{MacAddress, MachineUuid, Number};
 use serde_json::Value;
 use std::alloc::{AllocError, Global};
-
-const HEADING: [&str; 7] = [
-    "ID",
-    "STATUS",
-    "POOL",
-    "OWNER",
-    "IMAGE",
-    "ADDRESSES",
-    "VERSION",
-];
-
-// What stands for null.
-const NONE: &str = "-";
 
 // The member of a list's answer that has the list.
 const MACHINES: &str = "machines";
 
-fn name_cell(alloc: Global, name: Option<Name>) -> Result<String, AllocError> {
-    String::from_str(alloc, name.as_ref().map_or(NONE, |name| name.text()))
-}
-
-// The addresses of a machine, a comma between each two.
-fn addresses_cell(alloc: Global, object: &Value) -> Result<String, AnswerFault> {
-    let mut text = String::new(alloc);
-    for value in addresses(object)? {
-        let address = address_in(value).ok_or(AnswerFault::NotTheDesk)?;
-        let address = pxe_vendor::print_mac(alloc, &address.octets())?;
-        push_item(&mut text, address.as_str())?;
+fn heading(alloc: Global, columns: &[Column]) -> Result<Table, AllocError> {
+    let mut table = Table::new(alloc, columns.len());
+    for column in columns {
+        table.push(column.name().to_ascii_uppercase(alloc)?)?;
     }
-    Ok(text)
+    Ok(table)
 }
 
 fn push_row(
     alloc: Global,
     table: &mut Table,
-    machine: &ListedMachine,
+    columns: &[Column],
     object: &Value,
+    now: Option<u64>,
 ) -> Result<(), AnswerFault> {
-    table.push(machine.id.get().to_string(alloc)?)?;
-    table.push(String::from_str(alloc, machine.status.text())?)?;
-    table.push(name_cell(alloc, Some(machine.pool))?)?;
-    table.push(name_cell(alloc, machine.owner)?)?;
-    table.push(name_cell(alloc, machine.image)?)?;
-    table.push(addresses_cell(alloc, object)?)?;
-    table.push(machine.version.get().to_string(alloc)?)?;
+    for column in columns {
+        table.push(column.cell(alloc, object, now)?)?;
+    }
     Ok(())
 }
 
-// The machine of an object, if the filter lets it through.
-fn wanted(filter: &Filter, object: &Value) -> Result<Option<ListedMachine>, AnswerFault> {
-    let machine = listed(object)?;
-    Ok(lets_through(filter, &machine).then_some(machine))
-}
-
-/// The machines of a list (the answer to `GET /machines`) that a filter lets through, as a table under a heading.
+/// Machines as a table with these columns under a heading, at a moment in seconds since 1970, if that is known.
 ///
 /// # Errors
 ///
-/// `NotTheDesk` where the answer is no such list, and `Memory`.
+/// `NotTheDesk` where one isn't a machine as the desk lists it, and `Memory`.
 pub fn machine_table(
     alloc: Global,
-    answer: &Value,
-    filter: &Filter,
+    machines: &[&Value],
+    columns: &[Column],
+    now: Option<u64>,
 ) -> Result<String, AnswerFault> {
-    let objects = objects(answer, MACHINES)?;
-    let mut table = Table::new(alloc, &HEADING)?;
-    for object in objects {
-        match wanted(filter, object) {
-            Ok(Some(machine)) => push_row(alloc, &mut table, &machine, object)?,
-            Ok(None) => {}
-            Err(fault) => return Err(fault),
-        }
+    let mut table = heading(alloc, columns)?;
+    for object in machines {
+        push_row(alloc, &mut table, columns, object, now)?;
     }
     Ok(table.text(alloc)?)
 }
 
-/// The numbers of the machines of a list that a filter lets through, one a line.
+/// The numbers of machines, one a line.
 ///
 /// # Errors
 ///
-/// `NotTheDesk` where the answer is no such list, and `Memory`.
-pub fn machine_ids(alloc: Global, answer: &Value, filter: &Filter) -> Result<String, AnswerFault> {
+/// `NotTheDesk` where one has no number, and `Memory`.
+pub fn machine_ids(alloc: Global, machines: &[&Value]) -> Result<String, AnswerFault> {
     let mut text = String::new(alloc);
-    for object in objects(answer, MACHINES)? {
-        match wanted(filter, object) {
-            Ok(Some(machine)) => {
-                let id = machine.id.get();
-                text.push_str(format!(in alloc; "{id}\n")?.as_str())?;
-            }
-            Ok(None) => {}
-            Err(fault) => return Err(fault),
-        }
+    for object in machines {
+        let id = number_at(object, "id")
+            .ok_or(AnswerFault::NotTheDesk)?
+            .get();
+        text.push_str(format!(in alloc; "{id}\n")?.as_str())?;
     }
     Ok(text)
 }
 
-/// The list of those machines that a filter lets through, as JSON like the desk's: without a filter it is the answer itself.
+/// A list of machines as JSON like the desk's: of all machines in their order it is the desk's answer itself.
+pub fn machine_json(alloc: Global, machines: &[&Value]) -> Result<String, AllocError> {
+    let mut text = String::new(alloc);
+    for object in machines {
+        push_item(&mut text, object.to_string(alloc)?.as_str())?;
+    }
+    format!(in alloc; "{{\"machines\":[{text}]}}")
+}
+
+/// The machine of a list that has a number, if one has it. The desk lists machines in the order of their numbers.
 ///
 /// # Errors
 ///
-/// `NotTheDesk` where the answer is no such list, and `Memory`.
-pub fn machine_json(alloc: Global, answer: &Value, filter: &Filter) -> Result<String, AnswerFault> {
-    let mut text = String::new(alloc);
-    for object in objects(answer, MACHINES)? {
-        match wanted(filter, object) {
-            Ok(Some(_)) => push_item(&mut text, object.to_string(alloc)?.as_str())?,
-            Ok(None) => {}
-            Err(fault) => return Err(fault),
-        }
+/// `NotTheDesk` alone, where the answer is no such list.
+pub fn machine_numbered(answer: &Value, number: Number) -> Result<Option<&Value>, AnswerFault> {
+    let objects = objects(answer, MACHINES)?;
+    let place = objects.partition_point(|object| match number_at(object, "id") {
+        Some(id) => id.get() < number.get(),
+        None => false,
+    });
+    match objects.get(place) {
+        Some(object) if number_at(object, "id") == Some(number) => Ok(Some(object)),
+        _ => Ok(None),
     }
-    Ok(format!(in alloc; "{{\"machines\":[{text}]}}")?)
+}
+
+// Whether a machine has this UUID.
+fn has_uuid(object: &Value, uuid: Option<MachineUuid>) -> bool {
+    match (uuid, uuid_at(object, "uuid")) {
+        (Some(wanted), Some(own)) => own.octets() == wanted.octets(),
+        _ => false,
+    }
+}
+
+/// The number of the machine of a list that has a hardware address or a UUID, if one has it.
+///
+/// # Errors
+///
+/// `NotTheDesk` alone, where the answer is no such list.
+pub fn holder_of(
+    answer: &Value,
+    address: MacAddress,
+    uuid: Option<MachineUuid>,
+) -> Result<Option<Number>, AnswerFault> {
+    if let Some(object) = machine_with(answer, address)? {
+        return Ok(number_at(object, "id"));
+    }
+    let mut objects = objects(answer, MACHINES)?.iter();
+    Ok(
+        objects
+            .find(|object| has_uuid(object, uuid))
+            .and_then(|object| number_at(object, "id")),
+    )
 }
 
 /// The machine of a list that has a hardware address, if one has it.

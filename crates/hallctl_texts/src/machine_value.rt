@@ -8,7 +8,8 @@ use serde_json::Value;
 use std::alloc::AllocError;
 use uuid::Uuid;
 
-fn uuid_at(object: &Value, name: &str) -> Option<MachineUuid> {
+/// The UUID that a member has.
+pub(crate) fn uuid_at(object: &Value, name: &str) -> Option<MachineUuid> {
     let uuid = Uuid::parse_str(text_at(object, name)?).ok()?;
     Some(MachineUuid::from(uuid.into_bytes()))
 }

@@ -1,5 +1,6 @@
-//! The texts of an answer's members, and of the list of orders.
+//! The texts of a machine's members, and of the list of orders.
 use crate::answer_fault::AnswerFault;
+use crate::columns::Column;
 use crate::listings::{addresses, is_listed, objects};
 use crate::members::number_at;
 use crate::table::Table;
@@ -26,43 +27,34 @@ pub(crate) fn push_item(text: &mut String, item: &str) -> Result<(), AllocError>
     text.push_str(item)
 }
 
-// The texts of an array, a comma between each two.
-fn items_text(alloc: Global, items: &[Value]) -> Result<String, AnswerFault> {
-    let mut text = String::new(alloc);
-    for item in items {
-        push_item(&mut text, plain(item)?)?;
-    }
-    Ok(text)
-}
-
-// A dash stands for null.
-fn value_text(alloc: Global, value: &Value) -> Result<String, AnswerFault> {
+/// The text of a member. A dash stands for null.
+pub(crate) fn value_text(alloc: Global, value: &Value) -> Result<String, AnswerFault> {
     match value {
         Value::Null => Ok(String::from_str(alloc, "-")?),
         Value::String(_) => Ok(String::from_str(alloc, plain(value)?)?),
-        Value::Array(items) => items_text(alloc, items),
         Value::Bool(_) | Value::Number(_) => Ok(value.to_string(alloc)?),
-        Value::Object(_) => Err(AnswerFault::NotTheDesk),
+        Value::Array(_) | Value::Object(_) => Err(AnswerFault::NotTheDesk),
     }
 }
 
-/// A machine (the answer to `GET /machines/ID`, or an object of a list), a line `name: value` for each of its members.
+/// A machine (the answer to `GET /machines/ID`, or an object of a list), a line `name: value` for each of its members, at a moment in
+/// seconds since 1970, if that is known.
 ///
 /// # Errors
 ///
 /// `NotTheDesk` where the answer is no machine, and `Memory`.
-pub fn machine_lines(alloc: Global, object: &Value) -> Result<String, AnswerFault> {
+pub fn machine_lines(
+    alloc: Global,
+    object: &Value,
+    now: Option<u64>,
+) -> Result<String, AnswerFault> {
     addresses(object)?;
     if !is_listed(object) {
         return Err(AnswerFault::NotTheDesk);
     }
-    let members = object.as_object().ok_or(AnswerFault::NotTheDesk)?;
     let mut text = String::new(alloc);
-    for (name, value) in members.iter() {
-        if !is_plain(name.as_str()) {
-            return Err(AnswerFault::NotTheDesk);
-        }
-        let value = value_text(alloc, value)?;
+    for column in Column::ALL.as_slice() {
+        let (name, value) = (column.name(), column.cell(alloc, object, now)?);
         text.push_str(format!(in alloc; "{name}: {value}\n")?.as_str())?;
     }
     Ok(text)
@@ -90,7 +82,10 @@ fn push_order(alloc: Global, table: &mut Table, order: &Value) -> Result<(), Ans
 /// `NotTheDesk` where the answer is no such list, and `Memory`.
 pub fn order_table(alloc: Global, answer: &Value) -> Result<String, AnswerFault> {
     let orders = objects(answer, "orders")?;
-    let mut table = Table::new(alloc, &HEADING)?;
+    let mut table = Table::new(alloc, HEADING.len());
+    for text in HEADING.as_slice() {
+        table.push(String::from_str(alloc, text)?)?;
+    }
     for order in orders {
         push_order(alloc, &mut table, order)?;
     }

@@ -1,5 +1,5 @@
 //! Texts in columns.
-ghost use Rattle.std.specs.Prelude.{◌≤◌, length};
+ghost use Rattle.std.specs.Prelude.{◌≤◌};
 
 use std::alloc::{AllocError, Global};
 
@@ -36,18 +36,12 @@ fn push_wide(text: &mut String, cell: &str, width: usize) -> Result<(), AllocErr
 }
 
 impl Table {
-    /// A table without a row, under this heading.
-    pub(crate) fn new(alloc: Global, heading: &[&str]) -> Result<Table, AllocError>
-        requires { 1 ≤ length heading.now }
-    {
-        let mut table = Table {
-            columns: heading.len(),
+    /// A table without a cell.
+    pub(crate) fn new(alloc: Global, columns: usize) -> Table {
+        Table {
+            columns: columns.max(1),
             cells: Vec::new(alloc),
-        };
-        for text in heading {
-            table.push(String::from_str(alloc, text)?)?;
         }
-        Ok(table)
     }
 
     /// Adds a cell.

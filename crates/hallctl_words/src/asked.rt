@@ -1,7 +1,7 @@
 //! What a command line of hallctl asks for.
 use hall_events::HallCommand;
 use hall_types::{MacAddress, Name, Number, RequestKey, Role, Status};
-use hallctl_texts::Filter;
+use hallctl_texts::{Choice, Column};
 
 /// What a command line says. Its texts are words of the command line.
 #[derive(Drop)]
@@ -16,6 +16,8 @@ pub struct Line<'a> {
     pub key: Option<RequestKey>,
     /// The file to which the key of each command is added.
     pub keys: Option<&'a str>,
+    /// For how many seconds it is waited, after commands on machines, until these have got where the commands lead.
+    pub wait: Option<u64>,
     /// Whether a command that erases or deletes is sent without a question.
     pub yes: bool,
     /// Whether the desk's JSON is printed.
@@ -27,31 +29,51 @@ pub struct Line<'a> {
 #[derive(Drop)]
 pub enum Wish<'a> {
     /// What the desk lists is printed.
-    List(Listing),
+    List(Listing<'a>),
+    /// Whether the desk is there, and which role the token has.
+    Hello,
     /// The commands, which are sent one after another: one, or one for each machine.
     Change(Vec<HallCommand>),
     /// An operator with a token that is made.
     NewOperator(NewOperator<'a>),
-    /// That the machine gets one of these statuses, for at most the seconds of the line's time.
-    Wait {
-        machine: Number,
-        statuses: Vec<Status>,
-    },
+    /// That machines get a status, for at most the seconds of the line's time.
+    Wait(Waited),
     /// The machines of this file of comma-separated values.
     Import(&'a str),
     /// The completion for bash.
     Completion,
 }
 
+/// What is waited for.
+#[derive(Drop)]
+pub struct Waited {
+    pub machines: Vec<Which>,
+    /// Of these statuses each machine is to have one.
+    pub statuses: Vec<Status>,
+    /// Whether a machine that has failed or is broken is waited for all the same.
+    pub despite_failures: bool,
+}
+
 /// What is listed, and how.
-#[derive(Clone, Copy)]
-pub enum Listing {
-    /// The machines that this filter lets through, in this form.
-    Machines(Filter, Form),
+#[derive(Drop)]
+pub enum Listing<'a> {
+    /// Machines.
+    Machines(MachineList<'a>),
     /// One machine, a line for each of its members.
     Machine(Which),
     /// The power orders that wait.
     Orders,
+}
+
+/// Which machines are listed, and how.
+#[derive(Drop)]
+pub struct MachineList<'a> {
+    pub choice: Choice<'a>,
+    pub form: Form,
+    /// The columns of a table.
+    pub columns: Vec<Column>,
+    /// Whether the list is printed again and again.
+    pub is_watched: bool,
 }
 
 /// An operator that is to be added, and the file for its token.

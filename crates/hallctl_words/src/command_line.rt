@@ -1,7 +1,7 @@
 //! The command line: its commands in the order of the help, and what the words of one ask for.
 use crate::asked::{Line, Listing, Wish};
 use crate::hall::{add_operator, hall_command};
-use crate::machines::{YES, commands_on};
+use crate::machines::{WAIT_FOR, YES, commands_on};
 use crate::options::{
     CHANGING, COMMAND, DESK, JSON, KEY, KEYS, READING, TIMEOUT, TOKEN_FILE, WAITING,
 };
@@ -40,7 +40,7 @@ const COMPLETION: CommandRow = CommandRow {
 const FILE: OptionRow = OptionRow {
     name: "file",
     value: "FILE",
-    help: "The file of machines",
+    help: "The file of machines; - is standard input",
     ..OptionRow::PLACE
 };
 
@@ -90,6 +90,7 @@ fn wish_of<'a>(name: &str, options: &Options<'a>) -> Result<Wish<'a>, Wrong> {
         "machines" => Ok(Wish::List(listings::machines(options)?)),
         "machine" => Ok(Wish::List(listings::machine(options)?)),
         "orders" => Ok(Wish::List(Listing::Orders)),
+        "hello" => Ok(Wish::Hello),
         "add-operator" => add_operator(options),
         "wait" => wait(options),
         "import" => Ok(Wish::Import(options.required(&FILE)?)),
@@ -135,6 +136,7 @@ fn line_of<'a>(options: &Options<'a>) -> Result<Line<'a>, Wrong> {
         timeout,
         key,
         keys: options.text(&KEYS),
+        wait: options.value_if(&WAIT_FOR, |text| seconds_of(text.as_bytes()))?,
         yes: options.is_given(&YES),
         json: options.is_given(&JSON),
         wish,
@@ -152,7 +154,7 @@ pub fn read<'a>(alloc: Global, words: &'a [String]) -> Result<Line<'a>, LineFaul
         name: "hallctl",
         version: VERSION,
         about: "Asks the boot desk of a server hall",
-        after: "Exit status: 0 done, 1 refused, 2 wrong usage, 3 no answer.",
+        after: "Exit status: 0 done, 1 refused, 2 wrong usage, 3 no answer, 4 waited in vain.",
         options: &READING,
         commands: rows.as_slice(),
         needs_command: true,

@@ -1,7 +1,7 @@
 //! Commands on the hall: machines, operators, pools and images that are added, and what else is said of them.
 use crate::asked::{NewOperator, Wish};
 use crate::options::{ARCH, COMMAND, MAC, NAME, OPERATOR_NAME, POOL};
-use crate::values::uuid_of;
+use crate::values::{mac_of, uuid_of};
 use command_rows::{CommandRow, OptionRow, Options, Shape, Wrong};
 use hall_events::HallCommand;
 use hall_types::Image;
@@ -216,7 +216,7 @@ pub(crate) fn hall_command(
 ) -> Result<Option<HallCommand>, Wrong> {
     Ok(Some(match name {
         "add-machine" => HallCommand::AddMachine {
-            mac: options.parse(&MAC)?,
+            mac: options.value(&MAC, |text| mac_of(text))?,
             arch: options.parse(&ARCH)?,
             pool: options.parse(&POOL)?,
             uuid: options.value_if(&UUID, |text| uuid_of(text))?,

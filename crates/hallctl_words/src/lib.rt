@@ -12,6 +12,6 @@ mod spans;
 mod values;
 mod waiting;
 
-pub use asked::{Form, Line, Listing, NewOperator, Which, Wish};
+pub use asked::{Form, Line, Listing, MachineList, NewOperator, Waited, Which, Wish};
 pub use bash_completion::completion;
 pub use command_line::{LineFault, read};

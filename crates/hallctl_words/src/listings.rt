@@ -1,16 +1,26 @@
-//! Commands that list what the desk has: `machines`, `machine`, `orders`.
-use crate::asked::{Form, Listing, Which};
-use crate::options::{COMMAND, JSON, NAME, STATUS};
+//! Commands that list what the desk has: `machines`, `machine`, `orders`; and `hello`.
+use crate::asked::{Form, Listing, MachineList, Which};
+use crate::options::{COMMAND, JSON, NAME, STATUS, STATUS_ALONE};
+use crate::values::{mac_of, status_of};
 use command_rows::{CommandRow, OptionRow, Options, Wrong};
-use hallctl_texts::Filter;
+use hallctl_texts::{Choice, Column, Filter};
 
 /// The commands, in the order of the help.
-pub(crate) static ROWS: [CommandRow; 3] = [
+pub(crate) static ROWS: [CommandRow; 4] = [
     CommandRow {
         name: "machines",
         about: "Lists the machines",
-        example: "Example: hallctl machines --status Ready --pool lab",
-        options: &[WITH_STATUS, IN_POOL, OWNER, IDS],
+        example: "Example: hallctl machines --status Ready --columns id,addresses,deadline",
+        options: &[
+            WITH_STATUS,
+            IN_POOL,
+            OWNER,
+            SEARCH,
+            SORT,
+            COLUMNS,
+            IDS,
+            WATCH,
+        ],
         ..COMMAND
     },
     CommandRow {
@@ -26,12 +36,18 @@ pub(crate) static ROWS: [CommandRow; 3] = [
         example: "Example: hallctl orders",
         ..COMMAND
     },
+    CommandRow {
+        name: "hello",
+        about: "Says whether the desk is there, and which role your token has",
+        example: "Example: hallctl hello",
+        ..COMMAND
+    },
 ];
 
 const WITH_STATUS: OptionRow = OptionRow {
     name: "status",
     value: "STATUS",
-    help: "Machines with this status alone",
+    help: STATUS_ALONE,
     must: STATUS,
     ..OptionRow::MAYBE
 };
@@ -50,6 +66,38 @@ const OWNER: OptionRow = OptionRow {
     help: "Machines of this owner alone",
     must: NAME,
     ..OptionRow::MAYBE
+};
+
+const SEARCH: OptionRow = OptionRow {
+    name: "search",
+    value: "TEXT",
+    help: "Machines alone of which a column has this text",
+    ..OptionRow::MAYBE
+};
+
+const COLUMN: &str =
+    "a column is id, status, locked, deadline, order, boot, version, pool, owner, image, erase, arch, uuid or addresses";
+
+const SORT: OptionRow = OptionRow {
+    name: "sort",
+    value: "COLUMN",
+    help: "In the order of this column",
+    must: COLUMN,
+    ..OptionRow::MAYBE
+};
+
+const COLUMNS: OptionRow = OptionRow {
+    name: "columns",
+    value: "COLUMNS",
+    help: "The columns of the table, with commas: id, status, locked, deadline, order, boot, version, pool, owner, image, erase, arch, uuid, addresses",
+    must: COLUMN,
+    ..OptionRow::MAYBE
+};
+
+const WATCH: OptionRow = OptionRow {
+    name: "watch",
+    help: "Prints the list again every two seconds",
+    ..OptionRow::FLAG
 };
 
 const IDS: OptionRow = OptionRow {
@@ -76,26 +124,54 @@ fn form(options: &Options<'_>) -> Result<Form, Wrong> {
     }
 }
 
-/// What `machines` lists, and how.
-pub(crate) fn machines(options: &Options<'_>) -> Result<Listing, Wrong> {
-    let filter = Filter {
-        status: options.value_if(&WITH_STATUS, |text| text.parse().ok())?,
-        pool: options.value_if(&IN_POOL, |text| text.parse().ok())?,
-        owner: options.value_if(&OWNER, |text| text.parse().ok())?,
+// The columns of a table, those that a list usually has where none are named.
+fn columns(options: &Options<'_>, form: Form) -> Result<Vec<Column>, Wrong> {
+    let Some(names) = options.text(&COLUMNS) else {
+        return Ok(Vec::from_slice(options.alloc(), Column::USUAL.as_slice())?);
     };
-    Ok(Listing::Machines(filter, form(options)?))
+    if form != Form::Table {
+        return Err(options.wrong_because(&COLUMNS, "not beside --ids or --json"));
+    }
+    let mut columns = Vec::new(options.alloc());
+    for name in names.split(',') {
+        match Column::with_name(name) {
+            Some(column) => columns.push(column)?,
+            None => return Err(options.wrong(&COLUMNS)),
+        }
+    }
+    Ok(columns)
+}
+
+/// What `machines` lists, and how.
+pub(crate) fn machines<'a>(options: &Options<'a>) -> Result<Listing<'a>, Wrong> {
+    let form = form(options)?;
+    let choice = Choice {
+        filter: Filter {
+            status: options.value_if(&WITH_STATUS, |text| status_of(text))?,
+            pool: options.value_if(&IN_POOL, |text| text.parse().ok())?,
+            owner: options.value_if(&OWNER, |text| text.parse().ok())?,
+        },
+        search: options.text(&SEARCH),
+        sort: options.value_if(&SORT, |text| Column::with_name(text))?,
+    };
+    Ok(Listing::Machines(MachineList {
+        choice,
+        form,
+        columns: columns(options, form)?,
+        is_watched: options.is_given(&WATCH),
+    }))
 }
 
 // The machine with this number, or with this hardware address.
 fn which_of(text: &str) -> Option<Which> {
-    match text.parse() {
-        Ok(address) => Some(Which::Address(address)),
-        Err(_) => Some(Which::Number(text.parse().ok()?)),
+    match mac_of(text) {
+        Some(address) => Some(Which::Address(address)),
+        None => Some(Which::Number(text.parse().ok()?)),
     }
 }
 
 /// The machine that `machine` shows.
-pub(crate) fn machine(options: &Options<'_>) -> Result<Listing, Wrong> {
+pub(crate) fn machine<'a>(options: &Options<'a>) -> Result<Listing<'a>, Wrong> {
     let which = options.value(&WHICH, |text| which_of(text))?;
     Ok(Listing::Machine(which))
 }

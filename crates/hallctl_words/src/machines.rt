@@ -1,8 +1,8 @@
 //! Commands on machines that are there.
 use crate::hall::ADD_MACHINE;
-use crate::options::{COMMAND, MAC, MACHINE, NAME, POOL};
+use crate::options::{COMMAND, MAC, MACHINE, NAME, POOL, TIME};
 use crate::spans::machines_of;
-use crate::values::erase_of;
+use crate::values::{erase_of, mac_of};
 use command_rows::{CommandRow, OptionRow, Options, Shape, Wrong};
 use hall_events::{HallCommand, MachineCommand};
 use hall_types::{Act, Number, Version};
@@ -26,27 +26,39 @@ pub(crate) static ROWS: [CommandRow; 18] = [
         name: "commission",
         about: "Commissions machines",
         example: "Example: hallctl commission 1 2 5-9 --tests",
-        options: &[MACHINES, TESTS, VERSION],
+        options: &[MACHINES, TESTS, VERSION, WAIT_FOR],
         ..COMMAND
     },
-    act!("test", "Tests machines"),
+    CommandRow {
+        name: "test",
+        about: "Tests machines",
+        example: "Example: hallctl test 1 --wait 1h",
+        options: &[MACHINES, VERSION, WAIT_FOR],
+        ..COMMAND
+    },
     act!("override", "Takes machines whose tests failed as ready"),
     act!("allocate", "Makes you the owner of machines"),
     CommandRow {
         name: "deploy",
         about: "Deploys an image on machines that you own",
         example: "Example: hallctl deploy 1 --image jammy",
-        options: &[MACHINES, IMAGE, VERSION],
+        options: &[MACHINES, IMAGE, VERSION, WAIT_FOR],
         ..COMMAND
     },
     CommandRow {
         name: "release",
         about: "Gives machines back, with all of their disks erased first or not",
         example: "Example: hallctl release 1 --erase none",
-        options: &[MACHINES, ERASE, VERSION, YES],
+        options: &[MACHINES, ERASE, VERSION, YES, WAIT_FOR],
         ..COMMAND
     },
-    act!("rescue", "Boots the rescue system on machines"),
+    CommandRow {
+        name: "rescue",
+        about: "Boots the rescue system on machines",
+        example: "Example: hallctl rescue 1",
+        options: &[MACHINES, VERSION, WAIT_FOR],
+        ..COMMAND
+    },
     act!("exit-rescue", "Ends the rescue of machines"),
     act!("abort", "Stops what machines are doing"),
     act!("break", "Marks machines as broken"),
@@ -104,6 +116,14 @@ const VERSION: OptionRow = OptionRow {
     ..OptionRow::MAYBE
 };
 
+pub(crate) const WAIT_FOR: OptionRow = OptionRow {
+    name: "wait",
+    value: "TIME",
+    help: "Waits afterwards, for at most this time, until the machines have got where this leads",
+    must: TIME,
+    ..OptionRow::MAYBE
+};
+
 pub(crate) const YES: OptionRow = OptionRow {
     name: "yes",
     help: "Asks nothing",
@@ -158,10 +178,10 @@ fn machine_command(name: &str, options: &Options<'_>) -> Result<MachineCommand, 
             pool: options.parse(&POOL)?,
         }),
         "add-interface" => Ok(MachineCommand::AddInterface {
-            mac: options.parse(&MAC)?,
+            mac: options.value(&MAC, |text| mac_of(text))?,
         }),
         "remove-interface" => Ok(MachineCommand::RemoveInterface {
-            mac: options.parse(&MAC)?,
+            mac: options.value(&MAC, |text| mac_of(text))?,
         }),
         "delete" => Ok(MachineCommand::Delete),
         _ => act(name, options),

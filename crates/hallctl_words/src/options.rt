@@ -5,7 +5,23 @@ use command_rows::{CommandRow, OptionRow};
 
 pub(crate) const NAME: &str = "a name has 1 to 32 characters of a-z, 0-9 and -, the first a letter";
 
-pub(crate) const STATUS: &str = "a status is as in Ready or 'Failed commissioning'";
+// All statuses, as a text says them.
+macro_rules! after_statuses {
+    ($text:literal) => {
+        concat!(
+            $text,
+            "New, Commissioning, Failed commissioning, Testing, Failed testing, Ready, Allocated, Deploying, Failed deployment, Deployed, ",
+            "Releasing, Failed releasing, Disk erasing, Failed disk erasing, Entering rescue mode, Failed to enter rescue mode, Rescue mode, ",
+            "Exiting rescue mode, Failed to exit rescue mode or Broken"
+        )
+    };
+}
+
+pub(crate) const STATUS: &str = after_statuses!("a status is ");
+
+pub(crate) const STATUS_ALONE: &str = after_statuses!("Machines with this status alone: ");
+
+pub(crate) const STATUS_WAITED_FOR: &str = after_statuses!("The status that is waited for: ");
 
 pub(crate) const TIME: &str =
     "a time is seconds, or as in 30s, 10m, 2h, at most 8760h, and is said once";

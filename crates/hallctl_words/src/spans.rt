@@ -8,8 +8,8 @@ use hall_types::Number;
 use pxe_vendor::numeral;
 use std::alloc::{AllocError, Global};
 
-// The maximum of the machines that one command line names: as many as a hall has.
-const MAX_MACHINES: usize = 10_000;
+/// The maximum of the machines that one command line names: as many as a hall has.
+pub(crate) const MAX_MACHINES: usize = 10_000;
 
 // So many numbers from a first one on.
 #[derive(Clone, Copy)]

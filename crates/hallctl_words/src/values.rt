@@ -3,7 +3,7 @@ ghost use Rattle.std.specs.Prelude.{◌≡◌, ◌≤◌, take, length, option_m
 ghost use Rattle.uuid.specs.Text.{parsed};
 ghost use Rattle.hallctl_words.specs.Words.{erase_in, seconds_in, times_at_most, uuid_in};
 
-use hall_types::{Erase, MachineUuid, RequestKey};
+use hall_types::{Erase, MacAddress, MachineUuid, RequestKey, Status};
 use pxe_vendor::numeral;
 use uuid::Uuid;
 
@@ -40,6 +40,43 @@ pub(crate) fn erase_of(text: &str) -> Option<Option<Erase>>
         return Some(None);
     }
     text.parse::<Erase>().ok().map(Some)
+}
+
+// The characters of a hardware address.
+const ADDRESS_LEN: usize = 17;
+
+/// The hardware address of a text, with colons or hyphens.
+pub(crate) fn mac_of(text: &str) -> Option<MacAddress> {
+    let mut octets = [0; ADDRESS_LEN];
+    if text.len() != octets.len() {
+        return None;
+    }
+    for (own, given) in octets.iter_mut().zip(text.bytes()) {
+        *own = if given == b'-' { b':' } else { given };
+    }
+    std::str::from_utf8(&octets).ok()?.parse().ok()
+}
+
+// Whether an octet of a status is the one that is given, in upper or lower case, or a blank for a hyphen.
+fn is_alike(own: u8, given: u8) -> bool {
+    own.eq_ignore_ascii_case(&given) || (own == b' ' && given == b'-')
+}
+
+fn is_named(status: Status, text: &str) -> bool {
+    let own = status.text();
+    own.len() == text.len()
+        && own
+            .bytes()
+            .zip(text.bytes())
+            .all(|(own, given)| is_alike(own, given))
+}
+
+/// The status that a text names, in upper or lower case, with blanks or hyphens between its words.
+pub(crate) fn status_of(text: &str) -> Option<Status> {
+    Status::ALL
+        .iter()
+        .copied()
+        .find(|status| is_named(*status, text))
 }
 
 // A year of 365 days, in seconds.

@@ -5,6 +5,9 @@ use hallctl_tasks::{Attempt, Dial, FileFault, Surroundings, Why, goes_on_text};
 use std::alloc::{AllocError, Global};
 use std::collections::VecDeque;
 
+/// When a command line begins, in seconds since 1970: 2026-09-21, 14:13:20 UTC.
+pub(crate) const MOMENT: u64 = 1_790_000_000;
+
 /// A file by its path.
 #[derive(Drop)]
 pub(crate) struct PlayedFile {
@@ -33,6 +36,7 @@ pub(crate) struct Stage<'r> {
     pub(crate) sent: Vec<Sent>,
     typed: Option<String>,
     is_watched: bool,
+    is_screen: bool,
     /// Whether it is written how long the command line took.
     pub(crate) is_timed: bool,
     pub(crate) out: Out,
@@ -54,6 +58,7 @@ impl<'r> Stage<'r> {
             sent: Vec::new(alloc),
             typed: None,
             is_watched: false,
+            is_screen: false,
             is_timed: false,
             out: Out::new(alloc),
             err: Out::new(alloc),
@@ -70,6 +75,7 @@ impl<'r> Stage<'r> {
             "desk" => self.answers.push_back(attempt_of(alloc, rest)?)?,
             "typed" => self.typed = Some(String::from_str(alloc, rest)?),
             "watched" => self.is_watched = true,
+            "screen" => self.is_screen = true,
             "timed" => self.is_timed = true,
             "file" => {
                 let (path, line) = rest.split_once(' ').ok_or(CaseFault::Form)?;
@@ -164,6 +170,14 @@ impl Surroundings for Stage<'_> {
         self.err.push(text);
     }
 
+    fn is_screen(&self) -> bool {
+        self.is_screen
+    }
+
+    fn moment(&mut self) -> Option<u64> {
+        Some(MOMENT.saturating_add(self.clock / 1_000))
+    }
+
     fn is_watched(&self) -> bool {
         self.is_watched
     }
@@ -173,7 +187,7 @@ impl Surroundings for Stage<'_> {
     }
 
     fn is_agreed(&mut self, _alloc: Global) -> bool {
-        matches!(&self.typed, Some(typed) if typed.as_str() == "yes")
+        matches!(&self.typed, Some(typed) if typed.as_str() == "yes" || typed.as_str() == "y")
     }
 
     fn idle(&mut self) -> u64 {

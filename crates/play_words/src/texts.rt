@@ -1,14 +1,15 @@
 //! What hallctl prints of answers.
+use crate::stage::MOMENT;
 use crate::words::{line_of, words_of};
 use cases::{CaseFault, Out, Played};
 use hall_events::HallCommand;
 use hall_types::Status;
 use hallctl_texts::{
-    AnswerFault, DeskAnswer, Question, deleted_line, desk_answer, done_line, is_dangerous, listed,
-    machine_ids, machine_json, machine_lines, machine_table, machine_with, order_table,
+    AnswerFault, DeskAnswer, Question, chosen, deleted_line, desk_answer, done_line, is_dangerous,
+    listed, machine_ids, machine_json, machine_lines, machine_table, machine_with, order_table,
     refusal_line, state_line, value_of, warning, with_version,
 };
-use hallctl_words::{Form, Listing, Wish};
+use hallctl_words::{Form, Listing, MachineList, Wish};
 use serde_json::Value;
 use std::alloc::Global;
 
@@ -32,12 +33,20 @@ fn show(text: Text, out: &mut Out) -> Played {
     Ok(())
 }
 
+fn machines_text(alloc: Global, wanted: &MachineList<'_>, list: &Value) -> Text {
+    let machines = chosen(alloc, list, &wanted.choice)?;
+    let machines = machines.as_slice();
+    match wanted.form {
+        Form::Table => machine_table(alloc, machines, wanted.columns.as_slice(), Some(MOMENT)),
+        Form::Json => Ok(machine_json(alloc, machines)?),
+        Form::Ids => machine_ids(alloc, machines),
+    }
+}
+
 fn list_text(alloc: Global, wish: &Wish<'_>, json: &str) -> Text {
     let list = value_in(alloc, json)?;
     match wish {
-        Wish::List(Listing::Machines(filter, Form::Table)) => machine_table(alloc, &list, filter),
-        Wish::List(Listing::Machines(filter, Form::Json)) => machine_json(alloc, &list, filter),
-        Wish::List(Listing::Machines(filter, Form::Ids)) => machine_ids(alloc, &list, filter),
+        Wish::List(Listing::Machines(wanted)) => machines_text(alloc, wanted, &list),
         _ => order_table(alloc, &list),
     }
 }
@@ -57,7 +66,7 @@ fn lines_text(alloc: Global, machine: &str, json: &str) -> Text {
         Err(_) => Some(&answer),
     };
     match object {
-        Some(object) => machine_lines(alloc, object),
+        Some(object) => machine_lines(alloc, object, Some(MOMENT)),
         None => Ok(String::from_str(alloc, "none")?),
     }
 }

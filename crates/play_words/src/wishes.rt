@@ -2,26 +2,40 @@
 use crate::words::words_of;
 use cases::{CaseFault, Out, Played};
 use command_rows::Wrong;
-use hallctl_texts::Filter;
-use hallctl_words::{Form, Line, LineFault, Listing, Which, Wish, read};
+use hallctl_texts::{Choice, Column};
+use hallctl_words::{Form, Line, LineFault, Listing, MachineList, Waited, Which, Wish, read};
 
-fn show_filter(filter: &Filter, form: Form, out: &mut Out) {
-    let form = match form {
-        Form::Table => "table",
-        Form::Json => "json",
-        Form::Ids => "ids",
-    };
+fn show_choice(choice: &Choice<'_>, out: &mut Out) {
+    let filter = &choice.filter;
     let status = filter.status.map_or("-", |status| status.text());
-    out.show(format_args!("machines as {form}, status {status}"));
+    out.show(format_args!(", status {status}"));
     for (word, name) in [("pool", filter.pool), ("owner", filter.owner)] {
         let name = name.as_ref().map_or("-", |name| name.text());
         out.show(format_args!(", {word} {name}"));
     }
+    show_given("search", choice.search, out);
+    show_given("sort", choice.sort.map(|column| column.name()), out);
 }
 
-fn show_listing(listing: &Listing, out: &mut Out) -> Played {
+fn show_machines(list: &MachineList<'_>, out: &mut Out) {
+    out.push(match list.form {
+        Form::Table => "machines as table",
+        Form::Json => "machines as json",
+        Form::Ids => "machines as ids",
+    });
+    show_choice(&list.choice, out);
+    if list.columns.as_slice() != Column::USUAL.as_slice() {
+        out.push(", columns");
+        for column in list.columns.as_slice() {
+            out.show(format_args!(" {}", column.name()));
+        }
+    }
+    out.push(if list.is_watched { ", watched" } else { "" });
+}
+
+fn show_listing(listing: &Listing<'_>, out: &mut Out) -> Played {
     match listing {
-        Listing::Machines(filter, form) => show_filter(filter, *form, out),
+        Listing::Machines(list) => show_machines(list, out),
         Listing::Machine(Which::Number(id)) => out.show(format_args!("machine {}", id.get())),
         Listing::Machine(Which::Address(mac)) => {
             let mac = pxe_vendor::print_mac(out.alloc(), &mac.octets())?;
@@ -29,6 +43,28 @@ fn show_listing(listing: &Listing, out: &mut Out) -> Played {
         }
         Listing::Orders => out.push("orders"),
     }
+    Ok(())
+}
+
+fn show_waited(waited: &Waited, out: &mut Out) -> Played {
+    out.push("wait for machine");
+    for which in waited.machines.as_slice() {
+        match which {
+            Which::Number(id) => out.show(format_args!(" {}", id.get())),
+            Which::Address(mac) => {
+                let mac = pxe_vendor::print_mac(out.alloc(), &mac.octets())?;
+                out.show(format_args!(" {mac}"));
+            }
+        }
+    }
+    for status in waited.statuses.as_slice() {
+        out.show(format_args!(", {}", status.text()));
+    }
+    out.push(if waited.despite_failures {
+        ", despite failures"
+    } else {
+        ""
+    });
     Ok(())
 }
 
@@ -46,13 +82,9 @@ fn show(wish: &Wish<'_>, out: &mut Out) -> Played {
             let (operator, role, file) = (new.operator, new.role.text(), new.file);
             out.show(format_args!("new operator {operator}, {role}, token to {file}"));
         }
-        Wish::Wait { machine, statuses } => {
-            out.show(format_args!("wait for machine {}", machine.get()));
-            for status in statuses.as_slice() {
-                out.show(format_args!(", {}", status.text()));
-            }
-        }
+        Wish::Wait(waited) => show_waited(waited, out)?,
         Wish::Import(file) => out.show(format_args!("import {file}")),
+        Wish::Hello => out.push("hello"),
         Wish::Completion => out.push("completion"),
     }
     Ok(())
@@ -74,6 +106,9 @@ fn show_line(line: &Line<'_>, out: &mut Out) -> Played {
         out.hex(&key.octets());
     }
     show_given("keys to", line.keys, out);
+    if let Some(seconds) = line.wait {
+        out.show(format_args!(", wait {seconds} s"));
+    }
     out.push(if line.yes { ", yes" } else { "" });
     out.push(if line.json { ", json" } else { "" });
     Ok(())
