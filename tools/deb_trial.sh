@@ -2,7 +2,7 @@
 # The packages of make_deb.sh in a Debian of their own (debootstrap's): installed; a hall is made and served as the unit says; the package is
 # upgraded over it and the hall is as it was; purged, after which the hall alone is left. systemd-analyze and lintian look at unit and packages
 # where they are there. It takes some minutes, and wants root, debootstrap, setpriv, curl and what make_deb.sh wants.
-# Usage: tools/deb_trial.sh     HALLBOOT=PROGRAM and HALLCTL=PROGRAM name programs that are built already, DEBIAN=FOLDER a Debian to copy.
+# Usage: tools/deb_trial.sh     HALLBOOT=PROGRAM, HALLCTL=PROGRAM and HALLVIEW=PROGRAM name programs that are built already, DEBIAN=FOLDER a Debian to copy.
 set -euo pipefail
 here=$(cd "$(dirname "$0")" && pwd)
 [ "$(id -u)" = 0 ] || { echo 'deb_trial: only root can make a Debian' >&2; exit 1; }
@@ -13,7 +13,8 @@ done
 . "$here/checks.sh"
 program hallboot
 program hallctl
-export HALLBOOT HALLCTL
+program hallview
+export HALLBOOT HALLCTL HALLVIEW
 work=$(mktemp -d)
 served=
 ended() {
@@ -37,14 +38,14 @@ holds() {    # holds WHAT WORD..: the command ends with status 0
 inside() { chroot "$root" env PATH=/usr/sbin:/usr/bin:/sbin:/bin DEBIAN_FRONTEND=noninteractive LC_ALL=C "$@"; }
 
 "$here/make_deb.sh" "$work/debs" > "$work/said" 2>&1 || { cat "$work/said"; exit 1; }
-holds 'three packages, with which lintian finds no error' [ "$(ls "$work/debs" | wc -l)" = 3 ]
+holds 'four packages, with which lintian finds no error' [ "$(ls "$work/debs" | wc -l)" = 4 ]
 mkdir "$root/debs"
 cp "$work/debs"/*.deb "$root/debs/"
 holds 'they can be installed' inside sh -c 'dpkg --install /debs/hall*.deb'
-holds 'the man pages are there' [ "$(ls "$root"/usr/share/man/man[18]/hall* | wc -l)" = 4 ]
+holds 'the man pages are there' [ "$(ls "$root"/usr/share/man/man[18]/hall* | wc -l)" = 5 ]
 holds 'hall-power without settings says which file it wants' [ "$(inside hall-power --once 2>&1 || true)" = 'hall-power: /etc/hall-power/hall-power.toml: No such file or directory' ]
 if command -v systemd-analyze > /dev/null; then
-    for unit in hallboot hall-power; do
+    for unit in hallboot hallview hall-power; do
         holds "systemd takes the unit of $unit" systemd-analyze verify --man=no --root="$root" "/lib/systemd/system/$unit.service"
     done
 fi
@@ -76,6 +77,12 @@ holds 'it serves as the unit says' start
 printf 'secret\n' > "$root/root/token"
 holds 'hallctl adds a pool' inside hallctl --desk "http://127.0.0.1:$http" --token-file /root/token add-pool lab
 holds 'and a machine' inside hallctl --desk "http://127.0.0.1:$http" --token-file /root/token add-machine --mac 52:54:00:12:34:56 --arch uefi64 --pool lab
+printf '[lab]\ndesk = "http://127.0.0.1:%s"\ntoken_file = "/root/token"\n' "$http" > "$root/root/halls.toml"
+view=$(python3 -c 'import socket; s = socket.socket(); s.bind(("127.0.0.1", 0)); print(s.getsockname()[1])')
+inside hallview --config /root/halls.toml --listen "127.0.0.1:$view" --every 1 > "$work/view" 2>&1 &
+for _ in $(seq 50); do curl -sS --max-time 5 "http://127.0.0.1:$view/state.json" 2> /dev/null | grep -q 52:54:00:12:34:56 && break; sleep 0.2; done
+holds 'hallview shows it' grep -q '<td>52:54:00:12:34:56</td>' <(curl -sS --max-time 5 "http://127.0.0.1:$view/")
+pkill -f "hallview --config /root/halls.toml --listen 127.0.0.1:$view" || true
 holds 'the log is in UTC' grep -qE '^20..-..-..T..:..:..Z .* POST /commands add_pool lab by ada: 200' "$work/log"
 before=$(machines)
 stop
@@ -88,9 +95,9 @@ holds 'settings stay as they were' grep -q "^HTTP=127.0.0.1:$http\$" "$root/etc/
 holds 'it serves the hall again' start
 holds 'which is as it was' [ "$(machines)" = "$before" ]
 stop
-holds 'it is purged' inside dpkg --purge hallboot hallctl hall-power
+holds 'it is purged' inside dpkg --purge hallboot hallctl hallview hall-power
 holds 'the hall stays' [ -s "$root/var/lib/hallboot/hall.db" ]
-left=$(find "$root/etc" "$root/usr" "$root/lib/systemd" -name '*hallboot*' -o -name 'hallctl*' -o -name 'hall-power*' -o -name 'hall-lists*')
+left=$(find "$root/etc" "$root/usr" "$root/lib/systemd" -name '*hallboot*' -o -name 'hallctl*' -o -name 'hallview*' -o -name 'hall-power*' -o -name 'hall-lists*')
 [ -z "$left" ] || bad "nothing else stays: $left"
 good
 all_good 'the packages in a Debian of their own'

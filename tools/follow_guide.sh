@@ -17,7 +17,7 @@ guide=${GUIDE:-$docs/INSTALL.md:$docs/DAILY.md:$docs/TROUBLE.md:$docs/REFERENCE.
 #     tools/          this folder; HALLBOOT and HALLCTL name the programs that are packed
 #     apt install     dpkg --install: what the packages need is there
 #     DIGEST          what its own line printed
-#     machine 7       in examples: a machine that there is (`of_machine`); orders/5: an order that waits
+#     machine 7       in examples: a machine that there is (`of_machine`); order 5: an order that waits
 #     the tokens      TOKEN is carried over to the desk's host, olga.token to olga, pow.token to the power program's host
 #     --yes           behind what erases or deletes, since nobody is asked here
 #     --log-format    json, behind what the unit starts, from the erasing on
@@ -646,7 +646,7 @@ answers() {    # what waits is answered: by hand as hallctl has it, or as a powe
     bearer="Authorization: Bearer $(cat "$work/at/ada/pow.token")"
     for order in $(on switcher curl -sS --max-time 60 -H "$bearer" http://desk.hall.example/orders | jq '.orders[].number'); do
         if [ $form = hallctl ]; then
-            done_by ada 120 <<< "$(block '/orders/5' | sed "s|orders/5|orders/$order|")"
+            done_by ada 120 <<< "$(line 'order 5 --done' | sed "s/order 5/order $order/")"
         else
             on switcher curl -sS --max-time 60 -H "$bearer" --data '{"outcome":"done"}' "http://desk.hall.example/orders/$order" >> "$work/log/reports"
         fi

@@ -1,7 +1,7 @@
 #!/usr/bin/env bash
-# Debian packages of the two programs and of what is beside them: hallboot (the program, hall-lists, the unit, the loader's files), hallctl (the
-# program, completion, man pages) and hall-power. Their man pages are made from the programs' own help.
-# Usage: tools/make_deb.sh FOLDER     HALLBOOT=PROGRAM and HALLCTL=PROGRAM name programs that are built already. It wants dpkg-deb, strip and
+# Debian packages of the programs and of what is beside them: hallboot (the program, hall-lists, the unit, the loader's files), hallctl (the
+# program, completion, man pages), hallview (the program, its unit, alarms and a dashboard) and hall-power. Their man pages are made from the programs' own help.
+# Usage: tools/make_deb.sh FOLDER     HALLBOOT=PROGRAM, HALLCTL=PROGRAM and HALLVIEW=PROGRAM name programs that are built already. It wants dpkg-deb, strip and
 # gzip; where lintian is there, it looks at the packages.
 set -euo pipefail
 here=$(cd "$(dirname "$0")" && pwd)
@@ -13,6 +13,7 @@ done
 . "$here/program.sh"
 program hallboot
 program hallctl
+program hallview
 mkdir -p "$1"
 target=$(cd "$1" && pwd)
 work=$(mktemp -d)
@@ -95,6 +96,19 @@ until the desk has answered: machines are commissioned, allocated, deployed
 and released with it, listed and waited for.
 END
 
+begin hallview
+put 0755 "$HALLVIEW" usr/bin/hallview
+strip --strip-unneeded "$root/usr/bin/hallview"
+put 0644 "$top/packaging/hallview.service" lib/systemd/system/hallview.service
+put 0644 "$top/packaging/hallview.default" etc/default/hallview
+for file in hall.rules.yml prometheus.yml grafana.json; do put 0644 "$top/monitoring/$file" "usr/share/hallview/$file"; done
+"$here/make_man.py" "$HALLVIEW" hallview 1 "$version" "$day" | packed usr/share/man/man1/hallview.1.gz
+end amd64 net "$(needs "$HALLVIEW")adduser" 'pages and metrics of server halls' << 'END'
+It asks the boot desks of one server hall or many for their machines, and shows
+them: a page for people, metrics for Prometheus, JSON for programs. It never
+changes a hall.
+END
+
 begin hall-power
 put 0755 "$top/power/hall_power.py" usr/bin/hall-power
 put 0644 "$top/packaging/hall-power.service" lib/systemd/system/hall-power.service
@@ -107,5 +121,6 @@ END
 
 ls -1 "$target"/*.deb
 if command -v lintian > /dev/null; then
-    lintian --fail-on error "$target"/hallboot_"$version"_amd64.deb "$target"/hallctl_"$version"_amd64.deb "$target"/hall-power_"$version"_all.deb
+    lintian --fail-on error "$target"/hallboot_"$version"_amd64.deb "$target"/hallctl_"$version"_amd64.deb \
+        "$target"/hallview_"$version"_amd64.deb "$target"/hall-power_"$version"_all.deb
 fi

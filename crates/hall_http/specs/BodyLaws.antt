@@ -3,7 +3,7 @@
 use Rattle.std.{proofs.{Common.{◌≡◌, ◌≤◌, ◌+◌, lit≤, ℕ, true, false, List, [], ◌∷◌, Option, Some, None, map, length, refl, sym, ap, ◌∙◌, inl, arith, append-nil}, lemmas.{Bool.{le-leb, not-true}, List.{get_or_default, Elements.recursion_from_All}, Str.is_utf8-from_IsUtf8}}, specs.{Prelude.{codes, option_and_then, option_map, if◌then◌else◌, IfSome, IsTrue}, List.AllByRecursion, Str.is_utf8}}
 use Rattle.json.specs.Json as json
 use Rattle.pxe_vendor.specs.Arch.{arch_text}
-use Rattle.hall_types.specs.{Kinds.{role_text, erase_text}, Act.act_text}
+use Rattle.hall_types.specs.{Kinds.{role_text, erase_text, outcome_text}, Act.act_text}
 use Rattle.hall_types.specs.declared.kinds.Erase.TheVariants as erase
 use Rattle.hall_types.specs.declared.act.Act.TheVariants as does
 use Rattle.hall_events.specs.{Object.count, Command.{request_text, members_of, kind_with_word, kind_word, machine_word}}
@@ -13,10 +13,11 @@ use Rattle.hall_events.specs.declared.command.CommandKind.TheVariants as kind
 use Rattle.hall_events.specs.declared.command.MachineKind.TheVariants as done
 use Rattle.hex.proofs.HexLemmas.{decode_sized-encode_lower}
 use Rattle.uuid.proofs.RoundTrips.{parses_hyphenated}
-use Rattle.json.proofs.Printed.{Tokens.tokens-print, Trees.{value-json_tokens, ArePrintable-json_tokens}}
+use Rattle.json.specs.Print.{escape_byte}
+use Rattle.json.proofs.Printed.{Utf8.IsUtf8-are_ascii, Tokens.tokens-print, Trees.{value-json_tokens, ArePrintable-json_tokens}}
 use Rattle.serde_json.proofs.{Numbers.number_of-decimal, Texts.print-outline}
-use Rattle.hall_events.specs.{ObjectLaws.{IsPlain, numbers, shallow}, CommandLaws.{IsPlain-request, number_fits}}
-use Rattle.hall_http.specs.{Prelude.{encode_lower, lower, parsed, hyphenated_text, mac_text, mac_of, IsMacText-mac_text, mac_of-from_IsMacText, arch_in-arch_text, is_blank, Token, json_tokens, Data, string, read, of_json, of_items, max_depth, items_of, compact_text, outline, items_outline, IsWord, IsUri, BootImage, IsImage, role_of_text, role_by_text, IsName, name_of, unless_blank, IsNumber, number_in, AreOctets, octets_of_text, Role, member_if, command_member, own_members, uuid_data, request_data, machine_kind, IsCommand, IsMachineCommand, HallCommand, MachineCommand, CommandKind, MachineKind}, Command.{HasNames, HasParts, IsSendableCommand, command_in, command_of, fits_kind, is_identified, keyed_command, kind_at, machine_command, on_machine}, Member.{key_at, number_at, version_at}, SizeLaws.{member_size, total, object_fits, total-append, text_fits, count_fits, truth_fits, name_fits, uri_fits, uuid_fits, mac_fits, digest_fits, arch_fits, role_fits, args_fit}, Steps.◌>>=◌, Value.{uri_of, words_of, image_of, uuid_of_text}}
+use Rattle.hall_events.specs.{ObjectLaws.{IsPlain, IsPlain-object, numbers, shallow}, CommandLaws.{IsPlain-request, number_fits}}
+use Rattle.hall_http.specs.{Prelude.{encode_lower, lower, parsed, hyphenated_text, mac_text, mac_of, IsMacText-mac_text, mac_of-from_IsMacText, arch_in-arch_text, is_blank, Token, json_tokens, Data, string, read, of_json, of_items, max_depth, items_of, compact_text, outline, items_outline, IsWord, IsUri, BootImage, IsImage, role_of_text, role_by_text, outcome_by_text, Outcome, Done, Failed, IsName, name_of, unless_blank, IsNumber, number_in, AreOctets, octets_of_text, Role, member_if, command_member, own_members, uuid_data, request_data, machine_kind, IsCommand, IsMachineCommand, HallCommand, MachineCommand, CommandKind, MachineKind}, Command.{HasNames, HasParts, IsSendableCommand, answer_text, is_sole, outcome_data, outcome_in, command_in, command_of, fits_kind, is_identified, keyed_command, kind_at, machine_command, on_machine}, Member.{key_at, number_at, outcome_at, version_at}, SizeLaws.{member_size, total, object_fits, total-append, text_fits, count_fits, truth_fits, name_fits, uri_fits, uuid_fits, mac_fits, digest_fits, arch_fits, role_fits, args_fit}, Steps.◌>>=◌, Value.{uri_of, words_of, image_of, uuid_of_text}}
 
 -- ---- the value of a text
 
@@ -295,3 +296,47 @@ command_in-request_text key c h =
   where
     is_text : (if is_utf8 (request_text key c) then Some (request_text key c) else None) ≡ Some (request_text key c)
     is_text = rw (is_utf8-from_IsUtf8 (request_text key c) h.text) refl
+
+-- ---- the answer to an order
+
+word_fits : (outcome : Outcome) → length (outcome_text outcome) ≤ 6
+unfolding outcome_text
+word_fits Done = lit≤ tt
+word_fits Failed = lit≤ tt
+
+-- its body is short
+pub short-answer_text : (outcome : Outcome) → length (answer_text outcome) ≤ 16384
+unfolding answer_text
+short-answer_text outcome =
+    omega (
+      arith,
+      object_fits ((codes "outcome", string (outcome_text outcome)) ∷ []),
+      text_fits (codes "outcome") (outcome_text outcome) 6 (lit≤ tt) (word_fits outcome),
+    )
+
+-- what the object of an answer says
+abbrev outcome_of : Data → Option Outcome
+outcome_of json = if is_sole (codes "outcome") json then outcome_at json else None
+
+outcome_is : (outcome : Outcome) → outcome_of (outcome_data outcome) ≡ Some outcome
+outcome_is outcome = (outcome_by_text (outcome_text outcome) outcome).1 refl
+
+answer_is_utf8 : (outcome : Outcome) → is_utf8 (answer_text outcome) ≡ true
+unfolding answer_text outcome_text escape_byte
+answer_is_utf8 Done = is_utf8-from_IsUtf8 (answer_text Done) (IsUtf8-are_ascii (answer_text Done) refl)
+answer_is_utf8 Failed = is_utf8-from_IsUtf8 (answer_text Failed) (IsUtf8-are_ascii (answer_text Failed) refl)
+
+answer_is_text : (outcome : Outcome) → (if is_utf8 (answer_text outcome) then Some (answer_text outcome) else None) ≡ Some (answer_text outcome)
+answer_is_text outcome = rw (answer_is_utf8 outcome) refl
+
+answer_is_plain : (outcome : Outcome) → IsPlain (outcome_data outcome) 1
+answer_is_plain outcome = IsPlain-object ((codes "outcome", string (outcome_text outcome)) ∷ []) 0 (tt, tt)
+
+-- the desk reads the body of an order's answer as the outcome
+pub outcome_in-answer_text : (outcome : Outcome) → outcome_in (answer_text outcome) ≡ Some outcome
+unfolding outcome_in answer_text
+outcome_in-answer_text outcome =
+    ap (λ o. o >>= outcome_of)
+    (ap (λ o. option_and_then (λ text. read text) o) (answer_is_text outcome)
+    ∙ read-compact_text (outcome_data outcome) 1 (answer_is_plain outcome) (omega arith))
+    ∙ outcome_is outcome

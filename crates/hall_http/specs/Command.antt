@@ -6,7 +6,7 @@ use Rattle.hall_events.specs.Command.{kind_with_word, request_text}
 use Rattle.hall_events.specs.declared.command.HallCommand.TheVariants as command
 use Rattle.hall_events.specs.declared.command.MachineCommand.TheVariants as machine
 use Rattle.hall_events.specs.declared.command.MachineKind.TheVariants as kind
-use Rattle.hall_http.specs.{Prelude.{Data, Outcome, Progress, BootImage, IsImage, IsName, AreOctets, HallCommand, MachineCommand, CommandKind, AddOperator, DisableOperator, AddPool, Grant, AddImage, DeleteImage, SetLive, AddMachine, OnMachine, MachineKind, IsCommand}, declared.command.KeyedCommand.KeyedCommand, Body.{data_of, fits}, Member.{text_at, number_at, name_at, uri_at, key_at, version_at, mac_at, digest_at, uuid_at, arch_at, role_at, tests_at, erase_at, words_at, progress_at, outcome_at}, Steps.◌>>=◌, Value.image_of}
+use Rattle.hall_http.specs.{Prelude.{Data, string, object_of, compact_text, Outcome, outcome_text, Progress, BootImage, IsImage, IsName, AreOctets, HallCommand, MachineCommand, CommandKind, AddOperator, DisableOperator, AddPool, Grant, AddImage, DeleteImage, SetLive, AddMachine, OnMachine, MachineKind, IsCommand}, declared.command.KeyedCommand.KeyedCommand, Body.{data_of, fits}, Member.{text_at, number_at, name_at, uri_at, key_at, version_at, mac_at, digest_at, uuid_at, arch_at, role_at, tests_at, erase_at, words_at, progress_at, outcome_at}, Steps.◌>>=◌, Value.image_of}
 
 -- ---- members
 
@@ -179,6 +179,13 @@ unfoldable pub progress_in : List ℕ → Option Progress
 progress_in body = do
   json ← data_of body
   if is_sole (codes "stage") json then progress_at json else None
+
+-- the body of an order's answer
+abbrev pub outcome_data : Outcome → Data
+outcome_data outcome = object_of ((codes "outcome", string (outcome_text outcome)) ∷ [])
+
+unfoldable pub answer_text : Outcome → List ℕ
+answer_text outcome = compact_text (outcome_data outcome)
 
 -- the outcome that the body of an order's answer says
 unfoldable pub outcome_in : List ℕ → Option Outcome

@@ -1,8 +1,8 @@
--- Laws of events, for the proofs of callers: what the desk makes of the heads that an operator's client sends.
+-- Laws of events, for the proofs of callers: what the desk makes of the requests that an operator's client sends.
 use Rattle.std.{proofs.{Common.{◌≡◌, ◌+◌, ◌^◌, ◌<◌, ℕ, suc, Bool, true, false, List, [], ◌∷◌, ◌++◌, Option, length, refl, ap, subst, ◌∙◌, arith, take, drop, length-append}, lemmas.{Bool.{and_parts, le-leb, leb-true, lt-ltb, ltb-true, false_from_ne_true, eqb-true}, Fmt.decimal_nonempty, List.append-nil}, Math.Seq.take-length}, specs.{Prelude.{codes, cond, decimal, nat_le, nat_lt, not, ◌==◌, Ok}, List.{list_all, position_or_len}, Char.is_ascii_digit}}
 use Rattle.hall_events.specs.Command.{request_text}
 use Rattle.hall_events.specs.declared.event.Event.TheVariants as event
-use Rattle.hall_http.specs.{Prelude.{has_slash, IsNumber, HallCommand}, BodyLaws.command_in-request_text, Command.IsSendableCommand, Answer.◌>>=◌, DecimalLaws.{digits-decimal, number_of_text-decimal}, Demand.{demand_of, demand_for}, Event.{event_of_demand, event_of_parts}, Fields.{FieldPair, body_length, bearer}, Resource.IsSegment, Target.{segment, slash_index}}
+use Rattle.hall_http.specs.{Prelude.{has_slash, IsNumber, HallCommand, Outcome}, BodyLaws.{command_in-request_text, outcome_in-answer_text}, Command.{IsSendableCommand, answer_text}, Answer.◌>>=◌, DecimalLaws.{digits-decimal, number_of_text-decimal}, Demand.{demand_of, demand_for}, Event.{event_of_demand, event_of_parts}, Fields.{FieldPair, body_length, bearer}, Resource.IsSegment, Target.{segment, slash_index}}
 use Rattle.hall_http.specs.declared.demand.Demand.TheVariants as demand
 use Rattle.hall_http.specs.ResourceLaws as route
 
@@ -72,6 +72,30 @@ machine_demand_is id h fields =
     let part : IsSegment (decimal id) = record { some = λ e. omega (arith, ap length e, decimal_nonempty id small); one = free } in
     rw (route.machine_is (decimal id) part, machine_segment (decimal id) free, number_of_text-decimal id h) refl
 
+-- ---- the answer to an order
+
+order_segment : (digits : List ℕ) → has_slash digits ≡ false → segment 2 (codes "/orders/" ++ digits) ≡ digits
+order_segment digits h =
+    ap (λ (n : ℕ). segment 1 (drop (n + 1) (codes "/orders/" ++ digits))) (slash_index_is [] (codes "orders/" ++ digits) refl)
+    ∙ ap (λ (n : ℕ). segment 0 (drop (n + 1) (codes "orders/" ++ digits))) (slash_index_is (codes "orders") digits refl)
+    ∙ ap (λ (n : ℕ). take n digits) (no_slash_index digits h)
+    ∙ take-length digits
+
+order_demand_is : (order : ℕ) → IsNumber order → (fields : List FieldPair) (size : ℕ) → body_length fields ≡ Ok size
+    → demand_of (codes "POST") (codes "/orders/" ++ decimal order) fields ≡ Ok (demand.OrderAnswer (bearer fields) order size)
+unfolding demand_of demand_for
+order_demand_is order h fields size e =
+    let small : order < 2 ^ 64 = omega arith in
+    let free = no_slash (decimal order) (digits-decimal order small) in
+    let part : IsSegment (decimal order) = record { some = λ e. omega (arith, ap length e, decimal_nonempty order small); one = free } in
+    rw (route.order_is (decimal order) part, order_segment (decimal order) free, number_of_text-decimal order h, e) refl
+
+order_event_is : (bearer : Option (List ℕ)) (order : ℕ) (outcome : Outcome)
+    → event_of_demand (demand.OrderAnswer bearer order (length (answer_text outcome))) (answer_text outcome) ≡ Ok (event.OrderAnswer bearer order outcome)
+unfolding event_of_demand
+order_event_is bearer order outcome =
+    rw (le-leb (length (answer_text outcome)) (length (answer_text outcome)) (omega arith), take-length (answer_text outcome), outcome_in-answer_text outcome) refl
+
 -- ---- events
 
 pub command_event : (fields : List FieldPair) (key : List ℕ) (c : HallCommand) → IsSendableCommand key c → body_length fields ≡ Ok (length (request_text key c))
@@ -92,3 +116,9 @@ pub machine_event : (id : ℕ) → IsNumber id → (fields : List FieldPair) (af
     → event_of_parts (codes "GET") (codes "/machines/" ++ decimal id) fields after ≡ Ok (event.OneMachine (bearer fields) id)
 unfolding event_of_demand
 machine_event id h fields after = ap (λ r. r >>= (λ d. event_of_demand d after)) (machine_demand_is id h fields)
+
+pub order_event : (fields : List FieldPair) (order : ℕ) (outcome : Outcome) → IsNumber order → body_length fields ≡ Ok (length (answer_text outcome))
+    → event_of_parts (codes "POST") (codes "/orders/" ++ decimal order) fields (answer_text outcome) ≡ Ok (event.OrderAnswer (bearer fields) order outcome)
+order_event fields order outcome h e =
+    ap (λ r. r >>= (λ d. event_of_demand d (answer_text outcome))) (order_demand_is order h fields (length (answer_text outcome)) e)
+    ∙ order_event_is (bearer fields) order outcome

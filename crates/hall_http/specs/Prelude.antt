@@ -1,6 +1,6 @@
 -- The names of libraries that the definitions and proofs of hall_http use, but those of std.
 pub use Rattle.hall_events.specs.{Object.{member_if, Member, put_all, object_of}, Command.{command_member, own_members, uuid_data, request_data, machine_kind, IsCommand, IsMachineCommand}, declared.{command.{HallCommand.HallCommand, MachineCommand.MachineCommand, CommandKind.{CommandKind, TheVariants.{AddOperator, DisableOperator, AddPool, Grant, AddImage, DeleteImage, SetLive, AddMachine, OnMachine}}, MachineKind.MachineKind}, event.Event.Event, reply.{Reply.{Reply, TheVariants.Http}, BodyKind.{BodyKind, TheVariants.{Text, Json}}}}, Reply.{Content, stored, boot_file, nothing, refused, reply_of}}
-pub use Rattle.hall_types.specs.{Image.{BootImage, IsImage, has_hall_word}, Kinds.{role_of_text, progress_of_text, outcome_of_text, erase_of_text}, KindLaws.role_by_text, Name.{IsName, name_of, is_name_octet}, Uuid.unless_blank, Number.{IsNumber, number_in, number_of_text}, Octets.{AreOctets, octets_of_text}, declared.{kinds.{Role.{Role, TheVariants.Admin}, Outcome.Outcome, Progress.Progress, Erase.{Erase, TheVariants.Full}}, refusal.Refusal.Refusal}, Hall.Schema, Refusal.refusal_status}
+pub use Rattle.hall_types.specs.{Image.{BootImage, IsImage, has_hall_word}, Kinds.{role_of_text, progress_of_text, outcome_of_text, outcome_text, erase_of_text}, KindLaws.{outcome_by_text, role_by_text}, Name.{IsName, name_of, is_name_octet}, Uuid.unless_blank, Number.{IsNumber, number_in, number_of_text}, Octets.{AreOctets, octets_of_text}, declared.{kinds.{Role.{Role, TheVariants.Admin}, Outcome.{Outcome, TheVariants.{Done, Failed}}, Progress.Progress, Erase.{Erase, TheVariants.Full}}, refusal.Refusal.Refusal}, Hall.Schema, Refusal.refusal_status}
 pub use Rattle.hex.specs.Hex.{encode_lower, lower_digits}
 pub use Rattle.http.specs.StatusCode.{reason_phrase, IsStatusCode}
 pub use Rattle.httparse.specs.{Grammar.{RequestHead, ReadsRequest, NeverHasRequest, EndsInTarget, MayBecomeRequest, print_request}, Spans.{RequestExceeds, name_and_value, IsRequestAt, IsRequestWithin, RequestOverflows, span_bytes, header_bytes, IsHeaderWithin}, declared.spans.{HeaderSpan.HeaderSpan, RequestSpans.RequestSpans}}

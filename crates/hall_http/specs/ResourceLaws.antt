@@ -1,7 +1,7 @@
 -- Laws of targets, for the proofs of callers: what the router finds for those that are asked for most.
 use Rattle.std.{proofs.Common.{◌≡◌, ◌⊎◌, ◌-◌, ◌++◌, ℕ, zero, suc, Bool, true, false, List, [], ◌∷◌, length, Option, Some, None, refl, ap, arith, ◌∙◌, inl, inr}, specs.Prelude.{codes, cond, ◌==◌}}
 use Rattle.matchit.{specs.Seek.{seek, param_step}, proofs.OnLiterals.matchit_on_literals}
-use Rattle.hall_http.specs.{Prelude.{RowsOf, param_token, catch_all_token, has_slash, or_else, own, step, RouteOf}, declared.resource.Resource.{Resource, TheVariants.{Script, Orders, Machines, Machine, Commands}}, Resource.{routes, resource_of, value_of, IsSegment}}
+use Rattle.hall_http.specs.{Prelude.{RowsOf, param_token, catch_all_token, has_slash, or_else, own, step, RouteOf}, declared.resource.Resource.{Resource, TheVariants.{Script, Orders, Order, Machines, Machine, Commands}}, Resource.{routes, resource_of, value_of, IsSegment}}
 
 module _ {K : Type 0} where
   abbrev no_rows : RowsOf K
@@ -83,6 +83,13 @@ unfolding matchit_on_literals routes
 machine_is tail h =
     let key : RouteOf Resource = record { pattern = codes "/machines/" ++ (param_token ∷ []); text = codes "/machines/{id}"; names = (11, 13) ∷ []; value = Machine } in
     ap value_of (goes_along key (codes "/machines/") routes tail (last_param key tail h))
+
+-- an order's number follows `/orders/`
+pub order_is : (tail : List ℕ) → IsSegment tail → resource_of (codes "/orders/" ++ tail) ≡ Some Order
+unfolding matchit_on_literals routes
+order_is tail h =
+    let key : RouteOf Resource = record { pattern = codes "/orders/" ++ (param_token ∷ []); text = codes "/orders/{number}"; names = (9, 15) ∷ []; value = Order } in
+    ap value_of (goes_along key (codes "/orders/") routes tail (last_param key tail h))
 
 pub commands : resource_of (codes "/commands") ≡ Some Commands
 unfolding matchit_on_literals routes

@@ -1,5 +1,5 @@
 -- Where a machine stands in its life (after the node statuses of MAAS).
-use Rattle.std.specs.Prelude.{ℕ, List, [], ◌∷◌, Option, codes}
+use Rattle.std.specs.Prelude.{ℕ, List, [], ◌∷◌, Option, Bool, true, false, codes}
 use Rattle.hall_types.specs.{Kinds.with_text, declared.status.Status.{Status, TheVariants.{New, Commissioning, FailedCommissioning, Testing, FailedTesting, Ready, Allocated, Deploying, FailedDeployment, Deployed, Releasing, FailedReleasing, DiskErasing, FailedDiskErasing, EnteringRescue, FailedToEnterRescue, Rescue, ExitingRescue, FailedToExitRescue, Broken}}}
 
 -- the printed text
@@ -47,6 +47,18 @@ status_number Rescue = 16
 status_number ExitingRescue = 17
 status_number FailedToExitRescue = 18
 status_number Broken = 19
+
+-- whether a machine stays there until somebody does something
+unfoldable pub is_failure : Status → Bool
+is_failure FailedCommissioning = true
+is_failure FailedTesting = true
+is_failure FailedDeployment = true
+is_failure FailedReleasing = true
+is_failure FailedDiskErasing = true
+is_failure FailedToEnterRescue = true
+is_failure FailedToExitRescue = true
+is_failure Broken = true
+is_failure _ = false
 
 abbrev pub statuses : List Status
 statuses =

@@ -31,8 +31,8 @@ impl From<[u8; 16]> for MachineUuid {
 }
 
 impl MachineUuid {
-    /// The UUID of these octets, unless they are all 0 or all 255, which identify no machine (SMBIOS, DSP0134
-    /// section 7.2.1).
+    /// The UUID of these octets, unless they are all 0 or all 255, which identify no machine
+    /// (SMBIOS, DSP0134 section 7.2.1).
     pub fn identifying(octets: [u8; 16]) -> Option<MachineUuid>
         ensures { result ≡ unless_blank octets }
     {

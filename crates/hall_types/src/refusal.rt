@@ -227,7 +227,7 @@ impl Refusal {
             Refusal::NoImage => "No such image",
             Refusal::NoOperator => "No such operator",
             Refusal::NotOwner =>
-                "Another operator owns the machine, and you may not act in its place",
+                "Another operator owns the machine, or nobody does, and you may not act in its place",
             Refusal::NotMember => "You aren't a member of the machine's pool",
             Refusal::StaleVersion => "The machine has changed since you looked",
             Refusal::Locked => "The machine is locked",

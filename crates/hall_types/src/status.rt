@@ -1,6 +1,6 @@
 //! Statuses of machines.
 ghost use Rattle.std.specs.Prelude.{◌≡◌, ◌<◌};
-ghost use Rattle.hall_types.specs.{Kinds.with_text, Status.{status_text, status_number}};
+ghost use Rattle.hall_types.specs.{Kinds.with_text, Status.{is_failure, status_text, status_number}};
 
 use crate::kinds::UnknownWord;
 use std::str::FromStr;
@@ -30,7 +30,7 @@ pub enum Status {
     Broken,
 }
 
-#[tactic(auto, unfolding(crate::specs::Status::status_text, crate::specs::Status::status_number))]
+#[tactic(auto, unfolding(crate::specs::Status::status_text, crate::specs::Status::status_number, crate::specs::Status::is_failure))]
 impl Status {
     /// All of them, in the order of their numbers.
     pub const ALL: [Status; 20] = [
@@ -90,6 +90,23 @@ impl Status {
         ensures small { result < 20 }
     {
         self as u8
+    }
+
+    /// Whether a machine stays there until somebody does something.
+    pub fn is_failure(self) -> bool
+        ensures { result ≡ is_failure self }
+    {
+        matches!(
+            self,
+            Status::FailedCommissioning
+                | Status::FailedTesting
+                | Status::FailedDeployment
+                | Status::FailedReleasing
+                | Status::FailedDiskErasing
+                | Status::FailedToEnterRescue
+                | Status::FailedToExitRescue
+                | Status::Broken
+        )
     }
 }
 

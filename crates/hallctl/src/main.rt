@@ -1,11 +1,8 @@
 //! The operator's client of a boot desk: what a command line asks of the desk is sent until it is answered.
 #![tactic(auto)]
 
-mod finding;
-
 use command_rows::Wrong;
-use finding::{DeskFault, desk};
-use hallctl_tasks::{Desk, Host, Session, TaskFault};
+use hallctl_tasks::{Host, TaskFault, carry_out};
 use hallctl_words::{Line, LineFault, Wish, completion, read};
 use std::fmt::Display;
 use std::process::ExitCode;
@@ -24,8 +21,6 @@ enum EarlyEnd {
     Line(LineFault),
     /// A word of the command line isn't UTF-8.
     NotText,
-    /// It isn't known which desk is asked.
-    Desk(DeskFault),
     /// The system's clock fails.
     Clock,
     Task(TaskFault),
@@ -42,7 +37,6 @@ impl EarlyEnd {
             EarlyEnd::Line(LineFault::Wrong(Wrong::Text(line))) => report(rt, line.as_str(), USAGE),
             EarlyEnd::Line(_) => report(rt, TaskFault::Memory, FAULT),
             EarlyEnd::NotText => report(rt, "a word of the command line isn't UTF-8", USAGE),
-            EarlyEnd::Desk(fault) => report(rt, *fault, USAGE),
             EarlyEnd::Clock => report(rt, "the system's clock fails", FAULT),
             EarlyEnd::Task(fault) => report(rt, *fault, FAULT),
         }
@@ -66,30 +60,19 @@ fn complete(rt: &HostRuntime) -> Result<u8, TaskFault> {
     Ok(0)
 }
 
-fn ask(rt: &HostRuntime, desk: &Desk, line: &Line<'_>) -> Result<u8, EarlyEnd> {
-    let mut host = Host::new(rt, &desk.address).ok_or(EarlyEnd::Clock)?;
-    let mut session = Session {
-        alloc: rt.alloc(),
-        surroundings: &mut host,
-        desk,
-        line,
-    };
-    let end = session.carry_out().map_err(EarlyEnd::Task)?;
-    Ok(end.status())
-}
-
-fn carry_out(rt: &HostRuntime, line: &Line<'_>) -> Result<u8, EarlyEnd> {
+fn do_task(rt: &HostRuntime, line: &Line<'_>) -> Result<u8, EarlyEnd> {
     if matches!(line.wish, Wish::Completion) {
         return complete(rt).map_err(EarlyEnd::Task);
     }
-    let desk = desk(rt, line).map_err(EarlyEnd::Desk)?;
-    ask(rt, &desk, line)
+    let mut host = Host::new(rt).ok_or(EarlyEnd::Clock)?;
+    let end = carry_out(rt.alloc(), &mut host, line).map_err(EarlyEnd::Task)?;
+    Ok(end.status())
 }
 
 fn run(rt: &HostRuntime) -> Result<u8, EarlyEnd> {
     let words = given(rt).map_err(|_| EarlyEnd::NotText)?;
     let line = read(rt.alloc(), words.as_slice()).map_err(EarlyEnd::Line)?;
-    carry_out(rt, &line)
+    do_task(rt, &line)
 }
 
 fn main(rt: HostRuntime) -> ExitCode {

@@ -2,7 +2,7 @@
 use Rattle.std.{proofs.{Common.{◌≡◌, ◌<◌, ◌≤◌, ◌^◌, ℕ, Bool, true, false, List, [], ◌∷◌, ◌++◌, Some, map, length, reverse, refl, sym, ap, ◌∙◌, arith, append-nil}, lemmas.{Bool.{and_parts, and_from, le-leb, leb-true, or_from, false_from_ne_true, eqb-true, cond-false}, Fmt.decimal_nonempty, List.{length-reverse, reverse-append, Sums.{AllPass-from_list_all, list_all-from_AllPass}}}}, specs.{Prelude.{codes, decimal, nat_le, ◌&&◌, ◌==◌, Ok}, List.list_all, Char.is_ascii_digit}}
 use Rattle.httparse.proofs.TrimLemmas.{trim_ows_space, AllPass-reverse}
 use Rattle.hall_http.specs.DecimalLaws.{digits-decimal, length_is}
-use Rattle.hallctl_requests.specs.{Prelude.{is_ows, skip_ows, trim_ows, is_value_byte, name_and_value, sha256, request_text, HallCommand, ◌>>=◌, is_visible, length_of, within_limit, body_length, bearer_digest, bearer}, Request.{Question, command, fields_of, IsBearerToken}}
+use Rattle.hallctl_requests.specs.{Prelude.{is_ows, skip_ows, trim_ows, is_value_byte, name_and_value, sha256, answer_text, request_text, HallCommand, Outcome, ◌>>=◌, is_visible, length_of, within_limit, body_length, bearer_digest, bearer}, Request.{Question, answer, command, fields_of, IsBearerToken}}
 
 -- ---- tests of each octet
 
@@ -85,12 +85,17 @@ visible-decimal n h = list_all_so is_ascii_digit is_visible digit_is_visible (de
 pub trims_decimal : (n : ℕ) → n < 2 ^ 64 → trim_ows (32 ∷ decimal n) ≡ decimal n
 trims_decimal n h = trims_visible (decimal n) (decimal_nonempty n h) (visible-decimal n h)
 
+size_is : (n : ℕ) → n ≤ 16384 → (length_of (Some (trim_ows (32 ∷ decimal n))) >>= within_limit) ≡ Ok n
+size_is n h = ap (λ (text : List ℕ). length_of (Some text) >>= within_limit) (trims_decimal n (omega arith)) ∙ length_is n h
+
 -- the body's length is read
+pub answer_length_is : (authority token : List ℕ) (order : ℕ) (outcome : Outcome) → length (answer_text outcome) ≤ 16384
+    → body_length (map name_and_value (fields_of authority token (answer order outcome))) ≡ Ok (length (answer_text outcome))
+answer_length_is authority token order outcome h = size_is (length (answer_text outcome)) h
+
 pub body_length_is : (authority token key : List ℕ) (c : HallCommand) → length (request_text key c) ≤ 16384
     → body_length (map name_and_value (fields_of authority token (command key c))) ≡ Ok (length (request_text key c))
-body_length_is authority token key c h =
-    ap (λ (text : List ℕ). length_of (Some text) >>= within_limit) (trims_decimal (length (request_text key c)) (omega arith))
-    ∙ length_is (length (request_text key c)) h
+body_length_is authority token key c h = size_is (length (request_text key c)) h
 
 -- ---- the bearer token
 

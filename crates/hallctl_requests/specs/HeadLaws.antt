@@ -2,8 +2,8 @@
 use Rattle.std.{proofs.{Common.{◌≡◌, ◌+◌, ◌-◌, ◌<◌, ◌≤◌, ◌^◌, ℕ, suc, true, List, [], ◌∷◌, ◌++◌, length, refl, ap, ◌∙◌, arith, length-append, lit<, lit≤}, lemmas.{Bool.{and_parts, leb-true, lt-ltb, false_from_ne_true, eqb-true}, Fmt.{length-decimal-le, IsAscii-decimal}, List.{Elements.All-from_recursion, Sums.AllPass-from_list_all}, Str.{IsUtf8-from_ascii, IsUtf8-append}}, Math.Seq.{take-append-add, drop-append_seam}}, specs.{Prelude.{codes, decimal, take, nat_le, ◌==◌, flat_map, All, IsUtf8}, List.{AllByRecursion, list_all}}}
 use Rattle.json.proofs.Printed.Utf8.{IsUtf8-are_ascii}
 use Rattle.httparse.specs.Grammar.{print_request, is_token_byte}
-use Rattle.hall_http.specs.BodyLaws.{short-request_text}
-use Rattle.hallctl_requests.specs.{Prelude.{Field, IsField, IsRequestHead, ReadsRequest, IsToken, print_field, is_uri_byte, is_value_byte, IsNumber, request_text, front, after_head, is_visible}, FieldLaws.{visible_text, visible_is_value, visible-decimal, list_all_so}, Request.{Question, machines, machine, orders, command, IsAuthority, IsBearerToken, IsSendable, field, body_fields, fields_of, method_of, target_of, head_of, body_of, request_of}}
+use Rattle.hall_http.specs.BodyLaws.{short-answer_text, short-request_text}
+use Rattle.hallctl_requests.specs.{Prelude.{Field, IsField, answer_text, IsRequestHead, ReadsRequest, IsToken, print_field, is_uri_byte, is_value_byte, IsNumber, request_text, front, after_head, is_visible}, FieldLaws.{visible_text, visible_is_value, visible-decimal, list_all_so}, Request.{Question, machines, machine, orders, answer, command, IsAuthority, IsBearerToken, IsSendable, field, json_fields, body_fields, fields_of, method_of, target_of, head_of, body_of, request_of}}
 
 -- ---- the parts of the head
 
@@ -32,12 +32,13 @@ pub length_is : (n : ℕ) → n < 2 ^ 64 → IsField (field (codes "Content-Leng
 unfolding is_token_byte
 length_is n h = field_is (codes "Content-Length") (decimal n) (lit< tt) refl (value_passes (decimal n) (visible-decimal n h))
 
-body_fields_are : (question : Question) → IsSendable question → AllByRecursion IsField (body_fields question)
+json_fields_are : (body : List ℕ) → length body ≤ 16384 → AllByRecursion IsField (json_fields body)
 unfolding is_token_byte
-body_fields_are (command key c) h = (
-  field_is (codes "Content-Type") (codes "application/json") (lit< tt) refl refl,
-  (length_is (length (request_text key c)) (omega (arith, short-request_text key c h.whole h.parts)), tt),
-)
+json_fields_are body h = (field_is (codes "Content-Type") (codes "application/json") (lit< tt) refl refl, (length_is (length body) (omega arith), tt))
+
+body_fields_are : (question : Question) → IsSendable question → AllByRecursion IsField (body_fields question)
+body_fields_are (answer order outcome) h = json_fields_are (answer_text outcome) (short-answer_text outcome)
+body_fields_are (command key c) h = json_fields_are (request_text key c) (short-request_text key c h.whole h.parts)
 body_fields_are other h = tt
 
 fields_are : (authority token : List ℕ) (question : Question) → IsAuthority authority → IsBearerToken token → IsSendable question
@@ -54,6 +55,7 @@ fields_are authority token question a t h =
 
 method_is : (question : Question) → IsToken (method_of question)
 unfolding is_token_byte
+method_is (answer order outcome) = (lit< tt, AllPass-from_list_all is_token_byte (codes "POST") refl)
 method_is (command key c) = (lit< tt, AllPass-from_list_all is_token_byte (codes "POST") refl)
 method_is other = (lit< tt, AllPass-from_list_all is_token_byte (codes "GET") refl)
 
@@ -63,6 +65,7 @@ number_fits n h = omega arith
 -- a target's characters
 target_passes : (question : Question) → IsSendable question → list_all is_uri_byte (target_of question) ≡ true
 target_passes (machine id) h = list_all_so is_visible is_uri_byte visible_is_uri (decimal id) (visible-decimal id (number_fits id h))
+target_passes (answer order outcome) h = list_all_so is_visible is_uri_byte visible_is_uri (decimal order) (visible-decimal order (number_fits order h))
 target_passes other h = refl
 
 target_text : (question : Question) → IsSendable question → IsUtf8 (target_of question)
@@ -70,11 +73,15 @@ target_text machines h = IsUtf8-are_ascii (codes "/machines") refl
 target_text (machine id) h =
     IsUtf8-append (codes "/machines/") (decimal id) (IsUtf8-are_ascii (codes "/machines/") refl)
     (IsUtf8-from_ascii (decimal id) (IsAscii-decimal id (number_fits id h)))
+target_text (answer order outcome) h =
+    IsUtf8-append (codes "/orders/") (decimal order) (IsUtf8-are_ascii (codes "/orders/") refl)
+    (IsUtf8-from_ascii (decimal order) (IsAscii-decimal order (number_fits order h)))
 target_text orders h = IsUtf8-are_ascii (codes "/orders") refl
 target_text (command key c) h = IsUtf8-are_ascii (codes "/commands") refl
 
 target_some : (question : Question) → 0 < length (target_of question)
 target_some (machine id) = omega arith
+target_some (answer order outcome) = omega arith
 target_some other = lit< tt
 
 head_is : (authority token : List ℕ) (question : Question) → IsAuthority authority → IsBearerToken token → IsSendable question
@@ -116,10 +123,9 @@ length-head first second third fields =
     counted : (a b c f one two three section : ℕ) → one ≡ a + suc b → two ≡ one + suc c → three ≡ two + 2 → section ≡ f + 2 → three + section ≡ a + b + c + f + 6
     counted a b c f one two three section h i j k = omega arith
 
-body_fields_fit : (question : Question) → IsSendable question → length (flat_map print_field (body_fields question)) ≤ 200
-body_fields_fit (command key c) h =
-    let n = length (request_text key c) in
-    let few = short-request_text key c h.whole h.parts in
+json_fields_fit : (body : List ℕ) → length body ≤ 16384 → length (flat_map print_field (json_fields body)) ≤ 200
+json_fields_fit body few =
+    let n = length body in
     let kind = field (codes "Content-Type") (codes "application/json") in
     let size = field (codes "Content-Length") (decimal n) in
     omega (
@@ -128,8 +134,12 @@ body_fields_fit (command key c) h =
       length-fields size [],
       length-field (codes "Content-Type") (codes "application/json"),
       length-field (codes "Content-Length") (decimal n),
-      length-decimal-le 5 n (omega arith) (omega (arith, few)) (omega (arith, few)),
+      length-decimal-le 5 n (omega arith) (omega arith) (omega arith),
     )
+
+body_fields_fit : (question : Question) → IsSendable question → length (flat_map print_field (body_fields question)) ≤ 200
+body_fields_fit (answer order outcome) h = json_fields_fit (answer_text outcome) (short-answer_text outcome)
+body_fields_fit (command key c) h = json_fields_fit (request_text key c) (short-request_text key c h.whole h.parts)
 body_fields_fit other h = lit≤ tt
 
 fields_fit : (authority token : List ℕ) (question : Question) → IsAuthority authority → IsBearerToken token → IsSendable question
@@ -153,11 +163,13 @@ fields_fit authority token question a t h =
     )
 
 method_fits : (question : Question) → length (method_of question) ≤ 4
+method_fits (answer order outcome) = lit≤ tt
 method_fits (command key c) = lit≤ tt
 method_fits other = lit≤ tt
 
 target_fits : (question : Question) → IsSendable question → length (target_of question) ≤ 26
 target_fits (machine id) h = omega (arith, length-decimal-le 16 id (omega arith) (omega arith) (number_fits id h))
+target_fits (answer order outcome) h = omega (arith, length-decimal-le 16 order (omega arith) (omega arith) (number_fits order h))
 target_fits other h = lit≤ tt
 
 head_fits : (authority token : List ℕ) (question : Question) → IsAuthority authority → IsBearerToken token → IsSendable question
@@ -173,6 +185,7 @@ head_fits authority token question a t h =
     )
 
 pub few_fields : (authority token : List ℕ) (question : Question) → length (fields_of authority token question) ≤ 64
+few_fields authority token (answer order outcome) = lit≤ tt
 few_fields authority token (command key c) = lit≤ tt
 few_fields authority token other = lit≤ tt
 

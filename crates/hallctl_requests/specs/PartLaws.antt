@@ -1,7 +1,7 @@
 -- Laws of requests part by part: the parts that are written one after another are the whole.
 use Rattle.std.{proofs.Common.{◌≡◌, ℕ, List, [], ◌++◌, length, refl, ap, ◌∙◌, append_assoc, append-nil}, specs.Prelude.{codes, decimal, flat_map}}
 use Rattle.httparse.specs.Grammar.{print_request}
-use Rattle.hallctl_requests.specs.{Prelude.{print_field, request_text, HallCommand}, Request.{Question, machines, machine, orders, command, body_fields, body_of, fields_of, method_of, target_of, request_of, request_line, field_line, common_lines, get_of, post_of}}
+use Rattle.hallctl_requests.specs.{Prelude.{print_field, answer_text, request_text, HallCommand, Outcome}, Request.{Question, machines, machine, orders, answer, command, body_fields, body_of, fields_of, method_of, target_of, request_of, request_line, field_line, common_lines, json_fields, body_part, get_of, post_of}}
 
 three_then : (x y z more rest : List ℕ) → (x ++ (y ++ (z ++ more))) ++ rest ≡ (x ++ (y ++ z)) ++ (more ++ rest)
 three_then x y z more rest = simp append_assoc
@@ -39,9 +39,19 @@ orders_parts authority token = whole authority token orders
 two_then : (x y rest : List ℕ) → (x ++ (y ++ [])) ++ rest ≡ x ++ (y ++ rest)
 two_then x y rest = simp (append_assoc, append-nil) refl
 
-pub command_parts : (authority token key : List ℕ) (c : HallCommand) → request_of authority token (command key c) ≡ post_of authority token (codes "/commands") (request_text key c)
+-- a request with a body of JSON
+posted : (target common body : List ℕ)
+    → request_line (codes "POST") target ++ (common ++ (flat_map print_field (json_fields body) ++ (codes "\r\n" ++ body)))
+    ≡ request_line (codes "POST") target ++ (common ++ body_part body)
 unfolding field_line
-command_parts authority token key c =
-    whole authority token (command key c)
-    ∙ ap (λ (xs : List ℕ). request_line (codes "POST") (codes "/commands") ++ (common_lines authority token ++ xs))
-    (two_then (field_line (codes "Content-Type") (codes "application/json")) (field_line (codes "Content-Length") (decimal (length (request_text key c)))) (codes "\r\n" ++ request_text key c))
+posted target common body =
+    ap (λ (xs : List ℕ). request_line (codes "POST") target ++ (common ++ xs))
+    (two_then (field_line (codes "Content-Type") (codes "application/json")) (field_line (codes "Content-Length") (decimal (length body))) (codes "\r\n" ++ body))
+
+pub answer_parts : (authority token : List ℕ) (order : ℕ) (outcome : Outcome)
+    → request_of authority token (answer order outcome) ≡ post_of authority token (codes "/orders/" ++ decimal order) (answer_text outcome)
+answer_parts authority token order outcome =
+    whole authority token (answer order outcome) ∙ posted (codes "/orders/" ++ decimal order) (common_lines authority token) (answer_text outcome)
+
+pub command_parts : (authority token key : List ℕ) (c : HallCommand) → request_of authority token (command key c) ≡ post_of authority token (codes "/commands") (request_text key c)
+command_parts authority token key c = whole authority token (command key c) ∙ posted (codes "/commands") (common_lines authority token) (request_text key c)

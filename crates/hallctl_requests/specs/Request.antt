@@ -2,14 +2,16 @@
 use Rattle.std.specs.{Prelude.{ℕ, List, [], ◌∷◌, ◌++◌, Some, Bool, false, not, codes, decimal, length, nat_le, ◌&&◌, IsTrue}, List.list_all}
 use Rattle.httparse.specs.Grammar.{print_request}
 use Rattle.hall_events.specs.declared.event.Event.TheVariants as event
-use Rattle.hallctl_requests.specs.{Prelude.{Field, RequestHead, crlf, sha256, request_text, HallCommand, Event, IsNumber, is_visible, IsSendableCommand, is_identified}, declared.requests.Ask.Ask}
+use Rattle.hallctl_requests.specs.{Prelude.{Field, RequestHead, crlf, sha256, answer_text, request_text, HallCommand, Outcome, Event, IsNumber, is_visible, IsSendableCommand, is_identified}, declared.requests.Ask.Ask}
 use Rattle.hallctl_requests.specs.declared.requests.Ask.TheVariants as ask
 
--- what is asked of the desk: the list of machines, one machine, the waiting orders, or a command with the key of its request
+-- what is asked of the desk: the list of machines, one machine, the waiting orders, that an order has come to an outcome, or a command with the
+-- key of its request
 pub data Question : Type 0 where
   machines : Question
   machine : ℕ → Question
   orders : Question
+  answer : ℕ → Outcome → Question
   command : List ℕ → HallCommand → Question
 
 -- what an `Ask` asks
@@ -17,6 +19,7 @@ abbrev pub asked : Ask → Question
 asked ask.Machines = machines
 asked (ask.Machine id) = machine id
 asked ask.Orders = orders
+asked (ask.Answer order outcome) = answer order outcome
 asked (ask.Command key c) = command key c.now
 
 -- a command would bring a UUID that identifies no machine
@@ -24,11 +27,12 @@ abbrev pub brings_blank : Question → Bool
 brings_blank (command key c) = not (is_identified c)
 brings_blank other = false
 
--- the desk reads it as what was meant: a machine has a number, and a command can be brought by a request
+-- the desk reads it as what was meant: a machine and an order have numbers, and a command can be brought by a request
 abbrev pub IsSendable : Question → Type 0
 IsSendable machines = Unit {0}
 IsSendable (machine id) = IsNumber id
 IsSendable orders = Unit {0}
+IsSendable (answer order outcome) = IsNumber order
 IsSendable (command key c) = IsSendableCommand key c
 
 -- 1 to so many visible characters
@@ -44,6 +48,7 @@ IsBearerToken text = IsVisibleText 128 text
 -- ---- the parts of a request
 
 abbrev pub method_of : Question → List ℕ
+method_of (answer order outcome) = codes "POST"
 method_of (command key c) = codes "POST"
 method_of other = codes "GET"
 
@@ -51,9 +56,11 @@ abbrev pub target_of : Question → List ℕ
 target_of machines = codes "/machines"
 target_of (machine id) = codes "/machines/" ++ decimal id
 target_of orders = codes "/orders"
+target_of (answer order outcome) = codes "/orders/" ++ decimal order
 target_of (command key c) = codes "/commands"
 
 abbrev pub body_of : Question → List ℕ
+body_of (answer order outcome) = answer_text outcome
 body_of (command key c) = request_text key c
 body_of other = []
 
@@ -61,12 +68,13 @@ body_of other = []
 abbrev pub field : List ℕ → List ℕ → Field
 field name value = record { name = name; raw = 32 ∷ value; end = crlf }
 
--- what the fields say of the body
+-- what the fields say of a body of JSON
+abbrev pub json_fields : List ℕ → List Field
+json_fields body = field (codes "Content-Type") (codes "application/json") ∷ field (codes "Content-Length") (decimal (length body)) ∷ []
+
 abbrev pub body_fields : Question → List Field
-body_fields (command key c) =
-    field (codes "Content-Type") (codes "application/json")
-    ∷ field (codes "Content-Length") (decimal (length (request_text key c)))
-    ∷ []
+body_fields (answer order outcome) = json_fields (answer_text outcome)
+body_fields (command key c) = json_fields (request_text key c)
 body_fields other = []
 
 abbrev pub fields_of : List ℕ → List ℕ → Question → List Field
@@ -96,6 +104,7 @@ abbrev pub event_of : List ℕ → Question → Event
 event_of token machines = event.Machines (Some (sha256 token))
 event_of token (machine id) = event.OneMachine (Some (sha256 token)) id
 event_of token orders = event.Orders (Some (sha256 token))
+event_of token (answer order outcome) = event.OrderAnswer (Some (sha256 token)) order outcome
 event_of token (command key c) = event.Command (Some (sha256 token)) key c
 
 -- ---- the same octets, part by part

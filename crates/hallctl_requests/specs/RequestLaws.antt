@@ -2,8 +2,8 @@
 use Rattle.std.{proofs.Common.{◌≡◌, ℕ, List, [], map, refl, sym, ap, subst, ◌∙◌}, specs.{Prelude.{Result, Ok}, Result.result_unwrap_or}}
 use Rattle.httparse.proofs.GrammarLemmas.{request_unique}
 use Rattle.hall_events.specs.declared.event.Event.TheVariants as event
-use Rattle.hall_http.specs.{BodyLaws.short-request_text, EventLaws.{command_event, machines_event, machine_event, orders_event}}
-use Rattle.hallctl_requests.specs.{Prelude.{RequestHead, ReadsRequest, name_and_value, Event, HttpFault, Answers, event_of_parts, IsEvent, after_head, of_head, front}, FieldLaws.{body_length_is, bearer_is}, HeadLaws.{reads_head, after_head_is, few_fields}, Request.{Question, machines, machine, orders, command, IsAuthority, IsBearerToken, IsSendable, fields_of, method_of, target_of, head_of, body_of, request_of, event_of}}
+use Rattle.hall_http.specs.{BodyLaws.{short-answer_text, short-request_text}, EventLaws.{command_event, machines_event, machine_event, order_event, orders_event}}
+use Rattle.hallctl_requests.specs.{Prelude.{RequestHead, ReadsRequest, name_and_value, Event, HttpFault, Answers, event_of_parts, IsEvent, after_head, of_head, front}, FieldLaws.{answer_length_is, body_length_is, bearer_is}, HeadLaws.{reads_head, after_head_is, few_fields}, Request.{Question, machines, machine, orders, answer, command, IsAuthority, IsBearerToken, IsSendable, fields_of, method_of, target_of, head_of, body_of, request_of, event_of}}
 
 -- ---- each request
 
@@ -16,6 +16,9 @@ event_is authority token (machine id) t h =
     ∙ ap (λ b. Ok (event.OneMachine b id)) (bearer_is authority token (machine id) t)
 event_is authority token orders t h =
     orders_event (map name_and_value (fields_of authority token orders)) [] ∙ ap (λ b. Ok (event.Orders b)) (bearer_is authority token orders t)
+event_is authority token (answer order outcome) t h =
+    order_event (map name_and_value (fields_of authority token (answer order outcome))) order outcome h (answer_length_is authority token order outcome (short-answer_text outcome))
+    ∙ ap (λ b. Ok (event.OrderAnswer b order outcome)) (bearer_is authority token (answer order outcome) t)
 event_is authority token (command key c) t h =
     command_event (map name_and_value (fields_of authority token (command key c))) key c h (body_length_is authority token key c (short-request_text key c h.whole h.parts))
     ∙ ap (λ b. Ok (event.Command b key c)) (bearer_is authority token (command key c) t)
@@ -44,6 +47,7 @@ request_is_read authority token question a t h result is =
 question_in : Event → Question
 question_in (event.OneMachine bearer id) = machine id
 question_in (event.Orders bearer) = orders
+question_in (event.OrderAnswer bearer order outcome) = answer order outcome
 question_in (event.Command bearer key c) = command key c
 question_in other = machines
 

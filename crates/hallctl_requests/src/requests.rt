@@ -1,12 +1,14 @@
 //! What is asked of the desk, and the octets of requests.
 ghost use Rattle.std.specs.Prelude.{◌≡◌, ◌++◌, ◌↔◌, false, codes, decimal, length, string_bytes, IfOk, OnOk, IsErrOf, IsTrue, Result, Ok};
-ghost use Rattle.hallctl_requests.specs.{Prelude.{Answers, IsEvent, HttpFault, IsSendableCommand, is_identified, Event, request_text, IsNumber}, Request.{IsSendable, asked, body_part, brings_blank, common_lines, event_of, field_line, get_of, post_of, request_line, request_of}};
+ghost use Rattle.serde_json.specs.View.{view};
+ghost use Rattle.hallctl_requests.specs.{Prelude.{Answers, IsEvent, HttpFault, IsSendableCommand, is_identified, Event, answer_text, outcome_data, request_text, IsNumber}, Request.{IsSendable, asked, body_part, brings_blank, common_lines, event_of, field_line, get_of, post_of, request_line, request_of}};
 
 use crate::checked_text::{Authority, BearerToken};
 use hall_events::HallCommand;
 use hall_http::{has_parts, is_identified};
-use hall_types::{Number, RequestKey};
+use hall_types::{Number, Outcome, RequestKey};
 use itoa::Buffer;
+use serde_json::{Value, json};
 use std::alloc::{AllocError, Global};
 use thiserror::Error;
 
@@ -22,6 +24,11 @@ pub enum Ask<'c> {
     Machine(Number),
     /// The waiting orders.
     Orders,
+    /// To note what an order has come to.
+    Answer {
+        order: Number,
+        outcome: Outcome,
+    },
     /// To carry out a command, at most once for its key.
     Command {
         key: RequestKey,
@@ -154,6 +161,43 @@ fn post(
     Ok(octets)
 }
 
+fn order_target(alloc: Global, order: u64) -> Result<String, AllocError>
+    ensures { IfOk result (λ text. string_bytes text ≡ codes "/orders/" ++ decimal order) }
+{
+    let mut buffer = Buffer::new();
+    let mut target = String::from_str(alloc, "/orders/")?;
+    target.push_str(buffer.format(order))?;
+    Ok(target)
+}
+
+fn outcome_value(alloc: Global, outcome: Outcome) -> Result<Value, AllocError>
+    ensures { IfOk result (λ value. view value ≡ outcome_data outcome) }
+{
+    json!(in alloc; {"outcome": outcome.text()})
+}
+
+#[tactic(auto, unfolding(hall_http::specs::Command::answer_text))]
+fn answer_text(alloc: Global, outcome: Outcome) -> Result<String, AllocError>
+    ensures { IfOk result (λ text. string_bytes text ≡ answer_text outcome) }
+{
+    outcome_value(alloc, outcome)?.to_string(alloc)
+}
+
+fn post_answer(
+    alloc: Global,
+    authority: &Authority,
+    token: &BearerToken,
+    order: Number,
+    outcome: Outcome,
+) -> Result<Vec<u8>, AllocError>
+    ensures octets { IfOk result (λ octets. octets.items ≡ post_of authority.now token.now (codes "/orders/" ++ decimal order) (answer_text outcome)) }
+    ensures number { OnOk result (IsNumber order) }
+{
+    let target = order_target(alloc, order.get())?;
+    let body = answer_text(alloc, outcome)?;
+    post(alloc, authority, token, &target, &body)
+}
+
 // The text of a command that the desk can read.
 fn body_text(alloc: Global, key: RequestKey, command: &HallCommand) -> Result<String, RequestFault>
     ensures text { IfOk result (λ text. string_bytes text ≡ request_text key command.now) }
@@ -185,7 +229,7 @@ fn post_command(
 }
 
 // The request, which the desk reads as what is asked.
-#[tactic(auto, using(crate::specs::PartLaws::machines_parts, crate::specs::PartLaws::machine_parts, crate::specs::PartLaws::orders_parts, crate::specs::PartLaws::command_parts))]
+#[tactic(auto, using(crate::specs::PartLaws::machines_parts, crate::specs::PartLaws::machine_parts, crate::specs::PartLaws::orders_parts, crate::specs::PartLaws::answer_parts, crate::specs::PartLaws::command_parts))]
 fn request_inner(
     alloc: Global,
     authority: &Authority,
@@ -200,13 +244,16 @@ fn request_inner(
         Ask::Machines => Ok(get(alloc, authority, token, "/machines")?),
         Ask::Machine(id) => Ok(get_machine(alloc, authority, token, *id)?),
         Ask::Orders => Ok(get(alloc, authority, token, "/orders")?),
+        Ask::Answer { order, outcome } => Ok(post_answer(
+            alloc, authority, token, *order, *outcome,
+        )?),
         Ask::Command { key, command } => post_command(alloc, authority, token, *key, command),
     }
 }
 
 /// The octets of a request (RFC 9112 section 3): the desk reads them as what is asked, with the digest of the
-/// token. A command is a POST of JSON with its Content-Length, the others are GETs; each asks that the
-/// connection be closed after the answer.
+/// token. A command and an order's answer are POSTs of JSON with their Content-Length, the others are GETs; each
+/// asks that the connection be closed after the answer.
 ///
 /// # Errors
 ///

@@ -30,6 +30,10 @@ impl Desk {
                 format!(in alloc; "http://{authority}/machines/{machine}")
             }
             Ask::Orders => format!(in alloc; "http://{authority}/orders"),
+            Ask::Answer { order, .. } => {
+                let order = order.get();
+                format!(in alloc; "http://{authority}/orders/{order}")
+            }
             Ask::Command { .. } => format!(in alloc; "http://{authority}/commands"),
         }
     }
@@ -52,6 +56,7 @@ fn question_of<'c>(ask: &Ask<'c>) -> Question<'c> {
         Ask::Machines => Question::Machines,
         Ask::Machine(machine) => Question::Machine(*machine),
         Ask::Orders => Question::Orders,
+        Ask::Answer { .. } => Question::Answer,
         Ask::Command { command, .. } => Question::Command(command),
     }
 }
@@ -60,7 +65,7 @@ fn question_of<'c>(ask: &Ask<'c>) -> Question<'c> {
 fn command_of<'c>(ask: &Ask<'c>) -> Option<&'c HallCommand> {
     match ask {
         Ask::Command { command, .. } => Some(command),
-        Ask::Machines | Ask::Machine(_) | Ask::Orders => None,
+        Ask::Machines | Ask::Machine(_) | Ask::Orders | Ask::Answer { .. } => None,
     }
 }
 

@@ -1,4 +1,4 @@
-//! The system that the program runs on: a socket to the desk, the terminal, files and random octets.
+//! The system that the program runs on: a socket to the desk, the terminal, the environment, files and random octets.
 use crate::address::DeskAddress;
 use crate::dial::{Attempt, Dial, Why};
 use crate::output::goes_on_text;
@@ -6,12 +6,13 @@ use crate::socket::{Time, connected, exchanged};
 use crate::surroundings::{FileFault, Surroundings};
 use rand::rngs::SysRng;
 use rand_core::TryRng;
-use std::alloc::Global;
-use std::fs::{File, OpenOptions, exists, hard_link, remove_file};
+use std::alloc::{AllocError, Global};
+use std::env::VarError;
+use std::fs::{File, OpenOptions, exists, hard_link, metadata, remove_file};
 use std::io::{BufRead, BufReader, ErrorKind, IsTerminal, Read, Write};
-use std::os::unix::fs::OpenOptionsExt;
+use std::os::unix::fs::{OpenOptionsExt, PermissionsExt};
 use std::time::{Duration, Instant, SystemTime, UNIX_EPOCH};
-use std::{io, thread};
+use std::{env, io, thread};
 
 // The maximum of octets of a file that is read.
 const MAX_FILE_LEN: u64 = 16_777_216;
@@ -22,23 +23,35 @@ const MAX_REPLY_LEN: u64 = 4_096;
 // Read and written by its owner alone.
 const OWNER_ONLY: u32 = 0o600;
 
-/// The system, and where the desk is.
+// The right of others than a file's owner to read it, in its mode.
+const OTHERS: u32 = 0o044;
+
+// Where the desk is that is asked.
+#[derive(Drop)]
+struct Way {
+    host: String,
+    port: u16,
+    authority: String,
+}
+
+/// The system, and the way to a desk.
 #[derive(Drop)]
 pub struct Host<'a> {
     rt: &'a HostRuntime,
-    address: &'a DeskAddress,
+    // None until it is turned to a desk.
+    way: Option<Way>,
     start: Instant,
     // When time was last counted anew, in milliseconds from the start.
     anew: u64,
 }
 
 impl<'a> Host<'a> {
-    /// A way to the desk at the address. `None` where the system's clock fails.
-    pub fn new(rt: &'a HostRuntime, address: &'a DeskAddress) -> Option<Host<'a>> {
+    /// The system, with a way to no desk yet. `None` where the system's clock fails.
+    pub fn new(rt: &'a HostRuntime) -> Option<Host<'a>> {
         let start = Instant::now(rt).ok()?;
         Some(Host {
             rt,
-            address,
+            way: None,
             start,
             anew: 0,
         })
@@ -52,21 +65,24 @@ impl Dial for Host<'_> {
     ghost tries = { λ _. None };
 
     fn attempt(&mut self, alloc: Global, octets: &[u8], milliseconds: u64) -> Attempt {
+        let Some(way) = &self.way else {
+            return Attempt::Unsent(Why::NoAddress);
+        };
         let Some(time) = Time::from_now(self.rt, milliseconds) else {
             return Attempt::Unsent(Why::Late);
         };
-        match connected(self.rt, self.address, &time) {
+        match connected(self.rt, way.host.as_str(), way.port, &time) {
             Ok(stream) => exchanged(self.rt, alloc, stream, &time, octets),
             Err(why) => Attempt::Unsent(why),
         }
     }
 
     fn goes_on(&mut self, alloc: Global, why: Why, milliseconds: u64) {
-        if self.rt.stderr().is_terminal() {
-            let authority = self.address.authority.text();
-            if let Ok(text) = goes_on_text(alloc, authority, why, milliseconds) {
-                let _ = self.rt.stderr().write_all(text.as_bytes());
-            }
+        if let Some(way) = &self.way
+            && self.rt.stderr().is_terminal()
+            && let Ok(text) = goes_on_text(alloc, way.authority.as_str(), why, milliseconds)
+        {
+            let _ = self.rt.stderr().write_all(text.as_bytes());
         }
     }
 
@@ -124,6 +140,23 @@ fn is_yes(rt: &HostRuntime, alloc: Global) -> io::Result<bool> {
 }
 
 impl Surroundings for Host<'_> {
+    fn turn_to(&mut self, alloc: Global, address: &DeskAddress) -> Result<(), AllocError> {
+        self.way = Some(Way {
+            host: String::from_str(alloc, address.host.as_str())?,
+            port: address.port,
+            authority: String::from_str(alloc, address.authority.text())?,
+        });
+        Ok(())
+    }
+
+    fn variable(&mut self, _alloc: Global, name: &str) -> Result<Option<String>, AllocError> {
+        match env::var(self.rt, name) {
+            Ok(value) => Ok(Some(value)),
+            Err(VarError::OutOfMemory) => Err(AllocError),
+            Err(VarError::NotPresent | VarError::NotUnicode) => Ok(None),
+        }
+    }
+
     fn print(&mut self, text: &str) -> bool {
         self.rt.stdout().write_all(text.as_bytes()).is_ok()
     }
@@ -172,6 +205,13 @@ impl Surroundings for Host<'_> {
         match path {
             "-" => input_octets(self.rt),
             _ => file_octets(self.rt, path),
+        }
+    }
+
+    fn is_open_to_others(&mut self, path: &str) -> bool {
+        match metadata(self.rt, path) {
+            Ok(found) => found.permissions().mode() & OTHERS != 0,
+            Err(_) => false,
         }
     }
 

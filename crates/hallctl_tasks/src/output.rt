@@ -26,14 +26,30 @@ pub fn goes_on_text(
     )
 }
 
+/// Writes a line to standard error, after the program's name.
+pub(crate) fn report<S: Surroundings>(
+    alloc: Global,
+    surroundings: &mut S,
+    line: impl Display + Drop,
+) -> Result<(), AllocError> {
+    let text = format!(in alloc; "hallctl: {line}\n")?;
+    surroundings.eprint(text.as_str());
+    Ok(())
+}
+
+/// Writes a text to standard output.
+pub(crate) fn print<S: Surroundings>(surroundings: &mut S, text: &str) -> Step<()> {
+    if surroundings.print(text) {
+        Ok(())
+    } else {
+        Err(EarlyEnd::Fault(TaskFault::Output))
+    }
+}
+
 impl<S: Surroundings> Session<'_, S> {
     /// Writes a text to standard output.
     pub(crate) fn print(&mut self, text: &str) -> Step<()> {
-        if self.surroundings.print(text) {
-            Ok(())
-        } else {
-            Err(EarlyEnd::Fault(TaskFault::Output))
-        }
+        print(self.surroundings, text)
     }
 
     /// Writes a line to standard output.
@@ -44,9 +60,7 @@ impl<S: Surroundings> Session<'_, S> {
 
     /// Writes a line to standard error, after the program's name.
     pub(crate) fn report(&mut self, line: impl Display + Drop) -> Result<(), AllocError> {
-        let text = format!(in self.alloc; "hallctl: {line}\n")?;
-        self.surroundings.eprint(text.as_str());
-        Ok(())
+        report(self.alloc, self.surroundings, line)
     }
 
     /// Reports how many of several things are done, where somebody watches. What is printed next is written over it.

@@ -57,7 +57,8 @@ impl<'c> Sending<'c> {
     // The line of what the desk says of the command.
     fn answered_line(&self, alloc: Global, said: &DeskAnswer) -> Result<String, AllocError> {
         match said {
-            DeskAnswer::Done | DeskAnswer::Listed => done_line(alloc, self.command),
+            DeskAnswer::Done | DeskAnswer::Listed | DeskAnswer::Counted | DeskAnswer::Repeated =>
+                done_line(alloc, self.command),
             DeskAnswer::Deleted(machine) => deleted_line(alloc, *machine),
             DeskAnswer::Machine(state) => self.machine_line(alloc, state),
             DeskAnswer::Refused(refusal) => refusal_line(alloc, Some(self.command), *refusal),

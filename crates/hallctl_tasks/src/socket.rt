@@ -1,7 +1,6 @@
 //! One try over a socket.
 ghost use Rattle.std.specs.Prelude.{◌≤◌, length, IfOk};
 
-use crate::address::DeskAddress;
 use crate::dial::{Attempt, Why};
 use std::alloc::Global;
 use std::io;
@@ -62,13 +61,14 @@ fn connected_to(rt: &HostRuntime, address: SocketAddr, time: &Time) -> Result<Tc
     TcpStream::connect_timeout(rt, &address, limit).map_err(|error| why_of(&error))
 }
 
-/// A connection to the desk, at the first of its addresses that takes one.
+/// A connection to the desk at this host and port, at the first of its addresses that takes one.
 pub(crate) fn connected(
     rt: &HostRuntime,
-    address: &DeskAddress,
+    host: &str,
+    port: u16,
     time: &Time,
 ) -> Result<TcpStream, Why> {
-    let addresses = (address.host.as_str(), address.port)
+    let addresses = (host, port)
         .to_socket_addrs(rt)
         .map_err(|_| Why::NoAddress)?;
     let mut last = Why::NoAddress;

@@ -1,6 +1,7 @@
-//! What a task uses besides the desk: the operator's terminal, files and random octets.
+//! What a task uses besides the desk: the operator's terminal, the environment, files and random octets.
+use crate::address::DeskAddress;
 use crate::dial::Dial;
-use std::alloc::Global;
+use std::alloc::{AllocError, Global};
 use thiserror::Error;
 
 /// Why a file can't be read or made.
@@ -19,6 +20,12 @@ pub enum FileFault {
 
 /// What a task uses: the way to the desk, and what is about it.
 pub trait Surroundings: Dial {
+    /// Turns the way to the desk at this address, to which the next try goes.
+    fn turn_to(&mut self, alloc: Global, address: &DeskAddress) -> Result<(), AllocError>;
+
+    /// The value of a variable of the environment, if it has one that is UTF-8.
+    fn variable(&mut self, alloc: Global, name: &str) -> Result<Option<String>, AllocError>;
+
     /// Writes a text to standard output, and says whether all of it was written.
     fn print(&mut self, text: &str) -> bool;
 
@@ -51,6 +58,9 @@ pub trait Surroundings: Dial {
 
     /// The octets of a file. `-` is standard input.
     fn octets_of(&mut self, alloc: Global, path: &str) -> Result<Vec<u8>, FileFault>;
+
+    /// Whether others than its owner can read a file.
+    fn is_open_to_others(&mut self, path: &str) -> bool;
 
     /// Whether there is a file.
     fn has_file(&mut self, path: &str) -> bool;

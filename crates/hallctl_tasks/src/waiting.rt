@@ -5,10 +5,11 @@ use crate::dial::Why;
 use crate::end::{Step, TaskEnd};
 use crate::session::Session;
 use crate::surroundings::Surroundings;
-use hall_types::{Number, Status, Version};
+use hall_types::Status;
 use hallctl_requests::Ask;
 use hallctl_texts::{
-    AnswerFault, DeskAnswer, ListedMachine, MachineState, machine_numbered, machine_with, value_of,
+    AnswerFault, DeskAnswer, ListedMachine, MachineState, machine_numbered, machine_with, state_at,
+    value_of,
 };
 use hallctl_words::{Waited, Which};
 use serde_json::Value;
@@ -46,36 +47,12 @@ fn ask_of(machines: &[Which]) -> Ask<'static> {
     }
 }
 
-// Whether a machine doesn't get on from this status until somebody does something.
-fn is_failure(status: Status) -> bool {
-    matches!(
-        status,
-        Status::FailedCommissioning
-            | Status::FailedTesting
-            | Status::FailedDeployment
-            | Status::FailedReleasing
-            | Status::FailedDiskErasing
-            | Status::FailedToEnterRescue
-            | Status::FailedToExitRescue
-            | Status::Broken
-    )
-}
-
 fn state_of(machine: ListedMachine) -> MachineState {
     MachineState {
         id: machine.id,
         status: machine.status,
         version: machine.version,
     }
-}
-
-// What an object of the list of all says of its machine.
-fn state_in(object: &Value) -> Option<MachineState> {
-    Some(MachineState {
-        id: Number::new(object.get("id")?.as_u64()?).ok()?,
-        status: object.get("status")?.as_str()?.parse().ok()?,
-        version: Version::new(object.get("version")?.as_u64()?).ok()?,
-    })
 }
 
 // A machine in the list of all, if it has it.
@@ -87,7 +64,7 @@ fn machine_in(value: &Value, which: Which) -> Result<Option<MachineState>, Answe
     let Some(object) = object else {
         return Ok(None);
     };
-    match state_in(object) {
+    match state_at(object) {
         Some(state) => Ok(Some(state)),
         None => Err(AnswerFault::NotTheDesk),
     }
@@ -199,7 +176,7 @@ impl<S: Surroundings> Session<'_, S> {
             self.print_arrived(machine)?;
             return Ok(Some(TaskEnd::Done));
         }
-        if is_failure(machine.status) && !waited.despite_failures {
+        if machine.status.is_failure() && !waited.despite_failures {
             self.report(format_args!("machine {id}: {status}, version {version}"))?;
             return Ok(Some(TaskEnd::Refused));
         }

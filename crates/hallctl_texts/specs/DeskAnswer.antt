@@ -1,7 +1,7 @@
 -- What the desk answers to what it was asked (the contents of its answers and their texts are those of hall_events).
 use Rattle.std.specs.Prelude.{◌≡◌, ◌⊎◌, ℕ, List}
 use Rattle.hall_types.specs.{Hall.second, declared.{order.Order.Order, refusal.Refusal.Refusal}}
-use Rattle.hall_events.specs.{Reply.{Content, ListedMachine, refused, machine_is, machine_gone, done, waiting_orders, machine_list, one_machine, reply_of}, declared.{command.{HallCommand.{HallCommand, TheVariants.{AddMachine, OnMachine}}, MachineCommand.{MachineCommand, TheVariants.Delete}}, reply.{Reply.{Reply, TheVariants.Http}, BodyKind.TheVariants.Json}}}
+use Rattle.hall_events.specs.{Reply.{Content, ListedMachine, refused, machine_is, machine_gone, done, waiting_orders, machine_list, counted, repeated, one_machine, reply_of}, declared.{command.{HallCommand.{HallCommand, TheVariants.{AddMachine, OnMachine}}, MachineCommand.{MachineCommand, TheVariants.Delete}}, reply.{Reply.{Reply, TheVariants.Http}, BodyKind.TheVariants.Json}}}
 use Rattle.hallctl_texts.specs.declared.answers.{DeskAnswer.DeskAnswer, Due.Due, MachineState.MachineState, Question.Question}
 use Rattle.hallctl_texts.specs.declared.answers.DeskAnswer.TheVariants as says
 use Rattle.hallctl_texts.specs.declared.answers.Question.TheVariants as asks
@@ -30,13 +30,20 @@ IsDue (due.Gone machine) answer content = (answer ≡ says.Deleted machine) × (
 IsDue (due.Machine machine) answer content = (state : MachineState) × (state.id ≡ machine) × IsStateOf state answer content
 IsDue due.NewMachine answer content = (state : MachineState) × IsStateOf state answer content
 
+-- ---- the answer to an order
+
+-- it was counted, or had been before
+abbrev pub IsNoted : DeskAnswer → Content → Type 0
+IsNoted answer content = ((answer ≡ says.Counted) × (content ≡ counted)) ⊎ ((answer ≡ says.Repeated) × (content ≡ repeated))
+
 -- ---- all that is asked
 
--- the answer gives what is asked for: the list, the machine with this number, or what the command is answered
+-- the answer gives what is asked for: the list, the machine with this number, or what the answer to an order or the command is answered
 abbrev pub Gives : Question → DeskAnswer → Content → Type 0
 Gives asks.Machines answer content = (answer ≡ says.Listed) × ((machines : List ListedMachine) × (content ≡ machine_list machines))
 Gives (asks.Machine id) answer content = (answer ≡ says.Listed) × ((listed : ListedMachine) × (listed.machine.id ≡ id) × (content ≡ one_machine listed))
 Gives asks.Orders answer content = (answer ≡ says.Listed) × ((orders : List Order) × (content ≡ waiting_orders orders))
+Gives asks.Answer answer content = IsNoted answer content
 Gives (asks.Command command) answer content = IsDue (due_to command.now) answer content
 
 -- the answer says why what is asked for isn't given

@@ -1,3 +1,5 @@
+pub mod Choice
+pub mod ChoiceLaws
 pub mod Dangers
 pub mod DeskAnswer
 pub mod Listings

@@ -1,6 +1,23 @@
 -- Machines as the desk lists them, and which of them are wanted.
-use Rattle.std.specs.Prelude.{◌≡◌, Option, Some, None}
-use Rattle.hallctl_texts.specs.declared.listings.{Filter.Filter, ListedMachine.ListedMachine}
+use Rattle.std.specs.Prelude.{◌≡◌, Option, Some, None, option_and_then, codes}
+use Rattle.serde_json.specs.Data.{Data}
+use Rattle.hallctl_texts.specs.{Members.{name_at, name_or_null, number_at, status_at}, declared.listings.{Filter.Filter, ListedMachine.ListedMachine}}
+
+-- a member, and then other ones, up to the first that isn't there
+infixl 10 ◌>>=◌
+abbrev pub ◌>>=◌ : {A B : Type 0} → Option A → (A → Option B) → Option B
+member >>= others = option_and_then others member
+
+-- the machine that an object says, if it says one
+unfoldable pub listed_at : Data → Option ListedMachine
+listed_at value = do
+  id ← number_at (codes "id") value
+  status ← status_at value
+  version ← number_at (codes "version") value
+  pool ← name_at (codes "pool") value
+  owner ← name_or_null (codes "owner") value
+  image ← name_or_null (codes "image") value
+  Some (record { id = id; status = status; version = version; pool = pool; owner = owner; image = image })
 
 -- the value is the one that is wanted, if one is
 abbrev pub Agrees : {T : Type 0} → Option T → T → Type 0

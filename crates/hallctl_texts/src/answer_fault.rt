@@ -1,4 +1,6 @@
 //! Why an answer can't be put in words.
+ghost use Rattle.std.specs.Prelude.{◌≡◌};
+
 use std::alloc::AllocError;
 use thiserror::Error;
 
@@ -13,6 +15,10 @@ pub enum AnswerFault {
 }
 
 impl From<AllocError> for AnswerFault {
+    ghost use Rattle.hallctl_texts.specs.declared.answer_fault.AnswerFault.TheVariants.{Memory};
+
+    ghost from_gives = { λ _ fault. fault ≡ Memory };
+
     fn from(_error: AllocError) -> AnswerFault {
         AnswerFault::Memory
     }

@@ -6,7 +6,7 @@ ghost use Rattle.hallctl_texts.specs.DeskAnswer.{Answers, Gives, IsDue, IsReplyO
 
 use crate::json::value_in;
 use crate::listed_replies::listed_reply;
-use crate::members::{refusal_at, state_at};
+use crate::members::{refusal_at, state_at, text_at};
 use hall_events::{BodyKind, HallCommand, MachineCommand, Reply};
 use hall_types::{Number, Refusal, Status, Text, Version};
 use serde_json::{Value, json};
@@ -21,6 +21,8 @@ pub enum Question<'c> {
     Machine(Number),
     /// The orders that wait.
     Orders,
+    /// To note what an order has come to.
+    Answer,
     /// To carry out a command.
     Command(&'c HallCommand),
 }
@@ -38,6 +40,10 @@ pub struct MachineState {
 pub enum DeskAnswer {
     /// It is the list or the machine that was asked for.
     Listed,
+    /// The order's answer was counted.
+    Counted,
+    /// The order's answer had been counted before.
+    Repeated,
     /// The command was carried out.
     Done,
     /// The command was carried out, and deleted this machine.
@@ -142,16 +148,41 @@ fn carried_out(alloc: Global, due: Due, value: &Value) -> Result<Option<Said>, A
     }
 }
 
+// What is listed, as far as a value lists it.
+fn listed_in(
+    alloc: Global,
+    question: &Question<'_>,
+    value: &Value,
+) -> Result<Option<Said>, AllocError>
+    ensures { IfOk result (λ said. IfSome said (λ said. IsReplyOf (Gives question.now said.0) said.1)) }
+{
+    match listed_reply(alloc, question, value)? {
+        Some(reply) => Ok(Some((DeskAnswer::Listed, reply))),
+        None => Ok(None),
+    }
+}
+
+// What the answer to an order is answered, as far as a value says it.
+fn noted(alloc: Global, value: &Value) -> Result<Option<Said>, AllocError>
+    ensures { IfOk result (λ said. IfSome said (λ said. IsReplyOf (Gives Question.Answer said.0) said.1)) }
+{
+    match text_at(value, "result") {
+        Some("counted") => Ok(Some((DeskAnswer::Counted, Reply::counted(alloc)?))),
+        Some("repeat") => Ok(Some((DeskAnswer::Repeated, Reply::repeated(alloc)?))),
+        _ => Ok(None),
+    }
+}
+
 // What is asked for, as far as a value gives it.
 fn given(alloc: Global, question: &Question<'_>, value: &Value) -> Result<Option<Said>, AllocError>
     ensures { IfOk result (λ said. IfSome said (λ said. IsReplyOf (Gives question.now said.0) said.1)) }
 {
-    if let Question::Command(command) = question {
-        return carried_out(alloc, due_to(command), value);
-    }
-    match listed_reply(alloc, question, value)? {
-        Some(reply) => Ok(Some((DeskAnswer::Listed, reply))),
-        None => Ok(None),
+    match question {
+        Question::Command(command) => carried_out(alloc, due_to(command), value),
+        Question::Answer => noted(alloc, value),
+        Question::Machines | Question::Machine(_) | Question::Orders => listed_in(
+            alloc, question, value,
+        ),
     }
 }
 

@@ -30,4 +30,6 @@ pub use listings::{Filter, ListedMachine, lets_through, listed};
 pub use machine_texts::{
     holder_of, machine_ids, machine_json, machine_numbered, machine_table, machine_with,
 };
+pub use machine_value::{machine_in, push_interfaces};
 pub use member_texts::{machine_lines, order_table};
+pub use members::state_at;

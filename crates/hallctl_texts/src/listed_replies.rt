@@ -95,6 +95,6 @@ pub(crate) fn listed_reply(
             Some(machine) if machine.id == *id => machine_reply(alloc, &machine, value),
             _ => Ok(None),
         },
-        Question::Command(_) => Ok(None),
+        Question::Answer | Question::Command(_) => Ok(None),
     }
 }

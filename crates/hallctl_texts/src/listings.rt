@@ -1,9 +1,10 @@
 //! Machines as the desk lists them.
-ghost use Rattle.std.specs.Prelude.{◌↔◌, IsTrue};
-ghost use Rattle.hallctl_texts.specs.Listings.{Agrees, LetsThrough, Owns};
+ghost use Rattle.std.specs.Prelude.{◌≡◌, ◌↔◌, IsTrue, MatchResult, is_some, map, ok_or};
+ghost use Rattle.serde_json.specs.View.{view};
+ghost use Rattle.hallctl_texts.specs.{Listings.{Agrees, LetsThrough, Owns, listed_at}, Members.list_at};
 
 use crate::answer_fault::AnswerFault;
-use crate::members::{name_at, number_at, status_at, text_or_null, version_at};
+use crate::members::{array_at, name_at, name_or_null, number_at, status_at, version_at};
 use hall_types::{MacAddress, Name, Number, Status, Version};
 use serde_json::Value;
 
@@ -26,14 +27,17 @@ pub struct Filter {
     pub owner: Option<Name>,
 }
 
-fn listed_at(object: &Value) -> Option<ListedMachine> {
+#[tactic(auto, unfolding(crate::specs::Listings::listed_at))]
+fn listed_at(object: &Value) -> Option<ListedMachine>
+    ensures { result ≡ listed_at (view object.now) }
+{
     Some(ListedMachine {
         id: number_at(object, "id")?,
         status: status_at(object)?,
         version: version_at(object, "version")?,
         pool: name_at(object, "pool")?,
-        owner: text_or_null(object, "owner")?,
-        image: text_or_null(object, "image")?,
+        owner: name_or_null(object, "owner")?,
+        image: name_or_null(object, "image")?,
     })
 }
 
@@ -42,7 +46,9 @@ fn listed_at(object: &Value) -> Option<ListedMachine> {
 /// # Errors
 ///
 /// `NotTheDesk` alone, where a member is missing or of another kind.
-pub fn listed(object: &Value) -> Result<ListedMachine, AnswerFault> {
+pub fn listed(object: &Value) -> Result<ListedMachine, AnswerFault>
+    ensures { result ≡ ok_or (listed_at (view object.now)) AnswerFault.NotTheDesk }
+{
     match listed_at(object) {
         Some(machine) => Ok(machine),
         None => Err(AnswerFault::NotTheDesk),
@@ -50,15 +56,20 @@ pub fn listed(object: &Value) -> Result<ListedMachine, AnswerFault> {
 }
 
 /// Whether an object says of a machine what a listing does.
-pub(crate) fn is_listed(object: &Value) -> bool {
+pub(crate) fn is_listed(object: &Value) -> bool
+    ensures { result ≡ is_some (listed_at (view object.now)) }
+{
     listed_at(object).is_some()
 }
 
 /// The objects of a list, of which the answer has this one.
-pub(crate) fn objects<'a>(answer: &'a Value, name: &str) -> Result<&'a [Value], AnswerFault> {
-    let list = answer.get(name).and_then(Value::as_array);
-    list.map(|list| list.as_slice())
-        .ok_or(AnswerFault::NotTheDesk)
+pub(crate) fn objects<'a>(answer: &'a Value, name: &str) -> Result<&'a [Value], AnswerFault>
+    ensures { MatchResult result (λ objects. list_at name.now (view answer.now) ≡ Some (map view objects.now)) (λ fault. (fault ≡ AnswerFault.NotTheDesk) × (list_at name.now (view answer.now) ≡ None)) }
+{
+    match array_at(answer, name) {
+        Some(list) => Ok(list.as_slice()),
+        None => Err(AnswerFault::NotTheDesk),
+    }
 }
 
 /// The hardware addresses of a machine.

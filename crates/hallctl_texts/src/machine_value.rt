@@ -1,8 +1,8 @@
 //! A machine or an order as a list has it.
 use crate::listings::address_in;
-use crate::members::{count_at, name_at, number_at, or_null, state_at, text_at, text_or_null};
+use crate::members::{count_at, name_at, name_or_null, number_at, or_null, state_at, text_at};
 use hall_types::{
-    BootCount, Interface, Machine, MachineUuid, Number, Order, OrderKind, OrderStage,
+    BootCount, Erase, Interface, Machine, MachineUuid, Number, Order, OrderKind, OrderStage,
 };
 use serde_json::Value;
 use std::alloc::AllocError;
@@ -14,31 +14,36 @@ pub(crate) fn uuid_at(object: &Value, name: &str) -> Option<MachineUuid> {
     Some(MachineUuid::from(uuid.into_bytes()))
 }
 
+// How a machine's disks are erased.
+fn erase_at(object: &Value) -> Option<Erase> {
+    text_at(object, "erase")?.parse().ok()
+}
+
 /// The machine that an object of a list is. What a list doesn't say of a machine is as in a new one.
-pub(crate) fn machine_in(object: &Value) -> Option<Machine> {
+pub fn machine_in(object: &Value) -> Option<Machine> {
     let state = state_at(object)?;
     Some(Machine {
         id: state.id,
         arch: text_at(object, "arch")?.parse().ok()?,
-        uuid: or_null(object, "uuid", |object, name| uuid_at(object, name))?,
+        uuid: or_null(object, "uuid", uuid_at(object, "uuid"))?,
         pool: name_at(object, "pool")?,
         status: state.status,
-        owner: text_or_null(object, "owner")?,
-        image: text_or_null(object, "image")?,
+        owner: name_or_null(object, "owner")?,
+        image: name_or_null(object, "image")?,
         tests: false,
         back: None,
-        erase: text_or_null(object, "erase")?,
+        erase: or_null(object, "erase", erase_at(object))?,
         locked: object.get("locked")?.as_bool()?,
         version: state.version,
-        deadline: or_null(object, "deadline", |object, name| count_at(object, name))?,
-        boot: or_null(object, "boot", |object, name| number_at(object, name))?,
+        deadline: or_null(object, "deadline", count_at(object, "deadline"))?,
+        boot: or_null(object, "boot", number_at(object, "boot"))?,
         boots: BootCount::NONE,
-        waiting: or_null(object, "order", |object, name| number_at(object, name))?,
+        waiting: or_null(object, "order", number_at(object, "order"))?,
     })
 }
 
 /// Adds the interfaces of the machine that an object of a list is, and says whether all of them could be read.
-pub(crate) fn push_interfaces(
+pub fn push_interfaces(
     interfaces: &mut Vec<Interface>,
     object: &Value,
     machine: Number,

@@ -1,12 +1,11 @@
 //! What the members of an object of JSON say.
-ghost use Rattle.std.specs.Prelude.{◌≡◌, option_copied};
-ghost use Rattle.serde_json.specs.View.{view};
-ghost use Rattle.hallctl_texts.specs.Members.{count_at, number_at, refusal_at, state_at, status_at, text_at};
+ghost use Rattle.std.specs.Prelude.{◌≡◌, option_copied, option_map};
+ghost use Rattle.serde_json.specs.{Find.get, View.{items_view, view}};
+ghost use Rattle.hallctl_texts.specs.Members.{array_at, count_at, name_at, name_or_null, number_at, or_null, refusal_at, state_at, status_at, text_at};
 
 use crate::answers::MachineState;
 use hall_types::{Name, Number, Refusal, Status, Version};
 use serde_json::Value;
-use std::str::FromStr;
 
 /// A number from 0 up.
 pub(crate) fn count_at(object: &Value, name: &str) -> Option<u64>
@@ -33,6 +32,12 @@ pub(crate) fn text_at<'j>(object: &'j Value, name: &str) -> Option<&'j str>
     object.get(name).and_then(Value::as_str)
 }
 
+pub(crate) fn array_at<'j>(object: &'j Value, name: &str) -> Option<&'j Vec<Value>>
+    ensures { option_map (λ list. items_view list.now.items) result ≡ array_at name.now (view object.now) }
+{
+    object.get(name).and_then(Value::as_array)
+}
+
 pub(crate) fn status_at(object: &Value) -> Option<Status>
     ensures { result ≡ status_at (view object.now) }
 {
@@ -49,7 +54,7 @@ pub(crate) fn refusal_at(object: &Value) -> Option<Refusal>
 
 /// A machine's number, status and version.
 #[tactic(auto, unfolding(crate::specs::Members::state_at))]
-pub(crate) fn state_at(object: &Value) -> Option<MachineState>
+pub fn state_at(object: &Value) -> Option<MachineState>
     ensures { result ≡ state_at (view object.now) }
 {
     Some(MachineState {
@@ -59,32 +64,25 @@ pub(crate) fn state_at(object: &Value) -> Option<MachineState>
     })
 }
 
-pub(crate) fn name_at(object: &Value, name: &str) -> Option<Name> {
+pub(crate) fn name_at(object: &Value, name: &str) -> Option<Name>
+    ensures { result ≡ name_at name.now (view object.now) }
+{
     text_at(object, name)?.parse().ok()
 }
 
-/// What a reader finds in a member that isn't null, or that it is null; `None` where it is missing, or nothing is found.
-pub(crate) fn or_null<T: Drop, F: FnOnce(&Value, &str) -> Option<T>>(
-    object: &Value,
-    name: &str,
-    reader: F,
-) -> Option<Option<T>>
-    requires { F.IsAlwaysCallable reader }
+/// What was found in a member that isn't null, or that it is null; `None` where it is missing, or nothing was found.
+pub(crate) fn or_null<T: Drop>(object: &Value, name: &str, found: Option<T>) -> Option<Option<T>>
+    ensures { result ≡ or_null found (get name.now (view object.now)) }
 {
     if object.get(name)?.is_null() {
         return Some(None);
     }
-    Some(Some(reader(object, name)?))
+    Some(Some(found?))
 }
 
-/// What the text of a member that isn't null is parsed as.
-pub(crate) fn text_or_null<T: FromStr + Drop>(object: &Value, name: &str) -> Option<Option<T>>
-where
-    T::Err: Drop,
+/// The name that a member says, or that it is null.
+pub(crate) fn name_or_null(object: &Value, name: &str) -> Option<Option<Name>>
+    ensures { result ≡ name_or_null name.now (view object.now) }
 {
-    or_null(
-        object,
-        name,
-        |object, name| text_at(object, name)?.parse::<T>().ok(),
-    )
+    or_null(object, name, name_at(object, name))
 }

@@ -1,6 +1,6 @@
 //! What a command line of hallctl asks for.
 use hall_events::HallCommand;
-use hall_types::{MacAddress, Name, Number, RequestKey, Role, Status};
+use hall_types::{MacAddress, Name, Number, Outcome, RequestKey, Role, Status};
 use hallctl_texts::{Choice, Column};
 
 /// What a command line says. Its texts are words of the command line.
@@ -10,7 +10,11 @@ pub struct Line<'a> {
     pub desk: Option<&'a str>,
     /// The file whose first line is the operator's bearer token.
     pub token_file: Option<&'a str>,
-    /// How long the desk is tried without an answer, in seconds; of a wait, how long it waits.
+    /// The hall of the file of halls whose desk it is. It isn't given beside a desk.
+    pub hall: Option<Name>,
+    /// The file of halls.
+    pub halls: Option<&'a str>,
+    /// How long a desk is tried without an answer, in seconds; of a wait, how long it waits.
     pub timeout: u64,
     /// The request key of the one command, which is sent again.
     pub key: Option<RequestKey>,
@@ -30,8 +34,12 @@ pub struct Line<'a> {
 pub enum Wish<'a> {
     /// What the desk lists is printed.
     List(Listing<'a>),
+    /// What an order has come to is said to the desk.
+    Answer { order: Number, outcome: Outcome },
     /// Whether the desk is there, and which role the token has.
     Hello,
+    /// What the desk of each hall of the file of halls says of its machines.
+    Halls,
     /// The commands, which are sent one after another: one, or one for each machine.
     Change(Vec<HallCommand>),
     /// An operator with a token that is made.

@@ -12,13 +12,13 @@ _hallctl() {
     local word=${COMP_WORDS[COMP_CWORD]} command= options= values= i
     for ((i = 1; i < COMP_CWORD; i++)); do
         case ${COMP_WORDS[i]} in
-            --desk | --token-file | --timeout) i=$((i + 1)) ;;
+            --desk | --token-file | --hall | --halls | --timeout) i=$((i + 1)) ;;
             -* | : | //*) ;;
             *) command=${COMP_WORDS[i]}; break ;;
         esac
     done
     case ${COMP_WORDS[COMP_CWORD - 1]} in
-        --token-file | --keys | --new-token) return ;;
+        --token-file | --halls | --keys | --new-token) return ;;
         --arch) values='bios uefi32 uefi64 arm64' ;;
         --role) values='admin user power' ;;
         --erase) values='none quick full' ;;

@@ -1,9 +1,11 @@
 //! The command line: its commands in the order of the help, and what the words of one ask for.
 use crate::asked::{Line, Listing, Wish};
 use crate::hall::{add_operator, hall_command};
+use crate::halls::{ALL_HALLS, all_halls, hall_of};
 use crate::machines::{WAIT_FOR, YES, commands_on};
 use crate::options::{
-    CHANGING, COMMAND, DESK, JSON, KEY, KEYS, READING, TIMEOUT, TOKEN_FILE, WAITING,
+    CHANGING, COMMAND, DESK, EACH_HALL, HALLS, JSON, KEY, KEYS, READING, TIMEOUT, TOKEN_FILE,
+    WAITING,
 };
 use crate::values::{key_of, seconds_of};
 use crate::waiting::{WAIT, wait};
@@ -21,6 +23,9 @@ const TRIES: u64 = 60;
 
 // How long a status is waited for.
 const WAITS: u64 = 1800;
+
+// How long the desk of each hall is tried for.
+const LOOKS: u64 = 5;
 
 const IMPORT: CommandRow = CommandRow {
     name: "import",
@@ -60,6 +65,7 @@ fn push(
 pub(crate) fn rows(alloc: Global) -> Result<Vec<CommandRow>, AllocError> {
     let mut rows = Vec::new(alloc);
     push(&mut rows, &listings::ROWS, &READING)?;
+    push(&mut rows, &[ALL_HALLS], &EACH_HALL)?;
     push(&mut rows, &machines::ROWS, &CHANGING)?;
     push(&mut rows, &hall::ROWS, &CHANGING)?;
     push(&mut rows, &[WAIT], &WAITING)?;
@@ -90,7 +96,9 @@ fn wish_of<'a>(name: &str, options: &Options<'a>) -> Result<Wish<'a>, Wrong> {
         "machines" => Ok(Wish::List(listings::machines(options)?)),
         "machine" => Ok(Wish::List(listings::machine(options)?)),
         "orders" => Ok(Wish::List(Listing::Orders)),
+        "order" => listings::order(options),
         "hello" => Ok(Wish::Hello),
+        "halls" => all_halls(options),
         "add-operator" => add_operator(options),
         "wait" => wait(options),
         "import" => Ok(Wish::Import(options.required(&FILE)?)),
@@ -99,12 +107,16 @@ fn wish_of<'a>(name: &str, options: &Options<'a>) -> Result<Wish<'a>, Wrong> {
     }
 }
 
-// How long the desk is tried, or a status is waited for. It is said once, before the command or behind it.
+// How long a desk is tried, or a status is waited for. It is said once, before the command or behind it.
 fn timeout(name: &str, options: &Options<'_>) -> Result<u64, Wrong> {
     if options.texts(&TIMEOUT)?.len() > 1 {
         return Err(options.wrong(&TIMEOUT));
     }
-    let usual = if name == "wait" { WAITS } else { TRIES };
+    let usual = match name {
+        "wait" => WAITS,
+        "halls" => LOOKS,
+        _ => TRIES,
+    };
     let said = options.value_if(&TIMEOUT, |text| seconds_of(text.as_bytes()))?;
     Ok(said.unwrap_or(usual))
 }
@@ -133,6 +145,8 @@ fn line_of<'a>(options: &Options<'a>) -> Result<Line<'a>, Wrong> {
     Ok(Line {
         desk: options.text(&DESK),
         token_file: options.text(&TOKEN_FILE),
+        hall: hall_of(options)?,
+        halls: options.text(&HALLS),
         timeout,
         key,
         keys: options.text(&KEYS),

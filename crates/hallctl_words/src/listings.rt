@@ -1,12 +1,14 @@
-//! Commands that list what the desk has: `machines`, `machine`, `orders`; and `hello`.
-use crate::asked::{Form, Listing, MachineList, Which};
-use crate::options::{COMMAND, JSON, NAME, STATUS, STATUS_ALONE};
-use crate::values::{mac_of, status_of};
+//! Commands that list what the desk has: `machines`, `machine`, `orders`; `order` and `hello`.
+use crate::asked::{Form, Listing, MachineList, Which, Wish};
+use crate::names::{column_in, status_in};
+use crate::options::{COMMAND, JSON, NAME};
+use crate::values::mac_of;
 use command_rows::{CommandRow, OptionRow, Options, Wrong};
+use hall_types::{Outcome, Status};
 use hallctl_texts::{Choice, Column, Filter};
 
 /// The commands, in the order of the help.
-pub(crate) static ROWS: [CommandRow; 4] = [
+pub(crate) static ROWS: [CommandRow; 5] = [
     CommandRow {
         name: "machines",
         about: "Lists the machines",
@@ -37,6 +39,13 @@ pub(crate) static ROWS: [CommandRow; 4] = [
         ..COMMAND
     },
     CommandRow {
+        name: "order",
+        about: "Says what a power order has come to, with a token of role power",
+        example: "Example: hallctl order 5 --done",
+        options: &[ORDER, ORDER_DONE, ORDER_FAILED],
+        ..COMMAND
+    },
+    CommandRow {
         name: "hello",
         about: "Says whether the desk is there, and which role your token has",
         example: "Example: hallctl hello",
@@ -47,8 +56,7 @@ pub(crate) static ROWS: [CommandRow; 4] = [
 const WITH_STATUS: OptionRow = OptionRow {
     name: "status",
     value: "STATUS",
-    help: STATUS_ALONE,
-    must: STATUS,
+    help: "Machines with this status alone, as Ready; a wrong one lists all",
     ..OptionRow::MAYBE
 };
 
@@ -75,22 +83,17 @@ const SEARCH: OptionRow = OptionRow {
     ..OptionRow::MAYBE
 };
 
-const COLUMN: &str =
-    "a column is id, status, locked, deadline, order, boot, version, pool, owner, image, erase, arch, uuid or addresses";
-
 const SORT: OptionRow = OptionRow {
     name: "sort",
     value: "COLUMN",
     help: "In the order of this column",
-    must: COLUMN,
     ..OptionRow::MAYBE
 };
 
 const COLUMNS: OptionRow = OptionRow {
     name: "columns",
     value: "COLUMNS",
-    help: "The columns of the table, with commas: id, status, locked, deadline, order, boot, version, pool, owner, image, erase, arch, uuid, addresses",
-    must: COLUMN,
+    help: "The columns of the table, as id,status,deadline; a wrong one lists all",
     ..OptionRow::MAYBE
 };
 
@@ -115,6 +118,41 @@ const WHICH: OptionRow = OptionRow {
     ..OptionRow::PLACE
 };
 
+const ORDER: OptionRow = OptionRow {
+    name: "order",
+    value: "ORDER",
+    help: "The order's number",
+    must: "an order's number, without leading zeros",
+    ..OptionRow::PLACE
+};
+
+const ORDER_DONE: OptionRow = OptionRow {
+    name: "done",
+    help: "It was carried out, and the machine is as the order says",
+    must: "one of --done and --failed is given",
+    ..OptionRow::FLAG
+};
+
+const ORDER_FAILED: OptionRow = OptionRow {
+    name: "failed",
+    help: "It couldn't be carried out",
+    ..OptionRow::FLAG
+};
+
+/// What an order has come to.
+pub(crate) fn order<'a>(options: &Options<'a>) -> Result<Wish<'a>, Wrong> {
+    let outcome = match (
+        options.is_given(&ORDER_DONE),
+        options.is_given(&ORDER_FAILED),
+    ) {
+        (true, false) => Outcome::Done,
+        (false, true) => Outcome::Failed,
+        _ => return Err(options.wrong(&ORDER_DONE)),
+    };
+    let order = options.parse(&ORDER)?;
+    Ok(Wish::Answer { order, outcome })
+}
+
 fn form(options: &Options<'_>) -> Result<Form, Wrong> {
     match (options.is_given(&IDS), options.is_given(&JSON)) {
         (true, true) => Err(options.wrong(&IDS)),
@@ -134,12 +172,25 @@ fn columns(options: &Options<'_>, form: Form) -> Result<Vec<Column>, Wrong> {
     }
     let mut columns = Vec::new(options.alloc());
     for name in names.split(',') {
-        match Column::with_name(name) {
-            Some(column) => columns.push(column)?,
-            None => return Err(options.wrong(&COLUMNS)),
-        }
+        columns.push(column_in(options.alloc(), &COLUMNS, names, name)?)?;
     }
     Ok(columns)
+}
+
+// The status of the machines of a list, if one is given.
+fn status(options: &Options<'_>) -> Result<Option<Status>, Wrong> {
+    match options.text(&WITH_STATUS) {
+        Some(text) => Ok(Some(status_in(options.alloc(), &WITH_STATUS, text)?)),
+        None => Ok(None),
+    }
+}
+
+// The column by which the machines of a list are sorted, if one is given.
+fn sort(options: &Options<'_>) -> Result<Option<Column>, Wrong> {
+    match options.text(&SORT) {
+        Some(name) => Ok(Some(column_in(options.alloc(), &SORT, name, name)?)),
+        None => Ok(None),
+    }
 }
 
 /// What `machines` lists, and how.
@@ -147,12 +198,12 @@ pub(crate) fn machines<'a>(options: &Options<'a>) -> Result<Listing<'a>, Wrong> 
     let form = form(options)?;
     let choice = Choice {
         filter: Filter {
-            status: options.value_if(&WITH_STATUS, |text| status_of(text))?,
+            status: status(options)?,
             pool: options.value_if(&IN_POOL, |text| text.parse().ok())?,
             owner: options.value_if(&OWNER, |text| text.parse().ok())?,
         },
         search: options.text(&SEARCH),
-        sort: options.value_if(&SORT, |text| Column::with_name(text))?,
+        sort: sort(options)?,
     };
     Ok(Listing::Machines(MachineList {
         choice,

@@ -5,24 +5,6 @@ use command_rows::{CommandRow, OptionRow};
 
 pub(crate) const NAME: &str = "a name has 1 to 32 characters of a-z, 0-9 and -, the first a letter";
 
-// All statuses, as a text says them.
-macro_rules! after_statuses {
-    ($text:literal) => {
-        concat!(
-            $text,
-            "New, Commissioning, Failed commissioning, Testing, Failed testing, Ready, Allocated, Deploying, Failed deployment, Deployed, ",
-            "Releasing, Failed releasing, Disk erasing, Failed disk erasing, Entering rescue mode, Failed to enter rescue mode, Rescue mode, ",
-            "Exiting rescue mode, Failed to exit rescue mode or Broken"
-        )
-    };
-}
-
-pub(crate) const STATUS: &str = after_statuses!("a status is ");
-
-pub(crate) const STATUS_ALONE: &str = after_statuses!("Machines with this status alone: ");
-
-pub(crate) const STATUS_WAITED_FOR: &str = after_statuses!("The status that is waited for: ");
-
 pub(crate) const TIME: &str =
     "a time is seconds, or as in 30s, 10m, 2h, at most 8760h, and is said once";
 
@@ -39,6 +21,21 @@ pub(crate) const TOKEN_FILE: OptionRow = OptionRow {
     name: "token-file",
     value: "FILE",
     help: "A file whose first line is your token; without it HALL_TOKEN_FILE says",
+    ..OptionRow::MAYBE
+};
+
+pub(crate) const HALL: OptionRow = OptionRow {
+    name: "hall",
+    value: "NAME",
+    help: "The hall of the file of halls whose desk it is, in place of --desk; without both HALL says",
+    must: NAME,
+    ..OptionRow::MAYBE
+};
+
+pub(crate) const HALLS: OptionRow = OptionRow {
+    name: "halls",
+    value: "FILE",
+    help: "The file of halls; without it HALLS says, or else it is ~/.config/hall/halls.toml",
     ..OptionRow::MAYBE
 };
 
@@ -72,13 +69,18 @@ pub(crate) const JSON: OptionRow = OptionRow {
 };
 
 /// What a command that reads shares with all others. It may stand before the command as well.
-pub(crate) static READING: [OptionRow; 4] = [DESK, TOKEN_FILE, TIMEOUT, JSON];
+pub(crate) static READING: [OptionRow; 6] = [DESK, TOKEN_FILE, HALL, HALLS, TIMEOUT, JSON];
 
 /// What commands share that change something: a command's key beside.
-pub(crate) static CHANGING: [OptionRow; 6] = [DESK, TOKEN_FILE, TIMEOUT, KEY, KEYS, JSON];
+pub(crate) static CHANGING: [OptionRow; 8] = [
+    DESK, TOKEN_FILE, HALL, HALLS, TIMEOUT, KEY, KEYS, JSON,
+];
 
 /// What a command shares whose time limit is its own.
-pub(crate) static WAITING: [OptionRow; 3] = [DESK, TOKEN_FILE, JSON];
+pub(crate) static WAITING: [OptionRow; 5] = [DESK, TOKEN_FILE, HALL, HALLS, JSON];
+
+/// What a command has of these that asks the desk of each hall.
+pub(crate) static EACH_HALL: [OptionRow; 2] = [HALLS, JSON];
 
 /// What the rows of commands have in common, before what they share is added.
 pub(crate) const COMMAND: CommandRow = CommandRow {

@@ -1,8 +1,9 @@
 //! `wait`.
 use crate::asked::{Waited, Which, Wish};
-use crate::options::{COMMAND, STATUS, STATUS_WAITED_FOR, TIME};
+use crate::names::status_in;
+use crate::options::{COMMAND, TIME};
 use crate::spans::{MAX_MACHINES, machines_of};
-use crate::values::{mac_of, status_of};
+use crate::values::mac_of;
 use command_rows::{CommandRow, OptionRow, Options, Shape, Wrong};
 use hall_types::Status;
 use std::alloc::Global;
@@ -27,8 +28,8 @@ const MACHINES: OptionRow = OptionRow {
 const FOR: OptionRow = OptionRow {
     name: "for",
     value: "STATUS",
-    help: STATUS_WAITED_FOR,
-    must: STATUS,
+    help: "The status that is waited for, as Ready; a wrong one lists all",
+    must: "a status is given",
     ..OptionRow::ALWAYS
 };
 
@@ -36,7 +37,6 @@ const OR: OptionRow = OptionRow {
     name: "or",
     value: "STATUS",
     help: "Another status that ends it",
-    must: STATUS,
     shape: Shape::Often,
     ..OptionRow::MAYBE
 };
@@ -82,16 +82,12 @@ fn machines(options: &Options<'_>) -> Result<Vec<Which>, Wrong> {
 }
 
 fn statuses(options: &Options<'_>) -> Result<Vec<Status>, Wrong> {
-    let mut statuses = Vec::from_array(
-        options.alloc(),
-        [options.value(&FOR, |text| status_of(text))?],
-    )?;
+    let alloc = options.alloc();
+    let first = status_in(alloc, &FOR, options.required(&FOR)?)?;
+    let mut statuses = Vec::from_array(alloc, [first])?;
     let texts = options.texts(&OR)?;
     for text in texts.as_slice() {
-        match status_of(text) {
-            Some(status) => statuses.push(status)?,
-            None => return Err(Wrong::of(options.alloc(), &OR, Some(text))),
-        }
+        statuses.push(status_in(alloc, &OR, text)?)?;
     }
     Ok(statuses)
 }

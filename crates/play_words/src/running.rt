@@ -1,18 +1,23 @@
 //! Command lines of hallctl that are carried out.
-use crate::stage::{Sent, Stage};
+use crate::stage::{Sent, Stage, USUAL_DESK, USUAL_TOKEN};
 use crate::words::{line_of, words_of};
 use cases::{CaseFault, Out, Played};
-use hallctl_requests::BearerToken;
-use hallctl_tasks::{Desk, DeskAddress, Session};
+use hallctl_tasks::carry_out;
 use hallctl_words::Line;
-use std::alloc::Global;
 
-fn desk(alloc: Global, seconds: u64) -> Option<Desk> {
-    Some(Desk {
-        address: DeskAddress::new(alloc, "http://desk.hall.example:8080").ok()?,
-        token: BearerToken::new(alloc, "olgas-token").ok()?,
-        milliseconds: seconds.saturating_mul(1_000),
-    })
+// What stands after a text in the line of it.
+fn after<'t>(text: &'t str, start: &str) -> &'t str {
+    let (_, rest) = text.split_once(start).unwrap_or((text, ""));
+    let (line, _) = rest.split_once('\r').unwrap_or((rest, ""));
+    line
+}
+
+// Prints which desk was asked, and with which token, where they aren't the usual ones.
+fn show_asked(text: &str, out: &mut Out) {
+    let (host, token) = (after(text, "\nHost: "), after(text, "Bearer "));
+    if host != USUAL_DESK || token != USUAL_TOKEN {
+        out.show(format_args!("{host} with {token}: "));
+    }
 }
 
 // Prints the request line without its version, and the body.
@@ -25,6 +30,7 @@ fn show_sent(sent: &Sent, out: &mut Out) {
     if tries > 1 {
         out.show(format_args!("{tries} times in {time} ms: "));
     }
+    show_asked(text, out);
     out.push(line);
     out.push(if body.is_empty() { "" } else { " " });
     out.line(body);
@@ -43,14 +49,7 @@ fn show_each(word: &str, text: &str, out: &mut Out) {
 impl Stage<'_> {
     // Carries out a line, and gives its exit status.
     fn carry_out(&mut self, line: &Line<'_>) -> Result<u8, CaseFault> {
-        let desk = desk(self.rt.alloc(), line.timeout).ok_or(CaseFault::Memory)?;
-        let mut session = Session {
-            alloc: self.rt.alloc(),
-            surroundings: self,
-            desk: &desk,
-            line,
-        };
-        match session.carry_out() {
+        match carry_out(self.rt.alloc(), self, line) {
             Ok(end) => Ok(end.status()),
             Err(fault) => {
                 self.err.show(format_args!("{fault}\n"));

@@ -1,12 +1,19 @@
 //! What a command line is run in: a desk, a terminal and files, all in memory.
 use crate::desk::attempt_of;
 use cases::{CaseFault, Out, Played};
-use hallctl_tasks::{Attempt, Dial, FileFault, Surroundings, Why, goes_on_text};
+use hallctl_tasks::{Attempt, DeskAddress, Dial, FileFault, Surroundings, Why, goes_on_text};
 use std::alloc::{AllocError, Global};
 use std::collections::VecDeque;
 
 /// When a command line begins, in seconds since 1970: 2026-09-21, 14:13:20 UTC.
 pub(crate) const MOMENT: u64 = 1_790_000_000;
+
+/// The desk and the token of a case that sets no variable of the environment, and the path of the token's file.
+pub(crate) const USUAL_DESK: &str = "desk.hall.example:8080";
+
+pub(crate) const USUAL_TOKEN: &str = "olgas-token";
+
+const USUAL_TOKEN_FILE: &str = "/etc/hall/token";
 
 /// A file by its path.
 #[derive(Drop)]
@@ -15,6 +22,13 @@ pub(crate) struct PlayedFile {
     pub(crate) octets: Vec<u8>,
     /// Whether a command line made it or added to it.
     pub(crate) is_made: bool,
+}
+
+// A variable of the environment.
+#[derive(Drop)]
+struct Variable {
+    name: String,
+    value: String,
 }
 
 /// Tries in a row with the same octets.
@@ -34,6 +48,11 @@ pub(crate) struct Stage<'r> {
     answers: VecDeque<Attempt>,
     pub(crate) files: Vec<PlayedFile>,
     pub(crate) sent: Vec<Sent>,
+    variables: Vec<Variable>,
+    // The paths of files that others can read.
+    open: Vec<String>,
+    // Where the desk is that is asked.
+    authority: String,
     typed: Option<String>,
     is_watched: bool,
     is_screen: bool,
@@ -56,6 +75,9 @@ impl<'r> Stage<'r> {
             answers: VecDeque::new(alloc),
             files: Vec::new(alloc),
             sent: Vec::new(alloc),
+            variables: Vec::new(alloc),
+            open: Vec::new(alloc),
+            authority: String::new(alloc),
             typed: None,
             is_watched: false,
             is_screen: false,
@@ -77,6 +99,14 @@ impl<'r> Stage<'r> {
             "watched" => self.is_watched = true,
             "screen" => self.is_screen = true,
             "timed" => self.is_timed = true,
+            "env" => {
+                let (name, value) = rest.split_once(' ').unwrap_or((rest, ""));
+                self.variables.push(Variable {
+                    name: String::from_str(alloc, name)?,
+                    value: String::from_str(alloc, value)?,
+                })?;
+            }
+            "open" => self.open.push(String::from_str(alloc, rest)?)?,
             "file" => {
                 let (path, line) = rest.split_once(' ').ok_or(CaseFault::Form)?;
                 self.add(path, line.as_bytes(), false)?;
@@ -121,8 +151,27 @@ impl<'r> Stage<'r> {
         Ok(())
     }
 
+    // The value of a variable that the case sets.
+    fn value(&self, name: &str) -> Option<&str> {
+        let variable = self.variables.iter().find(|one| one.name.as_str() == name)?;
+        Some(variable.value.as_str())
+    }
+
     fn file(&self, path: &str) -> Option<&PlayedFile> {
         self.files.iter().find(|file| file.path.as_str() == path)
+    }
+}
+
+fn copied(alloc: Global, octets: &[u8]) -> Result<Vec<u8>, FileFault> {
+    Vec::from_slice(alloc, octets).map_err(|_| FileFault::Memory)
+}
+
+// A variable of the environment where the case sets none.
+fn usual(alloc: Global, name: &str) -> Result<Option<String>, AllocError> {
+    match name {
+        "HALL_DESK" => Ok(Some(format!(in alloc; "http://{USUAL_DESK}")?)),
+        "HALL_TOKEN_FILE" => Ok(Some(String::from_str(alloc, USUAL_TOKEN_FILE)?)),
+        _ => Ok(None),
     }
 }
 
@@ -145,7 +194,7 @@ impl Dial for Stage<'_> {
 
     fn goes_on(&mut self, alloc: Global, why: Why, milliseconds: u64) {
         if self.is_watched
-            && let Ok(text) = goes_on_text(alloc, "desk.hall.example:8080", why, milliseconds)
+            && let Ok(text) = goes_on_text(alloc, self.authority.as_str(), why, milliseconds)
         {
             self.eprint(text.as_str());
         }
@@ -161,6 +210,19 @@ impl Dial for Stage<'_> {
 }
 
 impl Surroundings for Stage<'_> {
+    fn turn_to(&mut self, alloc: Global, address: &DeskAddress) -> Result<(), AllocError> {
+        self.authority = String::from_str(alloc, address.authority.text())?;
+        Ok(())
+    }
+
+    fn variable(&mut self, alloc: Global, name: &str) -> Result<Option<String>, AllocError> {
+        match self.value(name) {
+            Some(value) => Ok(Some(String::from_str(alloc, value)?)),
+            None if !self.variables.is_empty() => Ok(None),
+            None => usual(alloc, name),
+        }
+    }
+
     fn print(&mut self, text: &str) -> bool {
         self.out.push(text);
         true
@@ -204,8 +266,15 @@ impl Surroundings for Stage<'_> {
     }
 
     fn octets_of(&mut self, alloc: Global, path: &str) -> Result<Vec<u8>, FileFault> {
-        let file = self.file(path).ok_or(FileFault::Io)?;
-        Vec::from_slice(alloc, file.octets.as_slice()).map_err(|_| FileFault::Memory)
+        match self.file(path) {
+            Some(file) => copied(alloc, file.octets.as_slice()),
+            None if path == USUAL_TOKEN_FILE => copied(alloc, USUAL_TOKEN.as_bytes()),
+            None => Err(FileFault::Io),
+        }
+    }
+
+    fn is_open_to_others(&mut self, path: &str) -> bool {
+        self.open.iter().any(|open| open.as_str() == path)
     }
 
     fn has_file(&mut self, path: &str) -> bool {

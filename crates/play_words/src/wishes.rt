@@ -84,7 +84,11 @@ fn show(wish: &Wish<'_>, out: &mut Out) -> Played {
         }
         Wish::Wait(waited) => show_waited(waited, out)?,
         Wish::Import(file) => out.show(format_args!("import {file}")),
+        Wish::Answer { order, outcome } => {
+            out.show(format_args!("order {} is {}", order.get(), outcome.text()));
+        }
         Wish::Hello => out.push("hello"),
+        Wish::Halls => out.push("halls"),
         Wish::Completion => out.push("completion"),
     }
     Ok(())
@@ -101,6 +105,8 @@ fn show_line(line: &Line<'_>, out: &mut Out) -> Played {
     out.show(format_args!("; {} s", line.timeout));
     show_given("desk", line.desk, out);
     show_given("token of", line.token_file, out);
+    show_given("hall", line.hall.as_ref().map(|hall| hall.text()), out);
+    show_given("halls of", line.halls, out);
     if let Some(key) = line.key {
         out.push(", key ");
         out.hex(&key.octets());

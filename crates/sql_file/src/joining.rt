@@ -94,8 +94,8 @@ fn finished(alloc: Global, files: Files<Memory>, size: PageSize) -> Result<Files
     }
 }
 
-/// The octets of one file that stands for the pages for which a database file and its log stand together (the file format of SQLite,
-/// section 4). Neither is changed.
+/// The octets of one file that stands for the pages for which a database file and its log stand together
+/// (the file format of SQLite, section 4). Neither is changed.
 ///
 /// # Errors
 ///

@@ -1,0 +1,2 @@
+pub mod HallLemmas
+pub mod PathLemmas

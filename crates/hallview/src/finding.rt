@@ -1,0 +1,191 @@
+//! Which halls are shown, where their desks are, and the tokens in whose name these are asked.
+use crate::tokens::token_at;
+use hall_types::Name;
+use hallctl_tasks::{AddressFault, DeskAddress, file_octets};
+use halls_file::{HallEntry, HallsFault, beside, parse};
+use hallview_serve::{Desk, Viewing};
+use hallview_state::{Hall, State};
+use hallview_words::{Halls, Line};
+use std::alloc::{AllocError, Global};
+use std::time::{SystemTime, UNIX_EPOCH};
+use thiserror::Error;
+
+/// Why halls can't be shown.
+#[derive(Clone, Copy, Debug, PartialEq, Eq, Error)]
+pub(crate) enum FindFault {
+    #[error("it can't be read")]
+    UnreadFile,
+    #[error("{0}")]
+    BadFile(HallsFault),
+    #[error("{0}")]
+    BadDesk(AddressFault),
+    #[error("the token's file can't be read")]
+    UnreadToken,
+    #[error("the first line of the token's file isn't a token: 1 to 128 visible characters of ASCII")]
+    BadToken,
+    #[error("memory ran out")]
+    Memory,
+}
+
+impl From<AllocError> for FindFault {
+    fn from(_refused: AllocError) -> FindFault {
+        FindFault::Memory
+    }
+}
+
+/// Why halls can't be shown, in words.
+#[derive(Drop)]
+pub(crate) enum Trouble {
+    Said(String),
+    /// The system's clock fails.
+    Clock,
+    /// There is no memory, for words either.
+    Memory,
+}
+
+impl From<AllocError> for Trouble {
+    fn from(_refused: AllocError) -> Trouble {
+        Trouble::Memory
+    }
+}
+
+// Says of what a fault is.
+fn said(alloc: Global, about: &str, fault: FindFault) -> Trouble {
+    match format!(in alloc; "{about}: {fault}") {
+        Ok(words) => Trouble::Said(words),
+        Err(AllocError) => Trouble::Memory,
+    }
+}
+
+fn push<T: Drop>(list: &mut Vec<T>, item: T) -> Result<(), AllocError> {
+    list.push(item)?;
+    Ok(())
+}
+
+// The seconds since 1970 by the system's clock. None before.
+fn seconds(rt: &HostRuntime) -> Option<u64> {
+    let time = SystemTime::now(rt).ok()?;
+    Some(time.duration_since(UNIX_EPOCH).ok()?.as_secs())
+}
+
+// A desk by its URL, and the token in a file.
+fn desk(rt: &HostRuntime, url: &str, token_file: &str) -> Result<Desk, FindFault> {
+    let address = DeskAddress::new(rt.alloc(), url).map_err(FindFault::BadDesk)?;
+    let token = token_at(rt, token_file)?;
+    Ok(Desk {
+        host: address.host,
+        port: address.port,
+        authority: address.authority,
+        token,
+    })
+}
+
+// Adds a hall with its desk.
+fn add_hall(
+    rt: &HostRuntime,
+    viewing: &mut Viewing,
+    name: Name,
+    url: &str,
+    token_file: &str,
+) -> Result<(), FindFault> {
+    let desk = desk(rt, url, token_file)?;
+    let hall = Hall::new(rt.alloc(), name, url, viewing.every)?;
+    push(&mut viewing.desks, desk)?;
+    push(&mut viewing.state.halls, hall)?;
+    Ok(())
+}
+
+// The name of a hall that is the only one.
+#[tactic(auto, unfolding(hall_types::specs::Name::is_name))]
+fn only_name() -> Name {
+    match Name::new("hall") {
+        Ok(name) => name,
+        Err(_) => unreachable!(),
+    }
+}
+
+// Adds the only hall.
+fn add_only(
+    rt: &HostRuntime,
+    viewing: &mut Viewing,
+    url: &str,
+    token_file: &str,
+) -> Result<(), Trouble> {
+    match add_hall(rt, viewing, only_name(), url, token_file) {
+        Ok(()) => Ok(()),
+        Err(fault) => Err(said(rt.alloc(), url, fault)),
+    }
+}
+
+// The text of a file of halls.
+fn text_at(rt: &HostRuntime, path: &str) -> Result<String, FindFault> {
+    let octets = file_octets(rt, path).map_err(|_| FindFault::UnreadFile)?;
+    match String::from_utf8(octets) {
+        Ok(text) => Ok(text),
+        Err(_) => Err(FindFault::BadFile(HallsFault::Toml)),
+    }
+}
+
+// The halls that a file names.
+fn entries(rt: &HostRuntime, path: &str) -> Result<Vec<HallEntry>, FindFault> {
+    let text = text_at(rt, path)?;
+    parse(rt.alloc(), text.as_str()).map_err(FindFault::BadFile)
+}
+
+// Adds a hall that a file names.
+fn add_entry(
+    rt: &HostRuntime,
+    viewing: &mut Viewing,
+    path: &str,
+    entry: &HallEntry,
+) -> Result<(), Trouble> {
+    let alloc = rt.alloc();
+    let token_file = beside(alloc, path, entry.token_file.as_str())?;
+    let url = entry.desk.as_str();
+    match add_hall(rt, viewing, entry.name, url, token_file.as_str()) {
+        Ok(()) => Ok(()),
+        Err(fault) => {
+            let name = entry.name.text();
+            let about = format!(in alloc; "{path}: hall {name}")?;
+            Err(said(alloc, about.as_str(), fault))
+        }
+    }
+}
+
+// Adds the halls of a file.
+fn add_all(rt: &HostRuntime, viewing: &mut Viewing, path: &str) -> Result<(), Trouble> {
+    let entries = entries(rt, path).map_err(|fault| said(rt.alloc(), path, fault))?;
+    for entry in &entries {
+        add_entry(rt, viewing, path, entry)?;
+    }
+    Ok(())
+}
+
+// The hosts that a request may name.
+fn names(alloc: Global, line: &Line<'_>) -> Result<Vec<String>, AllocError> {
+    let mut names = Vec::new(alloc);
+    for name in &line.names {
+        push(&mut names, String::from_str(alloc, name)?)?;
+    }
+    Ok(names)
+}
+
+/// What a line asks to show.
+pub(crate) fn viewing(rt: &HostRuntime, line: &Line<'_>) -> Result<Viewing, Trouble> {
+    let alloc = rt.alloc();
+    let Some(began) = seconds(rt) else {
+        return Err(Trouble::Clock);
+    };
+    let is_named = matches!(line.halls, Halls::File(_));
+    let mut viewing = Viewing {
+        state: State::new(alloc, began, is_named),
+        desks: Vec::new(alloc),
+        names: names(alloc, line)?,
+        every: line.every,
+    };
+    match line.halls {
+        Halls::One { desk, token_file } => add_only(rt, &mut viewing, desk, token_file)?,
+        Halls::File(path) => add_all(rt, &mut viewing, path)?,
+    }
+    Ok(viewing)
+}

@@ -1,0 +1,4 @@
+pub mod Ages
+pub mod AgesLaws
+pub mod Markup
+pub mod MarkupLaws

@@ -1,0 +1,267 @@
+//! How many machines of a hall each pool has in each status.
+use crate::advice::Kind;
+use crate::ages::aged;
+use crate::markup::Page;
+use crate::query::{Field, Query, link};
+use crate::text::{count, counted, percent, share, width};
+use crate::view::View;
+use hall_types::{Name, Status};
+use hallview_state::{Hall, Listed, STATUSES, counts_of};
+use std::alloc::{AllocError, Global};
+use std::cmp::Ordering;
+
+// How many pools have a column.
+const MAX_POOLS: usize = 12;
+
+/// How many machines a pool has in each status, by the statuses' numbers.
+#[derive(Clone, Copy)]
+pub(crate) struct PoolCounts {
+    pub(crate) pool: Name,
+    pub(crate) all: u64,
+    pub(crate) counts: [u64; STATUSES],
+}
+
+impl PoolCounts {
+    fn add(&mut self, status: Status) {
+        self.all = self.all.saturating_add(1);
+        if let Some(count) = self.counts.get_mut(status.number() as usize) {
+            *count = u64::saturating_add(*count, 1);
+        }
+    }
+
+    /// How many machines of the pool have a status.
+    pub(crate) fn count(&self, status: Status) -> u64 {
+        count_at(&self.counts, status)
+    }
+}
+
+/// How many there are of a status.
+pub(crate) fn count_at(counts: &[u64; STATUSES], status: Status) -> u64 {
+    match counts.get(status.number() as usize) {
+        Some(count) => *count,
+        None => 0,
+    }
+}
+
+fn add(pools: &mut Vec<PoolCounts>, one: &Listed) -> Result<(), AllocError> {
+    let (pool, status) = (one.machine.pool, one.machine.status);
+    match pools.binary_search_by(|counts| counts.pool.text().cmp(pool.text())) {
+        Ok(place) => {
+            if let Some(counts) = pools.get_mut(place) {
+                counts.add(status);
+            }
+        }
+        Err(place) => {
+            let mut counts = PoolCounts {
+                pool,
+                all: 0,
+                counts: [0; STATUSES],
+            };
+            counts.add(status);
+            pools.insert(place, counts)?;
+        }
+    }
+    Ok(())
+}
+
+/// The counts of each pool, by name.
+pub(crate) fn pools_of(alloc: Global, machines: &[Listed]) -> Result<Vec<PoolCounts>, AllocError> {
+    let mut pools = Vec::new(alloc);
+    for one in machines {
+        add(&mut pools, one)?;
+    }
+    Ok(pools)
+}
+
+fn by_size(one: &PoolCounts, other: &PoolCounts) -> Ordering {
+    match other.all.cmp(&one.all) {
+        Ordering::Equal => one.pool.text().cmp(other.pool.text()),
+        order => order,
+    }
+}
+
+// The largest pools, by name.
+fn shown_of(alloc: Global, pools: &[PoolCounts]) -> Result<Vec<PoolCounts>, AllocError> {
+    let mut shown = Vec::from_slice(alloc, pools)?;
+    if shown.len() > MAX_POOLS {
+        shown.sort_by(|one, other| by_size(one, other))?;
+        shown.truncate(MAX_POOLS);
+        shown.sort_by(|one, other| one.pool.text().cmp(other.pool.text()))?;
+    }
+    Ok(shown)
+}
+
+fn put_cell(alloc: Global, page: &mut Page, number: u64) -> Result<(), AllocError> {
+    if number == 0 {
+        return page.mark("<td class=\"n none\">0</td>");
+    }
+    let number = crate::text::number(alloc, number)?;
+    page.put(&["<td class=\"n\">", "</td>"], &[number.as_str()])
+}
+
+/// A table of counts that is being written.
+#[derive(Clone, Copy)]
+struct Table<'t> {
+    hall: &'t str,
+    pools: &'t [PoolCounts],
+    shown: &'t [PoolCounts],
+    all: u64,
+}
+
+impl Table<'_> {
+    fn others(&self) -> usize {
+        self.pools.len().saturating_sub(self.shown.len())
+    }
+
+    // The cells of the pools that are shown, and of all others together.
+    fn put_cells<F: Fn(&PoolCounts) -> u64>(
+        &self,
+        alloc: Global,
+        page: &mut Page,
+        count: F,
+        all: u64,
+    ) -> Result<(), AllocError>
+        requires { F.IsAlwaysCallable count }
+    {
+        let mut rest = all;
+        for pool in self.shown {
+            let number = count(pool);
+            rest = rest.saturating_sub(number);
+            put_cell(alloc, page, number)?;
+        }
+        if self.others() > 0 {
+            put_cell(alloc, page, rest)?;
+        }
+        Ok(())
+    }
+
+    fn put_head(&self, alloc: Global, page: &mut Page) -> Result<(), AllocError> {
+        page.mark(
+            "<thead>\n<tr><th scope=\"col\">Status</th><th scope=\"col\" class=\"n\">All</th><th scope=\"col\">Share</th>",
+        )?;
+        for pool in self.shown {
+            let name = pool.pool.text();
+            let target = link(
+                alloc,
+                &Query::none(alloc),
+                &[(Field::Hall, self.hall), (Field::Pool, name)],
+                "#machines",
+            )?;
+            page.put(
+                &[
+                    "<th scope=\"col\" class=\"n\"><a href=\"",
+                    "\">",
+                    "</a></th>",
+                ],
+                &[target.as_str(), name],
+            )?;
+        }
+        if self.others() > 0 {
+            let text = counted(alloc, self.others(), "other pool", "other pools")?;
+            page.put(
+                &["<th scope=\"col\" class=\"n\">", "</th>"],
+                &[text.as_str()],
+            )?;
+        }
+        page.mark("\n</tr>\n</thead>\n<tbody>")
+    }
+
+    fn put_status(
+        &self,
+        alloc: Global,
+        page: &mut Page,
+        status: Status,
+        number: u64,
+    ) -> Result<(), AllocError> {
+        let target = link(
+            alloc,
+            &Query::none(alloc),
+            &[(Field::Hall, self.hall), (Field::Status, status.text())],
+            "#machines",
+        )?;
+        let text = crate::text::number(alloc, number)?;
+        let bar = width(alloc, percent(number, self.all).max(1))?;
+        let share = share(alloc, number, self.all)?;
+        page.put(
+            &[
+                "<tr class=\"",
+                "\"><th scope=\"row\"><a href=\"",
+                "\">",
+                "</a></th><td class=\"n\">",
+                "</td><td><svg width=\"100\" height=\"10\" aria-hidden=\"true\"><rect width=\"",
+                "\" height=\"10\"/></svg>",
+                "</td>",
+            ],
+            &[
+                Kind::of(status).class(),
+                target.as_str(),
+                status.text(),
+                text.as_str(),
+                bar.as_str(),
+                share.as_str(),
+            ],
+        )?;
+        self.put_cells(alloc, page, |pool| pool.count(status), number)?;
+        page.mark("\n</tr>")
+    }
+
+    fn put_foot(&self, alloc: Global, page: &mut Page) -> Result<(), AllocError> {
+        let all = crate::text::number(alloc, self.all)?;
+        page.put(
+            &[
+                "</tbody>\n<tfoot>\n<tr><th scope=\"row\">All</th><td class=\"n\">",
+                "</td><td></td>",
+            ],
+            &[all.as_str()],
+        )?;
+        self.put_cells(alloc, page, |pool| pool.all, self.all)?;
+        page.mark("\n</tr>\n</tfoot>\n</table>\n</div>\n</details>\n")
+    }
+}
+
+/// The counts of a hall by status and pool.
+pub(crate) fn put_counts(
+    alloc: Global,
+    page: &mut Page,
+    view: &View<'_>,
+    hall: &Hall,
+) -> Result<(), AllocError> {
+    let machines = hall.machines();
+    let pools = pools_of(alloc, machines)?;
+    let shown = shown_of(alloc, pools.as_slice())?;
+    let table = Table {
+        hall: if view.state.halls.len() > 1 {
+            hall.name.text()
+        } else {
+            ""
+        },
+        pools: pools.as_slice(),
+        shown: shown.as_slice(),
+        all: machines.len() as u64,
+    };
+    let name = hall.name.text();
+    let title = format!(in alloc; "{name} by status and pool")?;
+    let title = aged(alloc, hall, view.now, title.as_str())?;
+    page.mark(if view.has_several() {
+        "<details>\n<summary>"
+    } else {
+        "<details open=\"\">\n<summary>"
+    })?;
+    page.put(
+        &[
+            "",
+            "</summary>\n<div role=\"group\" aria-label=\"",
+            "\" tabindex=\"0\">\n<table>\n",
+        ],
+        &[title.as_str(), title.as_str()],
+    )?;
+    table.put_head(alloc, page)?;
+    let counts = counts_of(machines);
+    for status in Status::ALL.as_slice() {
+        let number = count_at(&counts, *status);
+        if number > 0 {
+            table.put_status(alloc, page, *status, number)?;
+        }
+    }
+    table.put_foot(alloc, page)
+}

@@ -1,0 +1,39 @@
+//! The page of halls.
+ghost use Rattle.std.specs.Prelude.{IfOk};
+ghost use Rattle.hallview_pages.specs.{Ages.TellsAges, Markup.IsPage};
+
+use crate::day::put_day;
+use crate::machines::put_machines;
+use crate::markup::Page;
+use crate::overview::{heading_of, put_halls, put_nav, title_of};
+use crate::query::Query;
+use crate::trouble::put_trouble;
+use crate::view::View;
+use crate::whole::whole_page;
+use crate::work::put_work;
+use hallview_state::State;
+use std::alloc::{AllocError, Global};
+
+/// The page of halls that a query asks for.
+pub(crate) fn halls_page(
+    alloc: Global,
+    state: &State,
+    now: u64,
+    query: &str,
+) -> Result<Vec<u8>, AllocError>
+    ensures page { IfOk result (λ octets. IsPage octets.items) }
+    ensures ages { IfOk result (λ octets. TellsAges state.now now octets.items) }
+{
+    let query = Query::parse(alloc, query)?;
+    let view = View::new(alloc, state, now, query)?;
+    let heading = heading_of(alloc, &view)?;
+    let title = title_of(alloc, &view, heading.as_str())?;
+    let mut page = Page::new(alloc);
+    put_nav(alloc, &mut page, &view)?;
+    put_halls(alloc, &mut page, &view)?;
+    put_trouble(alloc, &mut page, &view)?;
+    put_work(alloc, &mut page, &view)?;
+    put_machines(alloc, &mut page, &view)?;
+    put_day(alloc, &mut page, &view)?;
+    whole_page(alloc, state, now, (title.as_str(), heading.as_str()), page)
+}

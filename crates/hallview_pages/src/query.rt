@@ -1,0 +1,194 @@
+//! What the query of a page's URL asks for, and links to pages.
+use form_urlencoded::parse;
+use percent_encoding::{AsciiSet, NON_ALPHANUMERIC, ascii_set, utf8_percent_encode};
+use std::alloc::{AllocError, Global};
+
+/// A field of a query.
+#[derive(Clone, Copy, PartialEq, Eq)]
+pub(crate) enum Field {
+    /// The hall that is shown.
+    Hall,
+    /// What a row of a machine shows.
+    Text,
+    Pool,
+    Owner,
+    Status,
+    Image,
+    /// The column by which machines are sorted, after `-` if it falls.
+    Sort,
+    /// The page of the machines, from 1 on.
+    Page,
+}
+
+impl Field {
+    /// All of them, in the order of links.
+    pub(crate) const ALL: [Field; 8] = [
+        Field::Hall,
+        Field::Text,
+        Field::Pool,
+        Field::Owner,
+        Field::Status,
+        Field::Image,
+        Field::Sort,
+        Field::Page,
+    ];
+
+    /// Those that choose machines.
+    pub(crate) const CHOOSING: [Field; 5] = [
+        Field::Text,
+        Field::Pool,
+        Field::Owner,
+        Field::Status,
+        Field::Image,
+    ];
+
+    /// Its name in URLs.
+    pub(crate) fn name(self) -> &'static str {
+        match self {
+            Field::Hall => "hall",
+            Field::Text => "q",
+            Field::Pool => "pool",
+            Field::Owner => "owner",
+            Field::Status => "status",
+            Field::Image => "image",
+            Field::Sort => "sort",
+            Field::Page => "page",
+        }
+    }
+
+    fn with_name(name: &str) -> Option<Field> {
+        Field::ALL.iter().copied().find(|it| it.name() == name)
+    }
+}
+
+/// The text of a field.
+#[derive(Drop)]
+struct Given {
+    field: Field,
+    text: String,
+}
+
+/// What a query asks for.
+#[derive(Drop)]
+pub(crate) struct Query {
+    given: Vec<Given>,
+}
+
+// What no page may have, or what would show other texts in another order: control characters, marks of direction and of nothing.
+fn is_shown(character: char) -> bool {
+    !matches!(
+        character,
+        '\0'..='\x1f'
+            | '\x7f'..='\u{9f}'
+            | '\u{200b}'..='\u{200f}'
+            | '\u{2028}'..='\u{202e}'
+            | '\u{2060}'..='\u{206f}'
+            | '\u{feff}'
+            | '\u{fff0}'..='\u{fffb}'
+            | '\u{fffe}'..='\u{ffff}'
+    )
+}
+
+// A text with U+FFFD in place of each character that isn't shown.
+fn clean(alloc: Global, text: &str) -> Result<String, AllocError> {
+    let mut shown = String::with_capacity(alloc, text.len())?;
+    for character in text.chars() {
+        shown.push(if is_shown(character) {
+            character
+        } else {
+            '\u{fffd}'
+        })?;
+    }
+    Ok(shown)
+}
+
+impl Query {
+    /// That asks for nothing.
+    pub(crate) fn none(alloc: Global) -> Query {
+        Query {
+            given: Vec::new(alloc),
+        }
+    }
+
+    /// What follows the `?` of a URL. The first of a repeated field counts, and unknown ones are ignored.
+    pub(crate) fn parse(alloc: Global, text: &str) -> Result<Query, AllocError> {
+        let mut query = Query::none(alloc);
+        for pair in parse(alloc, text.as_bytes()) {
+            let (name, value) = pair?;
+            if let Some(field) = Field::with_name(name.as_str()) {
+                query.add(alloc, field, value.as_str())?;
+            }
+        }
+        Ok(query)
+    }
+
+    fn add(&mut self, alloc: Global, field: Field, text: &str) -> Result<(), AllocError> {
+        if self.given.iter().any(|given| given.field == field) {
+            return Ok(());
+        }
+        let text = clean(alloc, text)?;
+        self.given.push(Given { field, text })?;
+        Ok(())
+    }
+
+    /// The text of a field, empty where it isn't given.
+    pub(crate) fn text(&self, field: Field) -> &str {
+        match self.given.iter().find(|given| given.field == field) {
+            Some(given) => given.text.as_str(),
+            None => "",
+        }
+    }
+}
+
+// What stands for itself in a URL (RFC 3986 section 2.3).
+const ESCAPED: AsciiSet = ascii_set!(
+    NON_ALPHANUMERIC
+        .remove(b'-')
+        .remove(b'.')
+        .remove(b'_')
+        .remove(b'~')
+);
+
+/// Adds a word of a URL.
+pub(crate) fn push_word(url: &mut String, word: &str) -> Result<(), AllocError> {
+    utf8_percent_encode(word, ESCAPED).append_to(url)
+}
+
+// Adds a field to a link, if it has a text.
+fn push_field(url: &mut String, field: Field, text: &str) -> Result<(), AllocError> {
+    if text.is_empty() {
+        return Ok(());
+    }
+    url.push(if url.len() == 1 { '?' } else { '&' })?;
+    url.push_str(field.name())?;
+    url.push('=')?;
+    push_word(url, text)
+}
+
+/// The page with a query and changes of it. A change of anything but the page leads to the first page.
+pub(crate) fn link(
+    alloc: Global,
+    query: &Query,
+    changes: &[(Field, &str)],
+    anchor: &str,
+) -> Result<String, AllocError> {
+    let mut url = String::from_str(alloc, "/")?;
+    for field in Field::ALL.as_slice() {
+        match changes.iter().find(|change| change.0 == *field) {
+            Some(change) => push_field(&mut url, *field, change.1)?,
+            None if *field == Field::Page => {}
+            None => push_field(&mut url, *field, query.text(*field))?,
+        }
+    }
+    url.push_str(anchor)?;
+    Ok(url)
+}
+
+/// The page of a machine.
+pub(crate) fn machine_link(alloc: Global, hall: &str, id: u64) -> Result<String, AllocError> {
+    let mut url = String::from_str(alloc, "/machines/")?;
+    push_word(&mut url, hall)?;
+    let number = format!(in alloc; "/{id}")?;
+    url.push_str(number.as_str())?;
+    Ok(url)
+}

@@ -1,0 +1,56 @@
+//! The statuses of a hall over the last day, a sample every ten minutes.
+use crate::listed::Listed;
+use std::alloc::AllocError;
+
+/// The number of statuses.
+pub const STATUSES: usize = 20;
+
+/// The seconds between two samples.
+pub const SLOT: u64 = 600;
+
+// The seconds of a day.
+const DAY: u64 = 86_400;
+
+/// How many machines had each status, by the statuses' numbers.
+#[derive(Clone, Copy)]
+pub struct Sample {
+    /// The multiple of 600 seconds since 1970 from which on it is.
+    pub at: u64,
+    pub counts: [u64; STATUSES],
+}
+
+/// How many machines have each status.
+pub fn counts_of(machines: &[Listed]) -> [u64; STATUSES] {
+    let mut counts = [0; STATUSES];
+    for one in machines {
+        if let Some(count) = counts.get_mut(one.machine.status.number() as usize) {
+            *count = u64::saturating_add(*count, 1);
+        }
+    }
+    counts
+}
+
+// Whether a sample is a part of the day that ends now.
+fn is_of_day(sample: &Sample, now: u64) -> bool {
+    sample.at.saturating_add(SLOT + DAY) > now
+}
+
+/// Adds the sample of a list, if it is the first one of its ten minutes, and takes out those that are older than a day.
+pub(crate) fn add_sample(
+    history: &mut Vec<Sample>,
+    machines: &[Listed],
+    now: u64,
+) -> Result<(), AllocError> {
+    let at = now - now % SLOT;
+    if let Some(last) = history.last() {
+        if last.at == at {
+            return Ok(());
+        }
+    }
+    history.retain(|sample| is_of_day(sample, now));
+    history.push(Sample {
+        at,
+        counts: counts_of(machines),
+    })?;
+    Ok(())
+}

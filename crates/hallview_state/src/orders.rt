@@ -1,0 +1,36 @@
+//! Power orders that machines wait for. A list names a machine's order; what it asks follows from the machine's status.
+use crate::listed::Listed;
+use hall_types::Number;
+use std::alloc::{AllocError, Global};
+
+/// An order, and when it was first seen in a list, in seconds since 1970.
+#[derive(Clone, Copy)]
+pub struct Seen {
+    pub number: Number,
+    pub at: u64,
+}
+
+/// When an order was first seen, in a list whose numbers rise.
+pub(crate) fn seen_at(seen: &[Seen], number: Number) -> Option<u64> {
+    let place = seen.binary_search_by_key(&number.get(), |one| one.number.get());
+    let one = seen.get(place.ok()?)?;
+    Some(one.at)
+}
+
+/// The orders that machines wait for, by number, each with when it was first seen.
+pub(crate) fn orders_of(
+    alloc: Global,
+    before: &[Seen],
+    machines: &[Listed],
+    now: u64,
+) -> Result<Vec<Seen>, AllocError> {
+    let mut orders = Vec::new(alloc);
+    for one in machines {
+        if let Some(number) = one.machine.waiting {
+            let at = seen_at(before, number).unwrap_or(now);
+            orders.push(Seen { number, at })?;
+        }
+    }
+    orders.sort_by_key(|one| one.number.get())?;
+    Ok(orders)
+}
