@@ -5,7 +5,7 @@ set -uo pipefail
 here=$(cd "$(dirname "$0")" && pwd)
 work=$(mktemp -d)
 trap 'rm -rf "$work"' EXIT
-for name in hallboot hallctl play_desk play_cases play_requests; do
+for name in hallboot hallctl hallview play_desk play_cases play_requests; do
     built=$here/../crates/$name/out/$name
     # without its variable a tool builds the program itself
     if [ -x "$built" ]; then export "${name^^}=$built"; fi
@@ -18,6 +18,7 @@ tools=(
     token_trial.sh
     lists_trial.sh
     openapi_trial.sh
+    'view_peer.sh pages clients halls'
     stop_everywhere.sh
     refuse_memory.sh
     'old_file.sh 2'

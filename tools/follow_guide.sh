@@ -4,7 +4,7 @@
 # (guide_blocks.py) and run on hosts of this run's own: network namespaces with the books' addresses. The machine is a virtual one that starts by
 # network, with UEFI, in software. It is root's, and leaves nothing behind: folders that it writes to are overlaid, the one setting of the kernel
 # is set back, and all processes end with it. A run takes a quarter of an hour to twenty minutes.
-# Usage: tools/follow_guide.sh     HALLBOOT=PROGRAM and HALLCTL=PROGRAM name programs that are built already, GUIDE=FILE:FILE.. other books,
+# Usage: tools/follow_guide.sh     HALLBOOT=PROGRAM, HALLCTL=PROGRAM and HALLVIEW=PROGRAM name programs that are built already, GUIDE=FILE:FILE.. other books,
 #     IPXE=FOLDER and LINUX=FOLDER where Debian 13's package ipxe and a kernel's package (linux-image-cloud-amd64's) are unpacked, if they
 #     aren't installed, KEEP=FOLDER, an empty one, what is kept: what each line printed, logs and consoles.
 # It needs what is asked for below by `need`, with the package beside it.
@@ -14,7 +14,7 @@ docs=$(realpath "$here/../docs") loader=$(realpath "$here/../loader")
 guide=${GUIDE:-$docs/INSTALL.md:$docs/DAILY.md:$docs/TROUBLE.md:$docs/REFERENCE.md}
 
 # All that the books leave to their reader, and what stands here for it. In what the books have, nothing else is put in:
-#     tools/          this folder; HALLBOOT and HALLCTL name the programs that are packed
+#     tools/          this folder; HALLBOOT, HALLCTL and HALLVIEW name the programs that are packed
 #     apt install     dpkg --install: what the packages need is there
 #     DIGEST          what its own line printed
 #     machine 7       in examples: a machine that there is (`of_machine`); order 5: an order that waits
@@ -45,6 +45,7 @@ if [ $$ != 1 ]; then    # not yet the first process of a namespace
     . "$here/program.sh"
     program hallboot
     program hallctl
+    program hallview
     exec 9< /proc/self/ns/net    # the system's own, for sysctl
     exec unshare --net --mount --pid --uts --fork --kill-child --mount-proc "$here/follow_guide.sh"
 fi
@@ -281,11 +282,11 @@ on dns dnsmasq --keep-in-foreground --conf-file=/dev/null --listen-address=10.0.
 step '1. Packages'
 shell_of ada operators bash --norc
 shell_of desk desk bash --norc
-done_by desk 600 <<< "export HALLBOOT=$HALLBOOT HALLCTL=$HALLCTL
+done_by desk 600 <<< "export HALLBOOT=$HALLBOOT HALLCTL=$HALLCTL HALLVIEW=$HALLVIEW
 $(block 'tools/make_deb.sh' | sed "s|^tools/|$here/|; s|^apt install|dpkg --install|; s| *#.*||")"
-for user in hallboot hall-power; do getent passwd $user > "$work/said" || bad "the user $user"; done
-for program in hallboot hall-lists hallctl hall-power; do [ "$(type -P $program)" = /usr/bin/$program ] || bad "/usr/bin/$program"; done
-good 'three packages, made and installed'
+for user in hallboot hallview hall-power; do getent passwd $user > "$work/said" || bad "the user $user"; done
+for program in hallboot hall-lists hallctl hallview hall-power; do [ "$(type -P $program)" = /usr/bin/$program ] || bad "/usr/bin/$program"; done
+good 'four packages, made and installed'
 
 # ---- 2. The hall
 step '2. The hall'
