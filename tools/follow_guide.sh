@@ -647,7 +647,7 @@ answers() {    # what waits is answered: by hand as hallctl has it, or as a powe
     bearer="Authorization: Bearer $(cat "$work/at/ada/pow.token")"
     for order in $(on switcher curl -sS --max-time 60 -H "$bearer" http://desk.hall.example/orders | jq '.orders[].number'); do
         if [ $form = hallctl ]; then
-            done_by ada 120 <<< "$(line 'order 5 --done' | sed "s/order 5/order $order/")"
+            done_by ada 120 <<< "$(block 'order 5 --done' | sed "s/order 5/order $order/")"
         else
             on switcher curl -sS --max-time 60 -H "$bearer" --data '{"outcome":"done"}' "http://desk.hall.example/orders/$order" >> "$work/log/reports"
         fi

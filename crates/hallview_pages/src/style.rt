@@ -27,7 +27,7 @@ td,thead th{white-space:nowrap}
 .n{text-align:right}
 th[aria-sort=ascending]::after{content:\" \\25b2\"}
 th[aria-sort=descending]::after{content:\" \\25bc\"}
-code{background:var(--fill);border-radius:3px;padding:.1rem .3rem;overflow-wrap:anywhere;-webkit-user-select:all;user-select:all}
+code{background:var(--fill);border-radius:3px;padding:.1rem .3rem;overflow-wrap:anywhere;-webkit-user-select:all;user-select:all;white-space:nowrap;display:inline-block;max-width:100%;overflow-x:auto;vertical-align:bottom}
 td svg{background:var(--fill);margin-right:.5rem}
 rect,path{fill:var(--k,var(--work))}
 .trouble{--k:var(--trouble)}
