@@ -15,7 +15,7 @@ from view_words import (
     MAX_MOVES, NO_QUERY, age_text, allowed_text, command_words, counted, hallctl, link, query_of, span, stamp, stamp_text, status_row,
     status_text, until)
 from view_templates import Page, fields
-from view_parts import View, heading_of, put_end, put_halls, put_head, put_nav, put_trouble, put_work, title_of
+from view_parts import View, hall_title, heading_of, put_end, put_halls, put_head, put_nav, put_trouble, put_work, title_of
 from view_tables import put_day, put_machines
 from view_metrics import metrics_text
 
@@ -63,7 +63,7 @@ def machine_page(state, name, id):
     heading = "Machine %d of %s" % (id, name)
     page = Page()
     put_head(page, state, "%s, %s" % (machine["status"] if machine else "not listed", heading), heading)
-    page.put("machine_nav", link(NO_QUERY, {"hall": name}, ""), "Hall " + name)
+    page.put("machine_nav", link(NO_QUERY, {"hall": name}, ""), hall_title(state, hall))
     if machine is None:
         page.put("machine_do", "Not listed", "The last list of %s has no machine %d." % (name, id))
     else:

@@ -135,8 +135,12 @@ def title_of(view):
     return ", ".join(words)
 
 
+def hall_title(state, hall):
+    return "Hall " + hall["name"] if state["named"] else "Hall of " + hall["desk"]
+
+
 def heading_of(view):
-    return "Hall " + view.halls[0]["name"] if len(view.halls) == 1 else counted(len(view.halls), "hall", "halls")
+    return hall_title(view.state, view.halls[0]) if len(view.halls) == 1 else counted(len(view.halls), "hall", "halls")
 
 
 def put_nav(page, view):

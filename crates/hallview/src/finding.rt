@@ -57,6 +57,19 @@ fn said(alloc: Global, about: &str, fault: FindFault) -> Trouble {
     }
 }
 
+// Says of what a fault of a hall is. One of its token names the token's file.
+fn said_of_hall(alloc: Global, about: &str, token_file: &str, fault: FindFault) -> Trouble {
+    match fault {
+        FindFault::UnreadToken | FindFault::BadToken => {
+            match format!(in alloc; "{about}: {token_file}") {
+                Ok(about) => said(alloc, about.as_str(), fault),
+                Err(AllocError) => Trouble::Memory,
+            }
+        }
+        _ => said(alloc, about, fault),
+    }
+}
+
 fn push<T: Drop>(list: &mut Vec<T>, item: T) -> Result<(), AllocError> {
     list.push(item)?;
     Ok(())
@@ -113,7 +126,7 @@ fn add_only(
 ) -> Result<(), Trouble> {
     match add_hall(rt, viewing, only_name(), url, token_file) {
         Ok(()) => Ok(()),
-        Err(fault) => Err(said(rt.alloc(), url, fault)),
+        Err(fault) => Err(said_of_hall(rt.alloc(), url, token_file, fault)),
     }
 }
 
@@ -147,7 +160,7 @@ fn add_entry(
         Err(fault) => {
             let name = entry.name.text();
             let about = format!(in alloc; "{path}: hall {name}")?;
-            Err(said(alloc, about.as_str(), fault))
+            Err(said_of_hall(alloc, about.as_str(), token_file.as_str(), fault))
         }
     }
 }

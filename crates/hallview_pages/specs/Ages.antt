@@ -1,15 +1,8 @@
 -- How old what is shown is. No page shows a hall by an old list as if it were of now.
-use Rattle.std.specs.Prelude.{◌≡◌, ◌-◌, ◌/◌, ℕ, List, ◌++◌, Option, None, Some, nat_lt, codes, decimal, if◌then◌else◌, is_none, option_map, All, true}
+use Rattle.std.specs.Prelude.{◌≡◌, ◌-◌, ℕ, List, ◌++◌, Option, None, Some, codes, is_none, option_map, All, true}
 use Rattle.hallview_state.specs.{Age.is_stale, declared.{hall.Hall.{Hall}, state.State.{State}}}
+use Rattle.hallview_views.specs.Spans.{span_text}
 use Rattle.hallview_pages.specs.Markup.{escape}
-
--- how long something lasts, in words
-abbrev pub span_text : ℕ → List ℕ
-span_text seconds =
-    if nat_lt seconds 60 then decimal seconds ++ codes " s"
-    else if nat_lt (seconds / 3600) 2 then decimal (seconds / 60) ++ codes " min"
-    else if nat_lt (seconds / 86400) 2 then decimal (seconds / 3600) ++ codes " h"
-    else decimal (seconds / 86400) ++ codes " days"
 
 -- when the last list came, if there is one
 abbrev pub listed_at : Hall → Option ℕ

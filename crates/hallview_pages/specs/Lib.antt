@@ -1,4 +1,5 @@
 pub mod Ages
 pub mod AgesLaws
+pub mod Answers
 pub mod Markup
 pub mod MarkupLaws

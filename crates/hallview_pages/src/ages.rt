@@ -2,8 +2,8 @@
 ghost use Rattle.std.specs.Prelude.{◌≡◌, ◌++◌, IfOk, List, ℕ, codes, string_bytes};
 ghost use Rattle.hallview_pages.specs.Ages.{SaysAge, age_words, listed_at};
 
-use crate::text::span;
 use hallview_state::{Hall, Loss};
+use hallview_views::text::span;
 use std::alloc::{AllocError, Global};
 
 /// How old a hall's list is: `5 s old`, or `no list yet`.

@@ -1,12 +1,12 @@
 //! What a request is answered.
-ghost use Rattle.std.specs.Prelude.{◌≡◌, IfOk};
-ghost use Rattle.hallview_pages.specs.{Ages.TellsAges, Markup.IsPage};
+ghost use Rattle.std.specs.Prelude.{ℕ, IfOk};
+ghost use Rattle.hallview_pages.specs.Answers.{IsRight};
+ghost use Rattle.hallview_state.specs.declared.state.State.{State};
 
 use crate::halls_page::halls_page;
-use crate::json::state_json;
 use crate::machine::{find, machine_page};
-use crate::metrics::metrics;
 use hall_types::Number;
+use hallview_metrics::{metrics, state_json};
 use hallview_state::{Hall, State};
 use std::alloc::{AllocError, Global};
 
@@ -46,7 +46,7 @@ pub struct Answer {
 
 // A line for people.
 fn line(alloc: Global, status: u16, text: &str) -> Result<Answer, AllocError>
-    ensures { IfOk result (λ answer. answer.kind ≡ Kind.Text) }
+    ensures { IfOk result (λ answer. (state : State) (now : ℕ) → IsRight state now answer) }
 {
     Ok(Answer {
         status,
@@ -56,7 +56,7 @@ fn line(alloc: Global, status: u16, text: &str) -> Result<Answer, AllocError>
 }
 
 fn no_page(alloc: Global) -> Result<Answer, AllocError>
-    ensures { IfOk result (λ answer. answer.kind ≡ Kind.Text) }
+    ensures { IfOk result (λ answer. (state : State) (now : ℕ) → IsRight state now answer) }
 {
     line(alloc, 404, "There is no such page.\n")
 }
@@ -76,7 +76,7 @@ fn one_machine(
     hall: &Hall,
     id: Number,
 ) -> Result<Answer, AllocError>
-    ensures { IfOk result (λ answer. IsPage answer.body.items × TellsAges state.now now answer.body.items) }
+    ensures { IfOk result (IsRight state.now now) }
 {
     let body = machine_page(alloc, state, hall, id, now)?;
     Ok(Answer {
@@ -88,7 +88,7 @@ fn one_machine(
 
 // The page of halls.
 fn all_halls(alloc: Global, state: &State, now: u64, query: &str) -> Result<Answer, AllocError>
-    ensures { IfOk result (λ answer. IsPage answer.body.items × TellsAges state.now now answer.body.items) }
+    ensures { IfOk result (IsRight state.now now) }
 {
     Ok(Answer {
         status: 200,
@@ -97,15 +97,15 @@ fn all_halls(alloc: Global, state: &State, now: u64, query: &str) -> Result<Answ
     })
 }
 
-// A text of this kind.
-fn text(status: u16, kind: Kind, text: String) -> Answer
-    ensures { result.kind ≡ kind }
+// The state, for programs.
+fn all_state(alloc: Global, state: &State, now: u64) -> Result<Answer, AllocError>
+    ensures { IfOk result (IsRight state.now now) }
 {
-    Answer {
-        status,
-        kind,
-        body: text.into_bytes(),
-    }
+    Ok(Answer {
+        status: 200,
+        kind: Kind::Json,
+        body: state_json(alloc, state, now)?.into_bytes(),
+    })
 }
 
 // The metrics, in the format that is asked for.
@@ -115,23 +115,26 @@ fn all_metrics(
     now: u64,
     accept: Option<&str>,
 ) -> Result<Answer, AllocError>
-    ensures { IfOk result (λ answer. answer.kind ≡ Kind.Html → IsPage answer.body.items × TellsAges state.now now answer.body.items) }
+    ensures { IfOk result (IsRight state.now now) }
 {
     let is_open = match accept {
         Some(accept) => accept.contains("application/openmetrics-text"),
         None => false,
     };
-    let kind = if is_open {
-        Kind::OpenMetrics
-    } else {
-        Kind::Prometheus
-    };
-    Ok(text(200, kind, metrics(alloc, state, now, is_open)?))
+    Ok(Answer {
+        status: 200,
+        kind: if is_open {
+            Kind::OpenMetrics
+        } else {
+            Kind::Prometheus
+        },
+        body: metrics(alloc, state, now, is_open)?,
+    })
 }
 
 // What a path is answered.
 fn routed(alloc: Global, state: &State, now: u64, asked: &Asked<'_>) -> Result<Answer, AllocError>
-    ensures { IfOk result (λ answer. answer.kind ≡ Kind.Html → IsPage answer.body.items × TellsAges state.now now answer.body.items) }
+    ensures { IfOk result (IsRight state.now now) }
 {
     let (path, query) = match asked.target.split_once("?") {
         Some((path, query)) => (path, query),
@@ -140,7 +143,7 @@ fn routed(alloc: Global, state: &State, now: u64, asked: &Asked<'_>) -> Result<A
     match path {
         "/" => all_halls(alloc, state, now, query),
         "/metrics" => all_metrics(alloc, state, now, asked.accept),
-        "/state.json" => Ok(text(200, Kind::Json, state_json(alloc, state, now)?)),
+        "/state.json" => all_state(alloc, state, now),
         "/healthz" => line(alloc, 200, "ok\n"),
         _ => match machine_of(state, path) {
             Some((hall, id)) => one_machine(alloc, state, now, hall, id),
@@ -175,7 +178,8 @@ fn is_known(host: Option<&str>, names: &[String]) -> bool {
 }
 
 /// What a request is answered, from what is known of the halls now, in seconds since 1970. `names` are the hosts by which the program is
-/// reached beside those of loopback. Each page is markup of the program's own and texts: see `IsPage` and the laws of `MarkupLaws`.
+/// reached beside those of loopback. Each page is markup of the program's own and texts, and metrics are read back: see `IsRight`, and the
+/// laws of `MarkupLaws` and of hallview_metrics' `ExpositionLaws`.
 pub fn answer_to(
     alloc: Global,
     state: &State,
@@ -183,7 +187,7 @@ pub fn answer_to(
     now: u64,
     asked: &Asked<'_>,
 ) -> Result<Answer, AllocError>
-    ensures { IfOk result (λ answer. answer.kind ≡ Kind.Html → IsPage answer.body.items × TellsAges state.now now answer.body.items) }
+    ensures { IfOk result (IsRight state.now now) }
 {
     if !is_known(asked.host, names) {
         return line(

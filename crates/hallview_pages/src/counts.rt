@@ -1,77 +1,15 @@
 //! How many machines of a hall each pool has in each status.
-use crate::advice::Kind;
 use crate::ages::aged;
 use crate::markup::Page;
-use crate::query::{Field, Query, link};
-use crate::text::{count, counted, percent, share, width};
-use crate::view::View;
-use hall_types::{Name, Status};
-use hallview_state::{Hall, Listed, STATUSES, counts_of};
+use hall_types::Status;
+use hallview_state::{Hall, PoolCounts, StatusKind, count_at, counts_of, pools_of};
+use hallview_views::text::{count, counted, percent, share, width};
+use hallview_views::{Field, Query, View, link};
 use std::alloc::{AllocError, Global};
 use std::cmp::Ordering;
 
 // How many pools have a column.
 const MAX_POOLS: usize = 12;
-
-/// How many machines a pool has in each status, by the statuses' numbers.
-#[derive(Clone, Copy)]
-pub(crate) struct PoolCounts {
-    pub(crate) pool: Name,
-    pub(crate) all: u64,
-    pub(crate) counts: [u64; STATUSES],
-}
-
-impl PoolCounts {
-    fn add(&mut self, status: Status) {
-        self.all = self.all.saturating_add(1);
-        if let Some(count) = self.counts.get_mut(status.number() as usize) {
-            *count = u64::saturating_add(*count, 1);
-        }
-    }
-
-    /// How many machines of the pool have a status.
-    pub(crate) fn count(&self, status: Status) -> u64 {
-        count_at(&self.counts, status)
-    }
-}
-
-/// How many there are of a status.
-pub(crate) fn count_at(counts: &[u64; STATUSES], status: Status) -> u64 {
-    match counts.get(status.number() as usize) {
-        Some(count) => *count,
-        None => 0,
-    }
-}
-
-fn add(pools: &mut Vec<PoolCounts>, one: &Listed) -> Result<(), AllocError> {
-    let (pool, status) = (one.machine.pool, one.machine.status);
-    match pools.binary_search_by(|counts| counts.pool.text().cmp(pool.text())) {
-        Ok(place) => {
-            if let Some(counts) = pools.get_mut(place) {
-                counts.add(status);
-            }
-        }
-        Err(place) => {
-            let mut counts = PoolCounts {
-                pool,
-                all: 0,
-                counts: [0; STATUSES],
-            };
-            counts.add(status);
-            pools.insert(place, counts)?;
-        }
-    }
-    Ok(())
-}
-
-/// The counts of each pool, by name.
-pub(crate) fn pools_of(alloc: Global, machines: &[Listed]) -> Result<Vec<PoolCounts>, AllocError> {
-    let mut pools = Vec::new(alloc);
-    for one in machines {
-        add(&mut pools, one)?;
-    }
-    Ok(pools)
-}
 
 fn by_size(one: &PoolCounts, other: &PoolCounts) -> Ordering {
     match other.all.cmp(&one.all) {
@@ -95,7 +33,7 @@ fn put_cell(alloc: Global, page: &mut Page, number: u64) -> Result<(), AllocErro
     if number == 0 {
         return page.mark("<td class=\"n none\">0</td>");
     }
-    let number = crate::text::number(alloc, number)?;
+    let number = hallview_views::text::number(alloc, number)?;
     page.put(&["<td class=\"n\">", "</td>"], &[number.as_str()])
 }
 
@@ -179,7 +117,7 @@ impl Table<'_> {
             &[(Field::Hall, self.hall), (Field::Status, status.text())],
             "#machines",
         )?;
-        let text = crate::text::number(alloc, number)?;
+        let text = hallview_views::text::number(alloc, number)?;
         let bar = width(alloc, percent(number, self.all).max(1))?;
         let share = share(alloc, number, self.all)?;
         page.put(
@@ -193,7 +131,7 @@ impl Table<'_> {
                 "</td>",
             ],
             &[
-                Kind::of(status).class(),
+                StatusKind::of(status).class(),
                 target.as_str(),
                 status.text(),
                 text.as_str(),
@@ -206,7 +144,7 @@ impl Table<'_> {
     }
 
     fn put_foot(&self, alloc: Global, page: &mut Page) -> Result<(), AllocError> {
-        let all = crate::text::number(alloc, self.all)?;
+        let all = hallview_views::text::number(alloc, self.all)?;
         page.put(
             &[
                 "</tbody>\n<tfoot>\n<tr><th scope=\"row\">All</th><td class=\"n\">",

@@ -1,14 +1,12 @@
 //! The statuses of the last day, as a plot and as a table.
-use crate::advice::Kind;
 use crate::ages::aged;
-use crate::counts::count_at;
 use crate::markup::Page;
 use crate::overview::{MAX_TABLES, TOO_MANY_HALLS};
 use crate::parts::{end_section, put_note};
-use crate::text::{DAY, counted, number};
-use crate::view::View;
 use hall_types::Status;
-use hallview_state::{Hall, SLOT, STATUSES, Sample};
+use hallview_state::{Hall, SLOT, STATUSES, Sample, StatusKind, count_at};
+use hallview_views::View;
+use hallview_views::text::{DAY, counted, number};
 use std::alloc::{AllocError, Global};
 
 // The height of a plot.
@@ -27,10 +25,10 @@ struct Part {
 
 impl Part {
     // How many machines have a status of one of these kinds.
-    fn of_kinds(&self, kinds: &[Kind]) -> u64 {
+    fn of_kinds(&self, kinds: &[StatusKind]) -> u64 {
         let mut sum: u64 = 0;
         for status in Status::ALL.as_slice() {
-            if kinds.iter().any(|kind| *kind == Kind::of(*status)) {
+            if kinds.iter().any(|kind| *kind == StatusKind::of(*status)) {
                 sum = sum.saturating_add(count_at(&self.counts, *status));
             }
         }
@@ -100,7 +98,12 @@ impl Area<'_> {
 }
 
 // The area under the sum of kinds.
-fn path_of(alloc: Global, parts: &[Part], top: u64, kinds: &[Kind]) -> Result<String, AllocError> {
+fn path_of(
+    alloc: Global,
+    parts: &[Part],
+    top: u64,
+    kinds: &[StatusKind],
+) -> Result<String, AllocError> {
     let mut path = String::new(alloc);
     let mut area = Area {
         path: &mut path,
@@ -116,14 +119,14 @@ fn path_of(alloc: Global, parts: &[Part], top: u64, kinds: &[Kind]) -> Result<St
 }
 
 fn all_of(part: &Part) -> u64 {
-    part.of_kinds(&Kind::ALL)
+    part.of_kinds(&StatusKind::ALL)
 }
 
 // What the plot says, for those who don't see it.
 fn label_of(alloc: Global, hall: &Hall, parts: &[Part], last: &Part) -> Result<String, AllocError> {
     let name = hall.name.text();
     let mut label = format!(in alloc; "Statuses of {name} over the last day. At the end ")?;
-    for (place, kind) in Kind::ALL.iter().enumerate() {
+    for (place, kind) in StatusKind::ALL.iter().enumerate() {
         if place > 0 {
             label.push_str(", ")?;
         }
@@ -131,7 +134,9 @@ fn label_of(alloc: Global, hall: &Hall, parts: &[Part], last: &Part) -> Result<S
         let title = kind.title().to_ascii_lowercase(alloc)?;
         label.push_str(format!(in alloc; "{count} {title}")?.as_str())?;
     }
-    let failed = parts.iter().map(|part| part.of_kinds(&[Kind::Trouble]));
+    let failed = parts
+        .iter()
+        .map(|part| part.of_kinds(&[StatusKind::Trouble]));
     let most = failed.max().unwrap_or(0);
     label.push_str(format!(in alloc; "; {most} failed or broken at most.")?.as_str())?;
     Ok(label)
@@ -139,7 +144,7 @@ fn label_of(alloc: Global, hall: &Hall, parts: &[Part], last: &Part) -> Result<S
 
 fn put_paths(alloc: Global, page: &mut Page, parts: &[Part], top: u64) -> Result<(), AllocError> {
     for count in [5, 4, 3, 2, 1] {
-        let kinds = Kind::ALL.as_slice().get(..count).unwrap_or(&[]);
+        let kinds = StatusKind::ALL.as_slice().get(..count).unwrap_or(&[]);
         if let Some(kind) = kinds.last() {
             let path = path_of(alloc, parts, top, kinds)?;
             page.put(
@@ -154,7 +159,7 @@ fn put_paths(alloc: Global, page: &mut Page, parts: &[Part], top: u64) -> Result
 }
 
 fn put_kinds(alloc: Global, page: &mut Page, last: &Part) -> Result<(), AllocError> {
-    for kind in Kind::ALL.as_slice() {
+    for kind in StatusKind::ALL.as_slice() {
         let (title, count) = (kind.title(), last.of_kinds(&[*kind]));
         let text = format!(in alloc; "{title}: {count}")?;
         page.put(

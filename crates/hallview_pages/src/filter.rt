@@ -1,9 +1,7 @@
 //! The form by which machines are chosen.
 use crate::markup::Page;
-use crate::query::Field;
-use crate::rows::or_dash;
-use crate::view::View;
 use hall_types::{Machine, Status};
+use hallview_views::{Field, View, or_dash};
 use std::alloc::{AllocError, Global};
 
 // How many values a field offers.

@@ -6,12 +6,11 @@ use crate::day::put_day;
 use crate::machines::put_machines;
 use crate::markup::Page;
 use crate::overview::{heading_of, put_halls, put_nav, title_of};
-use crate::query::Query;
 use crate::trouble::put_trouble;
-use crate::view::View;
 use crate::whole::whole_page;
 use crate::work::put_work;
 use hallview_state::State;
+use hallview_views::{Query, View};
 use std::alloc::{AllocError, Global};
 
 /// The page of halls that a query asks for.

@@ -2,27 +2,28 @@
 ghost use Rattle.std.specs.Prelude.{IfOk};
 ghost use Rattle.hallview_pages.specs.{Ages.TellsAges, Markup.IsPage};
 
-use crate::advice::{advice, commands_for};
 use crate::ages::age_text;
-use crate::commands::{hallctl, line};
 use crate::markup::Page;
+use crate::overview::hall_title;
 use crate::parts::{end_section, end_table, put_code};
-use crate::query::{Field, Query, link};
-use crate::rows::{addresses, or_dash, status_text, uuid_text};
-use crate::text::{counted, number, span, stamp, stamp_text, until};
 use crate::whole::whole_page;
 use hall_types::{Erase, Number};
 use hallctl_texts::allowed_text;
 use hallview_state::{Hall, Listed, Move, State};
+use hallview_views::text::{counted, number, span, stamp, stamp_text, until};
+use hallview_views::{
+    Field, Query, addresses, advice, commands_for, hallctl, line, link, or_dash, status_text,
+    uuid_text,
+};
 use std::alloc::{AllocError, Global};
 
 // How many moves are shown.
 const MAX_MOVES: usize = 200;
 
-fn put_nav(alloc: Global, page: &mut Page, hall: &Hall) -> Result<(), AllocError> {
+fn put_nav(alloc: Global, page: &mut Page, state: &State, hall: &Hall) -> Result<(), AllocError> {
     let name = hall.name.text();
     let target = link(alloc, &Query::none(alloc), &[(Field::Hall, name)], "")?;
-    let text = format!(in alloc; "Hall {name}")?;
+    let text = hall_title(alloc, state, hall)?;
     page.put(
         &[
             "<nav aria-label=\"Back\">\n<ul>\n<li><a href=\"/\">All machines</a></li>\n<li><a href=\"",
@@ -69,7 +70,7 @@ fn put_member(page: &mut Page, name: &str, text: &str) -> Result<(), AllocError>
 
 fn number_or_dash(alloc: Global, number: Option<Number>) -> Result<String, AllocError> {
     match number {
-        Some(number) => crate::text::number(alloc, number.get()),
+        Some(number) => hallview_views::text::number(alloc, number.get()),
         None => String::from_str(alloc, "-"),
     }
 }
@@ -225,7 +226,7 @@ fn shown_of(
     now: u64,
 ) -> Result<Page, AllocError> {
     let mut page = Page::new(alloc);
-    put_nav(alloc, &mut page, hall)?;
+    put_nav(alloc, &mut page, state, hall)?;
     match find(hall, id) {
         Some(one) => put_listed(alloc, &mut page, state, hall, one, now)?,
         None => {

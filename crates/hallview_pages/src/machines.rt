@@ -1,16 +1,16 @@
 //! The table of machines, with its filter and its pages.
-use crate::advice::Kind;
 use crate::ages::all_aged;
-use crate::chosen::{Column, Order, Row, chosen, order_of};
 use crate::filter::put_filter;
 use crate::markup::Page;
 use crate::parts::{
     begin_row, end_row, end_section, end_table, put_cell, put_note, put_strong_cell,
 };
-use crate::query::{Field, Query, link, machine_link};
-use crate::rows::{is_passed, or_dash, short_addresses, status_text};
-use crate::text::{counted, number, until};
-use crate::view::View;
+use hallview_state::{StatusKind, is_passed};
+use hallview_views::text::{counted, number, until};
+use hallview_views::{
+    Column, Field, Order, Query, Row, View, chosen, link, machine_link, or_dash, order_of,
+    short_addresses, status_text,
+};
 use std::alloc::{AllocError, Global};
 
 // How many rows a page has.
@@ -164,7 +164,7 @@ fn put_row(
         put_cell(page, row.hall.name.text())?;
     }
     let status = status_text(alloc, machine)?;
-    if Kind::of(machine.status) == Kind::Trouble {
+    if StatusKind::of(machine.status) == StatusKind::Trouble {
         put_strong_cell(page, status.as_str())?;
     } else {
         put_cell(page, status.as_str())?;

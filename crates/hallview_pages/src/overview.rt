@@ -1,13 +1,11 @@
 //! The beginning of the page of halls: what is on it, the table of halls, and their counts.
 use crate::ages::age_text;
-use crate::commands::hallctl;
 use crate::counts::put_counts;
 use crate::markup::Page;
 use crate::parts::{end_section, put_note};
-use crate::query::{Field, link};
-use crate::text::{count, counted};
-use crate::view::{Total, View};
-use hallview_state::Hall;
+use hallview_state::{Hall, State};
+use hallview_views::text::{count, counted};
+use hallview_views::{Field, Total, View, hallctl, link};
 use std::alloc::{AllocError, Global};
 
 /// How many halls' counts and plots are all on one page.
@@ -17,13 +15,20 @@ pub(crate) const MAX_TABLES: usize = 6;
 pub(crate) const TOO_MANY_HALLS: &str =
     "Counts and plots are shown for 6 halls at most: choose one in the table of halls.";
 
-/// The page's heading: the hall's name, or how many there are.
+/// What a hall is called above its pages: by its name, or by its desk where halls have no names.
+pub(crate) fn hall_title(alloc: Global, state: &State, hall: &Hall) -> Result<String, AllocError> {
+    if state.is_named {
+        let name = hall.name.text();
+        return format!(in alloc; "Hall {name}");
+    }
+    let desk = hall.desk.as_str();
+    format!(in alloc; "Hall of {desk}")
+}
+
+/// The page's heading: the hall, or how many there are.
 pub(crate) fn heading_of(alloc: Global, view: &View<'_>) -> Result<String, AllocError> {
     match view.halls.as_slice() {
-        [hall] => {
-            let name = hall.name.text();
-            format!(in alloc; "Hall {name}")
-        }
+        [hall] => hall_title(alloc, view.state, hall),
         halls => counted(alloc, halls.len(), "hall", "halls"),
     }
 }

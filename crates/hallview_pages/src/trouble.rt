@@ -1,17 +1,15 @@
 //! What is in trouble, and what to do about it.
-use crate::advice::commands_for;
 use crate::ages::{aged, all_aged};
-use crate::commands::{Command, hallctl, line, spans_of};
 use crate::markup::Page;
 use crate::parts::{
     begin_box, begin_row, end_row, end_section, put_cell, put_code, put_columns, put_note,
 };
-use crate::query::{Field, Query, link, machine_link, push_word};
-use crate::rows::{or_dash, short_addresses};
-use crate::text::{number, span};
-use crate::trouble_groups::{Cause, Group};
-use crate::view::{View, Waiting};
-use hallview_state::{Hall, Listed, Move};
+use hallview_state::{Hall, Listed, Move, Waiting};
+use hallview_views::text::{number, span};
+use hallview_views::{
+    Cause, Command, Field, Group, Query, View, commands_for, hallctl, line, link, machine_link,
+    or_dash, push_word, short_addresses, spans_of,
+};
 use std::alloc::{AllocError, Global};
 
 // How many groups a page has, and how many rows a group.

@@ -3,12 +3,12 @@ ghost use Rattle.std.specs.Prelude.{IfOk, OnOk};
 ghost use Rattle.hallview_pages.specs.{Ages.{Grows, Shows, TellsAges, Told}, Markup.IsPage};
 
 use crate::ages::fault_text;
-use crate::commands::hallctl;
 use crate::markup::Page;
 use crate::script::SCRIPT;
 use crate::style::STYLE;
-use crate::text::{stamp, stamp_text};
 use hallview_state::{Hall, State};
+use hallview_views::hallctl;
+use hallview_views::text::{stamp, stamp_text};
 use std::alloc::{AllocError, Global};
 
 // A page up to its heading and the moment that it is of.

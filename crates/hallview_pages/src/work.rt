@@ -1,12 +1,10 @@
 //! What is at work, with the time that is left.
-use crate::advice::limit_of;
 use crate::ages::all_aged;
 use crate::markup::Page;
 use crate::parts::{end_row, end_section, end_table, put_cell, put_columns, put_note};
-use crate::query::{Field, link, machine_link};
-use crate::rows::or_dash;
-use crate::text::{number, percent, span, until, width};
-use crate::view::{View, Work};
+use hallview_state::{limit_of, order_kind};
+use hallview_views::text::{number, percent, span, until, width};
+use hallview_views::{Field, View, Work, link, machine_link, or_dash};
 use std::alloc::{AllocError, Global};
 use std::cmp::Ordering;
 
@@ -34,8 +32,7 @@ fn order_text(alloc: Global, view: &View<'_>, work: &Work<'_>) -> Result<String,
     let last = work.hall.listed_at().unwrap_or(view.now);
     let seen = work.hall.order_seen(waiting).unwrap_or(last);
     let time = span(alloc, last.saturating_sub(seen))?;
-    let off = crate::advice::is_off(work.one.machine.status);
-    let kind = if off { "off" } else { "cycle" };
+    let kind = order_kind(work.one.machine.status).text();
     let number = waiting.get();
     format!(in alloc; "{kind} {number}, {time}")
 }

@@ -1,6 +1,6 @@
 //! What is known of one hall.
-ghost use Rattle.std.specs.Prelude.{◌≡◌, is_none, option_map};
-ghost use Rattle.hallview_state.specs.Age.{is_old, is_stale};
+ghost use Rattle.std.specs.Prelude.{◌≡◌, is_none, option_map, None, OnErr, OnOk, Some};
+ghost use Rattle.hallview_state.specs.{Age.{is_old, is_stale}, Taken.{IsTaken, renewed}};
 
 use crate::history::{Sample, add_sample};
 use crate::listed::Listed;
@@ -70,6 +70,25 @@ fn loss_of(alloc: Global, body: &str) -> Result<Loss, AllocError> {
     }
 }
 
+// Takes out the oldest moves, so that there is room for so many more.
+fn forget_moves(kept: &mut Vec<Move>, more: usize) {
+    let room = MAX_MOVES.saturating_sub(more);
+    let len = kept.len();
+    if len > room {
+        kept.drain(..len - room);
+    }
+}
+
+// Keeps moves, and counts them.
+fn add_moves(kept: &mut Vec<Move>, ways: &mut Ways, moves: &[Move]) -> Result<(), AllocError> {
+    forget_moves(kept, moves.len());
+    for one in moves {
+        kept.push(*one)?;
+        ways.add(one);
+    }
+    Ok(())
+}
+
 impl Hall {
     /// A hall whose desk wasn't asked yet.
     pub fn new(alloc: Global, name: Name, desk: &str, every: u64) -> Result<Hall, AllocError> {
@@ -126,24 +145,6 @@ impl Hall {
         seen_at(self.orders.as_slice(), number)
     }
 
-    // Takes out the oldest moves, so that there is room for so many more.
-    fn forget_moves(&mut self, more: usize) {
-        let kept = MAX_MOVES.saturating_sub(more);
-        let len = self.moves.len();
-        if len > kept {
-            self.moves.drain(..len - kept);
-        }
-    }
-
-    fn add_moves(&mut self, moves: &[Move]) -> Result<(), AllocError> {
-        self.forget_moves(moves.len());
-        for one in moves {
-            self.moves.push(*one)?;
-            self.ways.add(one);
-        }
-        Ok(())
-    }
-
     // Takes a list, which came at a moment after so many milliseconds.
     fn set_list(
         &mut self,
@@ -151,11 +152,14 @@ impl Hall {
         machines: Vec<Listed>,
         now: u64,
         took: u64,
-    ) -> Result<(), AllocError> {
+    ) -> Result<(), AllocError>
+        ensures set { OnOk result ((self.new.list ≡ Some (record { at = now; took = took; machines = machines })) × (self.new.loss ≡ None)) }
+        ensures kept { OnErr result (self.new.list ≡ self.old.list) }
+    {
         let moves = moves_between(alloc, self.machines(), machines.as_slice(), now)?;
         let orders = orders_of(alloc, self.orders.as_slice(), machines.as_slice(), now)?;
         add_sample(&mut self.history, machines.as_slice(), now)?;
-        self.add_moves(moves.as_slice())?;
+        add_moves(&mut self.moves, &mut self.ways, moves.as_slice())?;
         self.orders = orders;
         self.list = Some(List {
             at: now,
@@ -173,7 +177,10 @@ impl Hall {
         body: &str,
         now: u64,
         took: u64,
-    ) -> Result<(), AllocError> {
+    ) -> Result<(), AllocError>
+        ensures taken { OnOk result (IsTaken self.old self.new status body.now now) }
+        ensures kept { OnErr result (self.new.list ≡ self.old.list) }
+    {
         match list_of(alloc, status, body)? {
             Some(machines) => self.set_list(alloc, machines, now, took),
             None => {
@@ -184,21 +191,23 @@ impl Hall {
     }
 
     /// Takes a desk's answer to `GET /machines`, which came at a moment after so many milliseconds. What isn't a list leaves the last one.
-    pub fn take(&mut self, alloc: Global, status: u16, body: &[u8], now: u64, took: u64) {
-        let taken = match std::str::from_utf8(body) {
-            Ok(body) => self.try_to_take(alloc, status, body, now, took),
-            Err(_) => {
-                self.loss = Some(Loss::NotTheDesk);
-                return;
-            }
+    pub fn take(&mut self, alloc: Global, status: u16, body: &[u8], now: u64, took: u64)
+        ensures { IsTaken self.old self.new status body.now now }
+    {
+        let Ok(text) = std::str::from_utf8(body) else {
+            self.loss = Some(Loss::NotTheDesk);
+            return;
         };
-        if taken.is_err() {
-            self.loss = Some(Loss::Memory);
+        match self.try_to_take(alloc, status, text, now, took) {
+            Ok(()) => (),
+            Err(AllocError) => self.loss = Some(Loss::Memory),
         }
     }
 
     /// Takes it that the desk has answered with the very octets of the last list.
-    pub fn renew(&mut self, now: u64, took: u64) {
+    pub fn renew(&mut self, now: u64, took: u64)
+        ensures { self.new.list ≡ option_map (renewed now took) self.old.list }
+    {
         let Some(list) = &mut self.list else {
             return;
         };
@@ -211,7 +220,10 @@ impl Hall {
     }
 
     /// Takes it that no answer came.
-    pub fn lose(&mut self, loss: Loss) {
+    pub fn lose(&mut self, loss: Loss)
+        ensures kept { self.new.list ≡ self.old.list }
+        ensures lost { self.new.loss ≡ Some loss }
+    {
         self.loss = Some(loss);
     }
 

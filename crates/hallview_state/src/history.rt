@@ -1,9 +1,10 @@
 //! The statuses of a hall over the last day, a sample every ten minutes.
 use crate::listed::Listed;
+use hall_types::Status;
 use std::alloc::AllocError;
 
 /// The number of statuses.
-pub const STATUSES: usize = 20;
+pub const STATUSES: usize = Status::ALL.len();
 
 /// The seconds between two samples.
 pub const SLOT: u64 = 600;

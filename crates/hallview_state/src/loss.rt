@@ -5,7 +5,7 @@ use std::alloc::{AllocError, Global};
 /// Why the last time that a desk was asked gave no list.
 #[derive(Clone, Copy)]
 pub enum Loss {
-    /// It wasn't asked yet.
+    /// It wasn't asked yet, or is being asked for the first time.
     NotYet,
     /// Its name has no address.
     NoAddress,
@@ -29,7 +29,7 @@ impl Loss {
     /// It in a sentence.
     pub fn text(self, alloc: Global) -> Result<String, AllocError> {
         let text = match self {
-            Loss::NotYet => "It wasn't asked yet.",
+            Loss::NotYet => "The desk hasn't answered yet.",
             Loss::NoAddress => "The desk's name has no address.",
             Loss::NoConnection => "The desk takes no connection.",
             Loss::NoAnswer => "The desk didn't answer in time, or closed the connection.",

@@ -1,14 +1,13 @@
 //! How many moves were seen on each way from one status to another.
+use crate::history::STATUSES;
 use crate::moves::Move;
 use hall_types::Status;
 
-// The number of statuses, and of ways.
-const STATUSES: usize = 20;
+/// The number of ways from one status to another.
+pub(crate) const WAYS: usize = STATUSES * STATUSES;
 
-const WAYS: usize = STATUSES * STATUSES;
-
-/// The number of a way, below 400.
-pub fn way_number(from: Status, to: Status) -> usize {
+/// The number of a way, below `WAYS`.
+pub(crate) fn way_number(from: Status, to: Status) -> usize {
     from.number() as usize * STATUSES + to.number() as usize
 }
 

@@ -1,4 +1,4 @@
-use Rattle.std.proofs.{Common.{All, rules, sym, subst, refl, ap, ◌∙◌}, lemmas.List.Elements.{All-push}}
+use Rattle.std.proofs.{Common.{All, rules, sym, subst, refl}, lemmas.List.Elements.{All-push}}
 use Rattle.hallview_state.specs.Moves.{IsMove}
 use Rattle.hallview_state.specs.declared.moves.Move.{Move}
 use Rattle.hallview_state.proofs.moves.moves_between.Goals as goal

@@ -4,13 +4,13 @@ use std::alloc::{AllocError, Global};
 
 /// A command on machines: its word, and what stands after their numbers.
 #[derive(Drop)]
-pub(crate) struct Command {
-    pub(crate) word: &'static str,
-    pub(crate) options: String,
+pub struct Command {
+    pub word: &'static str,
+    pub options: String,
 }
 
 /// A command's line. A hall is named where there is a file of halls.
-pub(crate) fn hallctl(
+pub fn hallctl(
     alloc: Global,
     state: &State,
     hall: &Hall,
@@ -24,7 +24,7 @@ pub(crate) fn hallctl(
 }
 
 /// The line of a command on the machines with these numbers.
-pub(crate) fn line(
+pub fn line(
     alloc: Global,
     state: &State,
     hall: &Hall,
@@ -41,10 +41,10 @@ const MAX_SPANS: usize = 20;
 
 /// Numbers that rise as hallctl reads them, as `7 12-15`.
 #[derive(Drop)]
-pub(crate) struct Spans {
-    pub(crate) text: String,
+pub struct Spans {
+    pub text: String,
     /// How many of the numbers these spans have.
-    pub(crate) taken: usize,
+    pub taken: usize,
     spans: usize,
     first: u64,
     last: u64,
@@ -85,7 +85,7 @@ impl Spans {
 }
 
 /// The first spans of the numbers of machines.
-pub(crate) fn spans_of(alloc: Global, machines: &[&Listed]) -> Result<Spans, AllocError> {
+pub fn spans_of(alloc: Global, machines: &[&Listed]) -> Result<Spans, AllocError> {
     let mut spans = Spans {
         text: String::new(alloc),
         taken: 0,

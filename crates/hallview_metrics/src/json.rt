@@ -103,7 +103,7 @@ fn push_hall(alloc: Global, text: &mut String, hall: &Hall) -> Result<(), AllocE
 
 /// What is known of all halls. `machines` are as in the desks' lists; `moves` are `[moment,machine,from,to]`, `orders_seen`
 /// `[number,moment]`, and `history` `[moment,counts]` by the statuses' numbers, each with the oldest first.
-pub(crate) fn state_json(alloc: Global, state: &State, now: u64) -> Result<String, AllocError> {
+pub fn state_json(alloc: Global, state: &State, now: u64) -> Result<String, AllocError> {
     let (began, named) = (state.began, state.is_named);
     let mut text = format!(in alloc;
         "{{\"now\":{now},\"began\":{began},\"named\":{named},\"halls\":["

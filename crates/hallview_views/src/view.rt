@@ -1,87 +1,45 @@
 //! What a page shows of halls, and what it counts in them.
-use crate::advice::{Kind, is_off};
 use crate::query::{Field, Query};
-use crate::rows::is_passed;
 use crate::trouble_groups::{Group, groups_of};
-use hallview_state::{Hall, Listed, State};
+use hallview_state::{Hall, Listed, State, StatusKind, is_passed, waiting_orders};
 use std::alloc::{AllocError, Global};
-
-/// An order that a machine waits for.
-#[derive(Clone, Copy)]
-pub(crate) struct Waiting<'s> {
-    pub(crate) number: u64,
-    pub(crate) one: &'s Listed,
-    /// For how many seconds it was seen in lists, up to the last one.
-    pub(crate) waits: u64,
-}
-
-impl Waiting<'_> {
-    /// `off` or `cycle`.
-    pub(crate) fn kind(&self) -> &'static str {
-        if is_off(self.one.machine.status) {
-            "off"
-        } else {
-            "cycle"
-        }
-    }
-}
 
 /// A machine that is at work, and its deadline.
 #[derive(Clone, Copy)]
-pub(crate) struct Work<'s> {
-    pub(crate) deadline: u64,
-    pub(crate) hall: &'s Hall,
-    pub(crate) one: &'s Listed,
+pub struct Work<'s> {
+    pub deadline: u64,
+    pub hall: &'s Hall,
+    pub one: &'s Listed,
 }
 
 /// What there is of a hall.
 #[derive(Clone, Copy)]
-pub(crate) struct Total {
-    pub(crate) machines: usize,
-    pub(crate) trouble: usize,
-    pub(crate) work: usize,
-    pub(crate) orders: usize,
+pub struct Total {
+    pub machines: usize,
+    pub trouble: usize,
+    pub work: usize,
+    pub orders: usize,
 }
 
 /// What a page shows.
 #[derive(Drop)]
-pub(crate) struct View<'s> {
-    pub(crate) state: &'s State,
+pub struct View<'s> {
+    pub state: &'s State,
     /// Seconds since 1970.
-    pub(crate) now: u64,
-    pub(crate) query: Query,
-    pub(crate) halls: Vec<&'s Hall>,
-    pub(crate) groups: Vec<Group<'s>>,
-    pub(crate) work: Vec<Work<'s>>,
+    pub now: u64,
+    pub query: Query,
+    pub halls: Vec<&'s Hall>,
+    pub groups: Vec<Group<'s>>,
+    pub work: Vec<Work<'s>>,
     /// A total for each of the halls.
-    pub(crate) totals: Vec<Total>,
-}
-
-/// The orders that machines of a hall wait for, by number.
-pub(crate) fn waiting_orders<'s>(
-    alloc: Global,
-    hall: &'s Hall,
-    now: u64,
-) -> Result<Vec<Waiting<'s>>, AllocError> {
-    let last = hall.listed_at().unwrap_or(now);
-    let mut orders = Vec::new(alloc);
-    for one in hall.machines() {
-        if let Some(number) = one.machine.waiting {
-            let seen = hall.order_seen(number).unwrap_or(last);
-            let waits = last.saturating_sub(seen);
-            let number = number.get();
-            orders.push(Waiting { number, one, waits })?;
-        }
-    }
-    orders.sort_by_key(|order| order.number)?;
-    Ok(orders)
+    pub totals: Vec<Total>,
 }
 
 // The machines of a hall that are at work, and whose deadlines haven't passed.
 fn push_work<'s>(work: &mut Vec<Work<'s>>, hall: &'s Hall, now: u64) -> Result<usize, AllocError> {
     let mut count: usize = 0;
     for one in hall.machines() {
-        if Kind::of(one.machine.status) == Kind::Work && !is_passed(&one.machine, now) {
+        if StatusKind::of(one.machine.status) == StatusKind::Work && !is_passed(&one.machine, now) {
             let deadline = one.machine.deadline.unwrap_or(u64::MAX);
             work.push(Work {
                 deadline,
@@ -96,7 +54,7 @@ fn push_work<'s>(work: &mut Vec<Work<'s>>, hall: &'s Hall, now: u64) -> Result<u
 
 impl<'s> View<'s> {
     /// What a query shows of a state.
-    pub(crate) fn new(
+    pub fn new(
         alloc: Global,
         state: &'s State,
         now: u64,
@@ -135,11 +93,12 @@ impl<'s> View<'s> {
     }
 
     /// Whether machines of several halls are shown.
-    pub(crate) fn has_several(&self) -> bool {
+    pub fn has_several(&self) -> bool {
         self.halls.len() > 1
     }
 
-    pub(crate) fn trouble(&self) -> usize {
+    /// How many machines and orders are in trouble.
+    pub fn trouble(&self) -> usize {
         let mut sum: usize = 0;
         for total in self.totals.as_slice() {
             sum = sum.saturating_add(total.trouble);
@@ -147,7 +106,8 @@ impl<'s> View<'s> {
         sum
     }
 
-    pub(crate) fn machines(&self) -> usize {
+    /// How many machines there are.
+    pub fn machines(&self) -> usize {
         let mut sum: usize = 0;
         for total in self.totals.as_slice() {
             sum = sum.saturating_add(total.machines);
@@ -156,7 +116,7 @@ impl<'s> View<'s> {
     }
 
     /// How many halls are shown by a list that is old.
-    pub(crate) fn stale(&self) -> usize {
+    pub fn stale(&self) -> usize {
         let mut sum: usize = 0;
         for hall in self.halls.as_slice() {
             if hall.is_stale(self.now) {

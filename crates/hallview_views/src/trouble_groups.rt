@@ -1,10 +1,8 @@
 //! What is in trouble in a hall, grouped by what is to be done.
-use crate::advice::{Kind, advice};
 use crate::query::Field;
-use crate::rows::is_passed;
-use crate::view::Waiting;
+use crate::statuses::advice;
 use hall_types::{Erase, Machine, Status};
-use hallview_state::{Hall, Listed};
+use hallview_state::{Hall, Listed, StatusKind, Waiting, is_passed};
 use std::alloc::{AllocError, Global};
 use std::cmp::Ordering;
 
@@ -13,7 +11,7 @@ const LONG_WAIT: u64 = 300;
 
 /// Why machines or orders are in trouble.
 #[derive(Clone, Copy, PartialEq, Eq)]
-pub(crate) enum Cause {
+pub enum Cause {
     /// They have this status.
     Failed(Status),
     /// Their deadlines have passed.
@@ -24,22 +22,23 @@ pub(crate) enum Cause {
 
 /// Machines or orders in trouble for the same cause, about which the same is done.
 #[derive(Drop)]
-pub(crate) struct Group<'s> {
-    pub(crate) hall: &'s Hall,
-    pub(crate) cause: Cause,
+pub struct Group<'s> {
+    pub hall: &'s Hall,
+    pub cause: Cause,
     /// By what machines of one status want different commands: the image that is deployed, or `full` erasing; else empty.
-    pub(crate) detail: &'s str,
-    pub(crate) machines: Vec<&'s Listed>,
-    pub(crate) orders: Vec<Waiting<'s>>,
+    pub detail: &'s str,
+    pub machines: Vec<&'s Listed>,
+    pub orders: Vec<Waiting<'s>>,
 }
 
 impl Group<'_> {
-    pub(crate) fn size(&self) -> usize {
+    /// How many machines and orders it has.
+    pub fn size(&self) -> usize {
         self.machines.len().saturating_add(self.orders.len())
     }
 
     /// What is in trouble.
-    pub(crate) fn title(&self) -> &'static str {
+    pub fn title(&self) -> &'static str {
         match self.cause {
             Cause::Failed(status) => status.text(),
             Cause::Deadline => "Deadline passed",
@@ -48,7 +47,7 @@ impl Group<'_> {
     }
 
     /// What to do.
-    pub(crate) fn advice(&self, now: u64) -> &'static str {
+    pub fn advice(&self, now: u64) -> &'static str {
         match self.cause {
             Cause::Failed(status) => advice(status),
             Cause::Deadline if self.hall.is_stale(now) =>
@@ -61,12 +60,12 @@ impl Group<'_> {
     }
 
     /// Whether its machines have one image, which failed.
-    pub(crate) fn is_of_image(&self) -> bool {
+    pub fn is_of_image(&self) -> bool {
         self.cause == Cause::Failed(Status::FailedDeployment) && !self.detail.is_empty()
     }
 
     /// The field of the table of machines that shows all of them, and what it asks for.
-    pub(crate) fn field(&self) -> (Field, &'static str) {
+    pub fn field(&self) -> (Field, &'static str) {
         match self.cause {
             Cause::Failed(status) => (Field::Status, status.text()),
             Cause::Deadline | Cause::Orders => (Field::Sort, "deadline"),
@@ -155,7 +154,7 @@ fn long_orders<'s>(
 }
 
 /// Adds the groups of a hall, and says how many machines and orders they have.
-pub(crate) fn groups_of<'s>(
+pub fn groups_of<'s>(
     alloc: Global,
     groups: &mut Vec<Group<'s>>,
     hall: &'s Hall,
@@ -167,7 +166,7 @@ pub(crate) fn groups_of<'s>(
         let status = one.machine.status;
         if status.is_failure() {
             add(alloc, &mut own, hall, Cause::Failed(status), one)?;
-        } else if Kind::of(status) == Kind::Work && is_passed(&one.machine, now) {
+        } else if StatusKind::of(status) == StatusKind::Work && is_passed(&one.machine, now) {
             add(alloc, &mut own, hall, Cause::Deadline, one)?;
         }
     }

@@ -4,7 +4,8 @@ use hallview_state::{Hall, Listed};
 use std::alloc::{AllocError, Global};
 use uuid::Uuid;
 
-pub(crate) fn or_dash(name: &Option<Name>) -> &str {
+/// A name, or `-`.
+pub fn or_dash(name: &Option<Name>) -> &str {
     match name {
         Some(name) => name.text(),
         None => "-",
@@ -12,7 +13,7 @@ pub(crate) fn or_dash(name: &Option<Name>) -> &str {
 }
 
 /// A machine's status, and whether it is locked.
-pub(crate) fn status_text(alloc: Global, machine: &Machine) -> Result<String, AllocError> {
+pub fn status_text(alloc: Global, machine: &Machine) -> Result<String, AllocError> {
     let status = machine.status.text();
     if machine.locked {
         format!(in alloc; "{status}, locked")
@@ -22,7 +23,7 @@ pub(crate) fn status_text(alloc: Global, machine: &Machine) -> Result<String, Al
 }
 
 /// Addresses, a comma between each two.
-pub(crate) fn addresses(alloc: Global, interfaces: &[Interface]) -> Result<String, AllocError> {
+pub fn addresses(alloc: Global, interfaces: &[Interface]) -> Result<String, AllocError> {
     let mut text = String::new(alloc);
     for interface in interfaces {
         if !text.is_empty() {
@@ -38,7 +39,7 @@ pub(crate) fn addresses(alloc: Global, interfaces: &[Interface]) -> Result<Strin
 const SHOWN: usize = 2;
 
 /// The first addresses of a machine, and how many more it has.
-pub(crate) fn short_addresses(alloc: Global, one: &Listed) -> Result<String, AllocError> {
+pub fn short_addresses(alloc: Global, one: &Listed) -> Result<String, AllocError> {
     let interfaces = one.interfaces.as_slice();
     if interfaces.len() <= SHOWN {
         return addresses(alloc, interfaces);
@@ -49,18 +50,10 @@ pub(crate) fn short_addresses(alloc: Global, one: &Listed) -> Result<String, All
 }
 
 /// A machine's UUID in wire order, or `-`.
-pub(crate) fn uuid_text(alloc: Global, machine: &Machine) -> Result<String, AllocError> {
+pub fn uuid_text(alloc: Global, machine: &Machine) -> Result<String, AllocError> {
     match machine.uuid {
         Some(uuid) => Uuid::from_bytes(uuid.octets()).to_string(alloc),
         None => String::from_str(alloc, "-"),
-    }
-}
-
-/// Whether a machine's deadline has passed.
-pub(crate) fn is_passed(machine: &Machine, now: u64) -> bool {
-    match machine.deadline {
-        Some(deadline) => deadline <= now,
-        None => false,
     }
 }
 
@@ -83,12 +76,7 @@ fn has_address(alloc: Global, one: &Listed, part: &str) -> Result<bool, AllocErr
 }
 
 /// Whether a row of a machine shows a text, which is in lower case; its architecture and UUID count too.
-pub(crate) fn shows(
-    alloc: Global,
-    hall: &Hall,
-    one: &Listed,
-    text: &str,
-) -> Result<bool, AllocError> {
+pub fn shows(alloc: Global, hall: &Hall, one: &Listed, text: &str) -> Result<bool, AllocError> {
     let machine = &one.machine;
     let id = crate::text::number(alloc, machine.id.get())?;
     let status = status_text(alloc, machine)?;

@@ -5,7 +5,7 @@ use std::alloc::{AllocError, Global};
 
 /// A field of a query.
 #[derive(Clone, Copy, PartialEq, Eq)]
-pub(crate) enum Field {
+pub enum Field {
     /// The hall that is shown.
     Hall,
     /// What a row of a machine shows.
@@ -22,7 +22,7 @@ pub(crate) enum Field {
 
 impl Field {
     /// All of them, in the order of links.
-    pub(crate) const ALL: [Field; 8] = [
+    pub const ALL: [Field; 8] = [
         Field::Hall,
         Field::Text,
         Field::Pool,
@@ -34,7 +34,7 @@ impl Field {
     ];
 
     /// Those that choose machines.
-    pub(crate) const CHOOSING: [Field; 5] = [
+    pub const CHOOSING: [Field; 5] = [
         Field::Text,
         Field::Pool,
         Field::Owner,
@@ -43,7 +43,7 @@ impl Field {
     ];
 
     /// Its name in URLs.
-    pub(crate) fn name(self) -> &'static str {
+    pub fn name(self) -> &'static str {
         match self {
             Field::Hall => "hall",
             Field::Text => "q",
@@ -70,7 +70,7 @@ struct Given {
 
 /// What a query asks for.
 #[derive(Drop)]
-pub(crate) struct Query {
+pub struct Query {
     given: Vec<Given>,
 }
 
@@ -104,14 +104,14 @@ fn clean(alloc: Global, text: &str) -> Result<String, AllocError> {
 
 impl Query {
     /// That asks for nothing.
-    pub(crate) fn none(alloc: Global) -> Query {
+    pub fn none(alloc: Global) -> Query {
         Query {
             given: Vec::new(alloc),
         }
     }
 
     /// What follows the `?` of a URL. The first of a repeated field counts, and unknown ones are ignored.
-    pub(crate) fn parse(alloc: Global, text: &str) -> Result<Query, AllocError> {
+    pub fn parse(alloc: Global, text: &str) -> Result<Query, AllocError> {
         let mut query = Query::none(alloc);
         for pair in parse(alloc, text.as_bytes()) {
             let (name, value) = pair?;
@@ -132,7 +132,7 @@ impl Query {
     }
 
     /// The text of a field, empty where it isn't given.
-    pub(crate) fn text(&self, field: Field) -> &str {
+    pub fn text(&self, field: Field) -> &str {
         match self.given.iter().find(|given| given.field == field) {
             Some(given) => given.text.as_str(),
             None => "",
@@ -150,7 +150,7 @@ const ESCAPED: AsciiSet = ascii_set!(
 );
 
 /// Adds a word of a URL.
-pub(crate) fn push_word(url: &mut String, word: &str) -> Result<(), AllocError> {
+pub fn push_word(url: &mut String, word: &str) -> Result<(), AllocError> {
     utf8_percent_encode(word, ESCAPED).append_to(url)
 }
 
@@ -166,7 +166,7 @@ fn push_field(url: &mut String, field: Field, text: &str) -> Result<(), AllocErr
 }
 
 /// The page with a query and changes of it. A change of anything but the page leads to the first page.
-pub(crate) fn link(
+pub fn link(
     alloc: Global,
     query: &Query,
     changes: &[(Field, &str)],
@@ -185,7 +185,7 @@ pub(crate) fn link(
 }
 
 /// The page of a machine.
-pub(crate) fn machine_link(alloc: Global, hall: &str, id: u64) -> Result<String, AllocError> {
+pub fn machine_link(alloc: Global, hall: &str, id: u64) -> Result<String, AllocError> {
     let mut url = String::from_str(alloc, "/machines/")?;
     push_word(&mut url, hall)?;
     let number = format!(in alloc; "/{id}")?;

@@ -8,7 +8,7 @@ use std::cmp::Ordering;
 
 /// A column of the table.
 #[derive(Clone, Copy, PartialEq, Eq)]
-pub(crate) enum Column {
+pub enum Column {
     Id,
     Hall,
     Status,
@@ -21,7 +21,7 @@ pub(crate) enum Column {
 
 impl Column {
     /// All of them, in their order.
-    pub(crate) const ALL: [Column; 8] = [
+    pub const ALL: [Column; 8] = [
         Column::Id,
         Column::Hall,
         Column::Status,
@@ -33,7 +33,7 @@ impl Column {
     ];
 
     /// Its name in URLs.
-    pub(crate) fn name(self) -> &'static str {
+    pub fn name(self) -> &'static str {
         match self {
             Column::Id => "id",
             Column::Hall => "hall",
@@ -47,7 +47,7 @@ impl Column {
     }
 
     /// Its title in the table, and within a sentence.
-    pub(crate) fn title(self) -> (&'static str, &'static str) {
+    pub fn title(self) -> (&'static str, &'static str) {
         match self {
             Column::Id => ("Machine", "machine"),
             Column::Hall => ("Hall", "hall"),
@@ -63,13 +63,13 @@ impl Column {
 
 /// The order of a table.
 #[derive(Clone, Copy)]
-pub(crate) struct Order {
-    pub(crate) column: Column,
-    pub(crate) falls: bool,
+pub struct Order {
+    pub column: Column,
+    pub falls: bool,
 }
 
 /// The order that a query asks for: by number where it asks for none that there is.
-pub(crate) fn order_of(query: &Query, has_several: bool) -> Order {
+pub fn order_of(query: &Query, has_several: bool) -> Order {
     let text = query.text(Field::Sort);
     let (name, falls) = match text.strip_prefix("-") {
         Some(name) => (name, true),
@@ -94,9 +94,9 @@ pub(crate) fn order_of(query: &Query, has_several: bool) -> Order {
 
 /// A row of the table: a machine, its hall, and by what it is sorted, where that is a text.
 #[derive(Drop)]
-pub(crate) struct Row<'s> {
-    pub(crate) hall: &'s Hall,
-    pub(crate) one: &'s Listed,
+pub struct Row<'s> {
+    pub hall: &'s Hall,
+    pub one: &'s Listed,
     key: String,
 }
 
@@ -185,7 +185,7 @@ fn is_chosen(
 }
 
 /// The rows that a view's query asks for, in their order.
-pub(crate) fn chosen<'s>(
+pub fn chosen<'s>(
     alloc: Global,
     view: &View<'s>,
     order: Order,

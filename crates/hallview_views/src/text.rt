@@ -1,16 +1,17 @@
 //! Moments, times and counts in words.
 ghost use Rattle.std.specs.Prelude.{◌≡◌, IfOk, string_bytes};
-ghost use Rattle.hallview_pages.specs.Ages.{span_text};
+ghost use Rattle.hallview_views.specs.Spans.{span_text};
 
 use jiff::Timestamp;
 use std::alloc::{AllocError, Global};
 
-// The seconds of a minute, an hour and a day.
+// The seconds of a minute and an hour.
 const MINUTE: u64 = 60;
 
 const HOUR: u64 = 3_600;
 
-pub(crate) const DAY: u64 = 86_400;
+/// The seconds of a day.
+pub const DAY: u64 = 86_400;
 
 fn time_of(moment: u64) -> Option<Timestamp> {
     let seconds = i64::try_from(moment).ok()?;
@@ -18,7 +19,7 @@ fn time_of(moment: u64) -> Option<Timestamp> {
 }
 
 /// A moment in UTC, as `2026-09-21T14:13:20Z` (RFC 3339 section 5.6).
-pub(crate) fn stamp(alloc: Global, moment: u64) -> Result<String, AllocError> {
+pub fn stamp(alloc: Global, moment: u64) -> Result<String, AllocError> {
     match time_of(moment) {
         Some(time) => time.to_string(alloc),
         None => format!(in alloc; "{moment}"),
@@ -26,13 +27,13 @@ pub(crate) fn stamp(alloc: Global, moment: u64) -> Result<String, AllocError> {
 }
 
 /// A moment in UTC, as `2026-09-21 14:13:20 UTC`.
-pub(crate) fn stamp_text(alloc: Global, moment: u64) -> Result<String, AllocError> {
+pub fn stamp_text(alloc: Global, moment: u64) -> Result<String, AllocError> {
     let text = stamp(alloc, moment)?.replace(alloc, "T", " ")?;
     text.replace(alloc, "Z", " UTC")
 }
 
 /// How far away a moment is, as hallctl says it.
-pub(crate) fn until(alloc: Global, moment: u64, now: u64) -> Result<String, AllocError> {
+pub fn until(alloc: Global, moment: u64, now: u64) -> Result<String, AllocError> {
     let seconds = moment.saturating_sub(now);
     if seconds == 0 {
         return String::from_str(alloc, "passed");
@@ -45,7 +46,7 @@ pub(crate) fn until(alloc: Global, moment: u64, now: u64) -> Result<String, Allo
 }
 
 /// How long something lasts.
-pub(crate) fn span(alloc: Global, seconds: u64) -> Result<String, AllocError>
+pub fn span(alloc: Global, seconds: u64) -> Result<String, AllocError>
     ensures { IfOk result (λ text. string_bytes text ≡ span_text seconds) }
 {
     if seconds < MINUTE {
@@ -62,26 +63,23 @@ pub(crate) fn span(alloc: Global, seconds: u64) -> Result<String, AllocError>
 }
 
 /// How many of something there are.
-pub(crate) fn counted(
-    alloc: Global,
-    number: usize,
-    one: &str,
-    many: &str,
-) -> Result<String, AllocError> {
+pub fn counted(alloc: Global, number: usize, one: &str, many: &str) -> Result<String, AllocError> {
     let word = if number == 1 { one } else { many };
     format!(in alloc; "{number} {word}")
 }
 
-pub(crate) fn number(alloc: Global, number: u64) -> Result<String, AllocError> {
+/// A number in decimal digits.
+pub fn number(alloc: Global, number: u64) -> Result<String, AllocError> {
     format!(in alloc; "{number}")
 }
 
-pub(crate) fn count(alloc: Global, number: usize) -> Result<String, AllocError> {
+/// A count in decimal digits.
+pub fn count(alloc: Global, number: usize) -> Result<String, AllocError> {
     format!(in alloc; "{number}")
 }
 
 /// How many hundredths of a whole a part is, at most 100.
-pub(crate) fn percent(part: u64, whole: u64) -> u64 {
+pub fn percent(part: u64, whole: u64) -> u64 {
     match part.saturating_mul(100).checked_div(whole) {
         Some(hundredths) => hundredths.min(100),
         None => 0,
@@ -89,7 +87,7 @@ pub(crate) fn percent(part: u64, whole: u64) -> u64 {
 }
 
 /// A part of a whole in words: `12 %`, or `under 1 %`.
-pub(crate) fn share(alloc: Global, part: u64, whole: u64) -> Result<String, AllocError> {
+pub fn share(alloc: Global, part: u64, whole: u64) -> Result<String, AllocError> {
     let hundredths = percent(part, whole);
     if hundredths == 0 && part > 0 {
         return String::from_str(alloc, "under 1 %");
@@ -98,6 +96,6 @@ pub(crate) fn share(alloc: Global, part: u64, whole: u64) -> Result<String, Allo
 }
 
 /// A width in hundredths.
-pub(crate) fn width(alloc: Global, hundredths: u64) -> Result<String, AllocError> {
+pub fn width(alloc: Global, hundredths: u64) -> Result<String, AllocError> {
     format!(in alloc; "{hundredths}%")
 }

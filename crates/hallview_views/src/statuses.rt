@@ -1,94 +1,10 @@
-//! What is known of statuses: their kinds, how long they may last, and what to do.
-ghost use Rattle.std.specs.Prelude.{◌≡◌};
-ghost use Rattle.life_cycle.specs.Entering.{limit_of};
-
+//! What to do about a machine in a status.
 use crate::commands::Command;
 use hall_types::{Erase, Machine, Status};
 use std::alloc::{AllocError, Global};
 
-/// A kind of statuses.
-#[derive(Clone, Copy, PartialEq, Eq)]
-pub(crate) enum Kind {
-    Trouble,
-    Work,
-    Use,
-    Ready,
-    New,
-}
-
-impl Kind {
-    /// All of them, in the order in which they are stacked in a plot.
-    pub(crate) const ALL: [Kind; 5] = [
-        Kind::Trouble,
-        Kind::Work,
-        Kind::Use,
-        Kind::Ready,
-        Kind::New,
-    ];
-
-    /// The class in pages.
-    pub(crate) fn class(self) -> &'static str {
-        match self {
-            Kind::Trouble => "trouble",
-            Kind::Work => "work",
-            Kind::Use => "use",
-            Kind::Ready => "ready",
-            Kind::New => "new",
-        }
-    }
-
-    pub(crate) fn title(self) -> &'static str {
-        match self {
-            Kind::Trouble => "Failed or Broken",
-            Kind::Work => "At work",
-            Kind::Use => "In use",
-            Kind::Ready => "Ready",
-            Kind::New => "New",
-        }
-    }
-
-    /// The kind of a status.
-    pub(crate) fn of(status: Status) -> Kind {
-        match status {
-            _ if status.is_failure() => Kind::Trouble,
-            _ if limit_of(status).is_some() => Kind::Work,
-            Status::Ready => Kind::Ready,
-            Status::New => Kind::New,
-            _ => Kind::Use,
-        }
-    }
-}
-
-/// How long a machine may be in a status, in seconds, if there is a limit.
-#[tactic(auto, unfolding(life_cycle::specs::Entering::limit_of))]
-pub(crate) fn limit_of(status: Status) -> Option<u64>
-    ensures { result ≡ limit_of status }
-{
-    match status {
-        Status::Releasing | Status::ExitingRescue => Some(600),
-        Status::EnteringRescue => Some(1200),
-        Status::Commissioning => Some(1800),
-        Status::Deploying => Some(2400),
-        Status::Testing => Some(3600),
-        Status::DiskErasing => Some(7200),
-        _ => None,
-    }
-}
-
-/// Whether the order that a machine waits for in a status is to switch it off, and not to start it again.
-pub(crate) fn is_off(status: Status) -> bool {
-    matches!(
-        status,
-        Status::New
-            | Status::FailedTesting
-            | Status::Allocated
-            | Status::Releasing
-            | Status::FailedDiskErasing
-    )
-}
-
 /// What to do about a machine in a status.
-pub(crate) fn advice(status: Status) -> &'static str {
+pub fn advice(status: Status) -> &'static str {
     match status {
         Status::New => "Commission it.",
         Status::FailedCommissioning => "Look at the machine's console; commission again.",
@@ -148,7 +64,7 @@ fn options_for(alloc: Global, machine: &Machine) -> Result<String, AllocError> {
 }
 
 /// The commands that do what is to be done about a machine.
-pub(crate) fn commands_for(alloc: Global, machine: &Machine) -> Result<Vec<Command>, AllocError> {
+pub fn commands_for(alloc: Global, machine: &Machine) -> Result<Vec<Command>, AllocError> {
     let mut commands = Vec::new(alloc);
     for word in words_for(machine.status) {
         let options = options_for(alloc, machine)?;

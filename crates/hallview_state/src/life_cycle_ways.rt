@@ -1,14 +1,11 @@
 //! The ways of the life cycle, from one status to another.
+use crate::ways::{WAYS, way_number};
 use hall_types::{Act, Arch, Machine, Name, Number, Outcome, Progress, Status};
-use hallview_state::way_number;
 use life_cycle::{Action, Signal, next};
-
-// The number of ways from one of 20 statuses to another.
-const WAYS: usize = 400;
 
 /// Which ways the table of the life cycle has.
 #[derive(Clone, Copy)]
-pub(crate) struct LifeCycle {
+pub struct LifeCycle {
     has: [bool; WAYS],
 }
 
@@ -40,7 +37,7 @@ fn machine_in(status: Status, tests: bool, back: Status) -> Option<Machine> {
 
 impl LifeCycle {
     /// All ways of the table.
-    pub(crate) fn new() -> LifeCycle {
+    pub fn new() -> LifeCycle {
         let mut ways = LifeCycle { has: [false; WAYS] };
         for status in Status::ALL.as_slice() {
             for tests in [false, true] {
@@ -72,7 +69,7 @@ impl LifeCycle {
     }
 
     /// Whether a machine can come from one status to the other.
-    pub(crate) fn leads(&self, from: Status, to: Status) -> bool {
+    pub fn leads(&self, from: Status, to: Status) -> bool {
         match self.has.get(way_number(from, to)) {
             Some(has) => *has,
             None => false,

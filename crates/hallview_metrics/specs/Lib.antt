@@ -1,0 +1,4 @@
+pub mod Exposition
+pub mod ExpositionLaws
+pub mod Families
+pub mod Told

@@ -1,0 +1,41 @@
+//! Power orders that wait.
+use crate::hall::Hall;
+use crate::kinds::order_kind;
+use crate::listed::Listed;
+use std::alloc::{AllocError, Global};
+
+/// An order that a machine waits for.
+#[derive(Clone, Copy)]
+pub struct Waiting<'s> {
+    pub number: u64,
+    pub one: &'s Listed,
+    /// For how many seconds it was seen in lists, up to the last one.
+    pub waits: u64,
+}
+
+impl Waiting<'_> {
+    /// `off` or `cycle`.
+    pub fn kind(&self) -> &'static str {
+        order_kind(self.one.machine.status).text()
+    }
+}
+
+/// The orders that machines of a hall wait for, by number.
+pub fn waiting_orders<'s>(
+    alloc: Global,
+    hall: &'s Hall,
+    now: u64,
+) -> Result<Vec<Waiting<'s>>, AllocError> {
+    let last = hall.listed_at().unwrap_or(now);
+    let mut orders = Vec::new(alloc);
+    for one in hall.machines() {
+        if let Some(number) = one.machine.waiting {
+            let seen = hall.order_seen(number).unwrap_or(last);
+            let waits = last.saturating_sub(seen);
+            let number = number.get();
+            orders.push(Waiting { number, one, waits })?;
+        }
+    }
+    orders.sort_by_key(|order| order.number)?;
+    Ok(orders)
+}
