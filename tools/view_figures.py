@@ -1,4 +1,5 @@
 """What large halls cost hallview, as figures that are bounded loosely: for view_peer.py."""
+import contextlib
 import time
 
 from view_desks import Desk, listed, machine, response
@@ -10,6 +11,7 @@ SECONDS = 20                                                  # for which the sh
 STATUSES = ["Ready", "Deployed", "Deployed", "Ready", "New", "Failed testing"]
 # Bounds: milliseconds of a page and of metrics, MB for one hall and for fifty, and the share of a processor for fifty
 PAGE, METRICS, ONE_HALL, ALL_HALLS, SHARE = 200, 100, 100, 1000, 0.25
+READERS, KEPT = 6, 256                                        # clients that take nothing, and the MB that answers may hold for all
 
 
 def large():
@@ -28,6 +30,31 @@ def milliseconds(view, target):
         times.append((time.monotonic() - began) * 1000)
     return min(times)
 
+
+@contextlib.contextmanager
+def taking_nothing(view, target, count):
+    """Has so many clients ask for it that take only the beginning of their answers; gives their statuses."""
+    request = f"GET {target} HTTP/1.1\r\nHost: localhost\r\n\r\n".encode()
+    with contextlib.ExitStack() as open_ones:
+        clients = [open_ones.enter_context(view.connect(5)) for _ in range(count)]
+        statuses = []
+        for client in clients:
+            client.sendall(request)
+            statuses.append(int(client.recv(64).split()[1]))
+        yield statuses
+
+
+def slow_readers(checks, view):
+    """Clients that ask for some 100 MB and take nothing: what is kept for them is bounded, and smaller answers still come."""
+    before = view.memory()
+    with taking_nothing(view, "/state.json", READERS) as statuses:
+        refused, memory = statuses.count(503), view.memory()
+        checks.wants("too many slow readers are asked to come again", 0 < refused < READERS and statuses.count(200) == READERS - refused, statuses)
+        checks.wants("slow readers hold no more memory than this", memory < before + 1.5 * KEPT, f"{memory:.0f} MB")
+        checks.wants("who serves is still said beside slow readers", view.ask("/healthz").body == b"ok\n")
+        checks.wants("a client is told when to come again", view.ask("/state.json").fields.get("retry-after") == "1")
+    time.sleep(1)
+    checks.wants("once they are gone, all is answered", view.ask("/state.json").status == 200)
 
 
 def waited_for(checks, view, halls, seconds):
@@ -66,6 +93,7 @@ def many_halls(checks, program, desk):
         checks.wants("many halls take no more of a processor than this", share < SHARE, f"{share:.2f}")
         checks.wants("many halls take no more memory than this", memory < ALL_HALLS, f"{memory:.0f} MB")
         checks.wants("each hall is asked for again", lists > HALLS / EVERY / 3, f"{lists:.1f} a second")
+        slow_readers(checks, view)
 
 
 def trial(checks, program):

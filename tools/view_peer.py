@@ -7,6 +7,7 @@ import view_alarms
 import view_browser
 import view_clients
 import view_figures
+import view_guide
 import view_hostile
 import view_same
 from view_hall import filled
@@ -15,7 +16,7 @@ from view_served import Checks, View, is_up
 EVERY = 2    # seconds
 # What is tried over the real desk, and what has desks of its own
 OVER_HALL = {"pages": view_same.pages, "clients": view_clients.trial, "browser": view_browser.trial, "alarms": view_alarms.trial}
-ALONE = {"halls": view_same.halls, "hostile": view_hostile.trial, "figures": view_figures.trial}
+ALONE = {"halls": view_same.halls, "guide": view_guide.trial, "hostile": view_hostile.trial, "figures": view_figures.trial}
 
 
 def over_hall(checks, chosen):

@@ -76,6 +76,11 @@ impl Clients {
         }
     }
 
+    /// How many octets the answers have that clients haven't taken whole.
+    pub(crate) fn kept(&self) -> usize {
+        self.slots.kept()
+    }
+
     /// Accepts connections, as far as some wait.
     pub(crate) fn accept(&mut self, alloc: Global, sockets: &mut Sockets, now: u64) {
         self.mark_again(sockets, now);

@@ -39,6 +39,8 @@ pub(crate) struct Connection {
     is_answering: bool,
     // When octets were last read or written.
     moved: u64,
+    // How many octets the answer has that the client hasn't taken whole.
+    kept: usize,
 }
 
 // No request has a body, and each answer is taken before the next request is read, so that a client makes no more work at a time.
@@ -64,6 +66,7 @@ impl Connection {
             since: now,
             is_answering: false,
             moved: now,
+            kept: 0,
         }
     }
 
@@ -72,6 +75,11 @@ impl Connection {
         ensures { result ≡ self.now.moved }
     {
         self.moved
+    }
+
+    /// How many octets the answer has that the client hasn't taken whole; 0 if there is none.
+    pub(crate) fn kept(&self) -> usize {
+        self.kept
     }
 
     /// Whether the client has taken too long.
@@ -93,11 +101,23 @@ impl Connection {
         }
     }
 
+    // Answers a request that is whole, once the last answer was taken.
+    fn answer(&mut self, pages: &mut Pages<'_>) {
+        let before = pages.kept;
+        self.http.advance(pages);
+        let given = pages.kept.saturating_sub(before);
+        self.kept = if self.http.wants_write() {
+            self.kept.saturating_add(given)
+        } else {
+            0
+        };
+    }
+
     // Goes on after octets were read or written.
     fn go_on(&mut self, pages: &mut Pages<'_>, now: u64) -> Step {
         self.moved = now;
         self.count_anew(now);
-        self.http.advance(pages);
+        self.answer(pages);
         self.count_anew(now);
         if self.http.is_done() {
             Step::Ended

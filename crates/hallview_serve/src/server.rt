@@ -106,6 +106,7 @@ impl Server {
             state: &self.state,
             names: self.names.as_slice(),
             now: turn.now.seconds,
+            kept: self.clients.kept(),
         };
         self.clients.accept(alloc, &mut self.sockets, now);
         self.clients.step(&mut pages, &mut self.sockets, now);

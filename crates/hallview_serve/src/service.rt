@@ -1,4 +1,7 @@
-//! What a client asks by HTTP is answered with a page.
+//! What a client asks by HTTP is answered with a page, unless too many octets of answers wait to be taken.
+ghost use Rattle.std.specs.Prelude.{◌≡◌};
+ghost use Rattle.hallview_serve.specs.Kept.{has_room};
+
 use bytes::Bytes;
 use hallview_pages::{Answer, Asked, Field, answer_to};
 use hallview_state::State;
@@ -6,6 +9,13 @@ use http::header::{HeaderNameError, HeaderValueError};
 use http::{HeaderName, HeaderValue, Request, StatusCode};
 use http_server::{Response, Service};
 use std::alloc::{AllocError, Global};
+
+/// The maximum of octets of all answers that clients haven't taken whole: 256 MiB. An answer goes beyond it only if it is the only one, or
+/// a small one.
+const MAX_KEPT: usize = 268_435_456;
+
+// The maximum of octets of a small answer, which is given however many others wait.
+const SMALL: usize = 262_144;
 
 /// The pages of halls at a moment.
 #[derive(Drop)]
@@ -16,6 +26,8 @@ pub(crate) struct Pages<'a> {
     pub(crate) names: &'a [String],
     /// In seconds since 1970.
     pub(crate) now: u64,
+    /// How many octets the answers have that clients haven't taken whole.
+    pub(crate) kept: usize,
 }
 
 // The first value of a request's field, if it is of visible characters.
@@ -100,11 +112,28 @@ fn fill(alloc: Global, response: &mut Response, answer: Answer) -> Result<(), Al
     }
 }
 
+// Whether an answer of so many octets may wait to be taken beside those that do.
+fn has_room(kept: usize, len: usize) -> bool
+    ensures { result ≡ has_room kept len }
+{
+    kept == 0 || len <= SMALL || kept.saturating_add(len) <= MAX_KEPT
+}
+
+// Has the client ask again (RFC 9110 section 15.6.4).
+fn refuse(alloc: Global, response: &mut Response) -> Result<(), AllocError> {
+    response.status = StatusCode::SERVICE_UNAVAILABLE;
+    add_field(alloc, response, "content-type", "text/plain; charset=utf-8")?;
+    add_field(alloc, response, "retry-after", "1")?;
+    let body = Vec::from_slice(alloc, b"too many answers wait to be taken\n")?;
+    response.body.push(Bytes::from_vec(body)?)
+}
+
 impl Service for Pages<'_> {
     ghost use Rattle.std.specs.Prelude.{◌≡◌};
+    ghost use Rattle.hallview_serve.specs.Kept.{IsKept};
 
-    // No request changes anything.
-    ghost answers = { λ old _ _ new. new ≡ old };
+    // No request changes what is shown.
+    ghost answers = { λ old _ _ new. (new.state ≡ old.state) × IsKept old.kept new.kept };
 
     fn call(
         &mut self,
@@ -113,6 +142,12 @@ impl Service for Pages<'_> {
     ) -> Result<(), AllocError> {
         let asked = asked(request);
         let answer = answer_to(self.alloc, self.state, self.names, self.now, &asked)?;
-        fill(self.alloc, response, answer)
+        let len = answer.body.len();
+        if !has_room(self.kept, len) {
+            return refuse(self.alloc, response);
+        }
+        fill(self.alloc, response, answer)?;
+        self.kept = self.kept.saturating_add(len);
+        Ok(())
     }
 }

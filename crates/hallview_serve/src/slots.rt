@@ -99,6 +99,17 @@ impl Slots {
         }
     }
 
+    /// How many octets the answers have that clients haven't taken whole.
+    pub(crate) fn kept(&self) -> usize {
+        let mut sum = 0usize;
+        for held in &self.held {
+            if let Some(connection) = held {
+                sum = sum.saturating_add(connection.kept());
+            }
+        }
+        sum
+    }
+
     /// The time until the next client has taken too long, and at most this time.
     pub(crate) fn left(&self, now: u64, most: u64) -> u64 {
         let mut least = most;

@@ -1,5 +1,5 @@
 //! The desk's lists are read. A list is believed only if its octets are what the desk writes for what was read.
-ghost use Rattle.std.specs.Prelude.{◌≡◌, ◌↔◌, IfOk, IfSome, IsTrue, map};
+ghost use Rattle.std.specs.{Prelude.{◌≡◌, ◌↔◌, IfOk, IfSome, IsTrue, map}, List.Sorted.IsNonDecreasingBy};
 ghost use Rattle.hall_types.specs.Hall.{second};
 ghost use Rattle.hall_events.specs.Reply.{machine_list, reply_of};
 ghost use Rattle.hallview_state.specs.Lists.{IsListOf, listed_of};
@@ -71,16 +71,24 @@ fn is_reply(reply: &Reply, status: u16, body: &str) -> bool
     }
 }
 
+// Whether the numbers of the machines rise.
+fn are_rising(machines: &[Listed]) -> bool
+    ensures { IsTrue result → IsNonDecreasingBy (λ one. one.machine.id) machines.now }
+{
+    machines.is_sorted_by(|one, next| one.machine.id.get() < next.machine.id.get())
+}
+
 /// The machines that a desk's answer to `GET /machines` lists, by its status and its body. `None` where they aren't the very octets that a
-/// desk answers with a list.
+/// desk answers with a list, or where their numbers don't rise.
 pub fn list_of(alloc: Global, status: u16, body: &str) -> Result<Option<Vec<Listed>>, AllocError>
-    ensures { IfOk result (λ list. IfSome list (λ machines. IsListOf machines.items status body.now)) }
+    ensures list { IfOk result (λ list. IfSome list (λ machines. IsListOf machines.items status body.now)) }
+    ensures rising { IfOk result (λ list. IfSome list (λ machines. IsNonDecreasingBy (λ one. one.machine.id) machines.items)) }
 {
     let Some(machines) = machines_at(alloc, body)? else {
         return Ok(None);
     };
     let reply = list_reply(alloc, machines.as_slice())?;
-    if is_reply(&reply, status, body) {
+    if are_rising(machines.as_slice()) && is_reply(&reply, status, body) {
         Ok(Some(machines))
     } else {
         Ok(None)
