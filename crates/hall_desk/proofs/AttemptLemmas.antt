@@ -63,6 +63,7 @@ module _ {S : Type 0} (g : Ghosts S) (rules : AreRules) (schema : (s : S) (h : H
     still = λ h held none. c.still h held (none (asks e say) means);
     unavailable = λ is h held. absurd (said_available site input e say means _ (sym (c.answer h held) ∙ is));
     crash = torn (Ok a) c;
+    base = c.base;
   }
   answered_asked (Err error) c = record {
     step = λ h held sound. inr (record { answer = refl; same = refl }, c.same h held);
@@ -70,6 +71,7 @@ module _ {S : Type 0} (g : Ghosts S) (rules : AreRules) (schema : (s : S) (h : H
     still = λ h held none. c.still h held (none (asks e say) means);
     unavailable = λ is. c.same;
     crash = torn (Err error) c;
+    base = c.base;
   }
 
   -- likewise of what a desk gives
@@ -91,6 +93,7 @@ module _ {S : Type 0} (g : Ghosts S) (wider : (s : S) (h : Hall) (hs : List Hall
     still = λ h held none hs left. left;
     unavailable = λ is h held. held;
     crash = λ h held sound hs left. record { next = h; answer = a; step = inl (come h); left = wider s h hs left };
+    base = λ base over. over;
   }
     where
       come : (h : Hall) → HasCome site h (Request octets) moment fresh a h

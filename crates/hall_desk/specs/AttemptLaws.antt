@@ -5,7 +5,7 @@ use Rattle.hall_desk.specs.{Prelude.{Site, Hall, Ghosts}, Attempt.{GivesAnswer, 
 
 -- a store that stays as it is was only read
 pub read_same : {S : Type 0} (g : Ghosts S) (s : S) → IsOnlyRead g s s
-read_same g s = record { same = λ h held. held; stop = λ h held hs left. left }
+read_same g s = record { same = λ h held. held; stop = λ h held hs left. left; base = λ base over. over }
 
 module _ {S : Type 0} (g : Ghosts S) (wider : (s : S) (h : Hall) (hs : List Hall) → g.leaves s hs → g.leaves s (h ∷ hs))
     (s : S) (site : Site) (moment : ℕ) (fresh : List ℕ) where
@@ -22,6 +22,7 @@ module _ {S : Type 0} (g : Ghosts S) (wider : (s : S) (h : Hall) (hs : List Hall
       step = inr (record { answer = refl; same = refl });
       left = wider s h hs left;
     };
+    base = λ base over. over;
   }
 
   pub gives_missed : (what : Input) → GivesAnswer g s s site what moment fresh (missed_answer what)
@@ -62,6 +63,7 @@ module _ {S : Type 0} (g : Ghosts S) (old new : S) (site : Site) (moment : ℕ) 
       still = λ h held none. it.still h held (λ m means. none m (means_on m means));
       unavailable = it.unavailable;
       crash = λ h held sound hs left. torn_on h hs (it.crash h held sound hs left);
+      base = it.base;
     }
 
   -- an answer to what was read is one to all that was to be read

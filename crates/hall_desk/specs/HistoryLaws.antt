@@ -11,7 +11,7 @@ pub record AreHistoryLaws : Type 0 where
   pub laws : (origin : Origin) (begin : Hall) (items : List Item) (end : Hall) → BeginsWith origin begin → AllLead begin items end → Headline origin items end
 
 -- what came goes on from a history by these items
-goes_to : AreHistoryLaws → {S : Type 0} (g : Ghosts S) (store : S) (origin : Origin) (past : List Item) (was : HasHistory g store origin past)
+pub goes_to : AreHistoryLaws → {S : Type 0} (g : Ghosts S) (store : S) (origin : Origin) (past : List Item) (was : HasHistory g store origin past)
     → (items : List Item) (end : Hall) → AllLead was.end items end → Headline origin (past ++ items) end
 goes_to its g store origin past was items end led =
     its.laws origin was.headline.begin (past ++ items) end was.headline.begins (all_on was.headline.begin past was.end was.headline.led items end led)

@@ -4,6 +4,7 @@ pub mod Answering
 pub mod Attempt
 pub mod AttemptLaws
 pub mod Desk
+pub mod Grouping
 pub mod Headline
 pub mod History
 pub mod HistoryLaws

@@ -54,7 +54,7 @@ all_append P (x ∷ xs) ys a b = (a.0, all_append P xs ys a.1 b)
 
 -- ---- two runs
 
-run_then : (site : Site) (xs ys : List Arrival) (is bs : List Answer) (h mid end : Hall)
+pub run_then : (site : Site) (xs ys : List Arrival) (is bs : List Answer) (h mid end : Hall)
     → IsArrivalRun site h xs is mid → IsArrivalRun site mid ys bs end → IsArrivalRun site h (xs ++ ys) (is ++ bs) end
 run_then site [] ys [] bs h mid end first then = subst (λ (from : Hall). IsArrivalRun site from ys bs end) first then
 run_then site (x ∷ xs) ys (a ∷ is) bs h mid end first then =

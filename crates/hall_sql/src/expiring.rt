@@ -1,7 +1,7 @@
 //! Which machine expires next.
 ghost use Rattle.sql_schema.specs.Words.{AllByRecursion, state, HasCleanDisk, next_expired};
 ghost use Rattle.std.specs.Prelude.{◌≡◌, ◌≤◌};
-ghost use Rattle.hall_store.specs.Store.{ReadsBy};
+ghost use Rattle.hall_store.specs.Store.{ReadsBy, over_none};
 ghost use Rattle.hall_sql.specs.{Expiring.PutsNoEarlier, Store.{HasHall, StopLeaves}};
 
 use crate::store::SqlStore;
@@ -49,7 +49,7 @@ impl<S: Alter> SqlStore<S> {
     /// The next machine to expire. The tables are asked only if a machine may have expired, and the least deadline that is found is
     /// known from then on, or that none ever expires.
     pub(crate) fn next_due(&mut self, moment: Moment) -> Result<Option<Machine>, Unavailable>
-        ensures { ReadsBy (λ s. HasCleanDisk (state S.Store s.conn)) (HasHall S.Store) (StopLeaves S.Store) self.old self.new result (λ h answer. answer ≡ next_expired h moment) }
+        ensures { ReadsBy (λ s. HasCleanDisk (state S.Store s.conn)) (HasHall S.Store) (StopLeaves S.Store) over_none self.old self.new result (λ h answer. answer ≡ next_expired h moment) }
     {
         if self.stopped {
             return Err(Unavailable);

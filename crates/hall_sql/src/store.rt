@@ -86,6 +86,7 @@ impl<S: Alter> SqlStore<S> {
 impl<S: Alter> HallStore for SqlStore<S> {
     ghost use Rattle.std.proofs.Common.{inr};
     ghost use Rattle.sqlite.specs.{Held.state, State.HasCleanDisk};
+    ghost use Rattle.hall_store.specs.Store.{over_none};
     ghost use Rattle.hall_sql.specs.Store.{HasHall, StopLeaves};
 
     ghost is_clean = { λ s. HasCleanDisk (state S.Store s.conn) };
@@ -93,6 +94,8 @@ impl<S: Alter> HallStore for SqlStore<S> {
     ghost holds = { λ s h. HasHall S.Store s h };
 
     ghost leaves = { λ s hs. StopLeaves S.Store s hs };
+
+    ghost over = { λ s base. over_none s base };
 
     ghost wider = { λ s h hs left db may. ((left db may).0, inr (left db may).1, (left db may).2) };
 

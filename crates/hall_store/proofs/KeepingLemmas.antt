@@ -1,7 +1,7 @@
 -- What is known after a change.
 use Rattle.std.{proofs.Common.{◌≡◌, false, List, [], ◌∷◌, Result, Ok, Err, Some, refl, ◌∙◌, subst, sym, ◌||◌, Bool, true}, specs.{Prelude.{Option, option_map, IfSome, All}, List.list_any, Result.is_ok}}
 use Rattle.hall_types.{specs.{Hall.{Hall, applied, written}, Rows.at, Tables.{interfaces, is_among, tables_of}, declared.{change.RowWrite.RowWrite, machine.Interface.Interface}}, proofs.WriteLemmas.changes_only}
-use Rattle.hall_store.specs.{Store.IsWrite, Known.{AreOf, changes_interfaces}, Lists.AreListsOf, Cached.{Keeps, inner}, declared.cached.Cached.Cached}
+use Rattle.hall_store.specs.{Store.{Base, IsWrite}, Known.{AreOf, changes_interfaces}, Lists.AreListsOf, Cached.{Keeps, inner}, declared.cached.Cached.Cached}
 
 or_false : (a b : Bool) → (a || b) ≡ false → (a ≡ false) × (b ≡ false)
 or_false true b is = cc
@@ -19,20 +19,21 @@ pub still_known : (rows : List RowWrite) (h : Hall) (slots : List (Option Interf
 still_known rows h slots none are =
     subst (λ rows'. All (λ slot. IfSome slot (λ i. option_map (λ x. x.machine) (at rows' i.mac) ≡ Some i.machine)) slots) (sym (same_interfaces rows h none)) are
 
-module _ {S : Type 0} (holds : S → Hall → Type 0) (leaves : S → List Hall → Type 0) {Y E : Type 0} (old new : Cached S) (rows : List RowWrite) where
+module _ {S : Type 0} (holds : S → Hall → Type 0) (leaves : S → List Hall → Type 0) (over : S → Base → Type 0) {Y E : Type 0} (old new : Cached S) (rows : List RowWrite) where
   -- a write of the store within is one of the store around it, where what is known is right afterwards
-  pub written_around : (r : Result Y E) → IsWrite holds leaves (inner old) (inner new) r (λ h. rows)
+  pub written_around : (r : Result Y E) → IsWrite holds leaves over (inner old) (inner new) r (λ h. rows)
       → ((h : Hall) → AreOf h old.known.slots.items → AreOf (applied rows h) new.known.slots.items)
       → ((h : Hall) → AreOf h old.known.slots.items → AreOf h new.known.slots.items)
       → ((h : Hall) → AreListsOf h new.lists)
       → new.is_settled ≡ is_ok r
-      → IsWrite (Keeps holds leaves) (λ cached hs. leaves (inner cached) hs) old new r (λ h. rows)
+      → IsWrite (Keeps holds leaves) (λ cached hs. leaves (inner cached) hs) (λ cached base. over (inner cached) base) old new r (λ h. rows)
   written_around (Ok y) w after same forgotten settled = record {
     made = λ h kept keep. record { held = w.made h kept.held keep; known = after h kept.known; lists = forgotten (applied rows h); settled = λ is. w.settled h kept.held keep };
     versions = λ h kept keep. w.versions h kept.held keep;
     same = tt;
     crash = λ h kept keep hs left. w.crash h kept.held keep hs left;
     settled = λ h kept keep. w.settled h kept.held keep;
+    base = w.base;
   }
   written_around (Err e) w after same forgotten settled = record {
     made = tt;
@@ -40,4 +41,5 @@ module _ {S : Type 0} (holds : S → Hall → Type 0) (leaves : S → List Hall 
     same = λ h kept. record { held = w.same h kept.held; known = same h kept.known; lists = forgotten h; settled = λ is. absurd cc };
     crash = λ h kept keep hs left. w.crash h kept.held keep hs left;
     settled = tt;
+    base = w.base;
   }

@@ -6,6 +6,7 @@ pub mod Rules
 pub mod Reading
 pub mod Store
 pub mod Versions
+pub mod Grouped
 pub mod Known
 pub mod Lists
 pub mod Cached

@@ -59,6 +59,8 @@ impl<S: HallStore> HallStore for Cached<S> {
 
     ghost leaves = { λ cached hs. S.leaves (inner cached) hs };
 
+    ghost over = { λ cached base. S.over (inner cached) base };
+
     ghost wider = { λ cached h hs left. S.wider (inner cached) h hs left };
 
     ghost second_schema = { λ cached h kept. S.second_schema (inner cached) h kept.held };

@@ -99,6 +99,8 @@ impl<S: HallStore> HallStore for Probe<S> {
 
     ghost leaves = { λ probe hs. S.leaves (inner probe) hs };
 
+    ghost over = { λ probe base. S.over (inner probe) base };
+
     ghost wider = { λ probe h hs left. S.wider (inner probe) h hs left };
 
     ghost second_schema = { λ probe h held. S.second_schema (inner probe) h held };

@@ -30,7 +30,7 @@ whole_step g old new moment fresh s read all left rest after moves ends it = rec
 -- what a look leaves of a store
 pub read_by_look : {S Y E : Type 0} (g : Ghosts S) (old new : S) (r : Result Y E) (Right : Hall → Y → Type 0)
     → IsLook g old new r Right → IsOnlyRead g old new
-read_by_look g old new r Right it = record { same = it.same; stop = it.crash }
+read_by_look g old new r Right it = record { same = it.same; stop = it.crash; base = it.base }
 
 module _ {S : Type 0} (g : Ghosts S) (old mid new : S) (site : Site) (what : Input) (moment : ℕ) (fresh : List ℕ)
     (only : IsOnlyRead g old mid) where
@@ -54,6 +54,7 @@ module _ {S : Type 0} (g : Ghosts S) (old mid new : S) (site : Site) (what : Inp
     still = λ h held none hs left. it.still h (only.same h held) none hs (only.stop h held hs left);
     unavailable = λ is h held. it.unavailable is h (only.same h held);
     crash = λ h held sound hs left. torn_after h hs (it.crash h (only.same h held) sound hs (only.stop h held hs left));
+    base = λ base over. it.base base (only.base base over);
   }
 
 -- a request that waits for its answer after the store was read

@@ -1,7 +1,6 @@
 //! A store of a hall in memory.
 #![tactic(auto)]
 
-mod copying;
 mod counting;
 mod creating;
 mod expiring;

@@ -29,6 +29,7 @@ impl MemoryStore {
 
 impl HallStore for MemoryStore {
     ghost use Rattle.std.specs.Prelude.{⊤};
+    ghost use Rattle.hall_store.specs.Store.{over_none};
     ghost use Rattle.store_memory.specs.Held.{IsHeld};
 
     ghost is_clean = { λ s. ⊤ };
@@ -37,6 +38,8 @@ impl HallStore for MemoryStore {
 
     // nothing is promised of a stop
     ghost leaves = { λ s hs. ⊤ };
+
+    ghost over = { λ s base. over_none s base };
 
     ghost wider = { λ s h hs left. tt };
 

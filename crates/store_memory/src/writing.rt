@@ -4,12 +4,12 @@ ghost use Rattle.hall_types.specs.{Hall.{Hall, applied, written}, declared.chang
 ghost use Rattle.hall_store.specs.Rules.{AllKeep, Keeps, KeepsMachines};
 ghost use Rattle.store_memory.specs.Held.{HasSlots, HaveAllSlots, IsHeld, KeepsAllSlots};
 
-use crate::copying::copies;
 use crate::indexing::{
     clear_entry, count_after_gone, count_after_put, earliest_after_put, set_entry, uuid_of,
 };
 use crate::memory::MemoryStore;
 use crate::{hashed, table};
+use hall_store::copies;
 use hall_types::{
     Interface, MacAddress, Machine, Number, RowWrite, arch_number, rows_stand_under_their_keys,
 };

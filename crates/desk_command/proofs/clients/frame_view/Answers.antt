@@ -9,5 +9,6 @@ returns-in-Some g c clean = (
     answer = λ h held. known_enough h c.args.client.now _ c.in-Some.field-0 c.in-Some.is (search rules) (search rules);
     same = λ h held. search rules;
     crash = λ h held hs left. search rules;
+    base = λ base over. search rules;
   },
 )

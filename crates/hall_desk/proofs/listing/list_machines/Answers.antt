@@ -15,5 +15,6 @@ returns g c clean =
             c.machine_list_reply.result c.machine_list_reply.ensures c.said.result c.said.ensures;
         same = λ h held. two.same h (one.same h held);
         crash = λ h held hs left. two.crash h (one.same h held) hs (one.crash h held hs left);
+        base = λ base over. two.base base (one.base base over);
       },
     )

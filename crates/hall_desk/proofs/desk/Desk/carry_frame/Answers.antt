@@ -13,4 +13,5 @@ returns-clause-unlisted g c off clean =
     record {
       same = λ h held. subst (λ s. g.S.HallStore.holds s h) (sym (c.write.ensures.idle (none h held))) (look.same h held);
       stop = λ h held hs left. subst (λ s. g.S.HallStore.leaves s hs) (sym (c.write.ensures.idle (none h held))) (look.crash h held hs left);
+      base = λ base over. (c.write.ensures.carried clean).1.base base (look.base base over);
     }

@@ -1,5 +1,5 @@
 use Rattle.std.proofs.Common.{◌≡◌, take}
-use Rattle.store_memory.proofs.copying.copies.Given as goal
+use Rattle.hall_store.proofs.copying.copies.Given as goal
 
 -- the copies are of the writes so far
 abbrev pub invariant-copying : goal.invariant-copying

@@ -1,4 +1,4 @@
-//! Copies of row writes, taken before any row is written.
+//! Copies of row writes.
 ghost use Rattle.std.specs.Prelude.{◌≡◌, ◌++◌, [], ◌∷◌, IfOk, OnOk};
 
 use hall_types::RowWrite;
@@ -36,8 +36,8 @@ fn push_copy(alloc: Global, copies: &mut Vec<RowWrite>, write: &RowWrite) -> Res
     Ok(())
 }
 
-/// Equal row writes.
-pub(crate) fn copies(alloc: Global, writes: &[RowWrite]) -> Result<Vec<RowWrite>, AllocError>
+/// Equal row writes. The error is want of memory.
+pub fn copies(alloc: Global, writes: &[RowWrite]) -> Result<Vec<RowWrite>, AllocError>
     ensures { IfOk result (λ copies. copies.items ≡ writes.now) }
 {
     let mut copies = Vec::with_capacity(alloc, writes.len())?;

@@ -1,0 +1,4 @@
+pub mod GroupLemmas
+pub mod KeyLemmas
+pub mod WriteLemmas
+pub mod ReadLemmas

@@ -1,0 +1,10 @@
+use Rattle.std.proofs.Common.{refl}
+use Rattle.hall_types.specs.Rows.{at}
+use Rattle.store_group.proofs.ReadLemmas.{read_failed, read_row}
+use Rattle.store_group.proofs.store.GroupHallStore.image.Goals as goal
+
+pub returns-in_err-image : goal.returns-in_err-image
+returns-in_err-image g c = read_failed g.S.HallStore _ _ refl refl _ _ c.image.ensures _ _ c.from_residual.ensures.0
+
+pub returns : goal.returns
+returns g c = read_row g.S.HallStore _ _ refl refl _ (λ h. at h.images c.args.name.now) _ c.in_ok-image.was c.image.ensures _ c.as_led.ensures

@@ -1,0 +1,6 @@
+use Rattle.std.proofs.Common.{refl}
+use Rattle.store_group.proofs.ReadLemmas.{read_alone}
+use Rattle.store_group.proofs.store.GroupHallStore.waiting_orders.Goals as goal
+
+pub returns : goal.returns
+returns g c = read_alone g.S.HallStore _ _ refl refl _ _ c.in_ok-none_held.ensures c.waiting_orders.ensures
