@@ -1,6 +1,6 @@
 #!/usr/bin/env bash
 # The service beside dnsmasq as a proxyDHCP server and a bare UDP loop in C, with 10,000 machines in the file: OFFERs one by
-# one and with 32 in flight, the processor's share at rest, and the median time of a DISCOVER and the time of 99 of 100 at rest, with 50
+# one and with 32 in flight, and the processor's time for one, its share at rest, and the median time of a DISCOVER and the time of 99 of 100 at rest, with 50
 # silent connections, and with a flood of commands; and how long a DISCOVER and a script request take beside 64 clients that ask for the
 # list of all machines without pause, 99 of 100; and how long a copy of the hall's file holds the desk. Clients are other machines in a
 # hall: where 64 of them never pause, the desk has the first processor for itself, and they have the others. COUNT is the number of OFFERs
@@ -57,6 +57,15 @@ asks() {   # asks TARGET COUNT GAP: the median and the time of 99 of 100 request
     for run in 1 2 3 4 5; do outside ./peer asks 10.9.0.1 80 "$1" abc "$2" "$3"; done > asks.log
     sort -k1,1n asks.log | head -n 1
 }
+busy() {   # busy PROCESS FLIGHT: its microseconds of a processor for an OFFER, by its nanoseconds, the least of five runs
+    local before after
+    for run in 1 2 3 4 5; do
+        read -r before _ < "/proc/$1/schedstat"
+        outside ./peer offers 10.9.0.2 10.9.0.1 67 "$count" "$2" 0 > busy.log
+        read -r after _ < "/proc/$1/schedstat"
+        awk -v t=$((after - before)) -v n="$count" 'BEGIN { printf "%.1f\n", t / 1e3 / n }'
+    done | sort -n | head -n 1
+}
 rest='500 1 10000'    # 100 DISCOVERs a second
 share() {   # share PROCESS: of one processor, in percent, over twenty seconds, by its nanoseconds: ticks may miss who wakes at them
     local before after
@@ -71,6 +80,7 @@ sleep 0.3
 read -r echo_one echo_median _ _ < <(offers "$count" 1 0)
 read -r echo_many _ < <(offers "$count" 32 0)
 read -r _ echo_rest echo_rest99 echo_middle99 < <(offers $rest)
+echo_busy=$(busy "$server" 1) echo_busy_many=$(busy "$server" 32)
 ended "$server"
 
 for ((i = 0; i < 10000; i++)); do
@@ -90,6 +100,7 @@ dnsmasq_with /dev/null
 read -r dns_one dns_median _ < <(offers "$count" 1 0)
 read -r dns_many _ < <(offers "$count" 32 0)
 read -r _ dns_rest dns_rest99 dns_middle99 < <(offers $rest)
+dns_busy=$(busy "$server" 1) dns_busy_many=$(busy "$server" 32)
 dns_share=$(share "$server")
 ended "$server"
 
@@ -117,6 +128,7 @@ desk_share=$(share "$server")
 read -r desk_one desk_median _ < <(offers "$count" 1 0)
 read -r desk_many _ < <(offers "$count" 32 0)
 read -r _ desk_rest desk_rest99 desk_middle99 < <(offers $rest)
+desk_busy=$(busy "$server" 1) desk_busy_many=$(busy "$server" 32)
 read -r script_rest script_rest99 < <(asks /ipxe/52:54:00:00:00:05 200 20000)
 read -r list_rest _ < <(asks /machines 20 100000)
 taskset -a -c -p 0 "$server" > affinity.log
@@ -154,6 +166,8 @@ row() { printf '%-34s %12s %12s %12s\n' "$@"; }
 row '' 'bare C loop' dnsmasq desk
 row 'OFFERs a second, one by one' "$echo_one" "$dns_one" "$desk_one"
 row 'OFFERs a second, 32 in flight' "$echo_many" "$dns_many" "$desk_many"
+row 'processor an OFFER, one by one, us' "$echo_busy" "$dns_busy" "$desk_busy"
+row 'processor an OFFER, 32 in flight' "$echo_busy_many" "$dns_busy_many" "$desk_busy_many"
 row 'median, one by one, us' "$echo_median" "$dns_median" "$desk_median"
 row 'median at rest, us' "$echo_rest" "$dns_rest" "$desk_rest"
 row '99 of 100 at rest, us' "$echo_rest99" "$dns_rest99" "$desk_rest99"

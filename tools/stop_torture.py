@@ -5,6 +5,7 @@ program, rounds, seed = sys.argv[1], int(sys.argv[2]), int(sys.argv[3])
 TOKEN = "operators-secret-1"
 CLIENTS = 8
 PATIENCE = 10.0  # for how many seconds a command is sent again to a service that met a fault
+SLOW = 5000  # microseconds of a sync in which others come, so that the next commit is that of several
 CALLS = ["pwrite64", "fdatasync", "ftruncate", "openat"]
 chance = random.Random(seed)
 
@@ -20,9 +21,10 @@ def ports():
 
 
 class Desk:
-    """A service over the file, perhaps with one call of the system that fails, or that makes a copy of its file each second."""
+    """A service over the file, perhaps with one call of the system that fails, or that makes a copy of its file each second, or over a disk
+    that syncs so many microseconds slower."""
 
-    def __init__(self, fault=None, backup=None):
+    def __init__(self, fault=None, backup=None, delay=0):
         discover, boot, self.http = ports()
         words = [program, "serve", "--db", "hall.db", "--discover", f"127.0.0.1:{discover}", "--boot", f"127.0.0.1:{boot}",
                  "--http", f"127.0.0.1:{self.http}", "--turns", "1000000000000", "--server", "127.0.0.1", "--next", "127.0.0.1",
@@ -32,6 +34,8 @@ class Desk:
             # (only calls on the hall's files, not those on sockets and libraries)
             words = ["strace", "-f", "-o", "calls", "-P", os.path.abspath("hall.db"), "-P", os.path.abspath("hall.db-wal"),
                      "-e", f"trace={','.join(CALLS)}", "-e", f"inject={call}:error={error}:when={when}"] + words
+        if delay:
+            words = ["strace", "-f", "-q", "-o", "/dev/null", "-e", "trace=fdatasync,fsync", "-e", f"inject=fdatasync,fsync:delay_exit={delay}"] + words
         self.running = subprocess.Popen(words, stdout=subprocess.PIPE, stderr=subprocess.PIPE, text=True, start_new_session=True)
         self.is_ready = "hall desk ready" in self.running.stdout.readline()
 
@@ -231,8 +235,9 @@ with tempfile.TemporaryDirectory() as work:
         assert clients[0].answers[body] == (200, b"{}"), clients[0].answers
     desk.kill()
     for turn in range(rounds):
-        what = f"seed {seed}, kill {turn}"
-        desk = Desk()
+        delay = SLOW if turn % 2 else 0
+        what = f"seed {seed}, kill {turn}, {delay} us slower"
+        desk = Desk(delay=delay)
         assert desk.is_ready, (what, desk.running.stderr.read())
         clients = play(clients, desk, chance.uniform(0.02, 0.6), what, snapshots=2)
         check(clients, what)

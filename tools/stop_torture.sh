@@ -1,6 +1,7 @@
 #!/usr/bin/env bash
 # A hall's file under stops and faults: ROUNDS times hallboot serve is killed (SIGKILL) at a random moment while 8 clients send commands,
-# after its files were copied twice at one moment; and as often one of its system calls on the hall's files fails, by strace, with EIO
+# every second time over a disk that syncs 5 milliseconds slower, so that one commit answers several of them, after its files were copied
+# twice at one moment; and as often one of its system calls on the hall's files fails, by strace, with EIO
 # or ENOSPC, after which the same program answers each client again. After each, the file is whole (PRAGMA integrity_check of a copy), every command that was answered is there once, and each
 # one that wasn't is sent again, octet for octet, until it is answered: it is done once, and every command that is sent again has its
 # first answer. The copies are whole, and have what was answered before, and so are those that the service itself makes each second.

@@ -1,12 +1,12 @@
 #!/usr/bin/env python3
 """A hall that is commissioned at once, or comes back after a power cut: a command for each of so many machines; then each one's order is
-answered, it asks for its script, and reports that its work has started and that it is done, each step once the one before it is answered.
-Each of these is a commit. Prints how many of them the desk does in a second, with one client and with more at a time; the hall's file is in
-the folder at hand.
+answered, it asks for its script, and reports that its work has started and that it is done. Each of these is kept before it is answered.
+Prints how many of each the desk does in a second, with one client and with more at a time, each with machines of its own; the hall's file
+is in the folder at hand.
 
 With DELAY each commit waits so many microseconds longer for the disk; strace makes it so.
 
-Usage: storm.py HALLBOOT [MACHINES [CLIENTS [DELAY]]]"""
+Usage: storm.py HALLBOOT [MACHINES [DELAY [CLIENTS..]]]"""
 import http.client, json, os, re, signal, subprocess, sys, tempfile, threading, time, uuid
 from served_hall import ADMIN, Hall, address, digest
 
@@ -56,20 +56,39 @@ def commission(client, number):
     client.ask("POST", "/commands", {"key": str(uuid.uuid4()), "command": "commission", "machine": number, "tests": False}, ADMIN)
 
 
-def come_back(client, order):
-    """The four commits of a machine's work: the answer to its order, its boot, two reports."""
+def answer_order(client, order):
     client.ask("POST", f"/orders/{order['number']}", {"outcome": "done"}, POWER)
-    words = dict(WORDS.findall(client.ask("GET", f"/ipxe/{address(order['machine'])}")))
+
+
+def fetch(client, order):
+    order["words"] = dict(WORDS.findall(client.ask("GET", f"/ipxe/{address(order['machine'])}")))
+
+
+def report(client, order):
+    words = order["words"]
     for stage in ("started", "done"):
         client.ask("POST", f"/report/{words['boot']}/{words['token']}", {"stage": stage})
 
 
+def row(hall, machines, clients):
+    """How many commands, answers to orders, scripts and reports so many clients are given in a second."""
+    begun = time.monotonic()
+    rates = [len(machines) / each(hall, machines, clients, commission)]
+    orders = json.loads(hall.ask("/orders", POWER)[1])["orders"]
+    for step, count in (answer_order, 1), (fetch, 1), (report, 2):
+        rates.append(count * len(orders) / each(hall, orders, clients, step))
+    whole = 5 * len(machines) / (time.monotonic() - begun)
+    return f"{clients:4}" + "".join(f"{rate:10.0f}" for rate in [*rates, whole])
+
+
 def main():
     program, *numbers = sys.argv[1:]
-    count, clients, delay = (*map(int, numbers), *(1000, 32, 0)[len(numbers):])
+    count, delay, *clients = (*map(int, numbers), *(400, 0)[len(numbers):])
+    clients = clients or [1, 8, 32, 64]
+    program = os.path.abspath(program) if os.path.exists(program) else program
     os.chdir(tempfile.mkdtemp(prefix="storm-", dir="."))
-    with Hall(os.path.abspath(program) if os.path.exists(program) else program, "storm") as hall:
-        hall.add(2 * count)
+    with Hall(program, "storm") as hall:
+        hall.add(count * len(clients))
         hall.serve()
         hall.command(command="add_operator", operator="power", role="power", digest=digest(POWER))
         hall.command(command="add_image", image="live64", arch="uefi64", kernel="http://files.example/k", initrd="http://files.example/i", args=[])
@@ -79,11 +98,9 @@ def main():
             slow = subprocess.Popen(["strace", "-f", "-q", "-o", "/dev/null", "-e", "trace=fdatasync,fsync", "-e", f"inject=fdatasync,fsync:delay_exit={delay}",
                                      "-p", str(hall.running.pid)], stderr=subprocess.DEVNULL)
             time.sleep(1)
-        for some, machines in (1, range(1, count // 4 + 1)), (clients, range(count // 4 + 1, count + count // 4 + 1)):
-            took = each(hall, machines, some, commission)
-            print(f"{some:3} clients: {len(machines) / took:7.0f} commands a second")
-            took = each(hall, json.loads(hall.ask("/orders", POWER)[1])["orders"], some, come_back)
-            print(f"{some:3} clients: {4 * len(machines) / took:7.0f} commits a second of machines that come back, {took:.1f} seconds for {len(machines)}")
+        print(f"a second, each commit {delay} us slower:\n clients commands    orders   scripts   reports       all")
+        for at, some in enumerate(clients):
+            print(row(hall, range(at * count + 1, (at + 1) * count + 1), some), flush=True)
         if slow:
             slow.send_signal(signal.SIGTERM)
             slow.wait()

@@ -1,5 +1,5 @@
 -- What the reads of a decision promise together, over any store.
-use Rattle.std.specs.Prelude.{List, Result, IfOk}
+use Rattle.std.specs.Prelude.{List, Option, Result, IfOk}
 use Rattle.hall_store.specs.Store.{Base}
 use Rattle.desk_command.specs.Prelude.{Hall, Ghosts}
 
@@ -12,8 +12,8 @@ module _ {S : Type 0} (g : Ghosts S) (old new : S) {Y E : Type 0} (r : Result Y 
     pub same : (h : Hall) → g.holds old h → g.holds new h
     -- a stop leaves what it left before
     pub crash : (h : Hall) → g.holds old h → (hs : List Hall) → g.leaves old hs → g.leaves new hs
-    -- a group stays over its hall
-    pub base : (base : Base) → g.over old base → g.over new base
+    -- a group stays over its hall, and none is opened or closed
+    pub base : (base : Option Base) → g.over old base → g.over new base
 
 -- Where a store took no wrong answer of a disk for a right one (`clean`), it took none before, and it was read so.
 module _ {S : Type 0} (g : Ghosts S) (old new : S) {Y E : Type 0} (r : Result Y E) where

@@ -1,7 +1,7 @@
 -- Arrivals that are answered by one commit.
-use Rattle.std.{proofs.{Common.{◌≡◌, ◌≤◌, ◌<◌, ◌∙◌, ◌+◌, ℕ, List, [], ◌∷◌, ◌++◌, length, take, Option, Some, Result, Ok, Err, ap, append-nil, refl, sym, subst, inl, inr}, lemmas.List.{take_all, take_more}}, specs.{Prelude.{◌≢◌, ◌⊎◌, OnOk, OnErr}, List.AllByRecursion}}
-use Rattle.hall_store.specs.{Grouped.{IsBegun, IsCommitted}, Store.Base}
-use Rattle.hall_desk.specs.{Prelude.{Site, Hall, IsSound, Ghosts}, Account.{IsDatagram, IsReadAs}, Attempt.{IsAnswered, IsKept, IsRan}, Grouping.{AreAvailable, AreReadAs, CameTogether, HasGroupRun, IsUnavailable, OrTogether, first_of}, Headline.{HasHistory, Headline}, History.{AllLead, Item, ItemLeads, Origin, came_unanswered, exchanges}, HistoryLaws.{AreHistoryLaws, goes_to}, Octets.{HasMissed, IsArrivalRun, IsArrivalStep, missed_answer}, RunLaws.{of_run, run_then}, Stops.{IsEnd, IsLeft, IsSettled}, declared.{account.Account.Account, arrival.{Answer.Answer, Arrival.Arrival, Input.Input}}}
+use Rattle.std.{proofs.{Common.{◌≡◌, ◌≤◌, ◌<◌, ◌∙◌, ◌+◌, ℕ, List, [], ◌∷◌, ◌++◌, length, take, Option, None, Some, Result, Ok, Err, ap, append-nil, refl, sym, subst, inl, inr}, lemmas.List.{take_all, take_more}}, specs.{Prelude.{◌≢◌, ◌⊎◌, OnOk, OnErr}, List.AllByRecursion}}
+use Rattle.hall_store.specs.{Grouped.{IsBegun, IsCommitted, IsRolledBack}, Store.Base}
+use Rattle.hall_desk.specs.{Prelude.{Site, Hall, IsSound, Ghosts}, Account.{IsDatagram, IsReadAs}, Attempt.{IsAnswered, IsKept, IsRan}, Grouping.{AreAvailable, AreReadAs, HasGroupRun, HasNoRun, IsTogetherEnd, IsUnavailable, OrTogether, first_of}, Headline.{HasHistory, Headline}, History.{AllLead, AreUnanswered, Item, ItemLeads, Origin, came_unanswered, exchanges}, HistoryLaws.{AreHistoryLaws, goes_to}, Octets.{HasMissed, IsArrivalRun, IsArrivalStep, missed_answer}, RunLaws.{of_run, run_then}, Stops.{IsEnd, IsLeft, IsSettled}, declared.{account.Account.Account, arrival.{Answer.Answer, Arrival.Arrival, Input.Input}}}
 use Rattle.hall_desk.specs.declared.arrival.Input.TheVariants as input
 
 -- ---- one arrival more
@@ -50,22 +50,31 @@ is_datagram (input.Datagram port octets) a is other = tt
 is_datagram (input.Request octets) a is other = absurd (other is)
 is_datagram input.Quiet a is other = absurd (other is)
 
-pub together : (site : Site) (h : Hall) (xs : List Arrival) (answers : List Answer) (end : Hall) → IsArrivalRun site h xs answers end → AreAvailable answers
-    → (came : List Item) × CameTogether site xs came × AllLead h came end
-together site h [] [] end run all = ([], refl, run)
+-- the first arrivals came, as many as were answered, whether or not their answers are given
+pub together : (site : Site) (h : Hall) (xs : List Arrival) (answers : List Answer) (end : Hall) → IsArrivalRun site h (first_of xs answers) answers end → AreAvailable answers
+    → IsTogetherEnd site h xs end
+together site h xs [] end run all = ([], tt, none_led site h xs end run)
+  where
+    none_led : (site : Site) (h : Hall) (xs : List Arrival) (end : Hall) → IsArrivalRun site h (take 0 xs) [] end → AllLead h [] end
+    none_led site h [] end run = run
+    none_led site h (x ∷ xs) end run = run
+together site h [] (a ∷ answers) end run all = absurd run
 together site h (x ∷ xs) (a ∷ answers) end run all = by run.1 (together site run.0 xs answers end run.2 all.1)
   where
-    by : IsArrivalStep site h x.input x.moment x.fresh a run.0 → ((came : List Item) × CameTogether site xs came × AllLead run.0 came end)
-        → (came : List Item) × CameTogether site (x ∷ xs) came × AllLead h came end
-    by (inl come) rest = (came_unanswered site x ∷ rest.0, inl (rest.0, refl, rest.1), (run.0, (a, come), rest.2))
-    by (inr missed) rest = (rest.0, inr (is_datagram x.input a missed.answer all.0, rest.1), subst (λ from. AllLead from rest.0 end) missed.same rest.2)
-together site h [] (a ∷ answers) end run all = absurd run
-together site h (x ∷ xs) [] end run all = absurd run
+    -- a datagram that counts as not having come, before others
+    aside : IsDatagram x.input → (came : List Item) → AreUnanswered site xs came → AreUnanswered site (x ∷ xs) came
+    aside is [] it = tt
+    aside is (item ∷ items) it = inr (is, it)
+
+    by : IsArrivalStep site h x.input x.moment x.fresh a run.0 → IsTogetherEnd site run.0 xs end → IsTogetherEnd site h (x ∷ xs) end
+    by (inl come) rest = (came_unanswered site x ∷ rest.0, inl (refl, rest.1), (run.0, (a, come), rest.2))
+    by (inr missed) rest =
+        (rest.0, aside (is_datagram x.input a missed.answer all.0) rest.0 rest.1, subst (λ from. AllLead from rest.0 end) missed.same rest.2)
 
 -- ---- histories
 
 module _ (its : AreHistoryLaws) {S : Type 0} (g : Ghosts S) (old new : S) (site : Site) (origin : Origin) (past : List Item) where
-  pub group_settled : (arrivals : List Arrival) (answers : List Answer) → ((h : Hall) → g.holds old h → IsSound h → HasGroupRun g new site h arrivals answers)
+  pub group_settled : (arrivals : List Arrival) (answers : List Answer) → ((h : Hall) → g.holds old h → IsSound h → HasGroupRun g old new site h arrivals answers)
       → HasHistory g old origin past → IsSettled g new origin (past ++ exchanges site arrivals answers)
   group_settled arrivals answers has was =
       let its_run = has was.end was.held was.headline.laws.sound in
@@ -79,74 +88,95 @@ module _ (its : AreHistoryLaws) {S : Type 0} (g : Ghosts S) (old new : S) (site 
         settled = its_run.settled;
       }
 
-  -- a stop leaves the hall before, or the hall after all that were answered
-  pub group_stop : (was : IsSettled g old origin past) (arrivals : List Arrival) (answers : List Answer) (end : Hall)
-      → IsArrivalRun site was.history.end (first_of arrivals answers) answers end → AreAvailable answers → g.leaves new (end ∷ was.history.end ∷ [])
-      → IsLeft g new origin (OrTogether past site arrivals)
-  group_stop was arrivals answers end run all left = record {
-    halls = end ∷ was.history.end ∷ [];
+  -- a stop leaves the hall before, or a hall to which the first arrivals lead together
+  pub group_stop : (was : IsSettled g old origin past) (arrivals : List Arrival) (end : Hall) → IsTogetherEnd site was.history.end arrivals end
+      → g.leaves new (end ∷ was.history.end ∷ was.history.end ∷ []) → IsLeft g new origin (OrTogether past site arrivals)
+  group_stop was arrivals end ends left = record {
+    halls = end ∷ was.history.end ∷ was.history.end ∷ [];
     left = left;
     each = (
-      (past ++ came.0, inr (length answers, came.0, came.1, refl), goes_to its g old origin past was.history came.0 end came.2),
-      ((past, inl refl, was.history.headline), tt),
+      (past ++ ends.0, (ends.0, ends.1, refl), goes_to its g old origin past was.history ends.0 end ends.2),
+      (before, (before, tt)),
     );
   }
     where
-      came : (came : List Item) × CameTogether site (first_of arrivals answers) came × AllLead was.history.end came end
-      came = together site was.history.end (first_of arrivals answers) answers end run all
+      before : IsEnd origin (OrTogether past site arrivals) was.history.end
+      before = (past, ([], tt, sym (append-nil past)), was.history.headline)
 
-  -- nothing came
-  pub group_none : (was : IsSettled g old origin past) (arrivals : List Arrival) → g.leaves new (was.history.end ∷ []) → IsLeft g new origin (OrTogether past site arrivals)
-  group_none was arrivals left = record { halls = was.history.end ∷ []; left = left; each = ((past, inl refl, was.history.headline), tt) }
+  -- likewise where none is answered
+  pub none_stop : (was : IsSettled g old origin past) (arrivals : List Arrival) → HasNoRun g old new site was.history.end arrivals
+      → IsLeft g new origin (OrTogether past site arrivals)
+  none_stop was arrivals it = group_stop was arrivals it.end it.together (it.stop (was.history.end ∷ []) was.settled)
 
 -- ---- the commit
 
-pub none_empty : (h : Hall) → h ∷ [] ≢ []
-none_empty h is = cc
+module _ {S : Type 0} (g : Ghosts S) (wider : (s : S) (h : Hall) (hs : List Hall) → g.leaves s hs → g.leaves s (h ∷ hs)) where
+  -- a group that was begun is over the hall before it
+  module _ (old group : S) {Y E : Type 0} (r : Result Y E) (begun : IsBegun g.holds g.leaves g.over old group r) (y : Y) (is : r ≡ Ok y) (h : Hall) (held : g.holds old h) where
+    begins : (hs : List Hall) → (hs ≢ [] → g.leaves old hs) → g.over group (Some (record { hall = h; halls = hs }))
+    begins = subst (λ o. OnOk o ((h : Hall) → g.holds old h → (hs : List Hall) → (hs ≢ [] → g.leaves old hs) → g.over group (Some (record { hall = h; halls = hs })))) is begun.begun h held
 
--- what a group is over, where its store was settled
-abbrev pub settled_base : Hall → Base
-settled_base h = record { hall = h; halls = h ∷ [] }
+    pub over_hall : g.over group (Some (record { hall = h; halls = [] }))
+    over_hall = begins [] (λ some. absurd (some refl))
 
-module _ {S : Type 0} (g : Ghosts S) (group new : S) {Y E : Type 0} (r : Result Y E) (committed : IsCommitted g.holds g.leaves g.over group new r) (site from : Site) (same : from ≡ site)
-    (h : Hall) (xs : List Arrival) (answers : List Answer) (ran : IsRan g group from h xs answers) where
-  here : IsArrivalRun site h xs answers ran.end
-  here = subst (λ at. IsArrivalRun at h xs answers ran.end) same ran.run
+    pub over_left : (hs : List Hall) → g.leaves old hs → g.over group (Some (record { hall = h; halls = h ∷ hs }))
+    over_left hs left = begins (h ∷ hs) (λ some. wider old h hs left)
 
-  -- once it is made, all arrivals led to the hall that a stop leaves
-  pub group_run : (y : Y) → r ≡ Ok y → HasGroupRun g new site h xs answers
-  group_run y is =
-      let made = subst (λ o. OnOk o ((x : Hall) → g.holds group x → g.holds new x × g.leaves new (x ∷ []))) is committed.made ran.end ran.held in
-      record { ran = record { end = ran.end; run = here; held = made.0; sound = ran.sound }; settled = made.1 }
+  -- the changes of a group are written, or none: a stop leaves what it left before, or the hall to which they lead
+  module _ (old group new : S) (h : Hall) (over : (hs : List Hall) → g.leaves old hs → g.over group (Some (record { hall = h; halls = h ∷ hs }))) where
+    pub may_leave : {Y E : Type 0} (r : Result Y E) → IsCommitted g.holds g.leaves g.over group new r → (end : Hall) → g.holds group end
+        → (hs : List Hall) → g.leaves old hs → g.leaves new (end ∷ h ∷ hs)
+    may_leave r committed end held hs left = committed.crash end held (record { hall = h; halls = h ∷ hs }) (over hs left) (λ is. cc)
 
-  pub left_by : g.over group (settled_base h) → g.leaves new (ran.end ∷ h ∷ [])
-  left_by over = committed.crash ran.end ran.held (settled_base h) over (none_empty h)
+    -- they were given up
+    pub given_up : (site : Site) (arrivals : List Arrival) → g.over group (Some (record { hall = h; halls = [] })) → IsRolledBack g.holds g.leaves g.over group new
+        → HasNoRun g old new site h arrivals
+    given_up site arrivals alone back = record {
+      end = h;
+      together = ([], tt, refl);
+      held = back.back _ alone;
+      stop = λ hs left. wider new h (h ∷ hs) (back.crash (record { hall = h; halls = h ∷ hs }) (over hs left) (λ is. cc));
+    }
 
-  pub ran_here : IsArrivalRun site h xs answers ran.end
-  ran_here = here
+    module _ {Y E : Type 0} (r : Result Y E) (committed : IsCommitted g.holds g.leaves g.over group new r) (site from : Site) (same : from ≡ site)
+        (xs : List Arrival) (answers : List Answer) (ran : IsRan g group from h (first_of xs answers) answers) where
+      here : IsArrivalRun site h (first_of xs answers) answers ran.end
+      here = subst (λ at. IsArrivalRun at h (first_of xs answers) answers ran.end) same ran.run
 
--- a commit that failed leaves the hall that the store had
-pub group_back : {S : Type 0} (g : Ghosts S) (group new : S) {Y E : Type 0} (r : Result Y E) → IsCommitted g.holds g.leaves g.over group new r → (e : E) → r ≡ Err e
-    → (base : Base) → g.over group base → g.holds new base.hall
-group_back g group new r committed e is base over =
-    subst (λ o. OnErr o ((base : Base) → g.over group base → g.holds new base.hall)) is committed.back base over
+      -- once they are written, all arrivals led to the hall that a stop leaves
+      pub group_run : (y : Y) → r ≡ Ok y → HasGroupRun g old new site h (first_of xs answers) answers
+      group_run y is =
+          let made = subst (λ o. OnOk o ((x : Hall) → g.holds group x → g.holds new x × g.leaves new (x ∷ []))) is committed.made ran.end ran.held in
+          record {
+            ran = record { end = ran.end; run = here; held = made.0; sound = ran.sound };
+            settled = made.1;
+            stop = may_leave r committed ran.end ran.held;
+          }
 
--- a group that was begun is over the hall before it
-module _ {S : Type 0} (g : Ghosts S) (old group : S) {Y E : Type 0} (r : Result Y E) (begun : IsBegun g.holds g.leaves g.over old group r) (y : Y) (is : r ≡ Ok y) where
-  begins : (h : Hall) → g.holds old h → (hs : List Hall) → (hs ≢ [] → g.leaves old hs) → g.over group (record { hall = h; halls = hs })
-  begins = subst (λ o. OnOk o ((h : Hall) → g.holds old h → (hs : List Hall) → (hs ≢ [] → g.leaves old hs) → g.over group (record { hall = h; halls = hs }))) is begun.begun
+      -- none was written
+      pub group_back : (e : E) → r ≡ Err e → AreAvailable answers → g.over group (Some (record { hall = h; halls = [] })) → HasNoRun g old new site h xs
+      group_back e is all alone = record {
+        end = ran.end;
+        together = together site h xs answers ran.end here all;
+        held = subst (λ o. OnErr o ((base : Base) → g.over group (Some base) → g.holds new base.hall)) is committed.back _ alone;
+        stop = may_leave r committed ran.end ran.held;
+      }
 
-  pub over_hall : (h : Hall) → g.holds old h → g.over group (record { hall = h; halls = [] })
-  over_hall h held = begins h held [] (λ some. absurd (some refl))
-
-  pub over_settled : (h : Hall) → g.holds old h → g.leaves old (h ∷ []) → g.over group (settled_base h)
-  over_settled h held left = begins h held (h ∷ []) (λ some. left)
-
--- none was begun
-pub none_begun : {S : Type 0} (g : Ghosts S) (old group : S) {Y E : Type 0} (r : Result Y E) → IsBegun g.holds g.leaves g.over old group r → (e : E) → r ≡ Err e
-    → (hs : List Hall) → g.leaves old hs → g.leaves group hs
-none_begun g old group r begun e is = subst (λ o. OnErr o ((hs : List Hall) → g.leaves old hs → g.leaves group hs)) is begun.crash
+  -- none was begun
+  pub none_begun : (old new : S) {Y E : Type 0} (r : Result Y E) → IsBegun g.holds g.leaves g.over old new r → (e : E) → r ≡ Err e
+      → (site : Site) (h : Hall) (arrivals : List Arrival) → g.holds old h → HasNoRun g old new site h arrivals
+  none_begun old new r begun e is site h arrivals held = record {
+    end = h;
+    together = ([], tt, refl);
+    held = begun.same h held;
+    stop = λ hs left. wider new h (h ∷ hs) (wider new h hs (subst (λ o. OnErr o ((hs : List Hall) → g.leaves old hs → g.leaves new hs)) is begun.crash hs left));
+  }
 
 pub on_err : {A E : Type 0} (r : Result A E) (P : Type 0) → P → OnErr r P
 on_err (Ok a) P p = tt
 on_err (Err e) P p = p
+
+-- a group that wasn't begun left none open
+pub none_opened : {S : Type 0} (g : Ghosts S) (old new : S) {Y E : Type 0} (r : Result Y E) → IsBegun g.holds g.leaves g.over old new r → (e : E) → r ≡ Err e
+    → g.over old None → g.over new None
+none_opened g old new r begun e is = subst (λ o. OnErr o (g.over old None → g.over new None)) is begun.closed

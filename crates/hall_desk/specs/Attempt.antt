@@ -1,5 +1,5 @@
 -- What carrying an arrival out promises, over any store.
-use Rattle.std.specs.{Prelude.{◌≡◌, ◌⊎◌, ℕ, List, [], ◌∷◌}, List.AllByRecursion}
+use Rattle.std.specs.{Prelude.{◌≡◌, ◌⊎◌, ℕ, List, [], ◌∷◌, Option}, List.AllByRecursion}
 use Rattle.hall_store.specs.Store.{Base}
 use Rattle.hall_desk.specs.{Prelude.{Site, Hall, IsSound, Ghosts}, Octets.{HasCome, HasMissed, IsArrivalStep, IsArrivalRun, IsIdle}, declared.arrival.{Answer.{Answer, TheVariants.Unavailable}, Arrival.Arrival, Input.Input}}
 
@@ -28,8 +28,8 @@ module _ {S : Type 0} (g : Ghosts S) (old new : S) (site : Site) (input : Input)
     -- and each hall stays where the answer is Unavailable
     pub unavailable : a ≡ Unavailable → (h : Hall) → g.holds old h → g.holds new h
     pub crash : (h : Hall) → g.holds old h → IsSound h → (hs : List Hall) → g.leaves old hs → IsTorn h hs
-    -- a group stays over its hall
-    pub base : (base : Base) → g.over old base → g.over new base
+    -- a group stays over its hall, and none is opened or closed
+    pub base : (base : Option Base) → g.over old base → g.over new base
 
 -- Where a store took no wrong answer of a disk for a right one (`clean`), it took none before, and this was answered.
 module _ {S : Type 0} (g : Ghosts S) (old new : S) (site : Site) (input : Input) (moment : ℕ) (fresh : List ℕ) where
@@ -40,7 +40,7 @@ module _ {S : Type 0} (g : Ghosts S) (old new : S) (site : Site) (input : Input)
 pub record IsOnlyRead {S : Type 0} (g : Ghosts S) (old new : S) : Type 0 where
   pub same : (h : Hall) → g.holds old h → g.holds new h
   pub stop : (h : Hall) → g.holds old h → (hs : List Hall) → g.leaves old hs → g.leaves new hs
-  pub base : (base : Base) → g.over old base → g.over new base
+  pub base : (base : Option Base) → g.over old base → g.over new base
 
 -- none of the arrivals changes this hall
 abbrev pub ChangeNothing : Site → Hall → List Arrival → Type 0

@@ -1,6 +1,6 @@
 -- Arrivals that are answered by one commit.
-use Rattle.std.specs.{Prelude.{◌≡◌, ◌⊎◌, ⊤, ℕ, List, [], ◌∷◌, ◌++◌, length, take}, List.AllByRecursion}
-use Rattle.hall_desk.specs.{Prelude.{Site, Hall, Ghosts}, Account.{IsDatagram, IsReadAs}, Attempt.IsRan, History.{Item, came_unanswered}, declared.{account.Account.Account, arrival.{Answer.{Answer, TheVariants.Unavailable}, Arrival.Arrival}}}
+use Rattle.std.specs.{Prelude.{◌≡◌, ⊤, List, [], ◌∷◌, ◌++◌, length, take}, List.AllByRecursion}
+use Rattle.hall_desk.specs.{Prelude.{Site, Hall, Ghosts}, Account.IsReadAs, Attempt.IsRan, History.{AllLead, AreUnanswered, Item}, declared.{account.Account.Account, arrival.{Answer.{Answer, TheVariants.Unavailable}, Arrival.Arrival}}}
 
 -- the arrivals that these answers are for: as many of the first
 abbrev pub first_of : List Arrival → List Answer → List Arrival
@@ -19,17 +19,26 @@ AreReadAs [] [] = ⊤
 AreReadAs (arrival ∷ arrivals) (account ∷ accounts) = IsReadAs arrival.input account.came × AreReadAs arrivals accounts
 AreReadAs arrivals accounts = ⊥
 
--- Arrivals led from this hall, each with its answer, and a stop leaves the hall at their end alone.
-pub record HasGroupRun {S : Type 0} (g : Ghosts S) (new : S) (site : Site) (h : Hall) (arrivals : List Arrival) (answers : List Answer) : Type 0 where
-  pub ran : IsRan g new site h arrivals answers
-  pub settled : g.leaves new (ran.end ∷ [])
+-- some of the first arrivals lead together from this hall to the other, without their answers
+abbrev pub IsTogetherEnd : Site → Hall → List Arrival → Hall → Type 0
+IsTogetherEnd site h arrivals end = (came : List Item) × AreUnanswered site arrivals came × AllLead h came end
 
--- the arrivals came, and their answers weren't given; a datagram may count as not having come
-abbrev pub CameTogether : Site → List Arrival → List Item → Type 0
-CameTogether site [] items = items ≡ []
-CameTogether site (arrival ∷ arrivals) items =
-    ((rest : List Item) × (items ≡ came_unanswered site arrival ∷ rest) × CameTogether site arrivals rest) ⊎ (IsDatagram arrival.input × CameTogether site arrivals items)
+module _ {S : Type 0} (g : Ghosts S) (old new : S) (site : Site) (h : Hall) (arrivals : List Arrival) where
+  -- The arrivals led from this hall, each with its answer, and a stop leaves the hall at their end alone. On the way it leaves what it left
+  -- before, or one of these two.
+  pub record HasGroupRun (answers : List Answer) : Type 0 where
+    pub ran : IsRan g new site h arrivals answers
+    pub settled : g.leaves new (ran.end ∷ [])
+    pub stop : (hs : List Hall) → g.leaves old hs → g.leaves new (ran.end ∷ h ∷ hs)
 
--- what came before, or that and the first of the arrivals together
+  -- None of the arrivals is answered, and the store has the hall that it had. A stop leaves what it left before, or that hall, or the one to
+  -- which some of the first arrivals lead together.
+  pub record HasNoRun : Type 0 where
+    pub end : Hall
+    pub together : IsTogetherEnd site h arrivals end
+    pub held : g.holds new h
+    pub stop : (hs : List Hall) → g.leaves old hs → g.leaves new (end ∷ h ∷ hs)
+
+-- what came before, and then some of the first arrivals together, without their answers
 abbrev pub OrTogether : List Item → Site → List Arrival → List Item → Type 0
-OrTogether past site arrivals items = (items ≡ past) ⊎ ((count : ℕ) × (came : List Item) × CameTogether site (take count arrivals) came × (items ≡ past ++ came))
+OrTogether past site arrivals items = (came : List Item) × AreUnanswered site arrivals came × (items ≡ past ++ came)

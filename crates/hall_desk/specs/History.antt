@@ -2,7 +2,7 @@
 use Rattle.std.specs.Prelude.{◌≡◌, ◌⊎◌, ⊤, ℕ, List, [], ◌∷◌, Some}
 use Rattle.hall_laws.specs.Decision.{decision_of}
 pub use Rattle.hall_laws.specs.Origin.{BeginsWith, Origin}
-use Rattle.hall_desk.specs.{Prelude.{Site, Hall, applied, second, Content, reply_of, Event, Reply, IsTyped, Step}, Octets.{HasCome, IsArrivalStep, Means, answered, asks, missed_answer}, declared.arrival.{Answer.Answer, Arrival.Arrival}}
+use Rattle.hall_desk.specs.{Prelude.{Site, Hall, applied, second, Content, reply_of, Event, Reply, IsTyped, Step}, Account.IsDatagram, Octets.{HasCome, IsArrivalStep, Means, answered, asks, missed_answer}, declared.arrival.{Answer.Answer, Arrival.Arrival}}
 
 -- ---- items
 
@@ -66,11 +66,18 @@ abbrev pub exchanges : Site → List Arrival → List Answer → List Item
 exchanges site (arrival ∷ arrivals) (a ∷ answers) = exchanged site arrival a ∷ exchanges site arrivals answers
 exchanges site arrivals answers = []
 
--- what came of a run at a desk that stopped: the first exchanges, and then nothing, or one arrival more without its answer
+-- some of the first arrivals came, and their answers weren't given; a datagram may count as not having come
+abbrev pub AreUnanswered : Site → List Arrival → List Item → Type 0
+AreUnanswered site arrivals [] = ⊤
+AreUnanswered site [] (item ∷ items) = ⊥
+AreUnanswered site (arrival ∷ arrivals) (item ∷ items) =
+    ((item ≡ came_unanswered site arrival) × AreUnanswered site arrivals items) ⊎ (IsDatagram arrival.input × AreUnanswered site arrivals (item ∷ items))
+
+-- what came of a run at a desk that stopped: the first exchanges, and then nothing, or some of the next arrivals without their answers
 abbrev pub IsCutRun : Site → List Arrival → List Answer → List Item → Type 0
 IsCutRun site arrivals answers [] = ⊤
 IsCutRun site (arrival ∷ arrivals) (a ∷ answers) (item ∷ items) =
-    ((item ≡ came_unanswered site arrival) × (items ≡ [])) ⊎ ((item ≡ exchanged site arrival a) × IsCutRun site arrivals answers items)
+    AreUnanswered site (arrival ∷ arrivals) (item ∷ items) ⊎ ((item ≡ exchanged site arrival a) × IsCutRun site arrivals answers items)
 IsCutRun site arrivals answers items = ⊥
 
 -- the event is carried out on this hall, and is of its type

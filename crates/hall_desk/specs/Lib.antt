@@ -5,6 +5,7 @@ pub mod Attempt
 pub mod AttemptLaws
 pub mod Desk
 pub mod Grouping
+pub mod GroupingLaws
 pub mod Headline
 pub mod History
 pub mod HistoryLaws

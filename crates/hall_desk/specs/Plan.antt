@@ -1,5 +1,5 @@
 -- What is planned for an event, and what writing it promises, over any store.
-use Rattle.std.specs.Prelude.{◌≡◌, List, [], ◌∷◌, Result, IfOk, OnOk, OnErr}
+use Rattle.std.specs.Prelude.{◌≡◌, List, [], ◌∷◌, Option, Result, IfOk, OnOk, OnErr}
 use Rattle.hall_laws.specs.Decision.{decision_of}
 use Rattle.hall_store.specs.Store.{Base}
 use Rattle.hall_desk.specs.{Prelude.{Client, Hall, applied, second, RowWrite, Numbers, enlisted, Decision, Enlist, reply_of, Reply, AllKeep, Ghosts, Decided, Event, Site}, declared.arrival.Stamp.Stamp}
@@ -36,8 +36,8 @@ module _ {S : Type 0} (g : Ghosts S) (old new : S) {Y E : Type 0} (r : Result Y 
     pub settled : OnOk r ((h : Hall) → g.holds old h → AllKeep (rows h) h → g.leaves old (h ∷ []) → g.leaves new (applied (rows h) h ∷ []))
     -- where there is no row, a stop leaves what it left before
     pub still : (h : Hall) → g.holds old h → rows h ≡ [] → (hs : List Hall) → g.leaves old hs → g.leaves new hs
-    -- a group stays over its hall
-    pub base : (base : Base) → g.over old base → g.over new base
+    -- a group stays over its hall, and none is opened or closed
+    pub base : (base : Option Base) → g.over old base → g.over new base
 
 -- Where a store took no wrong answer of a disk for a right one (`clean`), it took none before, and this was carried out.
 module _ {S : Type 0} (g : Ghosts S) (old new : S) {Y E : Type 0} (r : Result Y E) where

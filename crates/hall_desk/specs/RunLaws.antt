@@ -2,7 +2,7 @@
 use Rattle.std.{proofs.Common.{◌≡◌, ◌∙◌, ℕ, List, [], ◌∷◌, ◌++◌, ap, append_assoc, inl, inr, refl, subst, sym}, specs.{Prelude.{◌⊎◌, ⊤}, List.AllByRecursion}}
 use Rattle.hall_events.specs.declared.event.Event.TheVariants as event
 use Rattle.hall_laws.specs.Decision.{decision_of}
-use Rattle.hall_desk.specs.{Prelude.{Message, Site, Client, Hall, Port, frame_decision, frame_view, IsSound, Decision, Silent, Ghosts, framed}, Attempt.{IsAnswered, IsKept, IsOnlyRead, IsTorn}, History.{AllLead, IsCutRun, Item, ItemLeads, came_unanswered, exchanges}, Octets.{HasMissed, IsArrivalRun, IsArrivalStep, IsGiven, IsIdle, IsSilent, answered, asks, frame_answer}, Stops.{AreGiven, HasRun, IsCutEnd}, declared.arrival.{Answer.{Answer, TheVariants.Silence}, Arrival.Arrival, Input.Input}}
+use Rattle.hall_desk.specs.{Prelude.{Message, Site, Client, Hall, Port, frame_decision, frame_view, IsSound, Decision, Silent, Ghosts, framed}, Attempt.{IsAnswered, IsKept, IsOnlyRead, IsTorn}, History.{AllLead, AreUnanswered, IsCutRun, Item, ItemLeads, came_unanswered, exchanges}, Octets.{HasMissed, IsArrivalRun, IsArrivalStep, IsGiven, IsIdle, IsSilent, answered, asks, frame_answer}, Stops.{AreGiven, HasRun, IsCutEnd}, declared.arrival.{Answer.{Answer, TheVariants.Silence}, Arrival.Arrival, Input.Input}}
 use Rattle.hall_desk.specs.declared.arrival.Input.TheVariants as input
 
 -- ---- silence changes nothing
@@ -61,10 +61,17 @@ run_then site (x ∷ xs) ys (a ∷ is) bs h mid end first then =
     (first.0, first.1, run_then site xs ys is bs first.0 mid end first.2 then)
 run_then site xs ys is bs h mid end first then = absurd first
 
+-- what came of the first one without answers is what came of both
+unanswered_first : (site : Site) (xs ys : List Arrival) (items : List Item) → AreUnanswered site xs items → AreUnanswered site (xs ++ ys) items
+unanswered_first site xs ys [] it = tt
+unanswered_first site [] ys (item ∷ items) it = absurd it
+unanswered_first site (x ∷ xs) ys (item ∷ items) (inl it) = inl (it.0, unanswered_first site xs ys items it.1)
+unanswered_first site (x ∷ xs) ys (item ∷ items) (inr it) = inr (it.0, unanswered_first site xs ys (item ∷ items) it.1)
+
 -- what a stop cut of the first one is cut of both
 cut_first : (site : Site) (xs ys : List Arrival) (is bs : List Answer) (cut : List Item) → IsCutRun site xs is cut → IsCutRun site (xs ++ ys) (is ++ bs) cut
 cut_first site xs ys is bs [] it = tt
-cut_first site (x ∷ xs) ys (a ∷ is) bs (item ∷ cut) (inl it) = inl it
+cut_first site (x ∷ xs) ys (a ∷ is) bs (item ∷ cut) (inl it) = inl (unanswered_first site (x ∷ xs) ys (item ∷ cut) it)
 cut_first site (x ∷ xs) ys (a ∷ is) bs (item ∷ cut) (inr it) = inr (it.0, cut_first site xs ys is bs cut it.1)
 cut_first site xs ys is bs cut it = absurd it
 
@@ -154,7 +161,7 @@ module _ {S : Type 0} (g : Ghosts S) (site : Site) (h : Hall) where
         torn = it.crash h held sound hs left
 
         by : IsArrivalStep site h arrival.input arrival.moment arrival.fresh torn.answer torn.next → IsCutEnd site h (arrival ∷ []) (a ∷ []) torn.next
-        by (inl come) = (came_unanswered site arrival ∷ [], inl (refl, refl), (torn.next, (torn.answer, come), refl))
+        by (inl come) = (came_unanswered site arrival ∷ [], inl (inl (refl, tt)), (torn.next, (torn.answer, come), refl))
         by (inr missed) = ([], tt, missed.same)
 
     -- what counts as not having come, and was given its answer, is a silence that leaves all as it was

@@ -16,7 +16,7 @@ AreGiven site h (arrival ∷ arrivals) (a ∷ answers) =
     IsGiven site h arrival.input arrival.moment arrival.fresh a
     × ((next : Hall) → IsArrivalStep site h arrival.input arrival.moment arrival.fresh a next → AreGiven site next arrivals answers)
 
--- some of the arrivals with their answers lead from this hall to the other, perhaps with one more whose answer wasn't given
+-- some of the arrivals with their answers lead from this hall to the other, perhaps with some more whose answers weren't given
 abbrev pub IsCutEnd : Site → Hall → List Arrival → List Answer → Hall → Type 0
 IsCutEnd site h arrivals answers end = (cut : List Item) × IsCutRun site arrivals answers cut × AllLead h cut end
 
@@ -58,6 +58,6 @@ OrUnreplied past site e moment fresh items = (items ≡ past) ⊎ (items ≡ pas
 abbrev pub OrSomeRequest : List Item → Site → ℕ → List ℕ → List Item → Type 0
 OrSomeRequest past site moment fresh items = (items ≡ past) ⊎ ((octets : List ℕ) × (items ≡ past ++ came_unanswered site (requested octets moment fresh) ∷ []))
 
--- what came before, and then some of the arrivals with their answers, and then perhaps one more without
+-- what came before, and then some of the arrivals with their answers, and then perhaps some more without
 abbrev pub AndCutRun : List Item → Site → List Arrival → List Answer → List Item → Type 0
 AndCutRun past site arrivals answers items = (cut : List Item) × IsCutRun site arrivals answers cut × (items ≡ past ++ cut)

@@ -197,7 +197,7 @@ impl<S: HallStore> Desk<S> {
 
     /// Answers what comes in turn, one answer each. A hall stays, sound or not, that none of it changes. With all that came to the hall
     /// since it was new, at this place or others, it is a history that keeps all laws: `specs/Headline.antt` has them in one place. A stop
-    /// leaves, of a store that was settled, the hall after some of the arrivals, or after one more whose answer wasn't given.
+    /// leaves, of a store that was settled, the hall after some of the arrivals, or after some more whose answers weren't given.
     /// The error is want of memory for the answers, before the first arrival, and the hall is then as it was.
     pub fn run(&mut self, alloc: Global, arrivals: &[Arrival]) -> Result<Vec<Answer>, AllocError>
         ensures clean { S.HallStore.is_clean (store_of self.new) → S.HallStore.is_clean (store_of self.old) }

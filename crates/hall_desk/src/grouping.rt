@@ -1,7 +1,7 @@
 //! Arrivals that are answered by one commit of the store.
-ghost use Rattle.std.specs.Prelude.{◌≡◌, ◌≤◌, ◌++◌, true, false, List, length, IfOk, OnErr};
+ghost use Rattle.std.specs.Prelude.{◌≡◌, ◌≤◌, ◌++◌, true, false, List, Option, None, length, IfOk, OnErr};
 ghost use Rattle.hall_store.specs.Store.{Base};
-ghost use Rattle.hall_desk.specs.{Prelude.{Hall, IsSound}, Attempt.IsRan, Desk.{enlists_of, site_of, store_of}, Grouping.{AreAvailable, AreReadAs, HasGroupRun, IsUnavailable, OrTogether, first_of}, Headline.HasHistory, History.{Item, Origin, exchanges}, Stops.{IsLeft, IsSettled}, declared.arrival.Arrival.Arrival};
+ghost use Rattle.hall_desk.specs.{Prelude.{Hall, IsSound}, Attempt.IsRan, Desk.{enlists_of, site_of, store_of}, Grouping.{AreAvailable, AreReadAs, HasGroupRun, HasNoRun, IsUnavailable, OrTogether, first_of}, Headline.HasHistory, History.{Item, Origin, exchanges}, Stops.{IsLeft, IsSettled}, declared.arrival.Arrival.Arrival};
 
 use crate::account::Account;
 use crate::arrival::{Answer, Arrival};
@@ -33,7 +33,7 @@ impl<S: HallStore> Desk<S> {
         ensures clean { S.HallStore.is_clean (store_of self.new) → S.HallStore.is_clean (store_of self.old) }
         ensures site { site_of self.new ≡ site_of self.old }
         ensures enlists { enlists_of self.new ≡ enlists_of self.old }
-        ensures base { S.HallStore.is_clean (store_of self.new) → (base : Base) → S.HallStore.over (store_of self.old) base → S.HallStore.over (store_of self.new) base }
+        ensures base { S.HallStore.is_clean (store_of self.new) → (base : Option Base) → S.HallStore.over (store_of self.old) base → S.HallStore.over (store_of self.new) base }
         ensures few { IfOk result (λ answered. length answered.answers.items ≤ length arrivals.now) }
         ensures read { IfOk result (λ answered. AreReadAs (first_of arrivals.now answered.answers.items) answered.accounts.items) }
         ensures answered { IfOk result (λ answered. AreAvailable answered.answers.items) }
@@ -68,18 +68,20 @@ impl<S: GroupStore> Desk<S> {
         ensures clean { S.HallStore.is_clean (store_of self.new) → S.HallStore.is_clean (store_of self.old) }
         ensures site { site_of self.new ≡ site_of self.old }
         ensures enlists { enlists_of self.new ≡ enlists_of self.old }
+        ensures closed { S.HallStore.is_clean (store_of self.new) → S.HallStore.over (store_of self.old) None → S.HallStore.over (store_of self.new) None }
         ensures few { IfOk result (λ answered. length answered.answers.items ≤ length arrivals.now) }
         ensures read { IfOk result (λ answered. AreReadAs (first_of arrivals.now answered.answers.items) answered.accounts.items) }
         ensures answered { IfOk result (λ answered. AreAvailable answered.answers.items) }
         ensures run { S.HallStore.is_clean (store_of self.new) → IfOk result (λ answered. (h : Hall) → S.HallStore.holds (store_of self.old) h → IsSound h
-            → HasGroupRun S.HallStore (store_of self.new) (site_of self.old) h (first_of arrivals.now answered.answers.items) answered.answers.items) }
+            → HasGroupRun S.HallStore (store_of self.old) (store_of self.new) (site_of self.old) h (first_of arrivals.now answered.answers.items) answered.answers.items) }
         ensures history { S.HallStore.is_clean (store_of self.new) → IfOk result (λ answered. (origin : Origin) (past : List Item)
             → HasHistory S.HallStore (store_of self.old) origin past
             → HasHistory S.HallStore (store_of self.new) origin (past ++ exchanges (site_of self.old) (first_of arrivals.now answered.answers.items) answered.answers.items)) }
         ensures settled { S.HallStore.is_clean (store_of self.new) → IfOk result (λ answered. (origin : Origin) (past : List Item)
             → HasHistory S.HallStore (store_of self.old) origin past
             → IsSettled S.HallStore (store_of self.new) origin (past ++ exchanges (site_of self.old) (first_of arrivals.now answered.answers.items) answered.answers.items)) }
-        ensures missed { S.HallStore.is_clean (store_of self.new) → OnErr result ((h : Hall) → S.HallStore.holds (store_of self.old) h → S.HallStore.holds (store_of self.new) h) }
+        ensures missed { S.HallStore.is_clean (store_of self.new) → OnErr result ((h : Hall) → S.HallStore.holds (store_of self.old) h → IsSound h
+            → HasNoRun S.HallStore (store_of self.old) (store_of self.new) (site_of self.old) h arrivals.now) }
         ensures stop { S.HallStore.is_clean (store_of self.new) → (origin : Origin) (past : List Item)
             → IsSettled S.HallStore (store_of self.old) origin past
             → IsLeft S.HallStore (store_of self.new) origin (OrTogether past (site_of self.old) arrivals.now) }

@@ -19,7 +19,7 @@ pub still_known : (rows : List RowWrite) (h : Hall) (slots : List (Option Interf
 still_known rows h slots none are =
     subst (λ rows'. All (λ slot. IfSome slot (λ i. option_map (λ x. x.machine) (at rows' i.mac) ≡ Some i.machine)) slots) (sym (same_interfaces rows h none)) are
 
-module _ {S : Type 0} (holds : S → Hall → Type 0) (leaves : S → List Hall → Type 0) (over : S → Base → Type 0) {Y E : Type 0} (old new : Cached S) (rows : List RowWrite) where
+module _ {S : Type 0} (holds : S → Hall → Type 0) (leaves : S → List Hall → Type 0) (over : S → Option Base → Type 0) {Y E : Type 0} (old new : Cached S) (rows : List RowWrite) where
   -- a write of the store within is one of the store around it, where what is known is right afterwards
   pub written_around : (r : Result Y E) → IsWrite holds leaves over (inner old) (inner new) r (λ h. rows)
       → ((h : Hall) → AreOf h old.known.slots.items → AreOf (applied rows h) new.known.slots.items)

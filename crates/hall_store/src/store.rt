@@ -1,5 +1,5 @@
 //! The promise of a store.
-ghost use Rattle.std.specs.Prelude.{◌≡◌, List, ◌∷◌, option_map};
+ghost use Rattle.std.specs.Prelude.{◌≡◌, List, ◌∷◌, Option, option_map};
 ghost use Rattle.hall_types.specs.{Hall.{Hall, pair, second}, Kinds.arch_number, Lookup.{interfaces_of, is_image_used, machine_with_uuid, next_expired, operator_with_digest, waiting}, Rows.{at, listed, size}};
 ghost use Rattle.hall_store.specs.{Counts.AreCounts, Store.{Base, ReadsBy, WritesBy}};
 
@@ -39,7 +39,7 @@ pub trait HallStore {
     ghost leaves: { Self → List Hall → Type 0 };
 
     // a group of changes is held over this hall
-    ghost over: { Self → Base → Type 0 };
+    ghost over: { Self → Option Base → Type 0 };
 
     ghost wider: { (s : Self) (h : Hall) (hs : List Hall) → leaves s hs → leaves s (h ∷ hs) };
 

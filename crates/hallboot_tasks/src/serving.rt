@@ -10,13 +10,14 @@ use crate::suspended::{Bound, Suspended};
 use desk_lines::Backup;
 use hall_desk::Desk;
 use hall_report::Fault;
-use hall_store::HallStore;
+use hall_store::{GroupStore, HallStore};
 use hallboot_files::{Joining, ServedFile};
 use hallboot_words::Serving;
 use pxe_vendor::{Place, PlaceFault};
 use rand::rngs::SysRng;
 use serve_sockets::{Service, Source};
 use std::alloc::Global;
+use store_group::Group;
 
 /// After how many turns it is looked whether the hall's file is still there.
 const LOOK: u64 = 8;
@@ -54,7 +55,7 @@ fn tell_of_backup(rt: &HostRuntime, lines: &mut Lines, serving: &Serving, backup
 }
 
 // Serves a part's turns, and says how that ended and how many turns are left.
-fn serve_part<S: HallStore, C: Source, J: Joining>(
+fn serve_part<S: GroupStore, C: Source, J: Joining>(
     rt: &HostRuntime,
     service: &mut Service<S>,
     stamps: &mut C,
@@ -109,6 +110,7 @@ fn serve_over<S: HallStore, J: Joining>(
         joining,
         last,
     };
+    let store = Group::new(rt.alloc(), store);
     let desk = desk_over(store, place, part.serving.enlists);
     let mut service = Service::new(rt.alloc(), desk, bound.sockets);
     let mut stamps = Stamps::since(rt, start, SysRng::new(rt));
@@ -121,7 +123,7 @@ fn serve_over<S: HallStore, J: Joining>(
         start,
         backed_up: copies.last,
     };
-    (ended, desk.into_store(), bound)
+    (ended, desk.into_store().into_inner(), bound)
 }
 
 // A place of its own for a desk.

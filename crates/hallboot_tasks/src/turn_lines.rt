@@ -36,7 +36,7 @@ fn is_of_note(turn: &Turn, arrival: Option<&str>) -> bool {
     match turn {
         Turn::Handed(handover) | Turn::Unsent(handover) => is_handover_of_note(handover, arrival),
         Turn::Accepted { .. } | Turn::Closed { .. } => true,
-        Turn::Failed | Turn::Moved(_) | Turn::PutOff(_) | Turn::Nothing => false,
+        Turn::Failed | Turn::Moved(_) | Turn::PutOff(_) | Turn::Decided(_) | Turn::Nothing => false,
     }
 }
 
@@ -46,7 +46,8 @@ fn source(turn: &Turn) -> Option<SocketAddr> {
         Turn::Accepted { from, .. }
         | Turn::Closed { from, .. }
         | Turn::Moved(from)
-        | Turn::PutOff(from) => Some(*from),
+        | Turn::PutOff(from)
+        | Turn::Decided(from) => Some(*from),
         Turn::Failed | Turn::Nothing => None,
     }
 }

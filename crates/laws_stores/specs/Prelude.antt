@@ -1,5 +1,5 @@
 -- The names of libraries that the definitions and proofs of laws_stores use, but those of std.
-pub use Rattle.hall_desk.specs.{Headline.Headline, History.{AllLead, Item, Origin, BeginsWith, exchanges}, Stops.{IsSettled, IsEnd, AndCutRun, OrUnanswered, OrUnreplied, IsLeft}, declared.arrival.{Answer.Answer, Arrival.Arrival}}
+pub use Rattle.hall_desk.specs.{Headline.Headline, History.{AllLead, Item, Origin, BeginsWith, exchanges}, Grouping.OrTogether, Stops.{IsSettled, IsEnd, AndCutRun, OrUnanswered, OrUnreplied, IsLeft}, declared.arrival.{Answer.Answer, Arrival.Arrival}}
 pub use Rattle.hall_events.specs.declared.event.Event.{Event}
 pub use Rattle.hall_laws.specs.{Migration.{IsMigrated, with_kind}, Step.Step, FirstSchema.IsFirstRun, Origin.{carried_over, created}}
 pub use Rattle.hall_sql.specs.{Opening.connection_after, Store.connection}

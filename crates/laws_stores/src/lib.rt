@@ -8,4 +8,4 @@ mod stops;
 
 pub use laws::{memory_keeps_the_headline, sqlite_keeps_the_headline};
 pub use migrating::migrated_goes_on;
-pub use stops::{open_again, stops_leave_ends};
+pub use stops::{open_again, stops_leave_ends, stops_leave_ends_of_groups};

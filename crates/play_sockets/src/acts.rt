@@ -3,7 +3,7 @@ use crate::client::Client;
 use crate::stage::Stage;
 use cases::{CaseFault, Out, Played, text_of};
 use hall_desk::{Answer, Input};
-use hall_store::HallStore;
+use hall_store::GroupStore;
 use hall_types::Port;
 use play_log::{first, number, parsed, push_answer, push_response};
 use pxe_vendor::Octets;
@@ -35,7 +35,7 @@ fn push_state(out: &mut Out, state: &str, octets: Vec<u8>) -> Played {
     Ok(())
 }
 
-impl<'a, S: HallStore + Drop> Stage<'a, S> {
+impl<'a, S: GroupStore + Drop> Stage<'a, S> {
     // So many clients of a name connect.
     fn connect(&mut self, name: &str, count: u64) -> Played {
         let service = self.service.sockets().http_address()?;

@@ -5,6 +5,7 @@ use hall_store::{HallStore, Probe};
 use hall_types::{Arch, Change, Interface, MacAddress, Machine, Number, RowWrite};
 use play_log::{ADA, admin, number, parsed};
 use std::alloc::Global;
+use store_group::Group;
 use store_memory::MemoryStore;
 
 // A new machine in the pool that every hall has, and its eight interfaces, 52:54:00:HH:HH:00 to 52:54:00:HH:HH:07, where HH:HH is its number.
@@ -33,7 +34,7 @@ fn fill<S: HallStore>(alloc: Global, store: &mut S, machines: u64) -> Played {
 }
 
 // A hall of memory, from the words `MACHINES` or `MACHINES CALL`.
-fn store_of(alloc: Global, words: &str) -> Result<Probe<MemoryStore>, CaseFault> {
+fn store_of(alloc: Global, words: &str) -> Result<Group<Probe<MemoryStore>>, CaseFault> {
     let (machines, fails_at) = match words.split_once(' ') {
         Some((machines, call)) => (number(machines)?, Some(number(call)?)),
         None => (number(words)?, None),
@@ -42,14 +43,14 @@ fn store_of(alloc: Global, words: &str) -> Result<Probe<MemoryStore>, CaseFault>
     let store = MemoryStore::create(alloc, admin, digest);
     let mut store = store.map_err(|_| CaseFault::Unavailable)?;
     fill(alloc, &mut store, machines)?;
-    Ok(Probe::new(store, fails_at))
+    Ok(Group::new(alloc, Probe::new(store, fails_at)))
 }
 
 /// What cases are played on: a hall in memory that is served, once an act has begun one.
 #[derive(Drop)]
 pub struct Hall<'a> {
     rt: &'a HostRuntime,
-    stage: Option<Stage<'a, Probe<MemoryStore>>>,
+    stage: Option<Stage<'a, Group<Probe<MemoryStore>>>>,
 }
 
 impl<'a> Hall<'a> {

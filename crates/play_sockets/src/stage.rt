@@ -3,7 +3,7 @@ use crate::client::Client;
 use crate::log::Log;
 use cases::CaseFault;
 use hall_desk::{Desk, Input};
-use hall_store::HallStore;
+use hall_store::GroupStore;
 use hall_types::Token;
 use play_log::{arrival, parsed, place};
 use serve_sockets::{Addresses, Service, Sockets, Source, Stamp};
@@ -59,7 +59,7 @@ fn loopback(last: u8) -> SocketAddr {
 }
 
 // A service over the store, on loopback.
-fn service<S: HallStore + Drop>(rt: &HostRuntime, store: S) -> Result<Service<S>, CaseFault> {
+fn service<S: GroupStore + Drop>(rt: &HostRuntime, store: S) -> Result<Service<S>, CaseFault> {
     let alloc = rt.alloc();
     let addresses = Addresses {
         discover: loopback(1),
@@ -84,7 +84,7 @@ fn standing() -> Result<Clock, CaseFault> {
     })
 }
 
-impl<'a, S: HallStore + Drop> Stage<'a, S> {
+impl<'a, S: GroupStore + Drop> Stage<'a, S> {
     /// A service over the store. The moment is 1000.
     pub fn new(rt: &'a HostRuntime, store: S) -> Result<Stage<'a, S>, CaseFault> {
         let alloc = rt.alloc();

@@ -1,4 +1,5 @@
 pub mod ConnectionLemmas
+pub mod GatheringLemmas
 pub mod ListingLemmas
 pub mod ListsLemmas
 pub mod ServingLemmas

@@ -1,18 +1,19 @@
 -- What turns do with the desk, and when one is a quiet moment.
 use Rattle.std.proofs.{Common.{◌≡◌, ◌≢◌, ◌<◌, ◌+◌, ◌%◌, ◌∙◌, ℕ, Bool, true, false, ◌&&◌, ◌||◌, List, Option, ap, arith, refl, subst, sym}, lemmas.Bool.false≢true}
-use Rattle.serve_sockets.specs.{Prelude.{site_of, store_of, Answer, Request, Desk, Ghosts}, Service.{IsPaced, is_opening_of, turns_of}, Serving.{IsOnlyMoved, IsRequest, IsStep, IsTurnOf}, Turn.{HandsNothing, IsOfDatagram, IsTurn, KeepsDesk, is_unavailable, said_of}, declared.{service.Service.Service, serving.Step.Step, turn.{Handover.Handover, Kind.Kind, Said.Said, Stamp.Stamp, Turn.Turn}}}
+use Rattle.serve_sockets.specs.{Prelude.{site_of, store_of, Answer, Request, Desk, Ghosts}, Service.{IsPaced, is_opening_of, turns_of}, Serving.{IsOnlyMoved, IsRequest, IsStep, IsTurnOf}, Turn.{Did, HandsNothing, IsOfDatagram, IsTurn, KeepsDesk, is_unavailable, said_of}, declared.{service.Service.Service, serving.Step.Step, turn.{Handover.Handover, Kind.Kind, Said.Said, Stamp.Stamp, Turn.Turn}}}
 
 -- ---- what is done with the desk
 
 module _ {S : Type 0} (g : Ghosts S) where
   pub keeps_same : (desk : Desk S) → KeepsDesk g desk desk
-  keeps_same desk = record { clean = λ clean. clean; site = refl; enlists = refl }
+  keeps_same desk = record { clean = λ clean. clean; site = refl; enlists = refl; closed = λ clean closed. closed }
 
   pub keeps_then : (old mid new : Desk S) → KeepsDesk g old mid → KeepsDesk g mid new → KeepsDesk g old new
   keeps_then old mid new first then = record {
     clean = λ clean. first.clean (then.clean clean);
     site = then.site ∙ first.site;
     enlists = then.enlists ∙ first.enlists;
+    closed = λ clean closed. then.closed clean (first.closed (then.clean clean) closed);
   }
 
   -- a turn that hands nothing over
@@ -22,10 +23,18 @@ module _ {S : Type 0} (g : Ghosts S) where
   nothing_handed desk stamp (Turn.PutOff from) nothing = absurd nothing
   nothing_handed desk stamp t nothing = record { kept = keeps_same desk; did = refl; unlisted = λ off frame. absurd frame }
 
+  -- a turn that handed nothing over left the desk as it was
+  pub did_nothing : (old new : Desk S) (stamp : Stamp) (t : Turn) → HandsNothing t → Did g old new stamp t → new ≡ old
+  did_nothing old new stamp (Turn.Handed handover) nothing did = absurd nothing
+  did_nothing old new stamp (Turn.Unsent handover) nothing did = absurd nothing
+  did_nothing old new stamp (Turn.PutOff from) nothing did = absurd nothing
+  did_nothing old new stamp t nothing did = did
+
   -- a step that hands nothing over
   pub only_moved : (desk : Desk S) (P : Handover → Type 0) (s : Step) → IsOnlyMoved s → IsStep g desk desk P s
   only_moved desk P (Step.Handed handover) moved = absurd moved
   only_moved desk P Step.PutOff moved = absurd moved
+  only_moved desk P Step.Whole moved = absurd moved
   only_moved desk P s moved = record { kept = keeps_same desk; did = refl }
 
   -- what the step did is what the turn did

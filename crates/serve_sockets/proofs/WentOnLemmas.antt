@@ -3,13 +3,13 @@ use Rattle.std.proofs.Common.{◌≡◌, ◌≤◌, ◌+◌, ℕ, List, [], ◌�
 use Rattle.serve_sockets.specs.{Prelude.{Site, IsOnlyRead, read_same, AreHistoryLaws, after_run, run_given, run_stop, site_of, store_of, has_run_none, has_run_one, has_run_then, Arrival, Desk, Ghosts}, Stamps.{AreStamped, IsPassed, ended, handed, passed}, Turn.{AreServed, Did, IsHanded, WentOn}, declared.turn.{Handover.Handover, Stamp.Stamp, Turn.Turn}}
 
 module _ {C : Type 0} (gives : C → Option Stamp → C → Type 0) where
-  stamped_then : {c d e : C} {xs ys : List Arrival} → AreStamped gives c xs d → AreStamped gives d ys e → AreStamped gives c (xs ++ ys) e
+  pub stamped_then : {c d e : C} {xs ys : List Arrival} → AreStamped gives c xs d → AreStamped gives d ys e → AreStamped gives c (xs ++ ys) e
   stamped_then ended more = more
   stamped_then (passed gave rest) more = passed gave (stamped_then rest more)
   stamped_then (handed gave moment fresh rest) more = handed gave moment fresh (stamped_then rest more)
 
   -- the source was asked how long the turn waits, or not
-  stamped_from : (c d e : C) (xs : List Arrival) → IsPassed gives c d → AreStamped gives d xs e → AreStamped gives c xs e
+  pub stamped_from : (c d e : C) (xs : List Arrival) → IsPassed gives c d → AreStamped gives d xs e → AreStamped gives c xs e
   stamped_from c d e xs (inl same) rest = subst (λ (from : C). AreStamped gives from xs e) same rest
   stamped_from c d e xs (inr gave) rest = passed gave rest
 

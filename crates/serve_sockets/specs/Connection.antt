@@ -1,6 +1,6 @@
 -- What a connection sent, and what of its answer it has taken.
-use Rattle.std.specs.{Prelude.{◌≡◌, ◌⊎◌, ℕ, ◌-◌, List, [], ◌++◌, Bool, false, Option, None, Some, drop, is_some, nat_lt, not, ◌&&◌, if◌then◌else◌}, Io.KnownBytes.{Consumes, IsAtEnd, Keeps}}
-use Rattle.serve_sockets.specs.{Prelude.{IsDecided, octets_of}, Group.group_of, declared.{connection.{Connection.Connection, Sending.Sending}, reading.Taken.Taken, writing.Put.Put}}
+use Rattle.std.specs.{Prelude.{◌≡◌, ◌⊎◌, ℕ, ◌-◌, List, [], ◌++◌, Bool, true, false, Option, None, Some, drop, is_some, nat_lt, not, ◌&&◌, if◌then◌else◌}, Io.KnownBytes.{Consumes, IsAtEnd, Keeps}}
+use Rattle.serve_sockets.specs.{Prelude.{IsDecided, octets_of}, Group.group_of, declared.{connection.{Connection.Connection, Sending.Sending, Wait.Wait}, reading.Taken.Taken, writing.Put.Put}}
 
 -- the octets of an answer that are to be written yet
 abbrev pub unwritten : Sending → List ℕ
@@ -14,6 +14,15 @@ rest_of (Some sending) = unwritten sending
 abbrev pub is_long_ago : ℕ → Option ℕ → Bool
 is_long_ago now None = false
 is_long_ago now (Some moment) = nat_lt 60000 (now - moment)
+
+-- whether something waits, and for this
+abbrev pub is_of_call : Option Wait → Bool
+is_of_call (Some Wait.Call) = true
+is_of_call other = false
+
+abbrev pub is_of_group : Option Wait → Bool
+is_of_group (Some Wait.Group) = true
+is_of_group other = false
 
 module _ {T : Type 0} where
   -- what it is a connection over
@@ -36,9 +45,17 @@ module _ {T : Type 0} where
   abbrev pub is_answered : Connection T → Bool
   is_answered connection = is_some connection.sending
 
-  -- whether its request for a list waits
+  -- whether its request waits
+  abbrev pub is_waiting : Connection T → Bool
+  is_waiting connection = is_some connection.waits
+
+  -- whether its request for a list waits until that is called
   abbrev pub is_put_off : Connection T → Bool
-  is_put_off connection = connection.is_put_off
+  is_put_off connection = is_of_call connection.waits
+
+  -- whether its request waits to be answered with others
+  abbrev pub is_whole : Connection T → Bool
+  is_whole connection = is_of_group connection.waits
 
   -- whether its request for a list, which had waited, was called: the list is open until the client has taken it
   abbrev pub is_called : Connection T → Bool
@@ -48,9 +65,9 @@ module _ {T : Type 0} where
   abbrev pub is_slow : ℕ → Connection T → Bool
   is_slow now connection = is_long_ago now connection.called
 
-  -- whether it has no answer, and its request isn't put off
+  -- whether it has no answer, and its request doesn't wait
   abbrev pub is_undecided : Connection T → Bool
-  is_undecided connection = not (is_answered connection) && not (is_put_off connection)
+  is_undecided connection = not (is_answered connection) && not (is_waiting connection)
 
   -- the group of the client's address, if the connection is undecided
   abbrev pub undecided_group : Connection T → Option ℕ

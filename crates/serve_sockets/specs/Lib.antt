@@ -1,5 +1,6 @@
 pub mod Prelude
 pub mod Connection
+pub mod Gathering
 pub mod Group
 pub mod Listing
 pub mod Lists
@@ -12,4 +13,5 @@ pub mod Sockets
 pub mod Stamps
 pub mod Table
 pub mod Turn
+pub mod Waiting
 pub mod Yielding

@@ -1,6 +1,6 @@
 -- What a step of a connection did.
-use Rattle.std.specs.Prelude.{◌≡◌, ℕ, List, ◌++◌, Option, IfSome}
-use Rattle.serve_sockets.specs.{Prelude.{Site, IsAnswered, IsOnlyRead, store_of, octets_of, Answer, Request, Desk, Ghosts}, Turn.{HandsNothing, IsPutOff, KeepsDesk, Tells}, declared.{serving.Step.Step, turn.{Handover.Handover, Turn.Turn}}}
+use Rattle.std.specs.{Prelude.{◌≡◌, ◌⊎◌, ℕ, List, ◌++◌, Option, IfSome}, Io.KnownBytes.IsAtEnd}
+use Rattle.serve_sockets.specs.{Prelude.{Site, IsAnswered, IsDecided, IsOnlyRead, store_of, octets_of, Answer, Request, Desk, Ghosts}, Turn.{HandsNothing, IsPutOff, KeepsDesk, Tells}, declared.{serving.Step.Step, turn.{Handover.Handover, Turn.Turn}}}
 
 module _ {S : Type 0} (g : Ghosts S) (old new : S) (site : Site) (moment : ℕ) (fresh : List ℕ) where
   -- the octets were handed to the desk as a request, and its answer waits
@@ -20,10 +20,15 @@ module _ {S : Type 0} (g : Ghosts S) (old new : S) (site : Site) (moment : ℕ) 
     pub whole : IfSome rest (λ more. IsAnswered g old new site (Request (read ++ more)) moment fresh said)
     pub waits : left ≡ octets_of said
 
--- a step handed nothing to the desk, and asked it nothing
+-- the octets decide a request, or none come after them
+abbrev pub IsWhole : Option (List ℕ) → List ℕ → Type 0
+IsWhole rest octets = IsAtEnd rest ⊎ IsDecided octets
+
+-- a step handed nothing to the desk, and asked it nothing, and no request waits after it
 abbrev pub IsOnlyMoved : Step → Type 0
 IsOnlyMoved (Step.Handed handover) = ⊥
 IsOnlyMoved Step.PutOff = ⊥
+IsOnlyMoved Step.Whole = ⊥
 IsOnlyMoved step = Unit {0}
 
 -- the turn of a step

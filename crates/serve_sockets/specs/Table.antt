@@ -1,6 +1,6 @@
 -- The open connections, each in a slot.
 use Rattle.std.specs.Prelude.{◌≡◌, ◌<◌, ◌≤◌, ◌-◌, ℕ, List, Bool, true, false, not, ◌&&◌, Option, None, Some, length, nat_le, slice_get, unwrap_or}
-use Rattle.serve_sockets.specs.{Connection.{is_put_off, number_of, since_of}, declared.{connection.Connection.Connection, table.Table.Table}}
+use Rattle.serve_sockets.specs.{Connection.{is_waiting, number_of, since_of}, declared.{connection.Connection.Connection, table.Table.Table}}
 
 -- whether the seat of a slot is marked
 abbrev pub is_marked : List Bool → ℕ → Bool
@@ -11,10 +11,10 @@ module _ {T : Type 0} where
   abbrev pub slots_of : Table T → List (Option (Connection T))
   slots_of table = table.slots.items
 
-  -- whether the connection of a slot was undecided, or its answer stood still, for two seconds of served time, and its request isn't put off
+  -- whether the connection of a slot was undecided, or its answer stood still, for two seconds of served time, and its request doesn't wait
   abbrev pub is_late_in : ℕ → Option (Connection T) → Bool
   is_late_in now None = false
-  is_late_in now (Some connection) = not (is_put_off connection) && nat_le 2000 (now - since_of connection)
+  is_late_in now (Some connection) = not (is_waiting connection) && nat_le 2000 (now - since_of connection)
 
   -- likewise of what a slot holds, if there is such a slot
   abbrev pub is_late_held : ℕ → Option (Option (Connection T)) → Bool

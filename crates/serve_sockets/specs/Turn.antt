@@ -1,5 +1,5 @@
 -- What a turn did, and what a log says of it.
-use Rattle.std.specs.Prelude.{◌≡◌, ◌≤◌, ℕ, Bool, true, false, List, [], ◌++◌, length, Option}
+use Rattle.std.specs.Prelude.{◌≡◌, ◌⊎◌, ◌≤◌, ℕ, Bool, true, false, List, [], ◌++◌, length, Option, None}
 use Rattle.hall_desk.specs.History.{Origin}
 use Rattle.serve_sockets.specs.{Prelude.{Site, Hall, IsSound, IsAnswered, IsOnlyRead, enlists_of, site_of, store_of, HasHistory, Item, exchanges, AndCutRun, AreGiven, HasRun, IsLeft, IsSettled, Answer, Arrival, Input, Desk, Ghosts}, Stamps.AreStamped, declared.turn.{Handover.Handover, Kind.Kind, Said.Said, Stamp.Stamp, Turn.Turn}}
 
@@ -83,11 +83,17 @@ module _ {S : Type 0} (g : Ghosts S) (old new : S) (site : Site) where
     pub tells : Tells handover what said
     pub answered : IsAnswered g old new site what moment fresh said
 
+-- a request was handed to the desk with this stamp, or nothing was
+abbrev pub IsHandedAlone : {S : Type 0} → Ghosts S → S → S → Site → Stamp → Type 0
+IsHandedAlone g old new site stamp = (new ≡ old) ⊎ ((handover : Handover) × IsHanded g old new site stamp.moment stamp.fresh handover)
+
 -- A desk serves the same place and enlists as before; and if its store took no wrong answer of a disk for a right one, it took none before.
 pub record KeepsDesk {S : Type 0} (g : Ghosts S) (old new : Desk S) : Type 0 where
   pub clean : g.is_clean (store_of new) → g.is_clean (store_of old)
   pub site : site_of new ≡ site_of old
   pub enlists : enlists_of new ≡ enlists_of old
+  -- where no group of changes is open, none is afterwards
+  pub closed : g.is_clean (store_of new) → g.over (store_of old) None → g.over (store_of new) None
 
 -- what was handed to the desk, at a stamp's moment and with its fresh octets; where a request was put off, the hall was only read
 abbrev pub Did : {S : Type 0} → Ghosts S → Desk S → Desk S → Stamp → Turn → Type 0
@@ -102,8 +108,8 @@ pub record IsTurn {S : Type 0} (g : Ghosts S) (old new : Desk S) (stamp : Stamp)
   pub did : Did g old new stamp turn
   pub unlisted : enlists_of old ≡ false → HandsDatagram turn → g.is_clean (store_of new) → IsOnlyRead g (store_of old) (store_of new)
 
--- Turns were served: so many arrivals at most were handed to the desk, one at a time, each with the moment and the fresh octets of a stamp
--- of its own that the source gave.
+-- Turns were served: so many arrivals at most were handed to the desk, alone or together, each with the moment and the fresh octets of a
+-- stamp of its own that the source gave.
 pub record AreServed {S C : Type 0} (g : Ghosts S) (gives : C → Option Stamp → C → Type 0)
     (old new : S) (source source' : C) (site : Site) (most : ℕ) : Type 0 where
   pub arrivals : List Arrival
@@ -113,7 +119,7 @@ pub record AreServed {S C : Type 0} (g : Ghosts S) (gives : C → Option Stamp �
   pub run : (h : Hall) → g.holds old h → IsSound h → HasRun g old new site h arrivals answers
 
 -- That is what came to the hall since it was new. Of a store that was settled a stop leaves the hall after some of the arrivals, or
--- after one more whose answer wasn't given; and the hall at their end alone, if each was given its answer.
+-- after some more whose answers weren't given; and the hall at their end alone, if each was given its answer.
 pub record WentOn {S C : Type 0} (g : Ghosts S) (gives : C → Option Stamp → C → Type 0)
     (old new : S) (source source' : C) (site : Site) (most : ℕ) : Type 0 where
   pub served : AreServed g gives old new source source' site most

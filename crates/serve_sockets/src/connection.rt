@@ -1,5 +1,5 @@
 //! One connection: what it sent, and what of its answer it has taken.
-ghost use Rattle.std.specs.{Prelude.{◌≡◌, ◌≤◌, ◌-◌, ◌<◌, [], IfSome, IsTrue, Some, length, nat_le, not, ◌&&◌, vec_len, true, false}, Io.KnownBytes.{Keeps, append_known}};
+ghost use Rattle.std.specs.{Prelude.{◌≡◌, ◌≤◌, ◌-◌, ◌<◌, [], IfSome, IsTrue, None, Some, length, nat_le, not, ◌&&◌, vec_len, true, false}, Io.KnownBytes.{Keeps, append_known}};
 ghost use Rattle.hall_desk.specs.Octets.{octets_of};
 
 use crate::group::group;
@@ -27,6 +27,15 @@ pub(crate) struct Sending {
     ghost within: { written ≤ length (octets_of answer) },
 }
 
+/// What a whole request waits for.
+#[derive(Clone, Copy, PartialEq, Eq)]
+pub(crate) enum Wait {
+    /// That its list is called.
+    Call,
+    /// That it is answered, with others that wait so, by one commit.
+    Group,
+}
+
 /// A connection over a stream whose calls don't wait.
 #[derive(Drop)]
 pub(crate) struct Connection<T> {
@@ -37,15 +46,15 @@ pub(crate) struct Connection<T> {
     since: u64,
     input: Vec<u8>,
     sending: Option<Sending>,
-    // Its request for a list waits.
-    is_put_off: bool,
+    // What its request waits for.
+    waits: Option<Wait>,
     // When its request for a list, which had waited, was called, in served time.
     called: Option<u64>,
     ghost bounded: { vec_len input ≤ 24576 },
 }
 
 impl<T> Connection<T> {
-    ghost use Rattle.serve_sockets.specs.Connection.{input_of, is_answered, is_called, is_put_off, is_slow, left_of, number_of, undecided_group, since_of, stream_of};
+    ghost use Rattle.serve_sockets.specs.Connection.{input_of, is_answered, is_called, is_put_off, is_slow, is_waiting, is_whole, left_of, number_of, undecided_group, since_of, stream_of};
 
     /// The connection that was accepted as the so-manieth, at a served time.
     pub(crate) fn new(
@@ -68,7 +77,7 @@ impl<T> Connection<T> {
             since: now,
             input: Vec::new(alloc),
             sending: None,
-            is_put_off: false,
+            waits: None,
             called: None,
         }
     }
@@ -90,18 +99,32 @@ impl<T> Connection<T> {
         self.number
     }
 
-    /// Whether it was undecided, or its answer stood still, for two seconds of served time, and its request isn't put off.
+    /// Whether it was undecided, or its answer stood still, for two seconds of served time, and its request doesn't wait.
     pub(crate) fn is_late(&self, now: u64) -> bool
-        ensures { result ≡ not (is_put_off self.now) && nat_le 2000 (now - since_of self.now) }
+        ensures { result ≡ not (is_waiting self.now) && nat_le 2000 (now - since_of self.now) }
     {
-        !self.is_put_off && now.saturating_sub(self.since) >= PATIENCE
+        !self.is_waiting() && now.saturating_sub(self.since) >= PATIENCE
     }
 
     /// Whether its request waits.
+    pub(crate) fn is_waiting(&self) -> bool
+        ensures { result ≡ is_waiting self.now }
+    {
+        self.waits.is_some()
+    }
+
+    /// Whether its request asks for a list, and waits until that is called.
     pub(crate) fn is_put_off(&self) -> bool
         ensures { result ≡ is_put_off self.now }
     {
-        self.is_put_off
+        matches!(self.waits, Some(Wait::Call))
+    }
+
+    /// Whether its request waits to be answered with others.
+    pub(crate) fn is_whole(&self) -> bool
+        ensures { result ≡ is_whole self.now }
+    {
+        matches!(self.waits, Some(Wait::Group))
     }
 
     /// Whether its request for a list was called: the list is open until the client has taken it.
@@ -129,17 +152,17 @@ impl<T> Connection<T> {
     }
 
     /// Has its request wait.
-    pub(crate) fn put_off(&mut self)
-        ensures { self.new ≡ record self.old { is_put_off = true } }
+    pub(crate) fn wait(&mut self, what: Wait)
+        ensures { self.new ≡ record self.old { waits = Some what } }
     {
-        self.is_put_off = true;
+        self.waits = Some(what);
     }
 
     /// Its request waits no more, from this served time on.
     pub(crate) fn call(&mut self, now: u64)
-        ensures { self.new ≡ record self.old { is_put_off = false; called = Some now } }
+        ensures { self.new ≡ record self.old { waits = None; called = Some now } }
     {
-        self.is_put_off = false;
+        self.waits = None;
         self.called = Some(now);
     }
 
@@ -149,12 +172,12 @@ impl<T> Connection<T> {
         self.sending.is_some()
     }
 
-    /// The group of the client's address, if the connection has no answer and its request isn't put off.
+    /// The group of the client's address, if the connection has no answer and its request doesn't wait.
     pub(crate) fn undecided_group(&self) -> Option<usize>
         ensures group { result ≡ undecided_group self.now }
         ensures within { IfSome result (λ group. group < 1024) }
     {
-        if self.sending.is_none() && !self.is_put_off {
+        if self.sending.is_none() && !self.is_waiting() {
             Some(group(&self.from))
         } else {
             None
@@ -175,11 +198,13 @@ impl<T> Connection<T> {
     pub(crate) fn answer(&mut self, answer: Answer, now: u64)
         ensures left { left_of self.new ≡ octets_of answer }
         ensures answered { IsTrue (is_answered self.new) }
+        ensures waits { is_waiting self.new ≡ false }
         ensures since { since_of self.new ≡ now }
         ensures stream { stream_of self.new ≡ stream_of self.old }
         ensures number { number_of self.new ≡ number_of self.old }
     {
         self.sending = Some(Sending { answer, written: 0 });
+        self.waits = None;
         self.since = now;
     }
 }

@@ -1,11 +1,11 @@
 //! Handing what came to the desk.
-ghost use Rattle.std.specs.Prelude.{◌≡◌, false};
-ghost use Rattle.hall_desk.specs.{Answering.Answers, Attempt.{GivesAnswer, IsOnlyRead}, Desk.{enlists_of, site_of, store_of}};
-ghost use Rattle.serve_sockets.specs.Turn.{arrival_of};
+ghost use Rattle.std.specs.Prelude.{◌≡◌, ◌<◌, false, IfErr, IfOk, length, take};
+ghost use Rattle.hall_desk.specs.{Answering.Answers, Attempt.{GivesAnswer, IsOnlyRead}, Desk.{enlists_of, site_of, store_of}, Grouping.first_of, GroupingLaws.missed_answers};
+ghost use Rattle.serve_sockets.specs.{Gathering.{AreRequests, IsHandedAs}, Turn.{KeepsDesk, arrival_of}};
 
 use crate::turn::{Stamp, TurnLog};
-use hall_desk::{Answer, Arrival, Desk, Input};
-use hall_store::HallStore;
+use hall_desk::{Answer, Answered, Arrival, Desk, Input};
+use hall_store::{GroupStore, HallStore, Unavailable};
 use hall_types::Port;
 use pxe_vendor::Octets;
 use std::alloc::Global;
@@ -61,5 +61,25 @@ impl<S: HallStore> Server<S> {
         let octets = Octets::from(octets);
         let (answer, _) = self.hand(log, stamp, Input::Datagram { port, octets });
         answer
+    }
+}
+
+impl<S: GroupStore> Server<S> {
+    /// Hands over requests that came together, by one commit: the answers to the first of them; or, as an error, how many of them came to
+    /// nothing: all, or the first one, which the store can't answer.
+    pub(crate) fn hand_group(&mut self, arrivals: &[Arrival]) -> Result<Answered, usize>
+        requires some { 0 < length arrivals.now }
+        requires requests { AreRequests arrivals.now }
+        ensures kept { KeepsDesk S.HallStore self.old.desk self.new.desk }
+        ensures answered { S.HallStore.is_clean (store_of self.new.desk) → IfOk result (λ answered.
+            IsHandedAs S.HallStore (store_of self.old.desk) (store_of self.new.desk) (site_of self.old.desk) (first_of arrivals.now answered.answers.items) answered.answers.items) }
+        ensures refused { S.HallStore.is_clean (store_of self.new.desk) → IfErr result (λ count.
+            IsHandedAs S.HallStore (store_of self.old.desk) (store_of self.new.desk) (site_of self.old.desk) (take count arrivals.now) (missed_answers (take count arrivals.now))) }
+    {
+        match self.desk.answer_group(self.alloc, arrivals) {
+            Ok(answered) if answered.answers.is_empty() => Err(1),
+            Ok(answered) => Ok(answered),
+            Err(Unavailable) => Err(arrivals.len()),
+        }
     }
 }

@@ -2,6 +2,7 @@
 #![tactic(auto)]
 
 mod connection;
+mod gathering;
 mod group;
 mod handing;
 mod handover;
@@ -20,6 +21,7 @@ mod slots;
 mod sockets;
 mod table;
 mod turn;
+mod waiting;
 mod writing;
 mod yielding;
 

@@ -4,6 +4,7 @@ ghost use Rattle.serve_sockets.specs.{Ring.ready_of, Table.slots_of};
 
 use crate::ring::Ring;
 use crate::table::Table;
+use crate::waiting::Waiting;
 use mio::event::Events;
 use mio::net::TcpStream;
 use std::alloc::{AllocError, Global};
@@ -20,6 +21,7 @@ pub(crate) struct Room {
     pub events: Events,
     pub table: Table<TcpStream>,
     pub ring: Ring,
+    pub waiting: Waiting,
     pub buffer: Vec<u8>,
     ghost agree: { length (ready_of ring) ≡ length (slots_of table) + 3 },
 }
@@ -39,6 +41,7 @@ impl Room {
             events: Events::with_capacity(alloc, MAX_EVENTS)?,
             table: Table::new(alloc, places)?,
             ring: Ring::new(alloc, places)?,
+            waiting: Waiting::new(alloc),
             buffer: buffer(alloc)?,
         })
     }

@@ -2,17 +2,19 @@
 ghost use Rattle.std.specs.Prelude.{◌≡◌, ◌<◌, ◌&&◌, ◌||◌};
 ghost use Rattle.serve_sockets.specs.Turn.{is_unavailable};
 
+use crate::gathering::{Client, Gathered};
 use crate::handing::Server;
 use crate::handover::{handover, is_unavailable};
 use crate::replying::{Datagram, Way, reply};
 use crate::ring::Origin;
-use crate::serving::{Now, advance};
+use crate::serving::{Now, Step, advance, give, hand_request};
 use crate::sockets::{SHORT_PAUSE, Sockets};
 use crate::turn::{Handover, Kind, Said, Source, Stamp, Turn, TurnLog};
-use hall_desk::{Answer, Desk, Input, histories_keep_the_laws};
-use hall_store::HallStore;
-use hall_types::Port;
-use std::alloc::Global;
+use hall_desk::{Answer, Answered, Desk, Input, histories_keep_the_laws};
+use hall_store::{GroupStore, HallStore};
+use hall_types::{Moment, Port};
+use std::alloc::{AllocError, Global};
+use std::collections::VecDeque;
 
 /// A desk, and the sockets at which it is reached. Contracts see the desk, and how many turns there were since the last
 /// eighth one.
@@ -38,9 +40,9 @@ fn is_still_opening(is_opening: bool, moved: bool, answer: &Answer) -> bool
 }
 
 impl<S: HallStore> Service<S> {
-    ghost use Rattle.std.specs.Prelude.{◌≡◌, ◌≢◌, ◌<◌, ◌-◌, true, false, IfSome, unwrap_or};
+    ghost use Rattle.std.specs.Prelude.{◌≡◌, ◌≢◌, ◌<◌, true, false};
     ghost use Rattle.hall_desk.specs.Desk.{site_of, store_of};
-    ghost use Rattle.serve_sockets.specs.{Service.{IsPaced, desk_of, is_opening_of, sockets_of, turns_of}, Sockets.places_of, Stamps.IsPassed, Turn.{AreServed, IsTurn, KeepsDesk, WentOn}};
+    ghost use Rattle.serve_sockets.specs.{Gathering.AreWithin, Service.{IsPaced, desk_of, is_opening_of, sockets_of, turns_of}, Sockets.places_of, Stamps.IsPassed, Turn.{IsHandedAlone, IsTurn, KeepsDesk}};
 
     /// The service of a desk. It begins by quiet moments.
     pub fn new(alloc: Global, desk: Desk<S>, sockets: Sockets) -> Service<S>
@@ -94,7 +96,8 @@ impl<S: HallStore> Service<S> {
     /// is overdue when the service begins is given work. One that is Unavailable ends that for none.
     ///
     /// At most one arrival is handed to the desk, with the moment and the fresh octets of the stamp. A datagram's answer is
-    /// sent to where the datagram came from; that of a request waits until the client takes it. A datagram leaves the hall of a
+    /// sent to where the datagram came from. A request that is decided waits until `serve_turns` hands it over with others, but for one
+    /// that asks for a list; its answer waits until the client takes it. A datagram leaves the hall of a
     /// desk that enlists none as it is, and what a stop may leave. The log is told of the arrival; the turn isn't noted.
     pub fn turn<L: TurnLog>(&mut self, stamp: Stamp, log: &mut L) -> Turn
         ensures desk { IsTurn S.HallStore (desk_of self.old) (desk_of self.new) stamp result }
@@ -195,11 +198,147 @@ impl<S: HallStore> Service<S> {
         self.sockets.stand_still(SHORT_PAUSE);
     }
 
-    // Serves one turn with a stamp of the source, if it has one, and says whether it found the store shut.
+    // Hands over the request that waits alone.
+    fn hand_alone<L: TurnLog>(&mut self, stamp: Stamp, log: &mut L)
+        ensures kept { KeepsDesk S.HallStore (desk_of self.old) (desk_of self.new) }
+        ensures handed { S.HallStore.is_clean (store_of (desk_of self.new))
+            → IsHandedAlone S.HallStore (store_of (desk_of self.old)) (store_of (desk_of self.new)) (site_of (desk_of self.old)) stamp }
+    {
+        let Some(client) = self.sockets.next_whole() else {
+            return;
+        };
+        let slot = client.slot;
+        let mut connection = client.connection;
+        let moment = stamp.moment;
+        let served = self.sockets.now();
+        let now = Now { stamp, served };
+        let handover = hand_request(&mut connection, &mut self.server, log, now);
+        let turn = self
+            .sockets
+            .settle(slot, connection, Step::Handed(handover));
+        log.note(moment, &turn);
+    }
+
+    // Has a client's answer wait until it takes it.
+    fn give<L: TurnLog>(&mut self, moment: Moment, client: Client, answer: Answer, log: &mut L)
+        requires { client.slot < places_of (sockets_of self.old) }
+        ensures desk { desk_of self.new ≡ desk_of self.old }
+        ensures places { places_of (sockets_of self.new) ≡ places_of (sockets_of self.old) }
+    {
+        let slot = client.slot;
+        let mut connection = client.connection;
+        let served = self.sockets.now();
+        let handover = give(&mut connection, self.server.alloc, answer, served);
+        let turn = self
+            .sockets
+            .settle(slot, connection, Step::Handed(handover));
+        log.note(moment, &turn);
+    }
+
+    // Has the requests of clients wait on.
+    fn put_back(&mut self, clients: VecDeque<Client>)
+        requires { AreWithin (places_of (sockets_of self.old)) clients.items }
+        ensures { desk_of self.new ≡ desk_of self.old }
+    {
+        let mut clients = clients;
+        'clients: for _ in 0..clients.len() {
+            if let Some(client) = clients.pop_front() {
+                self.sockets.put_back(client);
+            }
+        }
+    }
+
+    // Gives the first clients their answers, and has the others wait on.
+    fn give_first<L: TurnLog>(&mut self, gathered: Gathered, answered: Answered, log: &mut L)
+        requires { AreWithin (places_of (sockets_of self.old)) gathered.clients.items }
+        ensures { desk_of self.new ≡ desk_of self.old }
+    {
+        let Gathered {
+            arrivals,
+            mut clients,
+        } = gathered;
+        let Answered { answers, accounts } = answered;
+        'answers: for ((arrival, answer), account) in arrivals
+            .iter()
+            .zip(answers)
+            .zip(accounts.iter())
+        {
+            let Some(client) = clients.pop_front() else {
+                break;
+            };
+            log.arrived(arrival, &answer, account);
+            self.give(arrival.moment, client, answer, log);
+        }
+        self.put_back(clients);
+    }
+
+    // Refuses the requests of so many of the first clients, and has the others wait on.
+    fn refuse_first<L: TurnLog>(&mut self, gathered: Gathered, count: usize, log: &mut L)
+        requires { AreWithin (places_of (sockets_of self.old)) gathered.clients.items }
+        ensures { desk_of self.new ≡ desk_of self.old }
+    {
+        let Gathered {
+            arrivals,
+            mut clients,
+        } = gathered;
+        'arrivals: for arrival in arrivals.iter().take(count) {
+            let Some(client) = clients.pop_front() else {
+                break;
+            };
+            self.give(arrival.moment, client, Answer::Unavailable, log);
+        }
+        self.put_back(clients);
+    }
+}
+
+impl<S: GroupStore> Service<S> {
+    ghost use Rattle.std.specs.Prelude.{◌≡◌, ◌<◌, ◌-◌, ◌*◌, IfSome, Some, length, unwrap_or};
+    ghost use Rattle.hall_desk.specs.Desk.{site_of, store_of};
+    ghost use Rattle.serve_sockets.specs.{Gathering.{AreHanded, AreRequests, AreWithin}, Service.{desk_of, sockets_of}, Sockets.places_of, Turn.{AreServed, KeepsDesk, WentOn}};
+
+    // Hands over gathered requests, and gives each client that is answered its answer.
+    fn hand_gathered<L: TurnLog>(&mut self, gathered: Gathered, log: &mut L)
+        requires some { 0 < length gathered.arrivals.items }
+        requires requests { AreRequests gathered.arrivals.items }
+        requires within { AreWithin (places_of (sockets_of self.old)) gathered.clients.items }
+        ensures kept { KeepsDesk S.HallStore (desk_of self.old) (desk_of self.new) }
+        ensures handed { S.HallStore.is_clean (store_of (desk_of self.new))
+            → AreHanded S.HallStore (store_of (desk_of self.old)) (store_of (desk_of self.new)) (site_of (desk_of self.old)) gathered.arrivals.items }
+    {
+        match self.server.hand_group(gathered.arrivals.as_slice()) {
+            Ok(answered) => self.give_first(gathered, answered, log),
+            Err(count) => self.refuse_first(gathered, count, log),
+        }
+    }
+
+    // Whether the requests that wait are to be handed over now.
+    fn is_group_due(&self) -> bool {
+        !self.is_opening && self.sockets.is_group_due()
+    }
+
+    // Hands over the requests that wait: one with this stamp, or several, each with a stamp of its own, if there is memory for them.
+    fn hand_waiting<C: Source, L: TurnLog>(&mut self, stamp: Stamp, source: &mut C, log: &mut L)
+        ensures kept { KeepsDesk S.HallStore (desk_of self.old) (desk_of self.new) }
+        ensures served { (from : C) → C.Source.may_give from (Some stamp) source.old → S.HallStore.is_clean (store_of (desk_of self.new))
+            → AreServed S.HallStore C.Source.may_give (store_of (desk_of self.old)) (store_of (desk_of self.new)) from source.new (site_of (desk_of self.old)) 64 }
+    {
+        self.sockets.hand();
+        if self.sockets.has_lone() {
+            return self.hand_alone(stamp, log);
+        }
+        match self.sockets.gather(self.server.alloc, source) {
+            Ok(gathered) if gathered.arrivals.is_empty() => self.hand_alone(stamp, log),
+            Ok(gathered) => self.hand_gathered(gathered, log),
+            Err(AllocError) => self.hand_alone(stamp, log),
+        }
+    }
+
+    // Serves one turn with a stamp of the source, if it has one, and says whether it found the store shut. Requests that wait are handed
+    // over in place of a turn, or as soon as its own request is decided.
     fn serve_turn<C: Source, L: TurnLog>(&mut self, source: &mut C, log: &mut L) -> bool
         ensures kept { KeepsDesk S.HallStore (desk_of self.old) (desk_of self.new) }
         ensures served { S.HallStore.is_clean (store_of (desk_of self.new)) → AreServed S.HallStore C.Source.may_give
-            (store_of (desk_of self.old)) (store_of (desk_of self.new)) source.old source.new (site_of (desk_of self.old)) 1 }
+            (store_of (desk_of self.old)) (store_of (desk_of self.new)) source.old source.new (site_of (desk_of self.old)) 64 }
     {
         self.wait(source);
         let Some(stamp) = source.stamp() else {
@@ -207,8 +346,31 @@ impl<S: HallStore> Service<S> {
             return false;
         };
         self.is_unstamped = false;
-        let moment = stamp.moment;
+        self.sockets.begin(stamp.millis);
+        if self.is_group_due() {
+            self.hand_waiting(stamp, source, log);
+            return false;
+        }
+        self.serve_next(stamp, source, log)
+    }
+
+    // Serves a turn, and hands over the requests that wait if its own is decided and they are due.
+    fn serve_next<C: Source, L: TurnLog>(
+        &mut self,
+        stamp: Stamp,
+        source: &mut C,
+        log: &mut L,
+    ) -> bool
+        ensures kept { KeepsDesk S.HallStore (desk_of self.old) (desk_of self.new) }
+        ensures served { (from : C) → C.Source.may_give from (Some stamp) source.old → S.HallStore.is_clean (store_of (desk_of self.new))
+            → AreServed S.HallStore C.Source.may_give (store_of (desk_of self.old)) (store_of (desk_of self.new)) from source.new (site_of (desk_of self.old)) 64 }
+    {
+        let (moment, own) = (stamp.moment, stamp);
         let turn = self.turn(stamp, log);
+        if turn.is_decided() && self.is_group_due() {
+            self.hand_waiting(own, source, log);
+            return false;
+        }
         log.note(moment, &turn);
         turn.finds_shut()
     }
@@ -217,8 +379,12 @@ impl<S: HallStore> Service<S> {
     /// which the store is unavailable, as one is that a fault has shut: how many turns are left then. A turn without a stamp does
     /// nothing for 100 milliseconds, and the log is told when such turns begin.
     ///
+    /// A turn may be one at which requests that wait are handed over, 64 at most, and answered by one commit, each with a stamp of its own:
+    /// as soon as nothing else is known to be there, or the first one has waited as long as the last commit took. One that waits alone is
+    /// answered by itself. The log is told of each.
+    ///
     /// With all that came to the hall since it was new, it is a history that keeps all laws. A stop leaves, of a store that was settled, the
-    /// hall after some of the arrivals, or after one more whose answer wasn't given.
+    /// hall after some of the arrivals, or after some more whose answers weren't given.
     pub fn serve_turns<C: Source, L: TurnLog>(
         &mut self,
         source: &mut C,
@@ -228,7 +394,7 @@ impl<S: HallStore> Service<S> {
         ensures left { IfSome result (λ left. left < turns) }
         ensures kept { KeepsDesk S.HallStore (desk_of self.old) (desk_of self.new) }
         ensures went_on { S.HallStore.is_clean (store_of (desk_of self.new)) → WentOn S.HallStore C.Source.may_give
-            (store_of (desk_of self.old)) (store_of (desk_of self.new)) source.old source.new (site_of (desk_of self.old)) (turns - unwrap_or result 0) }
+            (store_of (desk_of self.old)) (store_of (desk_of self.new)) source.old source.new (site_of (desk_of self.old)) (64 * (turns - unwrap_or result 0)) }
     {
         histories_keep_the_laws();
         for served in 0..turns {

@@ -1,9 +1,9 @@
 //! Serving a connection by steps.
-ghost use Rattle.std.specs.Prelude.{◌≡◌};
-ghost use Rattle.hall_desk.specs.{Attempt.IsOnlyRead, Desk.{site_of, store_of}, Octets.octets_of, declared.arrival.{Answer.TheVariants.Unavailable, Input.TheVariants.Request}};
-ghost use Rattle.serve_sockets.specs.{Connection.{input_of, left_of, stream_of}, Serving.{IsOnlyMoved, IsRequest, IsStep, IsWaiting}, Turn.{KeepsDesk, Tells}};
+ghost use Rattle.std.specs.Prelude.{◌≡◌, ◌≢◌};
+ghost use Rattle.hall_desk.specs.{Attempt.IsOnlyRead, Desk.{site_of, store_of}, Octets.octets_of, declared.arrival.Input.TheVariants.Request};
+ghost use Rattle.serve_sockets.specs.{Connection.{input_of, left_of, stream_of}, Serving.{IsOnlyMoved, IsRequest, IsStep, IsWaiting, IsWhole}, Turn.{KeepsDesk, Tells}};
 
-use crate::connection::Connection;
+use crate::connection::{Connection, Wait};
 use crate::handing::Server;
 use crate::handover::handover;
 use crate::listing::bearer_of_list;
@@ -31,6 +31,8 @@ pub(crate) enum Step {
     Moved,
     /// The request asks for a list, and is put off.
     PutOff,
+    /// The request is decided, and waits to be answered with others.
+    Whole,
     /// The request was handed over, and its answer waits.
     Handed(Handover),
     /// The client has taken all of its answer.
@@ -38,8 +40,8 @@ pub(crate) enum Step {
     Failed,
 }
 
-// Hands the request over. Its answer waits then.
-fn hand_request<T, S: HallStore, L: TurnLog>(
+/// Hands the request over. Its answer waits then.
+pub(crate) fn hand_request<T, S: HallStore, L: TurnLog>(
     connection: &mut Connection<T>,
     server: &mut Server<S>,
     log: &mut L,
@@ -58,15 +60,19 @@ fn hand_request<T, S: HallStore, L: TurnLog>(
     handover
 }
 
-// Refuses a request for which there is no memory. The refusal waits then.
-fn refuse<T>(connection: &mut Connection<T>, alloc: Global, now: u64) -> Handover
-    ensures tells { Tells result (Request (input_of connection.old)) Unavailable }
-    ensures waits { left_of connection.new ≡ octets_of Unavailable }
+/// Answers a request, which is forgotten then. Its answer waits.
+pub(crate) fn give<T>(
+    connection: &mut Connection<T>,
+    alloc: Global,
+    answer: Answer,
+    now: u64,
+) -> Handover
+    ensures tells { Tells result (Request (input_of connection.old)) answer }
+    ensures waits { left_of connection.new ≡ octets_of answer }
 {
     let from = connection.from();
     let octets = connection.request(alloc);
     let len = octets.as_slice().len();
-    let answer = Answer::Unavailable;
     let handover = handover(Kind::Request, Some(from), len, &answer);
     connection.answer(answer, now);
     handover
@@ -83,38 +89,51 @@ fn is_known<S: HallStore>(desk: &mut Desk<S>, digest: Digest) -> bool
     }
 }
 
-// Whether a request asks for a list, with the token of an operator who is enabled, and hasn't waited yet. The hall is only read.
-fn may_wait<T, S: HallStore>(connection: &Connection<T>, server: &mut Server<S>) -> bool
-    ensures kept { KeepsDesk S.HallStore server.old.desk server.new.desk }
-    ensures read { S.HallStore.is_clean (store_of server.new.desk) → IsOnlyRead S.HallStore (store_of server.old.desk) (store_of server.new.desk) }
-{
-    if connection.is_called() {
-        return false;
-    }
-    match bearer_of_list(server.alloc, connection.input()) {
-        Some(digest) => is_known(&mut server.desk, digest),
-        None => false,
-    }
-}
-
-// Hands a whole request over, or puts it off if it asks for a list and hasn't waited yet.
-fn decide<T, S: HallStore, L: TurnLog>(
+// Puts a request for a list off, if an operator who is enabled has the token of this digest, and else hands it over.
+fn decide_list<T, S: HallStore, L: TurnLog>(
     connection: &mut Connection<T>,
     server: &mut Server<S>,
     log: &mut L,
     now: Now,
+    digest: Digest,
 ) -> Step
-    ensures { IsStep S.HallStore server.old.desk server.new.desk (IsWaiting S.HallStore (store_of server.old.desk) (store_of server.new.desk) (site_of server.old.desk)
+    ensures step { IsStep S.HallStore server.old.desk server.new.desk (IsWaiting S.HallStore (store_of server.old.desk) (store_of server.new.desk) (site_of server.old.desk)
         now.stamp.moment now.stamp.fresh (input_of connection.old) (left_of connection.new)) result }
+    ensures alone { result ≢ Step.Whole }
 {
-    if may_wait(connection, server) {
-        connection.put_off();
+    if is_known(&mut server.desk, digest) {
+        connection.wait(Wait::Call);
         return Step::PutOff;
     }
     Step::Handed(hand_request(connection, server, log, now))
 }
 
-// Reads once, and hands the request over once it is decided, or puts it off if it asks for a list and hasn't waited yet.
+// Hands a whole request over if its list was called, puts it off if it asks for a list and hasn't waited yet, and has any other one wait to
+// be answered with others.
+fn decide<T: Read, S: HallStore, L: TurnLog>(
+    connection: &mut Connection<T>,
+    server: &mut Server<S>,
+    log: &mut L,
+    now: Now,
+) -> Step
+    requires { IsWhole (T.remaining (stream_of connection.old)) (input_of connection.old) }
+    ensures step { IsStep S.HallStore server.old.desk server.new.desk (IsWaiting S.HallStore (store_of server.old.desk) (store_of server.new.desk) (site_of server.old.desk)
+        now.stamp.moment now.stamp.fresh (input_of connection.old) (left_of connection.new)) result }
+    ensures whole { result ≡ Step.Whole → IsWhole (T.remaining (stream_of connection.new)) (input_of connection.new) }
+{
+    if connection.is_called() {
+        return Step::Handed(hand_request(connection, server, log, now));
+    }
+    match bearer_of_list(server.alloc, connection.input()) {
+        Some(digest) => decide_list(connection, server, log, now, digest),
+        None => {
+            connection.wait(Wait::Group);
+            Step::Whole
+        }
+    }
+}
+
+// Reads once. A request that is decided then is handed over, or waits.
 fn take<T: Read, S: HallStore, L: TurnLog>(
     connection: &mut Connection<T>,
     server: &mut Server<S>,
@@ -122,14 +141,18 @@ fn take<T: Read, S: HallStore, L: TurnLog>(
     now: Now,
     buffer: &mut [u8],
 ) -> Step
-    ensures { IsStep S.HallStore server.old.desk server.new.desk (IsRequest S.HallStore (store_of server.old.desk) (store_of server.new.desk) (site_of server.old.desk)
+    ensures step { IsStep S.HallStore server.old.desk server.new.desk (IsRequest S.HallStore (store_of server.old.desk) (store_of server.new.desk) (site_of server.old.desk)
         now.stamp.moment now.stamp.fresh (input_of connection.old) (T.remaining (stream_of connection.old)) (left_of connection.new)) result }
+    ensures whole { result ≡ Step.Whole → IsWhole (T.remaining (stream_of connection.new)) (input_of connection.new) }
 {
     match connection.take(server.alloc, buffer) {
         Taken::Waits => Step::Waits,
         Taken::More => Step::Moved,
         Taken::Whole => decide(connection, server, log, now),
-        Taken::NoMemory => Step::Handed(refuse(connection, server.alloc, now.served)),
+        Taken::NoMemory => {
+            let refusal = Answer::Unavailable;
+            Step::Handed(give(connection, server.alloc, refusal, now.served))
+        }
         Taken::Failed => Step::Failed,
     }
 }
@@ -146,8 +169,8 @@ fn put<T: Write>(connection: &mut Connection<T>, now: u64) -> Step
     }
 }
 
-/// Reads or writes once. A request that is decided is handed to the desk, and its answer waits then until the client takes
-/// it; one that asks for a list waits first until the connection is called. The connection's time goes by the served time.
+/// Reads or writes once. A request that is decided waits to be answered with others, or, if it asks for a list, until the connection is
+/// called; then it is handed to the desk, and its answer waits until the client takes it. The connection's time goes by the served time.
 pub(crate) fn advance<T: Read + Write, S: HallStore, L: TurnLog>(
     connection: &mut Connection<T>,
     server: &mut Server<S>,
@@ -155,12 +178,13 @@ pub(crate) fn advance<T: Read + Write, S: HallStore, L: TurnLog>(
     now: Now,
     buffer: &mut [u8],
 ) -> Step
-    ensures { IsStep S.HallStore server.old.desk server.new.desk (IsRequest S.HallStore (store_of server.old.desk) (store_of server.new.desk) (site_of server.old.desk)
+    ensures step { IsStep S.HallStore server.old.desk server.new.desk (IsRequest S.HallStore (store_of server.old.desk) (store_of server.new.desk) (site_of server.old.desk)
         now.stamp.moment now.stamp.fresh (input_of connection.old) (T.remaining (stream_of connection.old)) (left_of connection.new)) result }
+    ensures whole { result ≡ Step.Whole → IsWhole (T.remaining (stream_of connection.new)) (input_of connection.new) }
 {
     if connection.is_answered() {
         put(connection, now.served)
-    } else if connection.is_put_off() {
+    } else if connection.is_waiting() {
         Step::Waits
     } else {
         take(connection, server, log, now, buffer)

@@ -3,6 +3,7 @@ ghost use Rattle.std.specs.Prelude.{◌≡◌, ◌<◌, ◌≤◌, ◌+◌, IfEr
 ghost use Rattle.serve_sockets.specs.{Ring.{IsPlace, ready_of}, ServedTime.served_of, Serving.IsTurnOf, Stamps.IsPassed, Table.slots_of, Turn.HandsNothing};
 
 use crate::connection::Connection;
+use crate::gathering::Client;
 use crate::lists::Wanted;
 use crate::ports::{Addresses, BindFault, Ports, is_without_descriptors};
 use crate::ring::{Origin, Ring};
@@ -11,6 +12,7 @@ use crate::served_time::ServedTime;
 use crate::serving::Step;
 use crate::table::{MAX_CONNECTIONS, Table};
 use crate::turn::{Close, Source, Turn};
+use crate::waiting::Waiting;
 use hall_types::Port;
 use mio::event::Events;
 use mio::net::TcpStream;
@@ -42,19 +44,21 @@ pub struct Sockets {
     events: Events,
     /// By which replies are sent.
     pub(crate) ports: Ports,
-    table: Table<TcpStream>,
+    pub(crate) table: Table<TcpStream>,
     accepted: u64,
-    time: ServedTime,
+    pub(crate) time: ServedTime,
     // When late connections are looked for, and from which slot on.
     look_at: u64,
     look_from: usize,
-    ring: Ring,
+    pub(crate) ring: Ring,
     // A request was handed over, and no other seat was picked since.
     has_handed: bool,
     // A request for a list may be put off.
     has_put_off: bool,
     // How many turns there were since such a request was called, up to `LIST_TURNS`.
     turns: u16,
+    /// The requests that wait to be answered together.
+    pub(crate) waiting: Waiting,
     // A receive or an accept failed that may fail again at once.
     is_lame: bool,
     /// What was received last.
@@ -96,6 +100,7 @@ impl Sockets {
             has_handed: false,
             has_put_off: false,
             turns: 0,
+            waiting: room.waiting,
             is_lame: false,
             buffer: room.buffer,
         }
@@ -140,9 +145,9 @@ impl Sockets {
         self.has_put_off && !self.table.has_all_lists()
     }
 
-    // Whether nothing is known to be there, no request for a list may be called, and no late connection was closed by the last look.
+    // Whether nothing is known to be there, no request waits that may be handed over, and no late connection was closed by the last look.
     fn is_idle(&self) -> bool {
-        self.ring.is_idle() && !self.may_call() && self.look_from == 0
+        self.ring.is_idle() && !self.may_call() && self.waiting.count() == 0 && self.look_from == 0
     }
 
     /// Marks where something is. Waits for something to come if nothing is known to be there: for the source's pause at most, less
@@ -170,6 +175,12 @@ impl Sockets {
     pub fn stand_still(&mut self, millis: u64) {
         let time = Duration::from_millis(millis);
         let _ = self.still.poll(&mut self.events, Some(time));
+    }
+
+    /// There is a stamp of so many milliseconds.
+    pub(crate) fn begin(&mut self, millis: u64) {
+        self.time.pass(millis);
+        self.waiting.begin(self.time.now());
     }
 
     /// A turn has a stamp of so many milliseconds.
@@ -361,10 +372,16 @@ impl Sockets {
         self.table.take(slot)
     }
 
-    // Closes a connection that was taken out of its slot.
-    fn close(&mut self, slot: usize, connection: Connection<TcpStream>, cause: Close) -> Turn
+    /// Closes a connection that was taken out of its slot.
+    pub(crate) fn close(
+        &mut self,
+        slot: usize,
+        connection: Connection<TcpStream>,
+        cause: Close,
+    ) -> Turn
         requires { slot < places_of self.old }
-        ensures { HandsNothing result }
+        ensures turn { HandsNothing result }
+        ensures places { places_of self.new ≡ places_of self.old }
     {
         self.rest(Origin::Connection(slot));
         Turn::Closed {
@@ -382,7 +399,8 @@ impl Sockets {
         step: Step,
     ) -> Turn
         requires { slot < places_of self.old }
-        ensures { IsTurnOf step result }
+        ensures turn { IsTurnOf step result }
+        ensures places { places_of self.new ≡ places_of self.old }
     {
         match step {
             Step::Handed(handover) => {
@@ -398,6 +416,7 @@ impl Sockets {
                 self.has_put_off = true;
                 Turn::PutOff(from)
             }
+            Step::Whole => self.put_back(Client { slot, connection }),
             Step::Moved => {
                 let from = connection.from();
                 self.keep(slot, connection);

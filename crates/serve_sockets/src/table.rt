@@ -26,7 +26,7 @@ pub(crate) struct Table<T> {
 }
 
 impl<T: Drop> Table<T> {
-    ghost use Rattle.std.specs.Prelude.{IfNone, IfOk, IfSome, MatchOption, None, Some, ◌==◌, is_none, length, nat_le, position, replicate, slice_get, slice_set};
+    ghost use Rattle.std.specs.Prelude.{IfNone, IfOk, IfSome, MatchOption, None, Some, ◌==◌, is_none, length, true, nat_le, position, replicate, slice_get, slice_set};
     ghost use Rattle.serve_sockets.specs.{Table.{IsNextLate, NoneLate, late_at, slots_of}, Lists.{IsFirst, is_open, wants_in}, Yielding.Goes};
 
     /// So many slots, all of which are free.
@@ -135,6 +135,16 @@ impl<T: Drop> Table<T> {
         ensures free { slots_of self.new ≡ slice_set (slots_of self.old) slot None }
     {
         self.hold(slot, None)
+    }
+
+    /// Whether a slot has a connection whose request waits to be answered with others.
+    pub(crate) fn is_whole(&self, slot: usize) -> bool
+        ensures { result ≡ true → slot < length (slots_of self.now) }
+    {
+        match held_at(self.slots.as_slice(), slot) {
+            Some(Some(connection)) => connection.is_whole(),
+            _ => false,
+        }
     }
 
     /// How many slots there are.

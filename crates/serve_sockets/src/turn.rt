@@ -1,4 +1,7 @@
 //! What a turn did, and what one needs.
+ghost use Rattle.std.specs.Prelude.{◌≡◌, true};
+ghost use Rattle.serve_sockets.specs.Turn.{HandsNothing};
+
 use hall_desk::{Account, Answer, Arrival};
 use hall_types::{Moment, Port, Token};
 use std::net::SocketAddr;
@@ -22,7 +25,7 @@ pub trait Source {
     // Holds of the source before a call, of the stamp that the call gave, if it gave one, and of the source after it.
     ghost may_give: { Self → Option Stamp → Self → Type 0 } = { λ _ _ _. ⊤ };
 
-    /// The stamp of the next turn, and nothing where a clock or the random octets failed.
+    /// The stamp of the next turn, or of a request that is handed over with others, and nothing where a clock or the random octets failed.
     fn stamp(&mut self) -> Option<Stamp>
         ensures { may_give self.old result self.new };
 
@@ -91,6 +94,8 @@ pub enum Turn {
     Moved(SocketAddr),
     /// A connection's request asks for a list, and waits. The hall was only read.
     PutOff(SocketAddr),
+    /// A connection's request is decided, and waits to be answered with others.
+    Decided(SocketAddr),
     /// A connection was closed.
     Closed {
         from: SocketAddr,
@@ -103,6 +108,13 @@ pub enum Turn {
 }
 
 impl Turn {
+    /// Whether a request was decided.
+    pub(crate) fn is_decided(&self) -> bool
+        ensures { result ≡ true → HandsNothing self.now }
+    {
+        matches!(self, Turn::Decided(_))
+    }
+
     /// Whether it was a quiet moment for which the store was unavailable, as it is for each after a fault has shut it.
     pub(crate) fn finds_shut(&self) -> bool {
         match self {

@@ -1,5 +1,5 @@
 -- Beginning a group, committing it and giving it up.
-use Rattle.std.{specs.{Prelude.{◌≡◌, ◌≢◌, List, [], ◌∷◌, Result, OnOk, OnErr}, Vec.vec_len}, proofs.Common.{Ok, Err, true, false, refl, ◌∙◌, ap, sym, subst}}
+use Rattle.std.{specs.{Prelude.{◌≡◌, ◌≢◌, List, [], ◌∷◌, Option, None, Some, Result, OnOk, OnErr}, Vec.vec_len}, proofs.Common.{Ok, Err, true, false, refl, ◌∙◌, ap, sym, subst}}
 use Rattle.hall_types.specs.{Hall.{Hall, applied}, declared.change.RowWrite.RowWrite}
 use Rattle.hall_store.specs.{Grouped.{IsBegun, IsCommitted, IsRolledBack}, Rules.AllKeep, Store.{Base, IsWrite}, declared.store.HallStore.Ghosts}
 use Rattle.store_group.specs.{Group.{IsOver, LeadsTo, LeavesOf, is_open, store_of, writes_of}, declared.group.Group.Group}
@@ -31,6 +31,7 @@ module _ {S : Type 0} (g : Ghosts S) where
       };
       same = λ h leads. subst (λ group. LeadsTo g group h) (sym is) (record { from = leads.from; held = leads.held; keep = leads.keep; led = leads.led; alone = λ no. leads.alone closed });
       crash = tt;
+      closed = tt;
     }
 
     pub begun_not : new ≡ old → {Y E : Type 0} (e : E) → IsBegun (LeadsTo g) (LeavesOf g) (IsOver g) old new {Y = Y} (Err e)
@@ -38,28 +39,32 @@ module _ {S : Type 0} (g : Ghosts S) where
       begun = tt;
       same = λ h leads. subst (λ group. LeadsTo g group h) (sym is) leads;
       crash = λ hs left. subst (λ group. LeavesOf g group hs) (sym is) left;
+      closed = λ closed. subst (λ group. is_open group ≡ false) (sym is) closed;
     }
 
-    pub committed_by : writes_of new ≡ [] → {Y E : Type 0} (r : Result Y E) → IsWrite g.holds g.leaves g.over (store_of old) (store_of new) r (λ h. writes_of old)
+    pub committed_by : writes_of new ≡ [] → is_open new ≡ false → {Y E : Type 0} (r : Result Y E) → IsWrite g.holds g.leaves g.over (store_of old) (store_of new) r (λ h. writes_of old)
         → IsCommitted (LeadsTo g) (LeavesOf g) (IsOver g) old new r
-    committed_by none (Ok y) w = record {
+    committed_by none shut (Ok y) w = record {
       made = λ h leads. (
         leads_itself new h none (subst (g.holds (store_of new)) (sym leads.led) (w.made leads.from leads.held leads.keep)),
         λ closed. subst (λ k. g.leaves (store_of new) (k ∷ [])) (sym leads.led) (w.settled leads.from leads.held leads.keep),
       );
       back = tt;
+      closed = shut;
       crash = λ h leads base over some closed.
           subst (λ k. g.leaves (store_of new) (k ∷ base.halls)) (sym leads.led) (w.crash leads.from leads.held leads.keep base.halls (over.left some));
     }
-    committed_by none (Err e) w = record {
+    committed_by none shut (Err e) w = record {
       made = tt;
       back = λ base over. leads_itself new base.hall none (w.same base.hall over.held);
+      closed = shut;
       crash = λ h leads base over some closed.
           subst (λ k. g.leaves (store_of new) (k ∷ base.halls)) (sym leads.led) (w.crash leads.from leads.held leads.keep base.halls (over.left some));
     }
 
-    pub rolled_back : writes_of new ≡ [] → store_of new ≡ store_of old → IsRolledBack (LeadsTo g) (LeavesOf g) (IsOver g) old new
-    rolled_back none same = record {
+    pub rolled_back : writes_of new ≡ [] → is_open new ≡ false → store_of new ≡ store_of old → IsRolledBack (LeadsTo g) (LeavesOf g) (IsOver g) old new
+    rolled_back none shut same = record {
+      closed = shut;
       back = λ base over. leads_itself new base.hall none (subst (λ s. g.holds s base.hall) (sym same) over.held);
       crash = λ base over some closed. subst (λ s. g.leaves s base.halls) (sym same) (over.left some);
     }
@@ -76,6 +81,10 @@ module _ {S : Type 0} (g : Ghosts S) (old new : Group S) (closed : is_open old �
   never : is_open old ≡ true → ⊥
   never opened = let no : true ≡ false = sym opened ∙ closed in cc
 
+  over_passed : (base : Option Base) → IsOver g old base → IsOver g new base
+  over_passed None shut = as_open ∙ shut
+  over_passed (Some base) over = absurd (never over.opened)
+
   pub passed_on : IsWrite (LeadsTo g) (LeavesOf g) (IsOver g) old new r (λ h. rows)
   passed_on = by r w
     where
@@ -86,7 +95,7 @@ module _ {S : Type 0} (g : Ghosts S) (old new : Group S) (closed : is_open old �
         same = tt;
         crash = λ h leads keep hs left shut. w.crash h (made h leads) keep hs (left closed);
         settled = λ h leads keep shut. w.settled h (made h leads) keep;
-        base = λ base over. absurd (never over.opened);
+        base = over_passed;
       }
       by (Err e) w = record {
         made = tt;
@@ -94,5 +103,5 @@ module _ {S : Type 0} (g : Ghosts S) (old new : Group S) (closed : is_open old �
         same = λ h leads. leads_itself g new h (none h leads) (w.same h (made h leads));
         crash = λ h leads keep hs left shut. w.crash h (made h leads) keep hs (left closed);
         settled = tt;
-        base = λ base over. absurd (never over.opened);
+        base = over_passed;
       }

@@ -1,5 +1,5 @@
 -- From a read of the store within to one of the group.
-use Rattle.std.{specs.{Prelude.{◌≡◌, Bool, false, ◌||◌, List, [], ◌∷◌, ◌++◌, Result, IfOk, OnOk, IsOk}, Result.{IsErr, is_ok}}, proofs.Common.{Ok, Err, true, append-nil, refl, ◌∙◌, ap, sym, subst}}
+use Rattle.std.{specs.{Prelude.{◌≡◌, Bool, false, List, [], ◌∷◌, ◌++◌, Option, None, Some, Result, IfOk, OnOk, IsOk}, Result.{IsErr, is_ok}}, proofs.{Common.{Ok, Err, true, append-nil, refl, ◌∙◌, ap, sym, subst}, lemmas.Bool.or_parts}}
 use Rattle.hall_types.{specs.{Hall.{Hall, applied, written as put_in}, ChangeLaws.applied_append, Tables.{interfaces, is_among, members, operators, tables_of}, declared.{change.RowWrite.RowWrite}}, proofs.WriteLemmas.changes_only}
 use Rattle.hall_store.specs.{Rules.AllKeep, Store.{Base, IsRead, ReadsBy, WritesBy}, Versions.HaveVersions, declared.store.HallStore.Ghosts}
 use Rattle.store_group.proofs.WriteLemmas.{keep_more}
@@ -23,8 +23,9 @@ module _ {S : Type 0} (g : Ghosts S) (old new : Group S) (same : writes_of new �
     alone = λ closed. same ∙ leads.alone (sym as_open ∙ closed);
   }
 
-  over_on : IsWithin → (base : Base) → IsOver g old base → IsOver g new base
-  over_on it base over = record {
+  over_on : IsWithin → (base : Option Base) → IsOver g old base → IsOver g new base
+  over_on it None closed = as_open ∙ closed
+  over_on it (Some base) over = record {
     opened = as_open ∙ over.opened;
     held = it.same base.hall over.held;
     left = λ some. it.crash base.hall over.held base.halls (over.left some);
@@ -133,15 +134,16 @@ fails_too g old new r Right look (Err e) Other is clean =
 
 -- ---- writes to an open group
 
-module _ {S : Type 0} (g : Ghosts S) (old mid new : Group S) (opened : is_open new ≡ true) (same : store_of new ≡ store_of mid) where
+module _ {S : Type 0} (g : Ghosts S) (old mid new : Group S) (opened : is_open new ≡ true) (as_open : is_open new ≡ is_open mid) (same : store_of new ≡ store_of mid) where
   abbrev WritesGroup : {Z F : Type 0} → Result Z F → List RowWrite → Type 0
   WritesGroup r rows = WritesBy (λ group. g.is_clean (store_of group)) (LeadsTo g) (LeavesOf g) (IsOver g) old new r (λ h. rows)
 
   never : is_open new ≡ false → ⊥
   never closed = let no : true ≡ false = sym opened ∙ closed in cc
 
-  over_mid : (base : Base) → IsOver g mid base → IsOver g new base
-  over_mid base over = record {
+  over_mid : (base : Option Base) → IsOver g mid base → IsOver g new base
+  over_mid None closed = as_open ∙ closed
+  over_mid (Some base) over = record {
     opened = opened;
     held = subst (λ its. g.holds its base.hall) (sym same) over.held;
     left = λ some. subst (λ its. g.leaves its base.halls) (sym same) (over.left some);
@@ -189,24 +191,20 @@ module _ {S : Type 0} (g : Ghosts S) (old mid new : Group S) (opened : is_open n
 
 -- ---- tables that no write changes
 
-or_false : (a b : Bool) → (a || b) ≡ false → (a ≡ false) × (b ≡ false)
-or_false true b is = cc
-or_false false b is = (refl, is)
-
 pub same_operators : (ws : List RowWrite) (h : Hall) → change operators ws ≡ false → (applied ws h).operators ≡ h.operators
 same_operators [] h none = refl
 same_operators (w ∷ ws) h none =
-    let parts = or_false (is_among operators (tables_of w)) (change operators ws) none in
+    let parts = or_parts (is_among operators (tables_of w)) (change operators ws) none in
     same_operators ws (put_in w h) parts.1 ∙ (changes_only w h).operators parts.0
 
 pub same_members : (ws : List RowWrite) (h : Hall) → change members ws ≡ false → (applied ws h).members ≡ h.members
 same_members [] h none = refl
 same_members (w ∷ ws) h none =
-    let parts = or_false (is_among members (tables_of w)) (change members ws) none in
+    let parts = or_parts (is_among members (tables_of w)) (change members ws) none in
     same_members ws (put_in w h) parts.1 ∙ (changes_only w h).members parts.0
 
 pub same_interfaces : (ws : List RowWrite) (h : Hall) → change interfaces ws ≡ false → (applied ws h).interfaces ≡ h.interfaces
 same_interfaces [] h none = refl
 same_interfaces (w ∷ ws) h none =
-    let parts = or_false (is_among interfaces (tables_of w)) (change interfaces ws) none in
+    let parts = or_parts (is_among interfaces (tables_of w)) (change interfaces ws) none in
     same_interfaces ws (put_in w h) parts.1 ∙ (changes_only w h).interfaces parts.0

@@ -1,14 +1,7 @@
 -- Row writes in turn.
-use Rattle.std.proofs.{Common.{◌≡◌, ◌<◌, ◌+◌, ◌++◌, ℕ, List, [], ◌∷◌, length, take, get_or, refl, arith}, lemmas.Grind.common_steps}
+use Rattle.std.proofs.Common.{◌++◌, List, [], ◌∷◌}
 use Rattle.hall_types.specs.{Hall.{Hall, applied, written}, declared.change.RowWrite.RowWrite}
 use Rattle.hall_store.specs.{Rules.AllKeep, Versions.{HaveVersions, HasVersion}}
-
-pub applied_last : (ws : List RowWrite) (w : RowWrite) (h : Hall) → applied (ws ++ w ∷ []) h ≡ written w (applied ws h)
-applied_last [] w h = refl
-applied_last (v ∷ ws) w h = applied_last ws w (written v h)
-
-pub take_next : {A : Type 0} (xs : List A) (i : ℕ) (x : A) → i < length xs → x ≡ get_or xs i x → take (i + 1) xs ≡ take i xs ++ x ∷ []
-take_next xs i x low is = grind (arith, common_steps)
 
 pub versions_last : (ws : List RowWrite) (w : RowWrite) (h : Hall) → HaveVersions ws h → HasVersion w (applied ws h) → HaveVersions (ws ++ w ∷ []) h
 versions_last [] w h all last = (last, tt)

@@ -1,5 +1,5 @@
 -- A store that can hold changes back, over another one.
-use Rattle.std.specs.{Prelude.{◌≡◌, ◌≢◌, Bool, true, false, List, [], ◌∷◌, Result, IfOk}, List.list_any}
+use Rattle.std.specs.{Prelude.{◌≡◌, ◌≢◌, Bool, true, false, List, [], ◌∷◌, Option, None, Some, Result, IfOk}, List.list_any}
 use Rattle.std.proofs.Common.{ap, ◌∙◌}
 use Rattle.hall_types.specs.{Hall.{Hall, applied, second}, ChangeLaws.applied_schema, Tables.{Table, is_among, tables_of}, declared.change.RowWrite.RowWrite}
 use Rattle.hall_store.specs.{Rules.AllKeep, Store.{Base, ReadsBy}, declared.store.HallStore.Ghosts}
@@ -40,10 +40,15 @@ module _ {S : Type 0} (g : Ghosts S) where
   LeavesOf group hs = is_open group ≡ false → g.leaves (store_of group) hs
 
   -- a group is open, the store within has the hall that it had before it, and a stop leaves what it left then
-  pub record IsOver (group : Group S) (base : Base) : Type 0 where
+  pub record IsOpenOver (group : Group S) (base : Base) : Type 0 where
     pub opened : is_open group ≡ true
     pub held : g.holds (store_of group) base.hall
     pub left : base.halls ≢ [] → g.leaves (store_of group) base.halls
+
+  -- what the open group is made over, if one is open
+  abbrev pub IsOver : Group S → Option Base → Type 0
+  IsOver group None = is_open group ≡ false
+  IsOver group (Some base) = IsOpenOver group base
 
 module _ {S : Type 0} (g : Ghosts S) (old new : Group S) {Y E : Type 0} (r : Result Y E) where
   -- a read of a group
@@ -51,10 +56,10 @@ module _ {S : Type 0} (g : Ghosts S) (old new : Group S) {Y E : Type 0} (r : Res
   GroupReads Right = ReadsBy (λ group. g.is_clean (store_of group)) (LeadsTo g) (LeavesOf g) (IsOver g) old new r Right
 
   -- Looks at the store within, or none: what it has and what the group holds stay.
-  pub record IsLook (Right : Hall → Y → Type 0) : Type 0 where
+  pub record IsGroupLook (Right : Hall → Y → Type 0) : Type 0 where
     pub answer : IfOk r (λ y. (h : Hall) → LeadsTo g old h → Right h y)
     pub same : (h : Hall) → LeadsTo g old h → LeadsTo g new h
-    pub base : (base : Base) → IsOver g old base → IsOver g new base
+    pub base : (base : Option Base) → IsOver g old base → IsOver g new base
 
   abbrev pub GroupLooks : (Hall → Y → Type 0) → Type 0
-  GroupLooks Right = g.is_clean (store_of new) → g.is_clean (store_of old) × IsLook Right
+  GroupLooks Right = g.is_clean (store_of new) → g.is_clean (store_of old) × IsGroupLook Right

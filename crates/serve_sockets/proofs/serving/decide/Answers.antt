@@ -1,16 +1,9 @@
-use Rattle.serve_sockets.proofs.{ServingLemmas.waiting_after, TurnLemmas.keeps_then}
+use Rattle.std.proofs.Common.{refl}
+use Rattle.serve_sockets.proofs.TurnLemmas.{keeps_same}
 use Rattle.serve_sockets.proofs.serving.decide.Goals as goal
 
-pub returns-then-may_wait : goal.returns-then-may_wait
-returns-then-may_wait g c = record {
-  kept = c.may_wait.ensures.kept;
-  did = c.may_wait.ensures.read;
-}
+pub returns-then-is_called-clause-step : goal.returns-then-is_called-clause-step
+returns-then-is_called-clause-step g c = record { kept = c.hand_request.ensures.kept; did = c.hand_request.ensures.waits }
 
-pub returns : goal.returns
-returns g c = record {
-  kept = keeps_then g.S.HallStore _ _ _ c.may_wait.ensures.kept c.hand_request.ensures.kept;
-  did = λ clean.
-      waiting_after g.S.HallStore _ _ _ _ _ _ _ _ _ _ c.may_wait.ensures.kept.site (c.may_wait.ensures.read (c.hand_request.ensures.kept.clean clean))
-      (c.hand_request.ensures.waits clean);
-}
+pub returns-in-None-clause-step : goal.returns-in-None-clause-step
+returns-in-None-clause-step g c = record { kept = keeps_same g.S.HallStore _; did = refl }

@@ -1,20 +1,23 @@
 use Rattle.serve_sockets.{specs.declared.serving.Step.Step, proofs.{ServingLemmas.{refused_request, whole_step}, TurnLemmas.{keeps_same, only_moved}}}
 use Rattle.serve_sockets.proofs.serving.take.Goals as goal
 
-pub returns-in-Waits : goal.returns-in-Waits
-returns-in-Waits g c = only_moved g.S.HallStore _ _ Step.Waits tt
+pub returns-in-Waits-clause-step : goal.returns-in-Waits-clause-step
+returns-in-Waits-clause-step g c = only_moved g.S.HallStore _ _ Step.Waits tt
 
-pub returns-in-More : goal.returns-in-More
-returns-in-More g c = only_moved g.S.HallStore _ _ Step.Moved tt
+pub returns-in-More-clause-step : goal.returns-in-More-clause-step
+returns-in-More-clause-step g c = only_moved g.S.HallStore _ _ Step.Moved tt
 
-pub returns-in-Whole : goal.returns-in-Whole
-returns-in-Whole g c = whole_step g.S.HallStore _ _ _ _ c.decide.result _ _ _ _ _ c.in-Whole.ensures.taken.0 c.in-Whole.ensures.taken.1 c.decide.ensures
+pub returns-in-Whole-clause-step : goal.returns-in-Whole-clause-step
+returns-in-Whole-clause-step g c = whole_step g.S.HallStore _ _ _ _ c.decide.result _ _ _ _ _ c.in-Whole.ensures.taken.0 c.in-Whole.ensures.taken.1 c.decide.ensures.step
 
-pub returns-in-NoMemory : goal.returns-in-NoMemory
-returns-in-NoMemory g c = record {
+pub returns-in-NoMemory-clause-step : goal.returns-in-NoMemory-clause-step
+returns-in-NoMemory-clause-step g c = record {
   kept = keeps_same g.S.HallStore _;
-  did = λ clean. refused_request _ g.S.HallStore.wider _ _ _ _ _ _ _ _ _ c.refuse.ensures.tells c.refuse.ensures.waits;
+  did = λ clean. refused_request _ g.S.HallStore.wider _ _ _ _ _ _ _ _ _ c.give.ensures.tells c.give.ensures.waits;
 }
 
-pub returns-in-Failed : goal.returns-in-Failed
-returns-in-Failed g c = only_moved g.S.HallStore _ _ Step.Failed tt
+pub returns-in-Failed-clause-step : goal.returns-in-Failed-clause-step
+returns-in-Failed-clause-step g c = only_moved g.S.HallStore _ _ Step.Failed tt
+
+pub decide-requires : goal.decide-requires
+decide-requires g c = c.in-Whole.ensures.taken.1

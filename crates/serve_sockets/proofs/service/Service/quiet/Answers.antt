@@ -1,4 +1,4 @@
-use Rattle.std.proofs.Common.{◌∙◌, ◌&&◌, ◌||◌, Bool, ap, subst, sym}
+use Rattle.std.proofs.Common.{None, ◌∙◌, ◌&&◌, ◌||◌, Bool, ap, subst, sym}
 use Rattle.serve_sockets.{specs.{Prelude.Input, Turn.{IsOfDatagram, is_unavailable}}, proofs.TurnLemmas.{still_opening, told_unavailable}}
 use Rattle.serve_sockets.proofs.service.Service.quiet.Goals as goal
 
@@ -6,7 +6,7 @@ pub returns-clause-desk : goal.returns-clause-desk
 returns-clause-desk g c =
     let it = c.hand-answer.ensures in
     record {
-      kept = record { clean = λ clean. (it.given clean).0; site = it.site; enlists = it.enlists };
+      kept = record { clean = λ clean. (it.given clean).0; site = it.site; enlists = it.enlists; closed = λ clean. (it.given clean).1.base None };
       did = λ clean. record {
         what = Input.Quiet;
         said = c.hand-answer.result.0;

@@ -14,8 +14,9 @@ loop-served-preserved g c =
     record {
       kept = keeps_then g.S.HallStore _ _ _ before.kept c.serve_turn.ensures.kept;
       served = λ clean.
-          served_then g.S.HallStore g.C.Source.may_give _ _ _ _ _ _ _ _ _ _ before.kept.site (before.served (c.serve_turn.ensures.kept.clean clean))
-          (c.serve_turn.ensures.served clean);
+          served_within g.S.HallStore g.C.Source.may_give _ _ _ _ _ _ _ (omega arith)
+          (served_then g.S.HallStore g.C.Source.may_give _ _ _ _ _ _ _ _ _ _ before.kept.site (before.served (c.serve_turn.ensures.kept.clean clean))
+          (c.serve_turn.ensures.served clean));
     }
 
 pub returns-then-serve_turn-clause-kept : goal.returns-then-serve_turn-clause-kept

@@ -1,4 +1,4 @@
-use Rattle.std.proofs.Common.{◌∙◌, ap, false}
+use Rattle.std.proofs.Common.{◌∙◌, ap, false, refl}
 use Rattle.store_group.proofs.GroupLemmas.{committed_by}
 use Rattle.store_group.proofs.store.GroupGroupStore.commit.Goals as goal
 
@@ -8,5 +8,5 @@ returns g c clean =
       it.0,
       committed_by g.S.HallStore c.args.self.now
           (record { alloc = c.args.self.now.alloc; store = c.apply-2.new.self; writes = c.replace-writes.new.dest; is_open = false })
-          (ap (λ v. v.items) c.replace-writes.ensures.after ∙ c.new.ensures.items) c.apply-2.result it.1,
+          (ap (λ v. v.items) c.replace-writes.ensures.after ∙ c.new.ensures.items) refl c.apply-2.result it.1,
     )

@@ -10,21 +10,21 @@ returns-then-not-self g c clean =
 
 pub returns-in_err-check_versions : goal.returns-in_err-check_versions
 returns-in_err-check_versions g c =
-    none_written g.S.HallStore _ c.check_versions.new.self _ (c.check_versions.ensures.opened ∙ (search rules)) refl c.args.change.now c.check_versions.result _
+    none_written g.S.HallStore _ c.check_versions.new.self _ (c.check_versions.ensures.opened ∙ (search rules)) refl refl c.args.change.now c.check_versions.result _
     c.check_versions.ensures.checked refl _ c.from_residual.ensures.0
 
 pub returns-in_err-writes : goal.returns-in_err-writes
 returns-in_err-writes g c =
-    none_written g.S.HallStore _ c.check_versions.new.self _ (c.check_versions.ensures.opened ∙ (search rules)) refl c.args.change.now c.check_versions.result _
+    none_written g.S.HallStore _ c.check_versions.new.self _ (c.check_versions.ensures.opened ∙ (search rules)) refl refl c.args.change.now c.check_versions.result _
     c.check_versions.ensures.checked refl _ c.from_residual-in_err-writes.ensures.0
 
 pub returns-in_err-append : goal.returns-in_err-append
 returns-in_err-append g c =
-    none_written g.S.HallStore _ c.check_versions.new.self _ (c.check_versions.ensures.opened ∙ (search rules)) refl c.args.change.now c.check_versions.result _
+    none_written g.S.HallStore _ c.check_versions.new.self _ (c.check_versions.ensures.opened ∙ (search rules)) refl refl c.args.change.now c.check_versions.result _
     c.check_versions.ensures.checked c.in_err-append.ensures.items _ c.from_residual-in_err-append.ensures.0
 
 pub returns : goal.returns
 returns g c =
-    written g.S.HallStore _ c.check_versions.new.self _ (c.check_versions.ensures.opened ∙ (search rules)) refl c.args.change.now _
+    written g.S.HallStore _ c.check_versions.new.self _ (c.check_versions.ensures.opened ∙ (search rules)) refl refl c.args.change.now _
     (rw c.writes.ensures at (rw c.in_ok-check_versions.was at c.check_versions.ensures.checked))
     (c.in_ok-append.ensures.items ∙ ap (λ xs. writes_of c.check_versions.new.self ++ xs) (c.in_ok-writes.ensures ∙ c.writes-2.ensures)) _
