@@ -13,6 +13,7 @@ done
 tools=(
     case_words.sh
     'price_of_change.py --check'
+    'wrong_bodies.py --check'
     program_rows.sh
     hallctl_peer.sh
     token_trial.sh

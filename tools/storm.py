@@ -1,84 +1,69 @@
 #!/usr/bin/env python3
 """A hall that is commissioned at once, or comes back after a power cut: a command for each of so many machines; then each one's order is
 answered, it asks for its script, and reports that its work has started and that it is done. Each of these is kept before it is answered.
-Prints how many of each the desk does in a second, with one client and with more at a time, each with machines of its own; the hall's file
-is in the folder at hand.
+Prints how many of each the desk does in a second, with one client and with more at a time (storm.c); the hall's file is in the folder at hand.
 
-With DELAY each commit waits so many microseconds longer for the disk; strace makes it so.
+With DELAY each commit waits so many microseconds longer for the disk (slow_disk.c). Needs cc.
 
 Usage: storm.py HALLBOOT [MACHINES [DELAY [CLIENTS..]]]"""
-import http.client, json, os, re, signal, subprocess, sys, tempfile, threading, time, uuid
-from served_hall import ADMIN, Hall, address, digest
+import json, os, re, subprocess, sys, tempfile, uuid
+from served_hall import ADMIN, Hall, address, digest, whole
 
 POWER = "powers-secret-1"
 WORDS = re.compile(r"hall\.(\w+)=(\S+)")
 
 
-class Client(threading.Thread):
-    """One connection, over which the steps of every so-manieth machine are taken in turn."""
-
-    def __init__(self, hall, numbers, step):
-        super().__init__()
-        self.numbers, self.step, self.fault = numbers, step, None
-        self.http = http.client.HTTPConnection("127.0.0.1", hall.http, timeout=60)
-
-    def ask(self, method, target, body=None, token=None):
-        head = {"Authorization": f"Bearer {token}"} if token else {}
-        self.http.request(method, target, None if body is None else json.dumps(body), head)
-        answer = self.http.getresponse()
-        octets = answer.read().decode()
-        if answer.status != 200:
-            raise ConnectionError(f"{method} {target}: {answer.status} {octets}")
-        return octets
-
-    def run(self):
-        try:
-            for number in self.numbers:
-                self.step(self, number)
-        except (OSError, http.client.HTTPException) as fault:
-            self.fault = fault
+def get(target):
+    return f"GET {target} HTTP/1.1\r\nHost: desk\r\n\r\n".encode()
 
 
-def each(hall, machines, clients, step):
-    """The seconds in which so many clients take a step of each machine."""
-    threads = [Client(hall, machines[at::clients], step) for at in range(clients)]
-    begun = time.monotonic()
-    for thread in threads:
-        thread.start()
-    for thread in threads:
-        thread.join()
-    if fault := next((thread.fault for thread in threads if thread.fault), None):
-        raise SystemExit(f"storm: {fault}")
-    return time.monotonic() - begun
+def post(target, members, token=None):
+    body = json.dumps(members)
+    bearer = f"Authorization: Bearer {token}\r\n" if token else ""
+    return f"POST {target} HTTP/1.1\r\nHost: desk\r\n{bearer}Content-Length: {len(body)}\r\n\r\n{body}".encode()
 
 
-def commission(client, number):
-    client.ask("POST", "/commands", {"key": str(uuid.uuid4()), "command": "commission", "machine": number, "tests": False}, ADMIN)
+def commission(machine):
+    return post("/commands", {"key": str(uuid.uuid4()), "command": "commission", "machine": machine, "tests": False}, ADMIN)
 
 
-def answer_order(client, order):
-    client.ask("POST", f"/orders/{order['number']}", {"outcome": "done"}, POWER)
+def answered(file):
+    """The bodies of the answers in a file of storm's, all of which must have the status 200."""
+    with open(file, "rb") as answers:
+        while line := answers.readline():
+            status, body = whole(answers.read(int(line)))
+            if status != 200:
+                raise SystemExit(f"storm: {status} {body.decode()}")
+            yield body.decode()
 
 
-def fetch(client, order):
-    order["words"] = dict(WORDS.findall(client.ask("GET", f"/ipxe/{address(order['machine'])}")))
+class Storm:
+    """So many clients of a hall, how many requests they have sent, and the seconds that these took."""
 
+    def __init__(self, hall, clients):
+        self.hall, self.clients, self.sent, self.seconds = hall, clients, 0, 0.0
 
-def report(client, order):
-    words = order["words"]
-    for stage in ("started", "done"):
-        client.ask("POST", f"/report/{words['boot']}/{words['token']}", {"stage": stage})
+    def send(self, requests):
+        """The answers to requests, and how many there were in a second."""
+        with open("requests", "wb") as file:
+            file.writelines(b"%d\n%b" % (len(request), request) for request in requests)
+        words = ["./storm", "127.0.0.1", str(self.hall.http), str(self.clients), "requests", "answers"]
+        seconds = float(subprocess.run(words, check=True, stdout=subprocess.PIPE, text=True).stdout) / 1e6
+        self.sent, self.seconds = self.sent + len(requests), self.seconds + seconds
+        return list(answered("answers")), len(requests) / seconds
 
 
 def row(hall, machines, clients):
-    """How many commands, answers to orders, scripts and reports so many clients are given in a second."""
-    begun = time.monotonic()
-    rates = [len(machines) / each(hall, machines, clients, commission)]
+    """How many commands, orders' answers, scripts and reports so many clients are given in a second; and for how many seconds."""
+    storm = Storm(hall, clients)
+    _, commands = storm.send([commission(machine) for machine in machines])
     orders = json.loads(hall.ask("/orders", POWER)[1])["orders"]
-    for step, count in (answer_order, 1), (fetch, 1), (report, 2):
-        rates.append(count * len(orders) / each(hall, orders, clients, step))
-    whole = 5 * len(machines) / (time.monotonic() - begun)
-    return f"{clients:4}" + "".join(f"{rate:10.0f}" for rate in [*rates, whole])
+    _, answers = storm.send([post(f"/orders/{order['number']}", {"outcome": "done"}, POWER) for order in orders])
+    scripts, fetches = storm.send([get(f"/ipxe/{address(order['machine'])}") for order in orders])
+    boots = [dict(WORDS.findall(script)) for script in scripts]
+    rates = [storm.send([post(f"/report/{boot['boot']}/{boot['token']}", {"stage": stage}) for boot in boots])[1] for stage in ("started", "done")]
+    rates = [commands, answers, fetches, 2 / sum(1 / rate for rate in rates), storm.sent / storm.seconds]
+    return f"{clients:4}" + "".join(f"{rate:10.0f}" for rate in rates) + f"{storm.seconds:10.1f}"
 
 
 def main():
@@ -86,24 +71,22 @@ def main():
     count, delay, *clients = (*map(int, numbers), *(400, 0)[len(numbers):])
     clients = clients or [1, 8, 32, 64]
     program = os.path.abspath(program) if os.path.exists(program) else program
+    sources = os.path.dirname(os.path.abspath(__file__))
     os.chdir(tempfile.mkdtemp(prefix="storm-", dir="."))
+    for words in ["-pthread", "-o", "storm", f"{sources}/storm.c"], ["-shared", "-fPIC", "-o", "slow_disk.so", f"{sources}/slow_disk.c"]:
+        subprocess.run(["cc", "-O2", "-Wall", *words], check=True)
     with Hall(program, "storm") as hall:
         hall.add(count * len(clients))
+        if delay:
+            os.environ.update(LD_PRELOAD=os.path.abspath("slow_disk.so"), SLOW_DISK=str(delay))
         hall.serve()
+        os.environ.pop("LD_PRELOAD", None)
         hall.command(command="add_operator", operator="power", role="power", digest=digest(POWER))
         hall.command(command="add_image", image="live64", arch="uefi64", kernel="http://files.example/k", initrd="http://files.example/i", args=[])
         hall.command(command="set_live", image="live64")
-        slow = None
-        if delay:
-            slow = subprocess.Popen(["strace", "-f", "-q", "-o", "/dev/null", "-e", "trace=fdatasync,fsync", "-e", f"inject=fdatasync,fsync:delay_exit={delay}",
-                                     "-p", str(hall.running.pid)], stderr=subprocess.DEVNULL)
-            time.sleep(1)
-        print(f"a second, each commit {delay} us slower:\n clients commands    orders   scripts   reports       all")
+        print(f"a second, each commit {delay} us slower:\n clients commands    orders   scripts   reports       all   seconds")
         for at, some in enumerate(clients):
             print(row(hall, range(at * count + 1, (at + 1) * count + 1), some), flush=True)
-        if slow:
-            slow.send_signal(signal.SIGTERM)
-            slow.wait()
         hall.stop()
 
 

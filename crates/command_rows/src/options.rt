@@ -50,24 +50,37 @@ fn matched<'a>(
     words: &'a [String],
 ) -> Result<Options<'a>, Error> {
     let matches = parser(alloc, front)?.try_get_matches_from(words)?;
-    Ok(options_of(alloc, front, &matches)?)
+    let options = options_of(alloc, front, &matches);
+    drop(matches);
+    Ok(options?)
 }
 
 impl<'a> Options<'a> {
+    // Adds the texts of an option.
+    fn push_texts(&mut self, name: &'static str, texts: &[&'a str]) -> Result<(), AllocError> {
+        for text in texts {
+            let text = Some(*text);
+            self.given.push(Given { name, text })?;
+        }
+        Ok(())
+    }
+
+    // Adds a flag, if it was given, or the texts of an option.
+    fn push_row(&mut self, matches: &ArgMatches<'a>, row: &OptionRow) -> Result<(), AllocError> {
+        let name = row.name;
+        if row.shape != Shape::Flag {
+            return self.push_texts(name, matches.get_strs(name).unwrap_or(&[]));
+        }
+        if matches.get_flag(name) {
+            self.given.push(Given { name, text: None })?;
+        }
+        Ok(())
+    }
+
     // Adds the texts of these options.
-    fn push(&mut self, matches: &ArgMatches<'a>, rows: &[OptionRow]) -> Result<(), AllocError> {
+    fn push(&mut self, matches: &ArgMatches<'a>, rows: &[&OptionRow]) -> Result<(), AllocError> {
         for row in rows {
-            let name = row.name;
-            if row.shape == Shape::Flag {
-                if matches.get_flag(name) {
-                    self.given.push(Given { name, text: None })?;
-                }
-                continue;
-            }
-            for text in matches.get_strs(name).unwrap_or(&[]) {
-                let text = Some(*text);
-                self.given.push(Given { name, text })?;
-            }
+            self.push_row(matches, row)?;
         }
         Ok(())
     }

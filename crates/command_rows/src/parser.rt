@@ -39,15 +39,25 @@ fn arg<'a>(alloc: Global, row: &OptionRow) -> Result<Arg<'a>, AllocError> {
     }
 }
 
-fn args_of<'a>(
+fn push_args<'a>(
     alloc: Global,
-    own: &[OptionRow],
-    common: &[OptionRow],
-) -> Result<Vec<Arg<'a>>, AllocError> {
-    let mut args = Vec::new(alloc);
-    for row in own.iter().chain(common) {
+    args: &mut Vec<Arg<'a>>,
+    rows: &[&OptionRow],
+) -> Result<(), AllocError> {
+    for row in rows {
         args.push(arg(alloc, row)?)?;
     }
+    Ok(())
+}
+
+fn args_of<'a>(
+    alloc: Global,
+    own: &[&OptionRow],
+    common: &[&OptionRow],
+) -> Result<Vec<Arg<'a>>, AllocError> {
+    let mut args = Vec::new(alloc);
+    push_args(alloc, &mut args, own)?;
+    push_args(alloc, &mut args, common)?;
     Ok(args)
 }
 
@@ -67,18 +77,19 @@ fn commands<'a>(alloc: Global, rows: &[CommandRow]) -> Result<Vec<Command<'a>>, 
     Ok(commands)
 }
 
-// The program without its options and commands.
-fn program<'a>(alloc: Global, front: &Front<'_>) -> Command<'a> {
+// The program without its commands.
+fn program<'a>(alloc: Global, front: &Front<'_>) -> Result<Command<'a>, AllocError> {
+    let args = args_of(alloc, front.options, &[])?;
     Command::new(alloc, front.name)
         .about(front.about)
         .after_help(front.after)
         .version(front.version)
         .subcommand_required(front.needs_command)
+        .args(args)
 }
 
 /// The parser of a program's command lines.
 pub(crate) fn parser<'a>(alloc: Global, front: &Front<'_>) -> Result<Command<'a>, AllocError> {
-    let args = args_of(alloc, front.options, &[])?;
     let commands = commands(alloc, front.commands)?;
-    program(alloc, front).args(args)?.subcommands(commands)
+    program(alloc, front)?.subcommands(commands)
 }

@@ -95,8 +95,8 @@ pub struct CommandRow {
     pub about: &'static str,
     /// What its help ends with.
     pub example: &'static str,
-    pub options: &'static [OptionRow],
-    pub common: &'static [OptionRow],
+    pub options: &'static [&'static OptionRow],
+    pub common: &'static [&'static OptionRow],
 }
 
 /// A program: what its help and `--version` say, the options that may be given before a command, and the commands in the order of its
@@ -108,7 +108,7 @@ pub struct Front<'r> {
     pub about: &'static str,
     /// What its help ends with.
     pub after: &'static str,
-    pub options: &'static [OptionRow],
+    pub options: &'static [&'static OptionRow],
     pub commands: &'r [CommandRow],
     pub needs_command: bool,
 }

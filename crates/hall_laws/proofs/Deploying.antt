@@ -33,6 +33,9 @@ image_kept : (status : Status) → status ≡ Deploying → (image : Option (Lis
 unfolding keeps_owner
 image_kept status is image = ap (λ x. kept (keeps_owner x) image) is
 
+isn't_new : New ≡ Deploying → ⊥
+isn't_new apart = cc
+
 module _ (past : List Step) (s : Step) (step : IsStep s) (sound : IsSound s.before) (later : IsSound s.after) where
   same_machine : ImagesMove s.before s.arrival.event s.after → (id : ℕ) (k m : Machine) → at s.before.machines id ≡ Some k → at s.after.machines id ≡ Some m → IsSettled k m → WasDeployed past s.before id k → WasDeployed (past ++ (s ∷ [])) s.after id m
   same_machine move id k m was is settled d = record {
@@ -98,7 +101,7 @@ module _ (past : List Step) (s : Step) (step : IsStep s) (sound : IsSound s.befo
 
       by : MachineWas s.before s.arrival.event s.arrival.moment (decided s).content id m → WasDeployed (past ++ (s ∷ [])) s.after id m
       by (was_settled k was settled) = same_machine move id k m was is settled (old.deployed id k was (sym settled.status ∙ deploys))
-      by (was_made event none new above) = let apart : New ≡ Deploying = ap (λ (y : Machine). y.status) (sym new) ∙ deploys in cc
+      by (was_made event none new above) = absurd (isn't_new (ap (λ (y : Machine). y.status) (sym new) ∙ deploys))
       by (has_entered rows x same its) = deploy_now move rows (decided s).content x id m same its is answer deploys
 
 pub deploys_step : (past : List Step) (s : Step) → IsTypedStep s → IsStep s → IsSound s.before → IsSound s.after → KnowsDeploys past s.before → KnowsDeploys (past ++ (s ∷ [])) s.after

@@ -31,6 +31,9 @@ kind_kept : (status : Status) → status ≡ DiskErasing → (erase : Option Era
 unfolding keeps_erase
 kind_kept status is erase = ap (λ x. kept (keeps_erase x) erase) is
 
+isn't_new : New ≡ DiskErasing → ⊥
+isn't_new apart = cc
+
 module _ (past : List Step) (s : Step) (step : IsStep s) (sound : IsSound s.before) where
   same_machine : (id : ℕ) (k m : Machine) → at s.before.machines id ≡ Some k → at s.after.machines id ≡ Some m → IsSettled k m → Released past id k → Released (past ++ (s ∷ [])) id m
   same_machine id k m was is settled r = (last_kept (IsEntry id) past s (no_entry s id k m was is settled.status) r.0, r.1, settled.erase ∙ r.2, r.3)
@@ -78,7 +81,7 @@ module _ (past : List Step) (s : Step) (step : IsStep s) (sound : IsSound s.befo
     where
       by : MachineWas s.before s.arrival.event s.arrival.moment (decided s).content id m → Released (past ++ (s ∷ [])) id m
       by (was_settled k was settled) = same_machine id k m was is settled (old.released id k was (sym settled.status ∙ erases))
-      by (was_made event none new above) = let apart : New ≡ DiskErasing = ap (λ (y : Machine). y.status) (sym new) ∙ erases in cc
+      by (was_made event none new above) = absurd (isn't_new (ap (λ (y : Machine). y.status) (sym new) ∙ erases))
       by (has_entered rows x same its) = release_now rows (decided s).content x id m same its is answer erases
 
 pub releases_step : (past : List Step) (s : Step) → IsTypedStep s → IsStep s → IsSound s.before → IsSound s.after → KnowsReleases past s.before → KnowsReleases (past ++ (s ∷ [])) s.after

@@ -2,7 +2,7 @@
 use crate::common::{COMMON, DB, PATH, owned, path};
 use command_rows::{CommandRow, OptionRow, Options, Wrong};
 
-pub(crate) const TO: OptionRow = OptionRow {
+pub(crate) const TO: &OptionRow = &OptionRow {
     name: "to",
     value: "COPY",
     help: "Where the copy is put",
@@ -10,7 +10,7 @@ pub(crate) const TO: OptionRow = OptionRow {
     ..OptionRow::ALWAYS
 };
 
-pub(crate) const FROM: OptionRow = OptionRow {
+pub(crate) const FROM: &OptionRow = &OptionRow {
     name: "from",
     value: "COPY",
     help: "The copy",
@@ -46,7 +46,7 @@ impl HallCopy {
     pub(crate) fn read(options: &Options<'_>, row: &OptionRow) -> Result<HallCopy, Wrong> {
         Ok(HallCopy {
             copy: path(options, row)?,
-            path: owned(options, &DB)?,
+            path: owned(options, DB)?,
         })
     }
 }

@@ -41,5 +41,5 @@ pub fn read<'a>(alloc: Global, words: &'a [String]) -> Result<Options<'a>, Usage
 
 /// Whether the reason of a fault is asked for.
 pub fn wants_reason(options: &Options<'_>) -> bool {
-    options.is_given(&WHY)
+    options.is_given(WHY)
 }

@@ -3,14 +3,14 @@ use command_rows::{OptionRow, Options, Shape, Wrong};
 use pxe_vendor::{Place, PlaceFault};
 use std::net::Ipv4Addr;
 
-pub(crate) const DB: OptionRow = OptionRow {
+pub(crate) const DB: &OptionRow = &OptionRow {
     name: "db",
     value: "FILE",
     help: "The hall's file",
     ..OptionRow::ALWAYS
 };
 
-pub(crate) const AT: OptionRow = OptionRow {
+pub(crate) const AT: &OptionRow = &OptionRow {
     name: "at",
     value: "MOMENT",
     help: "The moment, in seconds since 1970-01-01 00:00:00 UTC",
@@ -18,13 +18,13 @@ pub(crate) const AT: OptionRow = OptionRow {
     ..OptionRow::ALWAYS
 };
 
-pub(crate) const WHY: OptionRow = OptionRow {
+pub(crate) const WHY: &OptionRow = &OptionRow {
     name: "why",
     help: "Says in a second line what a fault is about, as it does at a terminal",
     ..OptionRow::FLAG
 };
 
-const SERVER: OptionRow = OptionRow {
+const SERVER: &OptionRow = &OptionRow {
     name: "server",
     value: "IP",
     help: "The address of this server",
@@ -33,7 +33,7 @@ const SERVER: OptionRow = OptionRow {
     ..OptionRow::MAYBE
 };
 
-const NEXT: OptionRow = OptionRow {
+const NEXT: &OptionRow = &OptionRow {
     name: "next",
     value: "IP",
     help: "The address of the TFTP server",
@@ -42,7 +42,7 @@ const NEXT: OptionRow = OptionRow {
     ..OptionRow::MAYBE
 };
 
-const HOST: OptionRow = OptionRow {
+const HOST: &OptionRow = &OptionRow {
     name: "host",
     value: "HOST",
     help: "The host in the scripts' addresses",
@@ -57,10 +57,10 @@ const ADDRESS: &str = "an IPv4 address is as in 10.0.0.5";
 pub(crate) const PATH: &str = "it is the path of a file";
 
 /// The option of every command.
-pub(crate) const COMMON: [OptionRow; 1] = [WHY];
+pub(crate) const COMMON: [&OptionRow; 1] = [WHY];
 
 /// The same with those of the place that is served.
-pub(crate) const WITH_PLACE: [OptionRow; 4] = [WHY, SERVER, NEXT, HOST];
+pub(crate) const WITH_PLACE: [&OptionRow; 4] = [WHY, SERVER, NEXT, HOST];
 
 /// The text of an option that has to be given.
 pub(crate) fn owned(options: &Options<'_>, row: &OptionRow) -> Result<String, Wrong> {
@@ -82,12 +82,12 @@ fn address(options: &Options<'_>, row: &OptionRow) -> Result<[u8; 4], Wrong> {
 
 /// The place that is served.
 pub(crate) fn place(options: &Options<'_>) -> Result<Place, Wrong> {
-    let server = address(options, &SERVER)?;
-    let next = address(options, &NEXT)?;
-    let host = options.required(&HOST)?;
+    let server = address(options, SERVER)?;
+    let next = address(options, NEXT)?;
+    let host = options.required(HOST)?;
     match Place::new(options.alloc(), server, next, host) {
         Ok(place) => Ok(place),
-        Err(PlaceFault::BadHost) => Err(options.wrong(&HOST)),
+        Err(PlaceFault::BadHost) => Err(options.wrong(HOST)),
         Err(PlaceFault::Memory) => Err(Wrong::Memory),
     }
 }

@@ -92,7 +92,7 @@ fn log_reason(rt: &HostRuntime, path: &str) -> Option<String> {
 
 // Whether the log can't be written, or what else may have failed.
 fn io_reason(rt: &HostRuntime, options: &Options<'_>) -> Option<String> {
-    if let Some(path) = options.text(&LOG)
+    if let Some(path) = options.text(LOG)
         && path != "-"
         && let Some(reason) = log_reason(rt, path)
     {
@@ -117,13 +117,13 @@ pub fn reason(rt: &HostRuntime, options: &Options<'_>, fault: Fault) -> Option<S
             let rows = [DISCOVER, BOOT, HTTP];
             rows.iter().find_map(|row| refusal_of(rt, options, row))
         }
-        Fault::BadHeader | Fault::BadRow => row_reason(rt, options.text(&FILE)?, fault),
+        Fault::BadHeader | Fault::BadRow => row_reason(rt, options.text(FILE)?, fault),
         Fault::Unavailable | Fault::NotEmpty | Fault::NotAHall | Fault::OtherVersion => {
-            file_reason(rt, options.text(&DB)?, fault)
+            file_reason(rt, options.text(DB)?, fault)
         }
         Fault::Io => io_reason(rt, options),
         Fault::NoMachine => {
-            let what = options.text(&WHAT)?;
+            let what = options.text(WHAT)?;
             format!(in rt.alloc(); "--what {what}: the hall has no such machine").ok()
         }
         Fault::Memory => None,

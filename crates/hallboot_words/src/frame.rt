@@ -4,7 +4,7 @@ use command_rows::{CommandRow, OptionRow, Options, Shape, Wrong};
 use hall_types::Port;
 use pxe_vendor::Place;
 
-const ROLE: OptionRow = OptionRow {
+const ROLE: &OptionRow = &OptionRow {
     name: "role",
     value: "ROLE",
     help: "The port: discover or boot",
@@ -32,7 +32,7 @@ impl Frame {
     pub(crate) fn read(options: &Options<'_>) -> Result<Frame, Wrong> {
         let ports = [("discover", Port::Discover), ("boot", Port::Boot)];
         Ok(Frame {
-            port: options.choice(&ROLE, &ports)?,
+            port: options.choice(ROLE, &ports)?,
             place: place(options)?,
         })
     }

@@ -8,7 +8,7 @@ use hall_types::{Digest, Moment};
 use pxe_vendor::Place;
 use sha2::{Digest as _, Sha256};
 
-const TOKEN: OptionRow = OptionRow {
+const TOKEN: &OptionRow = &OptionRow {
     name: "token",
     value: "TOKEN",
     help: "The bearer token of an administrator",
@@ -17,7 +17,7 @@ const TOKEN: OptionRow = OptionRow {
     is_secret: true,
 };
 
-pub(crate) const TOKEN_FILE: OptionRow = OptionRow {
+pub(crate) const TOKEN_FILE: &OptionRow = &OptionRow {
     name: "token-file",
     value: "FILE",
     help: "A file whose first line is that token, in place of --token",
@@ -27,7 +27,7 @@ pub(crate) const TOKEN_FILE: OptionRow = OptionRow {
 
 const TOKEN_FORM: &str = "a token has 1 to 128 visible characters of ASCII";
 
-pub(crate) const FILE: OptionRow = OptionRow {
+pub(crate) const FILE: &OptionRow = &OptionRow {
     name: "file",
     value: "FILE",
     help: "The file of machines",
@@ -68,14 +68,14 @@ fn digest_of(token: &str) -> Option<Digest> {
 
 impl Bearer {
     fn read(options: &Options<'_>) -> Result<Bearer, Wrong> {
-        if !options.is_given(&TOKEN_FILE) {
-            return Ok(Bearer::Digest(options.value(&TOKEN, |text| digest_of(text))?));
+        if !options.is_given(TOKEN_FILE) {
+            return Ok(Bearer::Digest(options.value(TOKEN, |text| digest_of(text))?));
         }
-        if options.is_given(&TOKEN) {
+        if options.is_given(TOKEN) {
             let must = "one of --token and --token-file is given, not both";
-            return Err(options.wrong_because(&TOKEN, must));
+            return Err(options.wrong_because(TOKEN, must));
         }
-        Ok(Bearer::File(owned(options, &TOKEN_FILE)?))
+        Ok(Bearer::File(owned(options, TOKEN_FILE)?))
     }
 
     fn digest(&self, rt: &HostRuntime) -> Result<Digest, Failure> {
@@ -83,7 +83,7 @@ impl Bearer {
             Bearer::Digest(digest) => Ok(*digest),
             Bearer::File(path) => {
                 let digest = digest_of(first_line(rt, path.as_str())?.as_str());
-                digest.ok_or_else(|| Failure::from(Wrong::of(rt.alloc(), &TOKEN_FILE, None)))
+                digest.ok_or_else(|| Failure::from(Wrong::of(rt.alloc(), TOKEN_FILE, None)))
             }
         }
     }
@@ -92,10 +92,10 @@ impl Bearer {
 impl Import {
     pub(crate) fn read(options: &Options<'_>) -> Result<Import, Wrong> {
         Ok(Import {
-            moment: options.parse(&AT)?,
+            moment: options.parse(AT)?,
             place: place(options)?,
             bearer: Bearer::read(options)?,
-            file: owned(options, &FILE)?,
+            file: owned(options, FILE)?,
         })
     }
 

@@ -3,7 +3,7 @@ use crate::common::{COMMON, DB, owned};
 use command_rows::{CommandRow, OptionRow, Options, Wrong};
 use hall_types::{Digest, Name};
 
-const ADMIN: OptionRow = OptionRow {
+const ADMIN: &OptionRow = &OptionRow {
     name: "admin",
     value: "NAME",
     help: "The administrator's name",
@@ -11,7 +11,7 @@ const ADMIN: OptionRow = OptionRow {
     ..OptionRow::ALWAYS
 };
 
-const DIGEST: OptionRow = OptionRow {
+const DIGEST: &OptionRow = &OptionRow {
     name: "digest",
     value: "HEX",
     help: "The SHA-256 of its bearer token, 64 digits",
@@ -46,9 +46,9 @@ pub struct Init {
 impl Init {
     pub(crate) fn read(options: &Options<'_>) -> Result<Init, Wrong> {
         Ok(Init {
-            admin: options.parse(&ADMIN)?,
-            digest: options.parse(&DIGEST)?,
-            path: owned(options, &DB)?,
+            admin: options.parse(ADMIN)?,
+            digest: options.parse(DIGEST)?,
+            path: owned(options, DB)?,
         })
     }
 }

@@ -59,20 +59,20 @@ pub struct ImportTask {
 
 // A task over the hall of `--db`.
 fn over(options: &Options<'_>, task: Task) -> Result<Job, Wrong> {
-    Ok(Job::Over(owned(options, &DB)?, task))
+    Ok(Job::Over(owned(options, DB)?, task))
 }
 
 fn job_of(options: &Options<'_>) -> Result<Job, Wrong> {
     Ok(match options.command() {
         Some("init") => Job::Init(Init::read(options)?),
-        Some("migrate") => Job::Migrate(owned(options, &DB)?),
+        Some("migrate") => Job::Migrate(owned(options, DB)?),
         Some("request") => over(options, Task::Request(Request::read(options)?))?,
         Some("serve") => Job::Serve(Serving::read(options)?),
-        Some("report") => over(options, Task::Report(options.parse(&WHAT)?))?,
-        Some("import") => Job::Import(owned(options, &DB)?, Import::read(options)?),
+        Some("report") => over(options, Task::Report(options.parse(WHAT)?))?,
+        Some("import") => Job::Import(owned(options, DB)?, Import::read(options)?),
         Some("export") => over(options, Task::Export)?,
-        Some("backup") => Job::Backup(HallCopy::read(options, &TO)?),
-        Some("restore") => Job::Restore(HallCopy::read(options, &FROM)?),
+        Some("backup") => Job::Backup(HallCopy::read(options, TO)?),
+        Some("restore") => Job::Restore(HallCopy::read(options, FROM)?),
         _ => Job::Frame(Frame::read(options)?),
     })
 }

@@ -37,7 +37,7 @@ struct NamedFile<'a> {
 }
 
 // The options that name files, that of the hall first.
-static NAMED: [(OptionRow, &[&str]); 7] = [
+static NAMED: [(&OptionRow, &[&str]); 7] = [
     (DB, HALL),
     (LOG, ALONE),
     (BACKUP, COPY),
@@ -51,10 +51,10 @@ static NAMED: [(OptionRow, &[&str]); 7] = [
 fn named_files<'a>(options: &Options<'a>) -> Result<Vec<NamedFile<'a>>, AllocError> {
     let mut files = Vec::new(options.alloc());
     for (row, ends) in &NAMED {
+        let (row, ends) = (*row, *ends);
         if let Some(path) = options.text(row)
             && (row.name != LOG.name || path != "-")
         {
-            let ends = *ends;
             files.push(NamedFile { row, path, ends })?;
         }
     }

@@ -2,7 +2,7 @@
 use crate::common::{COMMON, DB};
 use command_rows::{CommandRow, OptionRow, Shape};
 
-pub(crate) const WHAT: OptionRow = OptionRow {
+pub(crate) const WHAT: &OptionRow = &OptionRow {
     name: "what",
     value: "WHAT",
     help: "hall, orders or a machine's number",

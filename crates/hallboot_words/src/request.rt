@@ -4,7 +4,7 @@ use command_rows::{CommandRow, OptionRow, Options, Wrong};
 use hall_types::{Moment, Token};
 use pxe_vendor::Place;
 
-const FRESH: OptionRow = OptionRow {
+const FRESH: &OptionRow = &OptionRow {
     name: "fresh",
     value: "HEX",
     help: "The token of a boot that is issued, 32 digits",
@@ -31,8 +31,8 @@ pub struct Request {
 impl Request {
     pub(crate) fn read(options: &Options<'_>) -> Result<Request, Wrong> {
         Ok(Request {
-            moment: options.parse(&AT)?,
-            fresh: options.parse(&FRESH)?,
+            moment: options.parse(AT)?,
+            fresh: options.parse(FRESH)?,
             place: place(options)?,
         })
     }

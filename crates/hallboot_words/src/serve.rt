@@ -6,7 +6,7 @@ use pxe_vendor::Place;
 use std::fmt;
 use std::net::{Ipv4Addr, SocketAddr};
 
-pub(crate) const DISCOVER: OptionRow = OptionRow {
+pub(crate) const DISCOVER: &OptionRow = &OptionRow {
     name: "discover",
     value: "ADDR",
     help: "The socket for DHCP, port 67",
@@ -14,7 +14,7 @@ pub(crate) const DISCOVER: OptionRow = OptionRow {
     ..OptionRow::ALWAYS
 };
 
-pub(crate) const BOOT: OptionRow = OptionRow {
+pub(crate) const BOOT: &OptionRow = &OptionRow {
     name: "boot",
     value: "ADDR",
     help: "The socket of the boot server, port 4011",
@@ -22,7 +22,7 @@ pub(crate) const BOOT: OptionRow = OptionRow {
     ..OptionRow::ALWAYS
 };
 
-pub(crate) const HTTP: OptionRow = OptionRow {
+pub(crate) const HTTP: &OptionRow = &OptionRow {
     name: "http",
     value: "ADDR",
     help: "The socket for HTTP",
@@ -32,7 +32,7 @@ pub(crate) const HTTP: OptionRow = OptionRow {
 
 const SOCKET: &str = "an address and a port are as in 10.0.0.5:67";
 
-const TURNS: OptionRow = OptionRow {
+const TURNS: &OptionRow = &OptionRow {
     name: "turns",
     value: "N",
     help: "After how many turns it ends",
@@ -40,7 +40,7 @@ const TURNS: OptionRow = OptionRow {
     ..OptionRow::ALWAYS
 };
 
-const ENLIST: OptionRow = OptionRow {
+const ENLIST: &OptionRow = &OptionRow {
     name: "enlist",
     value: "ENLIST",
     help: "yes; or no: unknown clients get silence, and machines are added by hand",
@@ -49,14 +49,14 @@ const ENLIST: OptionRow = OptionRow {
     ..OptionRow::MAYBE
 };
 
-pub(crate) const LOG: OptionRow = OptionRow {
+pub(crate) const LOG: &OptionRow = &OptionRow {
     name: "log",
     value: "FILE",
     help: "Where a line for each arrival is added; - is standard error",
     ..OptionRow::MAYBE
 };
 
-const LOG_TIME: OptionRow = OptionRow {
+const LOG_TIME: &OptionRow = &OptionRow {
     name: "log-time",
     value: "FORMAT",
     help: "How the log writes moments: seconds since 1970, or utc",
@@ -65,7 +65,7 @@ const LOG_TIME: OptionRow = OptionRow {
     ..OptionRow::MAYBE
 };
 
-const LOG_FORMAT: OptionRow = OptionRow {
+const LOG_FORMAT: &OptionRow = &OptionRow {
     name: "log-format",
     value: "FORMAT",
     help: "text, or json: an object a line, with the time in UTC",
@@ -74,7 +74,7 @@ const LOG_FORMAT: OptionRow = OptionRow {
     ..OptionRow::MAYBE
 };
 
-const LOG_CONNECTIONS: OptionRow = OptionRow {
+const LOG_CONNECTIONS: &OptionRow = &OptionRow {
     name: "log-connections",
     value: "WHETHER",
     help: "yes; or no: the log has no lines of connections that are accepted and closed",
@@ -83,7 +83,7 @@ const LOG_CONNECTIONS: OptionRow = OptionRow {
     ..OptionRow::MAYBE
 };
 
-pub(crate) const BACKUP: OptionRow = OptionRow {
+pub(crate) const BACKUP: &OptionRow = &OptionRow {
     name: "backup",
     value: "FILE",
     help: "Where a copy of the hall's file is put while it is served",
@@ -91,7 +91,7 @@ pub(crate) const BACKUP: OptionRow = OptionRow {
     ..OptionRow::MAYBE
 };
 
-const BACKUP_EVERY: OptionRow = OptionRow {
+const BACKUP_EVERY: &OptionRow = &OptionRow {
     name: "backup-every",
     value: "SECONDS",
     help: "How long it is from one copy to the next, 3600 without it",
@@ -151,15 +151,15 @@ const HOUR: u64 = 3_600;
 
 impl BackupPlan {
     fn read(options: &Options<'_>) -> Result<Option<BackupPlan>, Wrong> {
-        let seconds = options.value_if(&BACKUP_EVERY, |text| count_of(text).filter(|n| *n > 0))?;
-        if options.is_given(&BACKUP) {
+        let seconds = options.value_if(BACKUP_EVERY, |text| count_of(text).filter(|n| *n > 0))?;
+        if options.is_given(BACKUP) {
             return Ok(Some(BackupPlan {
-                path: path(options, &BACKUP)?,
+                path: path(options, BACKUP)?,
                 seconds: seconds.unwrap_or(HOUR),
             }));
         }
         match seconds {
-            Some(_) => Err(options.wrong_because(&BACKUP_EVERY, "it is given beside --backup")),
+            Some(_) => Err(options.wrong_because(BACKUP_EVERY, "it is given beside --backup")),
             None => Ok(None),
         }
     }
@@ -167,8 +167,8 @@ impl BackupPlan {
 
 fn log_format(options: &Options<'_>) -> Result<LogFormat, Wrong> {
     let times = [("seconds", LogFormat::Seconds), ("utc", LogFormat::Utc)];
-    let time = options.choice(&LOG_TIME, &times)?;
-    options.choice(&LOG_FORMAT, &[("text", time), ("json", LogFormat::Json)])
+    let time = options.choice(LOG_TIME, &times)?;
+    options.choice(LOG_FORMAT, &[("text", time), ("json", LogFormat::Json)])
 }
 
 // Whether an option says yes or no.
@@ -180,19 +180,16 @@ impl Serving {
     pub(crate) fn read(options: &Options<'_>) -> Result<Serving, Wrong> {
         Ok(Serving {
             format: log_format(options)?,
-            logs_connections: is_yes(options, &LOG_CONNECTIONS)?,
-            enlists: is_yes(options, &ENLIST)?,
-            turns: options.value(&TURNS, |text| count_of(text))?,
-            discover: options.parse(&DISCOVER)?,
-            boot: options.parse(&BOOT)?,
-            http: options.parse(&HTTP)?,
+            logs_connections: is_yes(options, LOG_CONNECTIONS)?,
+            enlists: is_yes(options, ENLIST)?,
+            turns: options.value(TURNS, |text| count_of(text))?,
+            discover: options.parse(DISCOVER)?,
+            boot: options.parse(BOOT)?,
+            http: options.parse(HTTP)?,
             place: place(options)?,
             backup: BackupPlan::read(options)?,
-            log: options
-                .text(&LOG)
-                .map(|_| owned(options, &LOG))
-                .transpose()?,
-            path: owned(options, &DB)?,
+            log: options.text(LOG).map(|_| owned(options, LOG)).transpose()?,
+            path: owned(options, DB)?,
         })
     }
 
@@ -236,5 +233,5 @@ impl fmt::Display for Serving {
 
 /// Whether a command line has its log at standard error in JSON.
 pub fn has_json_errors(options: &Options<'_>) -> bool {
-    options.text(&LOG) == Some("-") && options.text(&LOG_FORMAT) == Some("json")
+    options.text(LOG) == Some("-") && options.text(LOG_FORMAT) == Some("json")
 }

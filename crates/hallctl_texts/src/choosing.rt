@@ -144,6 +144,21 @@ fn lower_case(alloc: Global, search: Option<&str>) -> Result<Option<String>, All
     }
 }
 
+// The machines that are chosen, where the text that they show is in lower case.
+fn found<'v>(
+    alloc: Global,
+    answer: &'v Value,
+    choice: &Choice<'_>,
+    search: Option<&str>,
+) -> Result<Vec<&'v Value>, AnswerFault>
+    ensures chosen { is_some search.entry ≡ is_some choice.now.search → IfOk result (λ machines. IsChosen choice.now (view answer.now) (views machines.items)) }
+    ensures fault { IfErr result (λ fault. is_some search.entry ≡ false → choice.now.sort ≡ None → fault ≢ AnswerFault.Memory → IsNoList (view answer.now)) }
+{
+    let mut machines = wanted(alloc, objects(answer, "machines")?, choice, search)?;
+    put_in_order(&mut machines, choice.sort)?;
+    Ok(objects_of(alloc, machines.as_slice())?)
+}
+
 /// The machines of a list (the answer to `GET /machines`) that are chosen. Without a column they are in the order of the list.
 ///
 /// # Errors
@@ -159,7 +174,5 @@ pub fn chosen<'v>(
 {
     let search = lower_case(alloc, choice.search)?;
     let text = search.as_ref().map(|text| text.as_str());
-    let mut machines = wanted(alloc, objects(answer, "machines")?, choice, text)?;
-    put_in_order(&mut machines, choice.sort)?;
-    Ok(objects_of(alloc, machines.as_slice())?)
+    found(alloc, answer, choice, text)
 }

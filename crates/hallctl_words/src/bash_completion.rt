@@ -70,7 +70,7 @@ fn columns(alloc: Global) -> Result<String, AllocError> {
     Ok(words)
 }
 
-fn push_options(text: &mut String, rows: &[OptionRow]) -> Result<(), AllocError> {
+fn push_options(text: &mut String, rows: &[&OptionRow]) -> Result<(), AllocError> {
     for row in rows.iter().filter(|row| !row.is_place()) {
         text.push_str(" --")?;
         text.push_str(row.name)?;

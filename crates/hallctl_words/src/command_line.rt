@@ -1,18 +1,18 @@
 //! The command line: its commands in the order of the help, and what the words of one ask for.
 use crate::asked::{Line, Listing, Wish};
 use crate::hall::{add_operator, hall_command};
-use crate::halls::{ALL_HALLS, all_halls, hall_of};
+use crate::halls::{all_halls, hall_of};
 use crate::machines::{WAIT_FOR, YES, commands_on};
 use crate::options::{
     CHANGING, COMMAND, DESK, EACH_HALL, HALLS, JSON, KEY, KEYS, READING, TIMEOUT, TOKEN_FILE,
     WAITING,
 };
 use crate::values::{key_of, seconds_of};
-use crate::waiting::{WAIT, wait};
-use crate::{hall, listings, machines};
+use crate::waiting::wait;
+use crate::{hall, halls, listings, machines, waiting};
 use command_rows::{CommandRow, Front, OptionRow, Options, Usage, Wrong};
 use hall_events::HallCommand;
-use hall_types::RequestKey;
+use hall_types::{Name, RequestKey};
 use std::alloc::{AllocError, Global};
 
 // The program's version, and the kit that proved it, as README.md has it.
@@ -27,22 +27,22 @@ const WAITS: u64 = 1800;
 // How long the desk of each hall is tried for.
 const LOOKS: u64 = 5;
 
-const IMPORT: CommandRow = CommandRow {
+static IMPORT: [CommandRow; 1] = [CommandRow {
     name: "import",
     about: "Adds the machines of a file of comma-separated values",
     example: "Example: hallctl import machines.csv",
     options: &[FILE, KEYS],
     ..COMMAND
-};
+}];
 
-const COMPLETION: CommandRow = CommandRow {
+static COMPLETION: [CommandRow; 1] = [CommandRow {
     name: "completion",
     about: "Prints the completion for bash",
     example: "Example: hallctl completion > /etc/bash_completion.d/hallctl",
     ..COMMAND
-};
+}];
 
-const FILE: OptionRow = OptionRow {
+const FILE: &OptionRow = &OptionRow {
     name: "file",
     value: "FILE",
     help: "The file of machines; - is standard input",
@@ -53,7 +53,7 @@ const FILE: OptionRow = OptionRow {
 fn push(
     rows: &mut Vec<CommandRow>,
     more: &[CommandRow],
-    common: &'static [OptionRow],
+    common: &'static [&'static OptionRow],
 ) -> Result<(), AllocError> {
     for row in more {
         rows.push(CommandRow { common, ..*row })?;
@@ -65,12 +65,12 @@ fn push(
 pub(crate) fn rows(alloc: Global) -> Result<Vec<CommandRow>, AllocError> {
     let mut rows = Vec::new(alloc);
     push(&mut rows, &listings::ROWS, &READING)?;
-    push(&mut rows, &[ALL_HALLS], &EACH_HALL)?;
+    push(&mut rows, &halls::ROWS, &EACH_HALL)?;
     push(&mut rows, &machines::ROWS, &CHANGING)?;
     push(&mut rows, &hall::ROWS, &CHANGING)?;
-    push(&mut rows, &[WAIT], &WAITING)?;
-    push(&mut rows, &[IMPORT], &READING)?;
-    push(&mut rows, &[COMPLETION], &[])?;
+    push(&mut rows, &waiting::ROWS, &WAITING)?;
+    push(&mut rows, &IMPORT, &READING)?;
+    push(&mut rows, &COMPLETION, &[])?;
     Ok(rows)
 }
 
@@ -101,7 +101,7 @@ fn wish_of<'a>(name: &str, options: &Options<'a>) -> Result<Wish<'a>, Wrong> {
         "halls" => all_halls(options),
         "add-operator" => add_operator(options),
         "wait" => wait(options),
-        "import" => Ok(Wish::Import(options.required(&FILE)?)),
+        "import" => Ok(Wish::Import(options.required(FILE)?)),
         "completion" => Ok(Wish::Completion),
         _ => Ok(Wish::Change(commands(name, options)?)),
     }
@@ -109,15 +109,15 @@ fn wish_of<'a>(name: &str, options: &Options<'a>) -> Result<Wish<'a>, Wrong> {
 
 // How long a desk is tried, or a status is waited for. It is said once, before the command or behind it.
 fn timeout(name: &str, options: &Options<'_>) -> Result<u64, Wrong> {
-    if options.texts(&TIMEOUT)?.len() > 1 {
-        return Err(options.wrong(&TIMEOUT));
+    if options.texts(TIMEOUT)?.len() > 1 {
+        return Err(options.wrong(TIMEOUT));
     }
     let usual = match name {
         "wait" => WAITS,
         "halls" => LOOKS,
         _ => TRIES,
     };
-    let said = options.value_if(&TIMEOUT, |text| seconds_of(text.as_bytes()))?;
+    let said = options.value_if(TIMEOUT, |text| seconds_of(text.as_bytes()))?;
     Ok(said.unwrap_or(usual))
 }
 
@@ -131,28 +131,38 @@ fn is_one(wish: &Wish<'_>) -> bool {
 }
 
 fn key_for(options: &Options<'_>, wish: &Wish<'_>) -> Result<Option<RequestKey>, Wrong> {
-    match options.value_if(&KEY, |text| key_of(text))? {
-        Some(_) if !is_one(wish) => Err(options.wrong(&KEY)),
+    match options.value_if(KEY, |text| key_of(text))? {
+        Some(_) if !is_one(wish) => Err(options.wrong(KEY)),
         key => Ok(key),
     }
+}
+
+// A command's key, the hall whose desk is asked, and for how long is waited afterwards.
+type Beside = (Option<RequestKey>, Option<Name>, Option<u64>);
+
+fn said_beside(options: &Options<'_>, wish: &Wish<'_>) -> Result<Beside, Wrong> {
+    let key = key_for(options, wish)?;
+    let hall = hall_of(options)?;
+    let wait = options.value_if(WAIT_FOR, |text| seconds_of(text.as_bytes()))?;
+    Ok((key, hall, wait))
 }
 
 fn line_of<'a>(options: &Options<'a>) -> Result<Line<'a>, Wrong> {
     let name = options.command().unwrap_or("");
     let timeout = timeout(name, options)?;
     let wish = wish_of(name, options)?;
-    let key = key_for(options, &wish)?;
+    let (key, hall, wait) = said_beside(options, &wish)?;
     Ok(Line {
-        desk: options.text(&DESK),
-        token_file: options.text(&TOKEN_FILE),
-        hall: hall_of(options)?,
-        halls: options.text(&HALLS),
+        desk: options.text(DESK),
+        token_file: options.text(TOKEN_FILE),
+        hall,
+        halls: options.text(HALLS),
         timeout,
         key,
-        keys: options.text(&KEYS),
-        wait: options.value_if(&WAIT_FOR, |text| seconds_of(text.as_bytes()))?,
-        yes: options.is_given(&YES),
-        json: options.is_given(&JSON),
+        keys: options.text(KEYS),
+        wait,
+        yes: options.is_given(YES),
+        json: options.is_given(JSON),
         wish,
     })
 }

@@ -69,7 +69,7 @@ pub(crate) static ROWS: [CommandRow; 7] = [
     },
 ];
 
-const UUID: OptionRow = OptionRow {
+const UUID: &OptionRow = &OptionRow {
     name: "uuid",
     value: "UUID",
     help: "The UUID of the machine's system, in wire order",
@@ -77,7 +77,7 @@ const UUID: OptionRow = OptionRow {
     ..OptionRow::MAYBE
 };
 
-const ROLE: OptionRow = OptionRow {
+const ROLE: &OptionRow = &OptionRow {
     name: "role",
     value: "ROLE",
     help: "What the operator may do: admin, user or power",
@@ -85,7 +85,7 @@ const ROLE: OptionRow = OptionRow {
     ..OptionRow::ALWAYS
 };
 
-const DIGEST: OptionRow = OptionRow {
+const DIGEST: &OptionRow = &OptionRow {
     name: "digest",
     value: "HEX",
     help: "The SHA-256 of its token, 64 digits",
@@ -93,7 +93,7 @@ const DIGEST: OptionRow = OptionRow {
     ..OptionRow::MAYBE
 };
 
-const NEW_TOKEN: OptionRow = OptionRow {
+const NEW_TOKEN: &OptionRow = &OptionRow {
     name: "new-token",
     value: "FILE",
     help: "Makes a token, and writes it to this new file once the operator is added",
@@ -101,7 +101,7 @@ const NEW_TOKEN: OptionRow = OptionRow {
     ..OptionRow::MAYBE
 };
 
-const POOL_NAME: OptionRow = OptionRow {
+const POOL_NAME: &OptionRow = &OptionRow {
     name: "pool",
     value: "POOL",
     help: "The pool's name",
@@ -109,7 +109,7 @@ const POOL_NAME: OptionRow = OptionRow {
     ..OptionRow::PLACE
 };
 
-const IMAGE_NAME: OptionRow = OptionRow {
+const IMAGE_NAME: &OptionRow = &OptionRow {
     name: "image",
     value: "IMAGE",
     help: "The image's name",
@@ -120,7 +120,7 @@ const IMAGE_NAME: OptionRow = OptionRow {
 const BOOT_URI: &str =
     "a URI of 8 to 128 characters that begins http://, of letters, digits and -_./:=,+@%?;";
 
-const KERNEL: OptionRow = OptionRow {
+const KERNEL: &OptionRow = &OptionRow {
     name: "kernel",
     value: "URI",
     help: "The kernel's URI, http:// alone",
@@ -128,7 +128,7 @@ const KERNEL: OptionRow = OptionRow {
     ..OptionRow::ALWAYS
 };
 
-const INITRD: OptionRow = OptionRow {
+const INITRD: &OptionRow = &OptionRow {
     name: "initrd",
     value: "URI",
     help: "The initrd's URI, http:// alone",
@@ -136,7 +136,7 @@ const INITRD: OptionRow = OptionRow {
     ..OptionRow::ALWAYS
 };
 
-const ARG: OptionRow = OptionRow {
+const ARG: &OptionRow = &OptionRow {
     name: "arg",
     value: "WORD",
     help: "An argument of the kernel; it may be given 24 times",
@@ -157,41 +157,41 @@ fn uri(options: &Options<'_>, row: &OptionRow) -> Result<Uri, Wrong> {
 fn argument(alloc: Global, text: &str) -> Result<Word, Wrong> {
     match Word::new(alloc, text) {
         Ok(word) if !word.is_hall_word() => Ok(word),
-        Ok(_) | Err(WordFault::BadWord) => Err(Wrong::of(alloc, &ARG, Some(text))),
+        Ok(_) | Err(WordFault::BadWord) => Err(Wrong::of(alloc, ARG, Some(text))),
         Err(WordFault::Memory) => Err(Wrong::Memory),
     }
 }
 
 fn image(options: &Options<'_>) -> Result<Image, Wrong> {
     let alloc = options.alloc();
-    let name = options.parse(&IMAGE_NAME)?;
-    let arch = options.parse(&ARCH)?;
-    let kernel = uri(options, &KERNEL)?;
-    let initrd = uri(options, &INITRD)?;
-    let texts = options.texts(&ARG)?;
+    let name = options.parse(IMAGE_NAME)?;
+    let arch = options.parse(ARCH)?;
+    let kernel = uri(options, KERNEL)?;
+    let initrd = uri(options, INITRD)?;
+    let texts = options.texts(ARG)?;
     let args = texts.iter().map(|text| argument(alloc, text));
     let args: Vec<Word> = args.try_collect(alloc)?;
-    Image::new(name, arch, kernel, initrd, args).map_err(|_| Wrong::of(alloc, &ARG, None))
+    Image::new(name, arch, kernel, initrd, args).map_err(|_| Wrong::of(alloc, ARG, None))
 }
 
 // An operator whose token is made and written to this file.
 fn with_token<'a>(options: &Options<'a>, file: &'a str) -> Result<Wish<'a>, Wrong> {
-    if options.is_given(&DIGEST) {
-        return Err(options.wrong(&NEW_TOKEN));
+    if options.is_given(DIGEST) {
+        return Err(options.wrong(NEW_TOKEN));
     }
     Ok(Wish::NewOperator(NewOperator {
-        operator: options.parse(&OPERATOR_NAME)?,
-        role: options.parse(&ROLE)?,
+        operator: options.parse(OPERATOR_NAME)?,
+        role: options.parse(ROLE)?,
         file,
     }))
 }
 
 // An operator whose token's digest is given.
 fn with_digest<'a>(options: &Options<'a>) -> Result<Wish<'a>, Wrong> {
-    let operator = options.parse(&OPERATOR_NAME)?;
-    let role = options.parse(&ROLE)?;
-    let Some(digest) = options.value_if(&DIGEST, |text| text.parse().ok())? else {
-        return Err(options.wrong(&NEW_TOKEN));
+    let operator = options.parse(OPERATOR_NAME)?;
+    let role = options.parse(ROLE)?;
+    let Some(digest) = options.value_if(DIGEST, |text| text.parse().ok())? else {
+        return Err(options.wrong(NEW_TOKEN));
     };
     let command = HallCommand::AddOperator {
         operator,
@@ -203,7 +203,7 @@ fn with_digest<'a>(options: &Options<'a>) -> Result<Wish<'a>, Wrong> {
 
 /// The operator that is to be added.
 pub(crate) fn add_operator<'a>(options: &Options<'a>) -> Result<Wish<'a>, Wrong> {
-    match options.text(&NEW_TOKEN) {
+    match options.text(NEW_TOKEN) {
         Some(file) => with_token(options, file),
         None => with_digest(options),
     }
@@ -216,29 +216,29 @@ pub(crate) fn hall_command(
 ) -> Result<Option<HallCommand>, Wrong> {
     Ok(Some(match name {
         "add-machine" => HallCommand::AddMachine {
-            mac: options.value(&MAC, |text| mac_of(text))?,
-            arch: options.parse(&ARCH)?,
-            pool: options.parse(&POOL)?,
-            uuid: options.value_if(&UUID, |text| uuid_of(text))?,
+            mac: options.value(MAC, |text| mac_of(text))?,
+            arch: options.parse(ARCH)?,
+            pool: options.parse(POOL)?,
+            uuid: options.value_if(UUID, |text| uuid_of(text))?,
         },
         "disable-operator" => HallCommand::DisableOperator {
-            operator: options.parse(&OPERATOR_NAME)?,
+            operator: options.parse(OPERATOR_NAME)?,
         },
         "add-pool" => HallCommand::AddPool {
-            pool: options.parse(&POOL_NAME)?,
+            pool: options.parse(POOL_NAME)?,
         },
         "grant" => HallCommand::Grant {
-            pool: options.parse(&POOL_NAME)?,
-            operator: options.parse(&OPERATOR_NAME)?,
+            pool: options.parse(POOL_NAME)?,
+            operator: options.parse(OPERATOR_NAME)?,
         },
         "add-image" => HallCommand::AddImage {
             image: image(options)?,
         },
         "delete-image" => HallCommand::DeleteImage {
-            image: options.parse(&IMAGE_NAME)?,
+            image: options.parse(IMAGE_NAME)?,
         },
         "set-live" => HallCommand::SetLive {
-            image: options.parse(&IMAGE_NAME)?,
+            image: options.parse(IMAGE_NAME)?,
         },
         _ => return Ok(None),
     }))

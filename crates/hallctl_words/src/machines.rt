@@ -99,7 +99,7 @@ pub(crate) static ROWS: [CommandRow; 18] = [
     },
 ];
 
-const MACHINES: OptionRow = OptionRow {
+const MACHINES: &OptionRow = &OptionRow {
     name: "machines",
     value: "MACHINE",
     help: "Numbers of machines, and ranges of numbers as 5-9",
@@ -108,7 +108,7 @@ const MACHINES: OptionRow = OptionRow {
     ..OptionRow::PLACE
 };
 
-const VERSION: OptionRow = OptionRow {
+const VERSION: &OptionRow = &OptionRow {
     name: "version",
     value: "VERSION",
     help: "The version that the machine must have",
@@ -116,7 +116,7 @@ const VERSION: OptionRow = OptionRow {
     ..OptionRow::MAYBE
 };
 
-pub(crate) const WAIT_FOR: OptionRow = OptionRow {
+pub(crate) const WAIT_FOR: &OptionRow = &OptionRow {
     name: "wait",
     value: "TIME",
     help: "Waits afterwards, for at most this time, until the machines have got where this leads",
@@ -124,19 +124,19 @@ pub(crate) const WAIT_FOR: OptionRow = OptionRow {
     ..OptionRow::MAYBE
 };
 
-pub(crate) const YES: OptionRow = OptionRow {
+pub(crate) const YES: &OptionRow = &OptionRow {
     name: "yes",
     help: "Asks nothing",
     ..OptionRow::FLAG
 };
 
-const TESTS: OptionRow = OptionRow {
+const TESTS: &OptionRow = &OptionRow {
     name: "tests",
     help: "Tests the machine too",
     ..OptionRow::FLAG
 };
 
-const ERASE: OptionRow = OptionRow {
+const ERASE: &OptionRow = &OptionRow {
     name: "erase",
     value: "KIND",
     help: "How all disks are erased first: none, quick or full",
@@ -144,7 +144,7 @@ const ERASE: OptionRow = OptionRow {
     ..OptionRow::ALWAYS
 };
 
-const IMAGE: OptionRow = OptionRow {
+const IMAGE: &OptionRow = &OptionRow {
     name: "image",
     value: "IMAGE",
     help: "The image that is deployed",
@@ -158,7 +158,7 @@ fn act(name: &str, options: &Options<'_>) -> Result<MachineCommand, Wrong> {
     match word.as_str().parse::<Act>() {
         Ok(act) => Ok(MachineCommand::Act(act)),
         // The command line has the commands of its rows alone.
-        Err(_) => Err(options.wrong(&MACHINES)),
+        Err(_) => Err(options.wrong(MACHINES)),
     }
 }
 
@@ -166,22 +166,22 @@ fn act(name: &str, options: &Options<'_>) -> Result<MachineCommand, Wrong> {
 fn machine_command(name: &str, options: &Options<'_>) -> Result<MachineCommand, Wrong> {
     match name {
         "commission" => Ok(MachineCommand::Commission {
-            tests: options.is_given(&TESTS),
+            tests: options.is_given(TESTS),
         }),
         "deploy" => Ok(MachineCommand::Deploy {
-            image: options.parse(&IMAGE)?,
+            image: options.parse(IMAGE)?,
         }),
         "release" => Ok(MachineCommand::Release {
-            erase: options.value(&ERASE, |text| erase_of(text))?,
+            erase: options.value(ERASE, |text| erase_of(text))?,
         }),
         "set-pool" => Ok(MachineCommand::SetPool {
-            pool: options.parse(&POOL)?,
+            pool: options.parse(POOL)?,
         }),
         "add-interface" => Ok(MachineCommand::AddInterface {
-            mac: options.value(&MAC, |text| mac_of(text))?,
+            mac: options.value(MAC, |text| mac_of(text))?,
         }),
         "remove-interface" => Ok(MachineCommand::RemoveInterface {
-            mac: options.value(&MAC, |text| mac_of(text))?,
+            mac: options.value(MAC, |text| mac_of(text))?,
         }),
         "delete" => Ok(MachineCommand::Delete),
         _ => act(name, options),
@@ -191,16 +191,16 @@ fn machine_command(name: &str, options: &Options<'_>) -> Result<MachineCommand, 
 // The machines of a command that is for one or for several.
 fn machines(options: &Options<'_>) -> Result<Vec<Number>, Wrong> {
     let alloc = options.alloc();
-    if options.is_given(&MACHINES) {
-        return machines_of(alloc, &MACHINES, options.texts(&MACHINES)?.as_slice());
+    if options.is_given(MACHINES) {
+        return machines_of(alloc, MACHINES, options.texts(MACHINES)?.as_slice());
     }
-    Ok(Vec::from_array(alloc, [options.parse(&MACHINE)?])?)
+    Ok(Vec::from_array(alloc, [options.parse(MACHINE)?])?)
 }
 
 // The version that one machine must have.
 fn version(options: &Options<'_>, machines: usize) -> Result<Option<Version>, Wrong> {
-    match options.value_if(&VERSION, |text| text.parse().ok())? {
-        Some(_) if machines != 1 => Err(options.wrong(&VERSION)),
+    match options.value_if(VERSION, |text| text.parse().ok())? {
+        Some(_) if machines != 1 => Err(options.wrong(VERSION)),
         version => Ok(version),
     }
 }

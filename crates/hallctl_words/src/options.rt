@@ -10,21 +10,21 @@ pub(crate) const TIME: &str =
 
 // ---- options of every command
 
-pub(crate) const DESK: OptionRow = OptionRow {
+pub(crate) const DESK: &OptionRow = &OptionRow {
     name: "desk",
     value: "URL",
     help: "The desk, as http://desk.hall.example; without it HALL_DESK says",
     ..OptionRow::MAYBE
 };
 
-pub(crate) const TOKEN_FILE: OptionRow = OptionRow {
+pub(crate) const TOKEN_FILE: &OptionRow = &OptionRow {
     name: "token-file",
     value: "FILE",
     help: "A file whose first line is your token; without it HALL_TOKEN_FILE says",
     ..OptionRow::MAYBE
 };
 
-pub(crate) const HALL: OptionRow = OptionRow {
+pub(crate) const HALL: &OptionRow = &OptionRow {
     name: "hall",
     value: "NAME",
     help: "The hall of the file of halls whose desk it is, in place of --desk; without both HALL says",
@@ -32,14 +32,14 @@ pub(crate) const HALL: OptionRow = OptionRow {
     ..OptionRow::MAYBE
 };
 
-pub(crate) const HALLS: OptionRow = OptionRow {
+pub(crate) const HALLS: &OptionRow = &OptionRow {
     name: "halls",
     value: "FILE",
     help: "The file of halls; without it HALLS says, or else it is ~/.config/hall/halls.toml",
     ..OptionRow::MAYBE
 };
 
-pub(crate) const TIMEOUT: OptionRow = OptionRow {
+pub(crate) const TIMEOUT: &OptionRow = &OptionRow {
     name: "timeout",
     value: "TIME",
     help: "How long the desk is tried without an answer: seconds, or as 2m; 60 without it",
@@ -47,7 +47,7 @@ pub(crate) const TIMEOUT: OptionRow = OptionRow {
     ..OptionRow::MAYBE
 };
 
-pub(crate) const KEY: OptionRow = OptionRow {
+pub(crate) const KEY: &OptionRow = &OptionRow {
     name: "key",
     value: "UUID",
     help: "The key of a command that got no answer, which is sent again",
@@ -55,32 +55,32 @@ pub(crate) const KEY: OptionRow = OptionRow {
     ..OptionRow::MAYBE
 };
 
-pub(crate) const KEYS: OptionRow = OptionRow {
+pub(crate) const KEYS: &OptionRow = &OptionRow {
     name: "keys",
     value: "FILE",
     help: "Adds each command's key to this file before it is sent, and how it ended",
     ..OptionRow::MAYBE
 };
 
-pub(crate) const JSON: OptionRow = OptionRow {
+pub(crate) const JSON: &OptionRow = &OptionRow {
     name: "json",
     help: "Prints the desk's JSON",
     ..OptionRow::FLAG
 };
 
 /// What a command that reads shares with all others. It may stand before the command as well.
-pub(crate) static READING: [OptionRow; 6] = [DESK, TOKEN_FILE, HALL, HALLS, TIMEOUT, JSON];
+pub(crate) static READING: [&OptionRow; 6] = [DESK, TOKEN_FILE, HALL, HALLS, TIMEOUT, JSON];
 
 /// What commands share that change something: a command's key beside.
-pub(crate) static CHANGING: [OptionRow; 8] = [
+pub(crate) static CHANGING: [&OptionRow; 8] = [
     DESK, TOKEN_FILE, HALL, HALLS, TIMEOUT, KEY, KEYS, JSON,
 ];
 
 /// What a command shares whose time limit is its own.
-pub(crate) static WAITING: [OptionRow; 5] = [DESK, TOKEN_FILE, HALL, HALLS, JSON];
+pub(crate) static WAITING: [&OptionRow; 5] = [DESK, TOKEN_FILE, HALL, HALLS, JSON];
 
 /// What a command has of these that asks the desk of each hall.
-pub(crate) static EACH_HALL: [OptionRow; 2] = [HALLS, JSON];
+pub(crate) static EACH_HALL: [&OptionRow; 2] = [HALLS, JSON];
 
 /// What the rows of commands have in common, before what they share is added.
 pub(crate) const COMMAND: CommandRow = CommandRow {
@@ -93,7 +93,7 @@ pub(crate) const COMMAND: CommandRow = CommandRow {
 
 // ---- options of several commands
 
-pub(crate) const MACHINE: OptionRow = OptionRow {
+pub(crate) const MACHINE: &OptionRow = &OptionRow {
     name: "machine",
     value: "MACHINE",
     help: "The machine's number",
@@ -101,7 +101,7 @@ pub(crate) const MACHINE: OptionRow = OptionRow {
     ..OptionRow::PLACE
 };
 
-pub(crate) const POOL: OptionRow = OptionRow {
+pub(crate) const POOL: &OptionRow = &OptionRow {
     name: "pool",
     value: "POOL",
     help: "The pool",
@@ -109,7 +109,7 @@ pub(crate) const POOL: OptionRow = OptionRow {
     ..OptionRow::ALWAYS
 };
 
-pub(crate) const MAC: OptionRow = OptionRow {
+pub(crate) const MAC: &OptionRow = &OptionRow {
     name: "mac",
     value: "ADDRESS",
     help: "The hardware address",
@@ -117,7 +117,7 @@ pub(crate) const MAC: OptionRow = OptionRow {
     ..OptionRow::ALWAYS
 };
 
-pub(crate) const ARCH: OptionRow = OptionRow {
+pub(crate) const ARCH: &OptionRow = &OptionRow {
     name: "arch",
     value: "ARCH",
     help: "The architecture: bios, uefi32, uefi64 or arm64",
@@ -125,7 +125,7 @@ pub(crate) const ARCH: OptionRow = OptionRow {
     ..OptionRow::ALWAYS
 };
 
-pub(crate) const OPERATOR_NAME: OptionRow = OptionRow {
+pub(crate) const OPERATOR_NAME: &OptionRow = &OptionRow {
     name: "operator",
     value: "OPERATOR",
     help: "The operator's name",

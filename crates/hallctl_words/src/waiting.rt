@@ -8,15 +8,16 @@ use command_rows::{CommandRow, OptionRow, Options, Shape, Wrong};
 use hall_types::Status;
 use std::alloc::Global;
 
-pub(crate) const WAIT: CommandRow = CommandRow {
+/// The command that waits.
+pub(crate) static ROWS: [CommandRow; 1] = [CommandRow {
     name: "wait",
     about: "Waits until machines have a status",
     example: "Example: hallctl wait 1 5-9 --for Ready --timeout 30m",
     options: &[MACHINES, FOR, OR, DESPITE_FAILURES, PATIENCE],
     ..COMMAND
-};
+}];
 
-const MACHINES: OptionRow = OptionRow {
+const MACHINES: &OptionRow = &OptionRow {
     name: "machines",
     value: "MACHINE",
     help: "Numbers of machines, ranges of numbers as 5-9, and hardware addresses",
@@ -25,7 +26,7 @@ const MACHINES: OptionRow = OptionRow {
     ..OptionRow::PLACE
 };
 
-const FOR: OptionRow = OptionRow {
+const FOR: &OptionRow = &OptionRow {
     name: "for",
     value: "STATUS",
     help: "The status that is waited for, as Ready; a wrong one lists all",
@@ -33,7 +34,7 @@ const FOR: OptionRow = OptionRow {
     ..OptionRow::ALWAYS
 };
 
-const OR: OptionRow = OptionRow {
+const OR: &OptionRow = &OptionRow {
     name: "or",
     value: "STATUS",
     help: "Another status that ends it",
@@ -41,13 +42,13 @@ const OR: OptionRow = OptionRow {
     ..OptionRow::MAYBE
 };
 
-const DESPITE_FAILURES: OptionRow = OptionRow {
+const DESPITE_FAILURES: &OptionRow = &OptionRow {
     name: "despite-failures",
     help: "Goes on waiting for a machine that has failed or is broken",
     ..OptionRow::FLAG
 };
 
-const PATIENCE: OptionRow = OptionRow {
+const PATIENCE: &OptionRow = &OptionRow {
     name: "timeout",
     value: "TIME",
     help: "How long it waits: seconds, or as 30m, which it is without it",
@@ -60,21 +61,21 @@ fn push_word(alloc: Global, machines: &mut Vec<Which>, word: &str) -> Result<(),
     match mac_of(word) {
         Some(address) => machines.push(Which::Address(address))?,
         None => {
-            let numbers = machines_of(alloc, &MACHINES, &[word])?;
+            let numbers = machines_of(alloc, MACHINES, &[word])?;
             for number in numbers.as_slice() {
                 machines.push(Which::Number(*number))?;
             }
         }
     }
     if machines.len() > MAX_MACHINES {
-        return Err(Wrong::of(alloc, &MACHINES, Some(word)));
+        return Err(Wrong::of(alloc, MACHINES, Some(word)));
     }
     Ok(())
 }
 
 fn machines(options: &Options<'_>) -> Result<Vec<Which>, Wrong> {
     let mut machines = Vec::new(options.alloc());
-    let texts = options.texts(&MACHINES)?;
+    let texts = options.texts(MACHINES)?;
     for text in texts.as_slice() {
         push_word(options.alloc(), &mut machines, text)?;
     }
@@ -83,11 +84,11 @@ fn machines(options: &Options<'_>) -> Result<Vec<Which>, Wrong> {
 
 fn statuses(options: &Options<'_>) -> Result<Vec<Status>, Wrong> {
     let alloc = options.alloc();
-    let first = status_in(alloc, &FOR, options.required(&FOR)?)?;
+    let first = status_in(alloc, FOR, options.required(FOR)?)?;
     let mut statuses = Vec::from_array(alloc, [first])?;
-    let texts = options.texts(&OR)?;
+    let texts = options.texts(OR)?;
     for text in texts.as_slice() {
-        statuses.push(status_in(alloc, &OR, text)?)?;
+        statuses.push(status_in(alloc, OR, text)?)?;
     }
     Ok(statuses)
 }
@@ -97,6 +98,6 @@ pub(crate) fn wait<'a>(options: &Options<'a>) -> Result<Wish<'a>, Wrong> {
     Ok(Wish::Wait(Waited {
         machines: machines(options)?,
         statuses: statuses(options)?,
-        despite_failures: options.is_given(&DESPITE_FAILURES),
+        despite_failures: options.is_given(DESPITE_FAILURES),
     }))
 }

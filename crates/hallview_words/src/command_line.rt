@@ -38,9 +38,9 @@ fn seconds_of(text: &str) -> Option<u64>
 fn every(options: &Options<'_>) -> Result<u64, Wrong>
     ensures { IfOk result (λ seconds. (1 ≤ seconds) × (seconds ≤ MAX_SECONDS)) }
 {
-    match seconds_of(options.required(&EVERY)?) {
+    match seconds_of(options.required(EVERY)?) {
         Some(seconds) => Ok(seconds),
-        None => Err(options.wrong(&EVERY)),
+        None => Err(options.wrong(EVERY)),
     }
 }
 
@@ -53,23 +53,23 @@ fn is_host(text: &str) -> bool {
 }
 
 fn names<'a>(options: &Options<'a>) -> Result<Vec<&'a str>, Wrong> {
-    let names = options.texts(&NAME)?;
+    let names = options.texts(NAME)?;
     for name in names.as_slice() {
         if !is_host(name) {
-            return Err(Wrong::of(options.alloc(), &NAME, Some(name)));
+            return Err(Wrong::of(options.alloc(), NAME, Some(name)));
         }
     }
     Ok(names)
 }
 
 fn halls<'a>(options: &Options<'a>) -> Result<Halls<'a>, Wrong> {
-    let desk = (options.text(&DESK), options.text(&TOKEN_FILE));
-    match (options.text(&CONFIG), desk) {
+    let desk = (options.text(DESK), options.text(TOKEN_FILE));
+    match (options.text(CONFIG), desk) {
         (None, (Some(desk), Some(token_file))) => Ok(Halls::One { desk, token_file }),
-        (None, (None, Some(_))) => Err(options.wrong(&TOKEN_FILE)),
-        (None, (_, None)) => Err(options.wrong(&DESK)),
+        (None, (None, Some(_))) => Err(options.wrong(TOKEN_FILE)),
+        (None, (_, None)) => Err(options.wrong(DESK)),
         (Some(file), (None, None)) => Ok(Halls::File(file)),
-        (Some(_), _) => Err(options.wrong(&CONFIG)),
+        (Some(_), _) => Err(options.wrong(CONFIG)),
     }
 }
 
@@ -77,7 +77,7 @@ fn line_of<'a>(options: &Options<'a>) -> Result<Line<'a>, Wrong>
     ensures { IfOk result (λ line. (1 ≤ line.every) × (line.every ≤ MAX_SECONDS)) }
 {
     let halls = halls(options)?;
-    let listen = options.parse(&LISTEN)?;
+    let listen = options.parse(LISTEN)?;
     let every = every(options)?;
     Ok(Line {
         listen,

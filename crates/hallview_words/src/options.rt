@@ -1,7 +1,7 @@
 //! The options of hallview.
 use command_rows::{OptionRow, Shape};
 
-pub(crate) const DESK: OptionRow = OptionRow {
+pub(crate) const DESK: &OptionRow = &OptionRow {
     name: "desk",
     value: "URL",
     help: "The desk of the one hall that is shown, as http://desk.hall.example",
@@ -9,7 +9,7 @@ pub(crate) const DESK: OptionRow = OptionRow {
     ..OptionRow::MAYBE
 };
 
-pub(crate) const TOKEN_FILE: OptionRow = OptionRow {
+pub(crate) const TOKEN_FILE: &OptionRow = &OptionRow {
     name: "token-file",
     value: "FILE",
     help: "A file whose first line is a token of that desk",
@@ -17,7 +17,7 @@ pub(crate) const TOKEN_FILE: OptionRow = OptionRow {
     ..OptionRow::MAYBE
 };
 
-pub(crate) const CONFIG: OptionRow = OptionRow {
+pub(crate) const CONFIG: &OptionRow = &OptionRow {
     name: "config",
     value: "FILE",
     help: "The file of the halls that are shown, with the desk and token_file of each",
@@ -25,7 +25,7 @@ pub(crate) const CONFIG: OptionRow = OptionRow {
     ..OptionRow::MAYBE
 };
 
-pub(crate) const LISTEN: OptionRow = OptionRow {
+pub(crate) const LISTEN: &OptionRow = &OptionRow {
     name: "listen",
     value: "ADDR",
     help: "Where pages are asked for; put a proxy with TLS before any address but loopback's",
@@ -34,7 +34,7 @@ pub(crate) const LISTEN: OptionRow = OptionRow {
     ..OptionRow::MAYBE
 };
 
-pub(crate) const EVERY: OptionRow = OptionRow {
+pub(crate) const EVERY: &OptionRow = &OptionRow {
     name: "every",
     value: "SECONDS",
     help: "How often each desk is asked",
@@ -43,7 +43,7 @@ pub(crate) const EVERY: OptionRow = OptionRow {
     ..OptionRow::MAYBE
 };
 
-pub(crate) const NAME: OptionRow = OptionRow {
+pub(crate) const NAME: &OptionRow = &OptionRow {
     name: "name",
     value: "HOST",
     help: "A host that requests may name beside loopback's, as view.hall.example",
@@ -53,4 +53,4 @@ pub(crate) const NAME: OptionRow = OptionRow {
 };
 
 /// All options, in the order of the help.
-pub(crate) static OPTIONS: [OptionRow; 6] = [DESK, TOKEN_FILE, CONFIG, LISTEN, EVERY, NAME];
+pub(crate) static OPTIONS: [&OptionRow; 6] = [DESK, TOKEN_FILE, CONFIG, LISTEN, EVERY, NAME];

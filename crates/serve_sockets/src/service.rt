@@ -73,9 +73,9 @@ impl<S: HallStore> Service<S> {
         (self.server.desk, self.sockets)
     }
 
-    /// Waits for something to come, if nothing is known to be there: for the source's pause at most, and not at all where machines may be
-    /// overdue.
-    pub fn wait<C: Source>(&mut self, source: &mut C)
+    // Waits for something to come, if nothing is known to be there: for the source's pause at most, and not at all where machines may be
+    // overdue.
+    fn wait<C: Source>(&mut self, source: &mut C)
         ensures desk { desk_of self.new ≡ desk_of self.old }
         ensures source { IsPassed C.Source.may_give source.old source.new }
         ensures turns { turns_of self.new ≡ turns_of self.old }
@@ -88,18 +88,18 @@ impl<S: HallStore> Service<S> {
         }
     }
 
-    /// Serves the next seat that may have something: a socket for datagrams, the listener or a connection, from the last
-    /// one on, up and round. Every eighth turn, and one for which there is no such seat, is a quiet moment. Nothing is
-    /// waited for.
-    ///
-    /// Each turn is a quiet moment until the first one that the store carries out and that changes no machine's status: so no machine that
-    /// is overdue when the service begins is given work. One that is Unavailable ends that for none.
-    ///
-    /// At most one arrival is handed to the desk, with the moment and the fresh octets of the stamp. A datagram's answer is
-    /// sent to where the datagram came from. A request that is decided waits until `serve_turns` hands it over with others, but for one
-    /// that asks for a list; its answer waits until the client takes it. A datagram leaves the hall of a
-    /// desk that enlists none as it is, and what a stop may leave. The log is told of the arrival; the turn isn't noted.
-    pub fn turn<L: TurnLog>(&mut self, stamp: Stamp, log: &mut L) -> Turn
+    // Serves the next seat that may have something: a socket for datagrams, the listener or a connection, from the last
+    // one on, up and round. Every eighth turn, and one for which there is no such seat, is a quiet moment. Nothing is
+    // waited for.
+    //
+    // Each turn is a quiet moment until the first one that the store carries out and that changes no machine's status: so no machine that
+    // is overdue when the service begins is given work. One that is Unavailable ends that for none.
+    //
+    // At most one arrival is handed to the desk, with the moment and the fresh octets of the stamp. A datagram's answer is
+    // sent to where the datagram came from. A request that is decided waits until `serve_turns` hands it over with others, but for one
+    // that asks for a list; its answer waits until the client takes it. A datagram leaves the hall of a
+    // desk that enlists none as it is, and what a stop may leave. The log is told of the arrival; the turn isn't noted.
+    fn turn<L: TurnLog>(&mut self, stamp: Stamp, log: &mut L) -> Turn
         ensures desk { IsTurn S.HallStore (desk_of self.old) (desk_of self.new) stamp result }
         ensures pace { IsPaced self.old self.new result }
     {
@@ -378,6 +378,9 @@ impl<S: GroupStore> Service<S> {
     /// Serves so many turns, each with a stamp of the source, and tells each to the log; or ends after the first quiet moment for
     /// which the store is unavailable, as one is that a fault has shut: how many turns are left then. A turn without a stamp does
     /// nothing for 100 milliseconds, and the log is told when such turns begin.
+    ///
+    /// Every eighth turn, and one for which nothing is there, is a quiet moment; so is each until the first one that the store carries out
+    /// and that changes no machine's status: no machine that is overdue when the service begins is given work.
     ///
     /// A turn may be one at which requests that wait are handed over, 64 at most, and answered by one commit, each with a stamp of its own:
     /// as soon as nothing else is known to be there, or the first one has waited as long as the last commit took. One that waits alone is
