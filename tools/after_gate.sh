@@ -5,7 +5,7 @@ set -uo pipefail
 here=$(cd "$(dirname "$0")" && pwd)
 work=$(mktemp -d)
 trap 'rm -rf "$work"' EXIT
-for name in hallboot hallctl hallview play_desk play_cases play_requests; do
+for name in hallboot hallctl hallview play_desk play_calls; do
     built=$here/../crates/$name/out/$name
     # without its variable a tool builds the program itself
     if [ -x "$built" ]; then export "${name^^}=$built"; fi

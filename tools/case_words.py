@@ -27,7 +27,7 @@ def program_of(path):
 
 def is_wrong(path):
     """Returns whether the cases of a file are wrong on purpose."""
-    return os.path.basename(path).startswith("wrong.")
+    return os.path.basename(path).startswith("wrong")
 
 
 def table_of(lines):

@@ -21,7 +21,7 @@ frame=$(tail -n 1 "$stored/stdin")
 mac=$(head -n 1 "$stored/stdin")
 status=0
 printf '== the first OFFER\nrun discover %s\\n\\n%s\\n\n' "$mac" "$frame" > "$work/offer.cases"
-(cd "$here/../crates/play_requests" && rt try --data "offer.cases=$work/offer.cases" -- offer.cases > "$work/answer" 2> "$work/said") || status=$?
+(cd "$here/../crates/play_calls" && rt try --data "offer.cases=$work/offer.cases" -- offer.cases > "$work/answer" 2> "$work/said") || status=$?
 kill "$shown" 2> /dev/null || true
 [ ! -t 2 ] || printf '\r                              \r' >&2
 # nothing is wanted of the act in that file, so what comes of it is printed: the way it ended, and in the next line what was written

@@ -341,7 +341,7 @@ want 0 "hallboot 2, schema 2, $kit" '' --version
 words=$here/../crates/hallctl_words/src
 refusals=$here/../crates/hall_types/src/refusal.rt
 grep -qF "\"2, $kit\"" "$words/command_line.rt" || bad "the kit of hallctl --version"
-grep -qF "\"2, $kit\"" "$here/../crates/hallview_words/src/command_line.rt" || bad "the kit of hallview --version"
+grep -qF "\"2, $kit\"" "$here/../crates/hallview/src/command_line.rt" || bad "the kit of hallview --version"
 python3 - "$here/../docs" "$refusals" << 'PYTHON' || bad 'the refusals of docs/TROUBLE.md and docs/REFERENCE.md'
 import re, sys
 docs, source = sys.argv[1], open(sys.argv[2]).read()

@@ -1,5 +1,5 @@
 # Refuses each single request for memory of play_desk over the forty arrivals of its cases, and of programs that play a single act. The argument says
-# how many requests apart those of the forty arrivals are. The variables PLAY_DESK, PLAY_CASES and PLAY_REQUESTS name the programs.
+# how many requests apart those of the forty arrivals are. The variables PLAY_DESK and PLAY_CALLS name the programs.
 import os, re, sys
 from concurrent.futures import ThreadPoolExecutor
 from spoiled import Spoiler, end, end_without_compiler
@@ -20,7 +20,7 @@ ASKED = ("rows", "import", "hall", "machine-text", "order-text", "export", "mach
 def acts_of(crate, names):
     """The acts of a program's cases in order, but of those that are wrong on purpose, in the files of such names."""
     with open(f"{CRATES}/{crate}/args") as file:
-        files = [name for name in file.read().split() if re.fullmatch(names, name) and not name.startswith("wrong.")]
+        files = [name for name in file.read().split() if re.fullmatch(names, name) and not name.startswith("wrong")]
     acts = []
     for name in files:
         with open(f"{CRATES}/{crate}/data/{name}") as file:
@@ -160,12 +160,11 @@ def is_wanting_first(text, whole):
 
 
 def calls(spoiler):
-    """A call for each kind of act of the programs that play a call an act, and of what is asked of a hall and of a file's tables."""
+    """A call for each kind of act of the program that plays a call an act, and of what is asked of a hall and of a file's tables."""
     found = []
-    for crate in ("play_cases", "play_requests"):
-        acts = {kind_of(act): act for act in reversed(acts_of(crate, r".*"))}
-        # the answer to `characters` lists what each of many calls took
-        found += [Call(spoiler, crate, kind, act) for kind, act in acts.items() if kind != "characters"]
+    acts = {kind_of(act): act for act in reversed(acts_of("play_calls", r"\w+\.cases"))}
+    # the answer to `characters` lists what each of many calls took
+    found += [Call(spoiler, "play_calls", kind, act) for kind, act in acts.items() if kind != "characters"]
     acts = acts_of("play_desk", r"\w+\.cases")
     hall = ["new", *[act for act in acts if kind_of(act) in ("command", "script", "report")][:12]]
     for kind in ASKED:

@@ -115,7 +115,7 @@ def main(names):
     bodies = [it for it in bodies if not names or {it.crate, it.name, f"{it.crate}/{it.name}"} & names]
     if proves:
         return prove(bodies)
-    with concurrent.futures.ThreadPoolExecutor(3) as at_once:
+    with concurrent.futures.ThreadPoolExecutor(int(os.environ.get("PLAYS_AT_ONCE", "3"))) as at_once:
         shown = list(at_once.map(lambda body: tried(body, only_looks), bodies))
     failed = shown.count(False) + (not bodies)
     print(f"wrong_bodies: {max(len(shown), 1)} checks, {failed} failed ({len({it.crate for it in bodies})} crates)")

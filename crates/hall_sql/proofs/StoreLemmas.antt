@@ -4,7 +4,7 @@ use Rattle.std.proofs.Common.{◌≡◌, ◌≤◌, ◌<◌, None, Option, List,
 use Rattle.sqlite_trees.specs.declared.store.Store as trees
 use Rattle.hall_types.specs.ChangeLaws.{applied_schema}
 use Rattle.hall_store.specs.{Expiry.IsEarliest, ExpiryLaws.{first_due, lower_earliest, none_due}, Store.{IsWrite, ReadsBy, over_none}, declared.store.Unavailable.Unavailable}
-use Rattle.sql_writes.specs.Applying.{IsTold}
+use Rattle.hall_sql.specs.Applying.{IsTold}
 use Rattle.hall_sql.{specs.{Expiring.{PutsNoEarlier, earliest_of}, Store.{HasHall, LeavesCommitted, Passes, StopLeaves}, declared.store.SqlStore.SqlStore}, proofs.ExpiryLemmas.{applied_earliest, first_earliest, machines_under}}
 
 module _ {S : Type 0} (g : trees.Ghosts S) where

@@ -3,6 +3,7 @@ ghost use Rattle.sql_schema.specs.Words.{state, Hall, Holds, IsHeld};
 ghost use Rattle.std.specs.Prelude.{◌≡◌, [], ◌∷◌};
 ghost use Rattle.hall_sql.specs.Store.{connection};
 
+use crate::applying::write_rows;
 use crate::asking::{is_image_used, machine_at};
 use crate::counting::count_machines;
 use crate::expiring::earliest_after;
@@ -23,7 +24,6 @@ use sql_schema::creating::{
 use sql_schema::{
     ask_all, ask_first, ask_one, name_value, number_value, octets_value, small_value,
 };
-use sql_writes::write_rows;
 use sqlite::{Alter, Connection};
 use std::alloc::Global;
 

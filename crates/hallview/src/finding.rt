@@ -1,11 +1,11 @@
 //! Which halls are shown, where their desks are, and the tokens in whose name these are asked.
+use crate::asked::{Halls, Line};
 use crate::tokens::token_at;
 use hall_types::Name;
 use hallctl_tasks::{AddressFault, DeskAddress, file_octets};
 use halls_file::{HallEntry, HallsFault, beside, parse};
 use hallview_serve::{Desk, Viewing};
 use hallview_state::{Hall, State};
-use hallview_words::{Halls, Line};
 use std::alloc::{AllocError, Global};
 use std::time::{SystemTime, UNIX_EPOCH};
 use thiserror::Error;

@@ -1,13 +1,17 @@
 //! Halls of machines at a glance: pages over HTTP of what their desks list. Nothing is changed, neither here nor in a hall.
 #![tactic(auto)]
 
+mod asked;
+mod command_line;
 mod finding;
+mod options;
 mod tokens;
 
+use asked::Line;
+use command_line::{LineFault, read};
 use command_rows::Wrong;
 use finding::{Trouble, viewing};
 use hallview_serve::{ServeFault, Server};
-use hallview_words::{Line, LineFault, read};
 use std::fmt::Display;
 use std::io::Write;
 use std::net::SocketAddr;

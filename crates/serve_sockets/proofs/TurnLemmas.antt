@@ -34,7 +34,7 @@ module _ {S : Type 0} (g : Ghosts S) where
   pub only_moved : (desk : Desk S) (P : Handover → Type 0) (s : Step) → IsOnlyMoved s → IsStep g desk desk P s
   only_moved desk P (Step.Handed handover) moved = absurd moved
   only_moved desk P Step.PutOff moved = absurd moved
-  only_moved desk P Step.Whole moved = absurd moved
+  only_moved desk P Step.Decided moved = absurd moved
   only_moved desk P s moved = record { kept = keeps_same desk; did = refl }
 
   -- what the step did is what the turn did

@@ -1,6 +1,6 @@
--- Which connection goes, and how many undecided ones each group has.
+-- Which connection goes, and how many undecided ones each bucket has.
 use Rattle.std.proofs.{Common.{◌≡◌, ◌≢◌, ◌<◌, ◌≤◌, ◌+◌, ◌==◌, ◌∙◌, ℕ, Fits, w16, Bool, true, false, List, Option, Some, None, IfSome, MatchOption, cond, length, nat_lt, slice_index, slice_index_or, slice_set, take, ap, arith, refl, subst, sym}, lemmas.{Bool.{eqb-false, eqb-true, ltb-true, ltb-false}, List.{take_all, length-take, get_or-set_other, get_or-set_same, Sums.{count_by-le-length, sum_by_more}}}}
-use Rattle.serve_sockets.specs.{Table.number_at, Yielding.{IsAhead, IsTally, crowd_at, crowd_by, crowd_of, group_in, is_group}, declared.connection.Connection.Connection}
+use Rattle.serve_sockets.specs.{Table.number_at, Yielding.{IsAhead, IsTally, bucket_in, crowd_at, crowd_by, crowd_of, is_bucket}, declared.connection.Connection.Connection}
 
 -- a smaller number is no greater
 pub less_than : (a b : ℕ) → nat_lt a b ≡ true → a ≤ b
@@ -45,23 +45,23 @@ module _ {T : Type 0} (slots : List (Option (Connection T))) where
         | false ↦ λ e. let here : k ≡ place = omega (arith, below, ltb-false k place e) in rw here last
       ] refl
 
-  -- how many undecided connections the group that was found has, by the count of each group
-  pub crowd_found : (counts : List ℕ) (found : Option ℕ) (made : ℕ) (P : ℕ → Type 0) → IsTally counts slots → IfSome found (λ group. group < 1024)
-      → MatchOption found (made ≡ 0) P → ((group : ℕ) → group < 1024 → P group → made ≡ slice_index counts group) → made ≡ crowd_by slots found
+  -- how many undecided connections the bucket that was found has, by the count of each bucket
+  pub crowd_found : (counts : List ℕ) (found : Option ℕ) (made : ℕ) (P : ℕ → Type 0) → IsTally counts slots → IfSome found (λ bucket. bucket < 1024)
+      → MatchOption found (made ≡ 0) P → ((bucket : ℕ) → bucket < 1024 → P bucket → made ≡ slice_index counts bucket) → made ≡ crowd_by slots found
   crowd_found counts None made P tally within is reads = is
-  crowd_found counts (Some group) made P tally within is reads = reads group within is ∙ tally group within
+  crowd_found counts (Some bucket) made P tally within is reads = reads bucket within is ∙ tally bucket within
 
-  -- what one more slot adds to how many undecided connections a group has
+  -- what one more slot adds to how many undecided connections a bucket has
   crowd_more : (i g : ℕ) (held : Option (Connection T)) → i < length slots → held ≡ slice_index_or slots i held
-      → crowd_of (take (i + 1) slots) g ≡ crowd_of (take i slots) g + cond (is_group g (group_in held)) 1 0
+      → crowd_of (take (i + 1) slots) g ≡ crowd_of (take i slots) g + cond (is_bucket g (bucket_in held)) 1 0
   crowd_more i g held inside at =
-      let counts : Option (Connection T) → ℕ = λ x. cond (is_group g (group_in x)) 1 0 in
+      let counts : Option (Connection T) → ℕ = λ x. cond (is_bucket g (bucket_in x)) 1 0 in
       sum_by_more counts slots i held inside ∙ ap (λ x. crowd_of (take i slots) g + counts x) (sym at)
 
-  -- one more undecided connection of a group still fits
+  -- one more undecided connection of a bucket still fits
   pub crowd_fits : (counts : List ℕ) (i g : ℕ) → length slots ≤ 1024 → slice_index counts g ≡ crowd_of (take i slots) g → Fits w16 (slice_index counts g + 1)
   crowd_fits counts i g few counted =
-      let within : crowd_of (take i slots) g ≤ length (take i slots) = count_by-le-length (λ held. is_group g (group_in held)) (take i slots) in
+      let within : crowd_of (take i slots) g ≤ length (take i slots) = count_by-le-length (λ held. is_bucket g (bucket_in held)) (take i slots) in
       omega (arith, few, counted, within, length-take i slots)
 
   -- the count of all slots
@@ -69,19 +69,19 @@ module _ {T : Type 0} (slots : List (Option (Connection T))) where
   tally_whole counts i past g counted = counted ∙ ap (λ (all : List (Option (Connection T))). crowd_of all g) (take_all i slots past)
 
   -- a slot whose connection isn't undecided counts nowhere
-  pub tally_same : (counts : List ℕ) (i : ℕ) (held : Option (Connection T)) → i < length slots → held ≡ slice_index_or slots i held → group_in held ≡ None
+  pub tally_same : (counts : List ℕ) (i : ℕ) (held : Option (Connection T)) → i < length slots → held ≡ slice_index_or slots i held → bucket_in held ≡ None
       → ((g : ℕ) → g < 1024 → slice_index counts g ≡ crowd_of (take i slots) g)
       → (g : ℕ) → g < 1024 → slice_index counts g ≡ crowd_of (take (i + 1) slots) g
   tally_same counts i held inside at none so_far g below =
-      let more = subst (λ (o : Option ℕ). crowd_of (take (i + 1) slots) g ≡ crowd_of (take i slots) g + cond (is_group g o) 1 0) none (crowd_more i g held inside at) in
+      let more = subst (λ (o : Option ℕ). crowd_of (take (i + 1) slots) g ≡ crowd_of (take i slots) g + cond (is_bucket g o) 1 0) none (crowd_more i g held inside at) in
       omega (arith, so_far g below, more)
 
-  -- a slot whose connection is undecided counts in its group
-  pub tally_more : (counts : List ℕ) (i h : ℕ) (held : Option (Connection T)) → i < length slots → held ≡ slice_index_or slots i held → group_in held ≡ Some h
+  -- a slot whose connection is undecided counts in its bucket
+  pub tally_more : (counts : List ℕ) (i h : ℕ) (held : Option (Connection T)) → i < length slots → held ≡ slice_index_or slots i held → bucket_in held ≡ Some h
       → h < 1024 → length counts ≡ 1024 → ((g : ℕ) → g < 1024 → slice_index counts g ≡ crowd_of (take i slots) g)
       → (g : ℕ) → g < 1024 → slice_index (slice_set counts h (slice_index counts h + 1)) g ≡ crowd_of (take (i + 1) slots) g
   tally_more counts i h held inside at some within size so_far g below =
-      let more = subst (λ (o : Option ℕ). crowd_of (take (i + 1) slots) g ≡ crowd_of (take i slots) g + cond (is_group g o) 1 0) some (crowd_more i g held inside at) in
+      let more = subst (λ (o : Option ℕ). crowd_of (take (i + 1) slots) g ≡ crowd_of (take i slots) g + cond (is_bucket g o) 1 0) some (crowd_more i g held inside at) in
       let by : Bool → Type 0 = λ b. crowd_of (take (i + 1) slots) g ≡ crowd_of (take i slots) g + cond b 1 0 in
       elim (h == g) as (λ b. (h == g) ≡ b → slice_index (slice_set counts h (slice_index counts h + 1)) g ≡ crowd_of (take (i + 1) slots) g) [
         | true ↦ λ e.

@@ -1,6 +1,6 @@
 -- What a connection sent, and what of its answer it has taken.
 use Rattle.std.specs.{Prelude.{◌≡◌, ◌⊎◌, ℕ, ◌-◌, List, [], ◌++◌, Bool, true, false, Option, None, Some, drop, is_some, nat_lt, not, ◌&&◌, if◌then◌else◌}, Io.KnownBytes.{Consumes, IsAtEnd, Keeps}}
-use Rattle.serve_sockets.specs.{Prelude.{IsDecided, octets_of}, Group.group_of, declared.{connection.{Connection.Connection, Sending.Sending, Wait.Wait}, reading.Taken.Taken, writing.Put.Put}}
+use Rattle.serve_sockets.specs.{Prelude.{IsDecided, octets_of}, Bucket.bucket_of, declared.{connection.{Connection.Connection, Sending.Sending, Wait.Wait}, reading.Taken.Taken, writing.Put.Put}}
 
 -- the octets of an answer that are to be written yet
 abbrev pub unwritten : Sending → List ℕ
@@ -69,9 +69,9 @@ module _ {T : Type 0} where
   abbrev pub is_undecided : Connection T → Bool
   is_undecided connection = not (is_answered connection) && not (is_waiting connection)
 
-  -- the group of the client's address, if the connection is undecided
-  abbrev pub undecided_group : Connection T → Option ℕ
-  undecided_group connection = if is_undecided connection then Some (group_of connection.from) else None
+  -- the bucket of the client's address, if the connection is undecided
+  abbrev pub undecided_bucket : Connection T → Option ℕ
+  undecided_bucket connection = if is_undecided connection then Some (bucket_of connection.from) else None
 
   -- the octets of its answer that are to be written yet
   abbrev pub left_of : Connection T → List ℕ

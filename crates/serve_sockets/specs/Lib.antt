@@ -1,7 +1,7 @@
 pub mod Prelude
 pub mod Connection
 pub mod Gathering
-pub mod Group
+pub mod Bucket
 pub mod Listing
 pub mod Lists
 pub mod Replying

@@ -28,7 +28,7 @@ IsWhole rest octets = IsAtEnd rest ⊎ IsDecided octets
 abbrev pub IsOnlyMoved : Step → Type 0
 IsOnlyMoved (Step.Handed handover) = ⊥
 IsOnlyMoved Step.PutOff = ⊥
-IsOnlyMoved Step.Whole = ⊥
+IsOnlyMoved Step.Decided = ⊥
 IsOnlyMoved step = Unit {0}
 
 -- the turn of a step

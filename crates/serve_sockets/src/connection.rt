@@ -2,7 +2,7 @@
 ghost use Rattle.std.specs.{Prelude.{◌≡◌, ◌≤◌, ◌-◌, ◌<◌, [], IfSome, IsTrue, None, Some, length, nat_le, not, ◌&&◌, vec_len, true, false}, Io.KnownBytes.{Keeps, append_known}};
 ghost use Rattle.hall_desk.specs.Octets.{octets_of};
 
-use crate::group::group;
+use crate::bucket::bucket;
 use crate::reading::{Taken, read};
 use crate::writing::{Put, write};
 use hall_desk::Answer;
@@ -54,7 +54,7 @@ pub(crate) struct Connection<T> {
 }
 
 impl<T> Connection<T> {
-    ghost use Rattle.serve_sockets.specs.Connection.{input_of, is_answered, is_called, is_put_off, is_slow, is_waiting, is_whole, left_of, number_of, undecided_group, since_of, stream_of};
+    ghost use Rattle.serve_sockets.specs.Connection.{input_of, is_answered, is_called, is_put_off, is_slow, is_waiting, is_whole, left_of, number_of, undecided_bucket, since_of, stream_of};
 
     /// The connection that was accepted as the so-manieth, at a served time.
     pub(crate) fn new(
@@ -172,13 +172,13 @@ impl<T> Connection<T> {
         self.sending.is_some()
     }
 
-    /// The group of the client's address, if the connection has no answer and its request doesn't wait.
-    pub(crate) fn undecided_group(&self) -> Option<usize>
-        ensures group { result ≡ undecided_group self.now }
-        ensures within { IfSome result (λ group. group < 1024) }
+    /// The bucket of the client's address, if the connection has no answer and its request doesn't wait.
+    pub(crate) fn undecided_bucket(&self) -> Option<usize>
+        ensures bucket { result ≡ undecided_bucket self.now }
+        ensures within { IfSome result (λ bucket. bucket < 1024) }
     {
         if self.sending.is_none() && !self.is_waiting() {
-            Some(group(&self.from))
+            Some(bucket(&self.from))
         } else {
             None
         }

@@ -1,9 +1,9 @@
 //! Serving a hall on two sockets for datagrams and a listener, by turns, so that a slow or silent client delays nobody.
 #![tactic(auto)]
 
+mod bucket;
 mod connection;
 mod gathering;
-mod group;
 mod handing;
 mod handover;
 mod listing;

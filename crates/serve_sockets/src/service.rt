@@ -220,7 +220,13 @@ impl<S: HallStore> Service<S> {
     }
 
     // Has a client's answer wait until it takes it.
-    fn give<L: TurnLog>(&mut self, moment: Moment, client: Client, answer: Answer, log: &mut L)
+    fn answer_client<L: TurnLog>(
+        &mut self,
+        moment: Moment,
+        client: Client,
+        answer: Answer,
+        log: &mut L,
+    )
         requires { client.slot < places_of (sockets_of self.old) }
         ensures desk { desk_of self.new ≡ desk_of self.old }
         ensures places { places_of (sockets_of self.new) ≡ places_of (sockets_of self.old) }
@@ -236,7 +242,7 @@ impl<S: HallStore> Service<S> {
     }
 
     // Has the requests of clients wait on.
-    fn put_back(&mut self, clients: VecDeque<Client>)
+    fn put_all_back(&mut self, clients: VecDeque<Client>)
         requires { AreWithin (places_of (sockets_of self.old)) clients.items }
         ensures { desk_of self.new ≡ desk_of self.old }
     {
@@ -267,9 +273,9 @@ impl<S: HallStore> Service<S> {
                 break;
             };
             log.arrived(arrival, &answer, account);
-            self.give(arrival.moment, client, answer, log);
+            self.answer_client(arrival.moment, client, answer, log);
         }
-        self.put_back(clients);
+        self.put_all_back(clients);
     }
 
     // Refuses the requests of so many of the first clients, and has the others wait on.
@@ -285,9 +291,9 @@ impl<S: HallStore> Service<S> {
             let Some(client) = clients.pop_front() else {
                 break;
             };
-            self.give(arrival.moment, client, Answer::Unavailable, log);
+            self.answer_client(arrival.moment, client, Answer::Unavailable, log);
         }
-        self.put_back(clients);
+        self.put_all_back(clients);
     }
 }
 

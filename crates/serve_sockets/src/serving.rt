@@ -32,7 +32,7 @@ pub(crate) enum Step {
     /// The request asks for a list, and is put off.
     PutOff,
     /// The request is decided, and waits to be answered with others.
-    Whole,
+    Decided,
     /// The request was handed over, and its answer waits.
     Handed(Handover),
     /// The client has taken all of its answer.
@@ -99,7 +99,7 @@ fn decide_list<T, S: HallStore, L: TurnLog>(
 ) -> Step
     ensures step { IsStep S.HallStore server.old.desk server.new.desk (IsWaiting S.HallStore (store_of server.old.desk) (store_of server.new.desk) (site_of server.old.desk)
         now.stamp.moment now.stamp.fresh (input_of connection.old) (left_of connection.new)) result }
-    ensures alone { result ≢ Step.Whole }
+    ensures alone { result ≢ Step.Decided }
 {
     if is_known(&mut server.desk, digest) {
         connection.wait(Wait::Call);
@@ -119,7 +119,7 @@ fn decide<T: Read, S: HallStore, L: TurnLog>(
     requires { IsWhole (T.remaining (stream_of connection.old)) (input_of connection.old) }
     ensures step { IsStep S.HallStore server.old.desk server.new.desk (IsWaiting S.HallStore (store_of server.old.desk) (store_of server.new.desk) (site_of server.old.desk)
         now.stamp.moment now.stamp.fresh (input_of connection.old) (left_of connection.new)) result }
-    ensures whole { result ≡ Step.Whole → IsWhole (T.remaining (stream_of connection.new)) (input_of connection.new) }
+    ensures whole { result ≡ Step.Decided → IsWhole (T.remaining (stream_of connection.new)) (input_of connection.new) }
 {
     if connection.is_called() {
         return Step::Handed(hand_request(connection, server, log, now));
@@ -128,7 +128,7 @@ fn decide<T: Read, S: HallStore, L: TurnLog>(
         Some(digest) => decide_list(connection, server, log, now, digest),
         None => {
             connection.wait(Wait::Group);
-            Step::Whole
+            Step::Decided
         }
     }
 }
@@ -143,7 +143,7 @@ fn take<T: Read, S: HallStore, L: TurnLog>(
 ) -> Step
     ensures step { IsStep S.HallStore server.old.desk server.new.desk (IsRequest S.HallStore (store_of server.old.desk) (store_of server.new.desk) (site_of server.old.desk)
         now.stamp.moment now.stamp.fresh (input_of connection.old) (T.remaining (stream_of connection.old)) (left_of connection.new)) result }
-    ensures whole { result ≡ Step.Whole → IsWhole (T.remaining (stream_of connection.new)) (input_of connection.new) }
+    ensures whole { result ≡ Step.Decided → IsWhole (T.remaining (stream_of connection.new)) (input_of connection.new) }
 {
     match connection.take(server.alloc, buffer) {
         Taken::Waits => Step::Waits,
@@ -180,7 +180,7 @@ pub(crate) fn advance<T: Read + Write, S: HallStore, L: TurnLog>(
 ) -> Step
     ensures step { IsStep S.HallStore server.old.desk server.new.desk (IsRequest S.HallStore (store_of server.old.desk) (store_of server.new.desk) (site_of server.old.desk)
         now.stamp.moment now.stamp.fresh (input_of connection.old) (T.remaining (stream_of connection.old)) (left_of connection.new)) result }
-    ensures whole { result ≡ Step.Whole → IsWhole (T.remaining (stream_of connection.new)) (input_of connection.new) }
+    ensures whole { result ≡ Step.Decided → IsWhole (T.remaining (stream_of connection.new)) (input_of connection.new) }
 {
     if connection.is_answered() {
         put(connection, now.served)

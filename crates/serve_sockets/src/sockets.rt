@@ -416,7 +416,7 @@ impl Sockets {
                 self.has_put_off = true;
                 Turn::PutOff(from)
             }
-            Step::Whole => self.put_back(Client { slot, connection }),
+            Step::Decided => self.put_back(Client { slot, connection }),
             Step::Moved => {
                 let from = connection.from();
                 self.keep(slot, connection);

@@ -1,43 +1,43 @@
 //! Which connection goes for another one where there is no room.
 ghost use Rattle.std.specs.Prelude.{◌≡◌, ◌<◌, ◌≤◌, IfSome, false, length, true};
-ghost use Rattle.serve_sockets.specs.Yielding.{Goes, IsAhead, IsTally, crowd_at, crowd_by, group_in};
+ghost use Rattle.serve_sockets.specs.Yielding.{Goes, IsAhead, IsTally, bucket_in, crowd_at, crowd_by};
 
+use crate::bucket::BUCKETS;
 use crate::connection::Connection;
-use crate::group::GROUPS;
 use crate::slots::{held_at, number_at};
 
-// The group of the connection that is held, if that is undecided.
-fn group_in<T>(held: &Option<Connection<T>>) -> Option<usize>
-    ensures group { result ≡ group_in held.now }
-    ensures within { IfSome result (λ group. group < 1024) }
+// The bucket of the connection that is held, if that is undecided.
+fn bucket_in<T>(held: &Option<Connection<T>>) -> Option<usize>
+    ensures bucket { result ≡ bucket_in held.now }
+    ensures within { IfSome result (λ bucket. bucket < 1024) }
 {
     match held {
-        Some(connection) => connection.undecided_group(),
+        Some(connection) => connection.undecided_bucket(),
         None => None,
     }
 }
 
-// How many undecided connections each group has.
-fn tally<T>(slots: &[Option<Connection<T>>]) -> [u16; GROUPS]
+// How many undecided connections each bucket has.
+fn tally<T>(slots: &[Option<Connection<T>>]) -> [u16; BUCKETS]
     requires { length slots.now ≤ 1024 }
     ensures { IsTally result slots.now }
 {
-    let mut crowds = [0u16; GROUPS];
+    let mut crowds = [0u16; BUCKETS];
     for slot in 0..slots.len() {
-        if let Some(group) = group_in(&slots[slot]) {
-            crowds[group] += 1;
+        if let Some(bucket) = bucket_in(&slots[slot]) {
+            crowds[bucket] += 1;
         }
     }
     crowds
 }
 
-// How many undecided connections a slot's group has, if its own connection is undecided.
-fn crowd_at<T>(slots: &[Option<Connection<T>>], crowds: &[u16; GROUPS], slot: usize) -> u16
+// How many undecided connections a slot's bucket has, if its own connection is undecided.
+fn crowd_at<T>(slots: &[Option<Connection<T>>], crowds: &[u16; BUCKETS], slot: usize) -> u16
     requires { IsTally crowds.now slots.now }
     ensures { result ≡ crowd_at slots.now slot }
 {
     match held_at(slots, slot) {
-        Some(held) => group_in(held).map_or(0, |group| crowds[group]),
+        Some(held) => bucket_in(held).map_or(0, |bucket| crowds[bucket]),
         None => 0,
     }
 }
@@ -45,7 +45,7 @@ fn crowd_at<T>(slots: &[Option<Connection<T>>], crowds: &[u16; GROUPS], slot: us
 // Whether a slot's connection goes before that of another one.
 fn is_ahead<T>(
     slots: &[Option<Connection<T>>],
-    crowds: &[u16; GROUPS],
+    crowds: &[u16; BUCKETS],
     slot: usize,
     other: usize,
 ) -> bool

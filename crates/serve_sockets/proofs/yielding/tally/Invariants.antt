@@ -6,5 +6,5 @@ use Rattle.serve_sockets.proofs.yielding.tally.Given as goal
 abbrev pub invariant-loop-slot : goal.invariant-loop-slot
 invariant-loop-slot g l = record {
   size : length l.crowds ≡ 1024;
-  counted : (group : ℕ) → group < 1024 → slice_index l.crowds group ≡ crowd_of (take l.slot l.slots) group;
+  counted : (bucket : ℕ) → bucket < 1024 → slice_index l.crowds bucket ≡ crowd_of (take l.slot l.slots) bucket;
 }

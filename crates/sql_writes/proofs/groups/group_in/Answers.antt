@@ -1,5 +1,0 @@
-use Rattle.sql_writes.proofs.MachineLemmas.{group_is}
-use Rattle.sql_writes.proofs.groups.group_in.Goals as goal
-
-pub returns : goal.returns
-returns c = group_is c.args.row.now (record { pool = c.in_ok-pool.pool; status = c.in_ok-status.status }) c.in_ok-pool.ensures c.in_ok-status.ensures

@@ -1,3 +1,0 @@
-pub mod Applying
-pub mod Machines
-pub mod Within
