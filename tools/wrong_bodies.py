@@ -3,7 +3,7 @@
 begins with the case that shows it, `shown: PROGRAM FILE CASE`: with the body that the edit makes, what comes of this case must differ. Nothing is
 proved; each takes a minute or two of a processor, four where its program is over SQLite.
 
-Usage: wrong_bodies.py [NAME..]          all, or those of these crates, or these edits; three at a time
+Usage: wrong_bodies.py [NAME..]          all, or those of these crates, or these edits; three at a time, or as PLAYS_AT_ONCE says
        wrong_bodies.py --check           that each edit can be made, and that its case is there: plays nothing
        wrong_bodies.py --prove [NAME..]  has the prover refuse them, in place of playing: proves all crates below theirs first"""
 import concurrent.futures
