@@ -1,7 +1,7 @@
 #!/usr/bin/env bash
 # The first OFFER, two or three minutes after a clone: builds what answers one frame, without proving it, gives it one machine's DISCOVER, and
-# shows that and the desk's answer in words and octets. It is the call of `hallboot frame`, by the program of stored runs that needs least
-# beside it, as the act `run` of its cases. It wants rt, the Rattle kit's command, and python3. Usage: tools/first_offer.sh
+# shows that and the desk's answer in words and octets. It is the call of `hallboot frame`, by play_calls, a program of stored runs, as
+# the act `run` of its cases. It wants rt, the Rattle kit's command, and python3. Usage: tools/first_offer.sh
 set -euo pipefail
 here=$(cd "$(dirname "$0")" && pwd)
 stored=$here/../crates/hallboot
@@ -9,8 +9,8 @@ for needed in rt python3; do
     type -P $needed > /dev/null || { echo "first_offer: $needed is missing" >&2; exit 1; }
 done
 cat <<'TEXT'
-This builds the part of the desk that answers one frame, and gives it a machine's DISCOVER. It takes two or three minutes,
-and as long the next time: nothing is kept, and nothing is proved. tools/first_hall.sh proves and builds the programs.
+This builds the part of the desk that answers one frame, and gives it a machine's DISCOVER. It takes two or three
+minutes, and as long the next time: nothing is kept, and nothing is proved. tools/first_hall.sh proves and builds the programs.
 TEXT
 work=$(mktemp -d)
 # Shows that something goes on, where somebody watches.
