@@ -1,5 +1,5 @@
 #!/usr/bin/env python3
-"""Prints the log of a benchmark, for bench_hall: a new hall with so many machines, and what is measured.
+"""Prints the log of a benchmark, for `play_desk bench`: a new hall with so many machines, and what is measured.
 
 usage: bench_log.py desk offer|script|repeat|list|allocate|report MACHINES ROUNDS
        bench_log.py store machine|address|unknown|uuid|interfaces|token|change|delete|list|second|quiet MACHINES ROUNDS

@@ -10,7 +10,7 @@ rounds=${1:-100000}
 work=$(mktemp -d -p "${2:-${TMPDIR:-/tmp}}")
 trap 'rm -rf "$work"' EXIT
 . "$here/program.sh"
-program bench_hall
+program play_desk
 . "$here/least.sh"
 
 run() {   # run WHERE WHAT MACHINES TIMES: over a file, over a new copy of the file with such a hall
@@ -21,7 +21,7 @@ run() {   # run WHERE WHAT MACHINES TIMES: over a file, over a new copy of the f
         cp "$work/made_$3" "$file"
         sync "$file"
     fi
-    keep "$*" "$BENCH_HALL" "$file" "$4" < "$work/log_$2_$3"
+    keep "$*" "$PLAY_DESK" bench "$file" "$4" < "$work/log_$2_$3"
 }
 rounds_of() {   # rounds_of WHERE WHAT MACHINES
     case "$1 $2" in
@@ -42,7 +42,7 @@ for where in memory file; do
             logged desk "$what" "$machines" "$(rounds_of "$where" "$what" "$machines")"
             many[$machines]=$times all_of[$machines]=$rounds_in
             rm -f "$work"/made_"$machines"*
-            if [ "$where" = file ]; then "$BENCH_HALL" "$work/made_$machines" 0 < "$work/log_${what}_$machines" > "$work/octets"; fi
+            if [ "$where" = file ]; then "$PLAY_DESK" bench "$work/made_$machines" 0 < "$work/log_${what}_$machines" > "$work/octets"; fi
         done
         for _ in 1 2 3 4 5 6 7; do
             for machines in 10 10000; do

@@ -1,4 +1,4 @@
-# Sourced by desk_speed.sh and store_speed.sh, which set `work`, a folder: the least times of runs of a program. bench_hall plays logs
+# Sourced by desk_speed.sh and store_speed.sh, which set `work`, a folder: the least times of runs of a program. `play_desk bench` plays logs
 # that bench_log.py writes.
 declare -A processor_of clock_of
 # keep KEY COMMAND..: runs a command, and keeps the least of its times under KEY, in microseconds; what it printed is the file said.

@@ -9,13 +9,13 @@ here=$(cd "$(dirname "$0")" && pwd)
 work=$(mktemp -d)
 trap 'rm -rf "$work"' EXIT
 . "$here/program.sh"
-program bench_hall
+program play_desk
 . "$here/least.sh"
 cc -O2 -Wall -o "$work/in_c" "$here/store_speed.c" -lsqlite3 || { echo 'store_instructions: libsqlite3-dev is missing' >&2; exit 1; }
 
 # The command for so many rounds: ours TIMES ROUNDS, and so on.
-ours() { echo "$BENCH_HALL $work/hall $1"; }
-memory() { echo "$BENCH_HALL - $1"; }
+ours() { echo "$PLAY_DESK bench $work/hall $1"; }
+memory() { echo "$PLAY_DESK bench - $1"; }
 theirs() { echo "$work/in_c $work/hall $what $machines $2"; }
 # counted MADE COMMAND..: the instructions of a command, over a new copy of a file.
 counted() {
@@ -42,7 +42,7 @@ store='machine address unknown uuid interfaces token change delete'
 rounds='offer script repeat allocate report'
 for machines in 10 10000; do
     logged store machine "$machines" 1
-    "$BENCH_HALL" "$work/machines_$machines" 0 < "$work/log_machine_$machines" > "$work/log"
+    "$PLAY_DESK" bench "$work/machines_$machines" 0 < "$work/log_machine_$machines" > "$work/log"
 done
 for what in $store; do
     for machines in 10 10000; do
@@ -54,7 +54,7 @@ done
 for what in $rounds; do
     for machines in 10 10000; do
         logged desk "$what" "$machines" 1
-        "$BENCH_HALL" "$work/made" 0 < "$work/log_${what}_$machines" > "$work/log"
+        "$PLAY_DESK" bench "$work/made" 0 < "$work/log_${what}_$machines" > "$work/log"
         count[$what.$machines]=$(a_count made ours desk)
         count[memory.$what.$machines]=$(a_count made memory desk)
         row "file, $what" "$machines" "${count[$what.$machines]}" -

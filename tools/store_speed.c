@@ -1,8 +1,8 @@
-// The calls of the store that bench_hall measures, by the C library over a file that bench_hall made: the same statements, each
+// The calls of the store that `play_desk bench` measures, by the C library over a file that it made: the same statements, each
 // prepared once, with a write-ahead log and a sync at each commit. All machines are listed by one SELECT of both tables. A second
 // look in the same second is no statement, and has no round here. Built and run by store_speed.sh.
 //   store_speed FILE machine|address|unknown|uuid|interfaces|token|change|delete|list|second MACHINES ROUNDS
-// prints the sum that bench_hall prints for the log of bench_log.py with these words.
+// prints the sum that play_desk prints for the log of bench_log.py with these words.
 #include <sqlite3.h>
 #include <stdint.h>
 #include <stdio.h>

@@ -13,12 +13,12 @@ rounds=${1:-100000}
 work=$(mktemp -d -p "${2:-${TMPDIR:-/tmp}}")
 trap 'rm -rf "$work"' EXIT
 . "$here/program.sh"
-program bench_hall
+program play_desk
 . "$here/least.sh"
 cc -O2 -Wall -o "$work/in_c" "$here/store_speed.c" -lsqlite3 || { echo 'store_speed: libsqlite3-dev is missing' >&2; exit 1; }
 
 # ours FILE CALL MACHINES TIMES, theirs FILE CALL MACHINES ROUNDS
-ours() { "$BENCH_HALL" "$1" "$4" < "$work/log_$2_$3"; }
+ours() { "$PLAY_DESK" bench "$1" "$4" < "$work/log_$2_$3"; }
 theirs() { "$work/in_c" "$@"; }
 # run WHOSE CALL MACHINES TIMES-OR-ROUNDS: over a new copy; its sum is left in the file said.
 run() {
@@ -49,7 +49,7 @@ row() { printf '%-11s %8s  %10s %10s %7s  %10s %10s %7s\n' "$@"; }
 
 for machines in 10 10000; do
     logged store machine "$machines" 1
-    "$BENCH_HALL" "$work/machines_$machines" 0 < "$work/log_machine_$machines" > "$work/log"
+    "$PLAY_DESK" bench "$work/machines_$machines" 0 < "$work/log_machine_$machines" > "$work/log"
 done
 reads='machine address unknown uuid interfaces token'
 declare -A processor clock in_c clock_in_c many all_of

@@ -12,6 +12,8 @@ pub enum CaseFault {
     Form,
     #[error("the store can't answer")]
     Unavailable,
+    #[error("what is measured is refused, or finds nothing")]
+    Refused,
     #[error("a file, a socket, a read or a write failed")]
     Io,
     #[error("out of memory")]

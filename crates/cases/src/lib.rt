@@ -25,6 +25,7 @@ mod lines;
 mod memory;
 mod playing;
 mod printing;
+mod words;
 
 pub use comparing::Comparison;
 pub use ends::{Short, Slow};
@@ -34,3 +35,4 @@ pub use lines::{CaseFile, Line, lines_of};
 pub use memory::{hold_all_but, hold_within};
 pub use playing::{Player, files_of, play_cases, play_named};
 pub use printing::Out;
+pub use words::{first, halves, number, parsed};

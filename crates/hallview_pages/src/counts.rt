@@ -29,12 +29,14 @@ fn shown_of(alloc: Global, pools: &[PoolCounts]) -> Result<Vec<PoolCounts>, Allo
     Ok(shown)
 }
 
-fn put_cell(alloc: Global, page: &mut Page, number: u64) -> Result<(), AllocError> {
+fn put_count(alloc: Global, page: &mut Page, number: u64) -> Result<(), AllocError> {
     if number == 0 {
-        return page.mark("<td class=\"n none\">0</td>");
+        page.put("<td class=\"n none\">0</td>", &[]);
+        return Ok(());
     }
     let number = hallview_views::text::number(alloc, number)?;
-    page.put(&["<td class=\"n\">", "</td>"], &[number.as_str()])
+    page.put("<td class=\"n\">{}</td>", &[number.as_str()]);
+    Ok(())
 }
 
 /// A table of counts that is being written.
@@ -65,18 +67,19 @@ impl Table<'_> {
         for pool in self.shown {
             let number = count(pool);
             rest = rest.saturating_sub(number);
-            put_cell(alloc, page, number)?;
+            put_count(alloc, page, number)?;
         }
         if self.others() > 0 {
-            put_cell(alloc, page, rest)?;
+            put_count(alloc, page, rest)?;
         }
         Ok(())
     }
 
     fn put_head(&self, alloc: Global, page: &mut Page) -> Result<(), AllocError> {
-        page.mark(
+        page.put(
             "<thead>\n<tr><th scope=\"col\">Status</th><th scope=\"col\" class=\"n\">All</th><th scope=\"col\">Share</th>",
-        )?;
+            &[],
+        );
         for pool in self.shown {
             let name = pool.pool.text();
             let target = link(
@@ -86,22 +89,16 @@ impl Table<'_> {
                 "#machines",
             )?;
             page.put(
-                &[
-                    "<th scope=\"col\" class=\"n\"><a href=\"",
-                    "\">",
-                    "</a></th>",
-                ],
+                "<th scope=\"col\" class=\"n\"><a href=\"{}\">{}</a></th>",
                 &[target.as_str(), name],
-            )?;
+            );
         }
         if self.others() > 0 {
             let text = counted(alloc, self.others(), "other pool", "other pools")?;
-            page.put(
-                &["<th scope=\"col\" class=\"n\">", "</th>"],
-                &[text.as_str()],
-            )?;
+            page.put("<th scope=\"col\" class=\"n\">{}</th>", &[text.as_str()]);
         }
-        page.mark("\n</tr>\n</thead>\n<tbody>")
+        page.put("\n</tr>\n</thead>\n<tbody>", &[]);
+        Ok(())
     }
 
     fn put_status(
@@ -121,15 +118,7 @@ impl Table<'_> {
         let bar = width(alloc, percent(number, self.all).max(1))?;
         let share = share(alloc, number, self.all)?;
         page.put(
-            &[
-                "<tr class=\"",
-                "\"><th scope=\"row\"><a href=\"",
-                "\">",
-                "</a></th><td class=\"n\">",
-                "</td><td><svg width=\"100\" height=\"10\" aria-hidden=\"true\"><rect width=\"",
-                "\" height=\"10\"/></svg>",
-                "</td>",
-            ],
+            "<tr class=\"{}\"><th scope=\"row\"><a href=\"{}\">{}</a></th><td class=\"n\">{}</td><td><svg width=\"100\" height=\"10\" aria-hidden=\"true\"><rect width=\"{}\" height=\"10\"/></svg>{}</td>",
             &[
                 StatusKind::of(status).class(),
                 target.as_str(),
@@ -138,22 +127,21 @@ impl Table<'_> {
                 bar.as_str(),
                 share.as_str(),
             ],
-        )?;
+        );
         self.put_cells(alloc, page, |pool| pool.count(status), number)?;
-        page.mark("\n</tr>")
+        page.put("\n</tr>", &[]);
+        Ok(())
     }
 
     fn put_foot(&self, alloc: Global, page: &mut Page) -> Result<(), AllocError> {
         let all = hallview_views::text::number(alloc, self.all)?;
         page.put(
-            &[
-                "</tbody>\n<tfoot>\n<tr><th scope=\"row\">All</th><td class=\"n\">",
-                "</td><td></td>",
-            ],
+            "</tbody>\n<tfoot>\n<tr><th scope=\"row\">All</th><td class=\"n\">{}</td><td></td>",
             &[all.as_str()],
-        )?;
+        );
         self.put_cells(alloc, page, |pool| pool.all, self.all)?;
-        page.mark("\n</tr>\n</tfoot>\n</table>\n</div>\n</details>\n")
+        page.put("\n</tr>\n</tfoot>\n</table>\n</div>\n</details>\n", &[]);
+        Ok(())
     }
 }
 
@@ -180,19 +168,18 @@ pub(crate) fn put_counts(
     let name = hall.name.text();
     let title = format!(in alloc; "{name} by status and pool")?;
     let title = aged(alloc, hall, view.now, title.as_str())?;
-    page.mark(if view.has_several() {
-        "<details>\n<summary>"
-    } else {
-        "<details open=\"\">\n<summary>"
-    })?;
     page.put(
-        &[
-            "",
-            "</summary>\n<div role=\"group\" aria-label=\"",
-            "\" tabindex=\"0\">\n<table>\n",
-        ],
+        if view.has_several() {
+            "<details>\n<summary>"
+        } else {
+            "<details open=\"\">\n<summary>"
+        },
+        &[],
+    );
+    page.put(
+        "{}</summary>\n<div role=\"group\" aria-label=\"{}\" tabindex=\"0\">\n<table>\n",
         &[title.as_str(), title.as_str()],
-    )?;
+    );
     table.put_head(alloc, page)?;
     let counts = counts_of(machines);
     for status in Status::ALL.as_slice() {

@@ -148,24 +148,23 @@ fn put_paths(alloc: Global, page: &mut Page, parts: &[Part], top: u64) -> Result
         if let Some(kind) = kinds.last() {
             let path = path_of(alloc, parts, top, kinds)?;
             page.put(
-                &["<path class=\"", "\" d=\"", "\"/>\n"],
+                "<path class=\"{}\" d=\"{}\"/>\n",
                 &[kind.class(), path.as_str()],
-            )?;
+            );
         }
     }
-    page.mark(
+    page.put(
         "<path class=\"tick\" d=\"M360 0V400M720 0V400M1080 0V400\"/>\n</svg>\n<div class=\"axis\" aria-hidden=\"true\"><span>24 h ago</span> <span>18 h</span> <span>12 h</span> <span>6 h</span> <span>now</span></div>\n<ul>\n",
-    )
+        &[],
+    );
+    Ok(())
 }
 
 fn put_kinds(alloc: Global, page: &mut Page, last: &Part) -> Result<(), AllocError> {
     for kind in StatusKind::ALL.as_slice() {
         let (title, count) = (kind.title(), last.of_kinds(&[*kind]));
         let text = format!(in alloc; "{title}: {count}")?;
-        page.put(
-            &["<li class=\"", "\">", "</li>\n"],
-            &[kind.class(), text.as_str()],
-        )?;
+        page.put("<li class=\"{}\">{}</li>\n", &[kind.class(), text.as_str()]);
     }
     Ok(())
 }
@@ -200,18 +199,19 @@ fn put_status(
     }
     let counts = parts.iter().map(|part| part.count(status));
     let fewest = counts.min().unwrap_or(0);
-    page.put(&["<tr><th scope=\"row\">", "</th>"], &[status.text()])?;
+    page.put("<tr><th scope=\"row\">{}</th>", &[status.text()]);
     for minute in [0, 360, 720, 1080] {
-        put_number(page, count_then(alloc, parts, minute, status)?.as_str())?;
+        put_number(page, count_then(alloc, parts, minute, status)?.as_str());
     }
     for count in [last.count(status), fewest, most] {
-        put_number(page, number(alloc, count)?.as_str())?;
+        put_number(page, number(alloc, count)?.as_str());
     }
-    page.mark("\n</tr>")
+    page.put("\n</tr>", &[]);
+    Ok(())
 }
 
-fn put_number(page: &mut Page, text: &str) -> Result<(), AllocError> {
-    page.put(&["<td class=\"n\">", "</td>"], &[text])
+fn put_number(page: &mut Page, text: &str) {
+    page.put("<td class=\"n\">{}</td>", &[text]);
 }
 
 fn put_table(
@@ -226,17 +226,14 @@ fn put_table(
     let caption = format!(in alloc; "{name} over the last day")?;
     let caption = aged(alloc, hall, view.now, caption.as_str())?;
     page.put(
-        &[
-            "</ul>\n<details>\n<summary>As a table</summary>\n<div role=\"group\" aria-label=\"",
-            "\" tabindex=\"0\">\n<table>\n<caption>",
-            "</caption>\n<thead>\n<tr><th scope=\"col\">Status</th><th scope=\"col\" class=\"n\">24 h ago</th><th scope=\"col\" class=\"n\">18 h ago</th><th scope=\"col\" class=\"n\">12 h ago</th><th scope=\"col\" class=\"n\">6 h ago</th><th scope=\"col\" class=\"n\">Last</th><th scope=\"col\" class=\"n\">Fewest</th><th scope=\"col\" class=\"n\">Most</th></tr>\n</thead>\n<tbody>",
-        ],
+        "</ul>\n<details>\n<summary>As a table</summary>\n<div role=\"group\" aria-label=\"{}\" tabindex=\"0\">\n<table>\n<caption>{}</caption>\n<thead>\n<tr><th scope=\"col\">Status</th><th scope=\"col\" class=\"n\">24 h ago</th><th scope=\"col\" class=\"n\">18 h ago</th><th scope=\"col\" class=\"n\">12 h ago</th><th scope=\"col\" class=\"n\">6 h ago</th><th scope=\"col\" class=\"n\">Last</th><th scope=\"col\" class=\"n\">Fewest</th><th scope=\"col\" class=\"n\">Most</th></tr>\n</thead>\n<tbody>",
         &[caption.as_str(), caption.as_str()],
-    )?;
+    );
     for status in Status::ALL.as_slice() {
         put_status(alloc, page, parts, last, *status)?;
     }
-    page.mark("</tbody>\n</table>\n</div>\n</details>\n</figure>\n")
+    page.put("</tbody>\n</table>\n</div>\n</details>\n</figure>\n", &[]);
+    Ok(())
 }
 
 fn put_plot(
@@ -250,10 +247,11 @@ fn put_plot(
     let name = hall.name.text();
     let top = parts.iter().map(|part| all_of(part)).max().unwrap_or(0);
     let (Some(last), 1..) = (parts.last(), top) else {
-        return put_note(
+        put_note(
             page,
             format!(in alloc; "{name}: no machine was seen yet.")?.as_str(),
         );
+        return Ok(());
     };
     let most = if top == 1 {
         String::from_str(alloc, "1 machine")?
@@ -264,13 +262,9 @@ fn put_plot(
     let title = aged(alloc, hall, view.now, title.as_str())?;
     let label = label_of(alloc, hall, parts, last)?;
     page.put(
-        &[
-            "<figure>\n<figcaption>",
-            "</figcaption>\n<svg viewBox=\"0 0 1440 400\" preserveAspectRatio=\"none\" role=\"img\" aria-label=\"",
-            "\">\n",
-        ],
+        "<figure>\n<figcaption>{}</figcaption>\n<svg viewBox=\"0 0 1440 400\" preserveAspectRatio=\"none\" role=\"img\" aria-label=\"{}\">\n",
         &[title.as_str(), label.as_str()],
-    )?;
+    );
     put_paths(alloc, page, parts, top)?;
     put_kinds(alloc, page, last)?;
     put_table(alloc, page, view, hall, parts, last)
@@ -278,13 +272,14 @@ fn put_plot(
 
 /// The last day of each hall.
 pub(crate) fn put_day(alloc: Global, page: &mut Page, view: &View<'_>) -> Result<(), AllocError> {
-    page.mark("<section id=\"day\">\n<h2>The last day</h2>\n")?;
+    page.put("<section id=\"day\">\n<h2>The last day</h2>\n", &[]);
     if view.halls.len() > MAX_TABLES {
-        put_note(page, TOO_MANY_HALLS)?;
+        put_note(page, TOO_MANY_HALLS);
     } else {
         for hall in view.halls.as_slice() {
             put_plot(alloc, page, view, hall)?;
         }
     }
-    end_section(page)
+    end_section(page);
+    Ok(())
 }

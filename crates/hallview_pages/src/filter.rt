@@ -7,40 +7,29 @@ use std::alloc::{AllocError, Global};
 // How many values a field offers.
 const MAX_OPTIONS: usize = 200;
 
-fn put_option(page: &mut Page, value: &str, current: &str) -> Result<(), AllocError> {
+fn put_option(page: &mut Page, value: &str, current: &str) {
     let text = if value == "-" { "none" } else { value };
-    let end = if value == current {
-        "\" selected=\"\">"
+    let option = if value == current {
+        "<option value=\"{}\" selected=\"\">{}</option>\n"
     } else {
-        "\">"
+        "<option value=\"{}\">{}</option>\n"
     };
-    page.put(&["<option value=\"", ""], &[value])?;
-    page.mark(end)?;
-    page.put(&["", "</option>\n"], &[text])
+    page.put(option, &[value, text]);
 }
 
-fn put_select(
-    page: &mut Page,
-    label: &str,
-    field: Field,
-    values: &[&str],
-    current: &str,
-) -> Result<(), AllocError> {
-    page.put(&["<label>", "<select name=\""], &[label])?;
-    page.put(
-        &["", "\">\n<option value=\"\">any</option>\n"],
-        &[field.name()],
-    )?;
+fn put_select(page: &mut Page, label: &str, field: Field, values: &[&str], current: &str) {
+    page.put("<label>{}<select name=\"", &[label]);
+    page.put("{}\">\n<option value=\"\">any</option>\n", &[field.name()]);
     if !current.is_empty() && !values.iter().any(|value| *value == current) {
         page.put(
-            &["<option value=\"", "\" selected=\"\">", "</option>\n"],
+            "<option value=\"{}\" selected=\"\">{}</option>\n",
             &[current, current],
-        )?;
+        );
     }
     for value in values.iter().take(MAX_OPTIONS) {
-        put_option(page, value, current)?;
+        put_option(page, value, current);
     }
-    page.mark("</select></label>\n")
+    page.put("</select></label>\n", &[]);
 }
 
 fn value_in(machine: &Machine, field: Field) -> &str {
@@ -80,7 +69,8 @@ fn put_values(
         field,
         values.as_slice(),
         view.query.text(field),
-    )
+    );
+    Ok(())
 }
 
 fn put_halls(alloc: Global, page: &mut Page, view: &View<'_>) -> Result<(), AllocError> {
@@ -92,7 +82,8 @@ fn put_halls(alloc: Global, page: &mut Page, view: &View<'_>) -> Result<(), Allo
         Field::Hall,
         names.as_slice(),
         view.query.text(Field::Hall),
-    )
+    );
+    Ok(())
 }
 
 fn put_statuses(alloc: Global, page: &mut Page, view: &View<'_>) -> Result<(), AllocError> {
@@ -104,7 +95,8 @@ fn put_statuses(alloc: Global, page: &mut Page, view: &View<'_>) -> Result<(), A
         Field::Status,
         texts.as_slice(),
         view.query.text(Field::Status),
-    )
+    );
+    Ok(())
 }
 
 /// The beginning of the section of machines, and the form.
@@ -114,12 +106,9 @@ pub(crate) fn put_filter(
     view: &View<'_>,
 ) -> Result<(), AllocError> {
     page.put(
-        &[
-            "<section id=\"machines\">\n<h2>Machines</h2>\n<form method=\"get\" action=\"/#machines\">\n<label>Address or other text <input type=\"search\" name=\"q\" value=\"",
-            "\"/></label>\n",
-        ],
+        "<section id=\"machines\">\n<h2>Machines</h2>\n<form method=\"get\" action=\"/#machines\">\n<label>Address or other text <input type=\"search\" name=\"q\" value=\"{}\"/></label>\n",
         &[view.query.text(Field::Text)],
-    )?;
+    );
     if view.state.halls.len() > 1 {
         put_halls(alloc, page, view)?;
     }
@@ -130,9 +119,10 @@ pub(crate) fn put_filter(
     let sort = view.query.text(Field::Sort);
     if !sort.is_empty() {
         page.put(
-            &["<input type=\"hidden\" name=\"sort\" value=\"", "\"/>\n"],
+            "<input type=\"hidden\" name=\"sort\" value=\"{}\"/>\n",
             &[sort],
-        )?;
+        );
     }
-    page.mark("<button>Show</button>\n</form>\n")
+    page.put("<button>Show</button>\n</form>\n", &[]);
+    Ok(())
 }

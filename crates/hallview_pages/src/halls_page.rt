@@ -13,6 +13,16 @@ use hallview_state::State;
 use hallview_views::{Query, View};
 use std::alloc::{AllocError, Global};
 
+// What the page shows.
+fn put_parts(alloc: Global, page: &mut Page, view: &View<'_>) -> Result<(), AllocError> {
+    put_nav(alloc, page, view)?;
+    put_halls(alloc, page, view)?;
+    put_trouble(alloc, page, view)?;
+    put_work(alloc, page, view)?;
+    put_machines(alloc, page, view)?;
+    put_day(alloc, page, view)
+}
+
 /// The page of halls that a query asks for.
 pub(crate) fn halls_page(
     alloc: Global,
@@ -28,11 +38,6 @@ pub(crate) fn halls_page(
     let heading = heading_of(alloc, &view)?;
     let title = title_of(alloc, &view, heading.as_str())?;
     let mut page = Page::new(alloc);
-    put_nav(alloc, &mut page, &view)?;
-    put_halls(alloc, &mut page, &view)?;
-    put_trouble(alloc, &mut page, &view)?;
-    put_work(alloc, &mut page, &view)?;
-    put_machines(alloc, &mut page, &view)?;
-    put_day(alloc, &mut page, &view)?;
+    put_parts(alloc, &mut page, &view)?;
     whole_page(alloc, state, now, (title.as_str(), heading.as_str()), page)
 }

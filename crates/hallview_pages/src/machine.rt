@@ -25,20 +25,17 @@ fn put_nav(alloc: Global, page: &mut Page, state: &State, hall: &Hall) -> Result
     let target = link(alloc, &Query::none(alloc), &[(Field::Hall, name)], "")?;
     let text = hall_title(alloc, state, hall)?;
     page.put(
-        &[
-            "<nav aria-label=\"Back\">\n<ul>\n<li><a href=\"/\">All machines</a></li>\n<li><a href=\"",
-            "\">",
-            "</a></li>\n</ul>\n</nav>\n",
-        ],
+        "<nav aria-label=\"Back\">\n<ul>\n<li><a href=\"/\">All machines</a></li>\n<li><a href=\"{}\">{}</a></li>\n</ul>\n</nav>\n",
         &[target.as_str(), text.as_str()],
-    )
+    );
+    Ok(())
 }
 
-fn put_do(page: &mut Page, title: &str, text: &str) -> Result<(), AllocError> {
+fn put_do(page: &mut Page, title: &str, text: &str) {
     page.put(
-        &["<section id=\"do\">\n<h2>", "</h2>\n<p>", "</p>\n"],
+        "<section id=\"do\">\n<h2>{}</h2>\n<p>{}</p>\n",
         &[title, text],
-    )
+    );
 }
 
 // What to do about the machine, in hallctl's words.
@@ -50,22 +47,23 @@ fn put_commands(
     one: &Listed,
 ) -> Result<(), AllocError> {
     let id = number(alloc, one.machine.id.get())?;
-    page.put(&["<p><span>", "</span>"], &["In hallctl's words:"])?;
+    page.put("<p><span>{}</span>", &["In hallctl's words:"]);
     let words = format!(in alloc; "machine {id}")?;
-    put_code(page, hallctl(alloc, state, hall, words.as_str())?.as_str())?;
+    put_code(page, hallctl(alloc, state, hall, words.as_str())?.as_str());
     let commands = commands_for(alloc, &one.machine)?;
     for command in commands.as_slice() {
         let line = line(alloc, state, hall, command, id.as_str())?;
-        put_code(page, line.as_str())?;
+        put_code(page, line.as_str());
     }
-    page.mark("</p>\n")
+    page.put("</p>\n", &[]);
+    Ok(())
 }
 
-fn put_member(page: &mut Page, name: &str, text: &str) -> Result<(), AllocError> {
+fn put_member(page: &mut Page, name: &str, text: &str) {
     page.put(
-        &["<tr><th scope=\"row\">", "</th><td>", "</td>\n</tr>"],
+        "<tr><th scope=\"row\">{}</th><td>{}</td>\n</tr>",
         &[name, text],
-    )
+    );
 }
 
 fn number_or_dash(alloc: Global, number: Option<Number>) -> Result<String, AllocError> {
@@ -78,42 +76,44 @@ fn number_or_dash(alloc: Global, number: Option<Number>) -> Result<String, Alloc
 // The members that say how far the machine is.
 fn put_progress(alloc: Global, page: &mut Page, one: &Listed, now: u64) -> Result<(), AllocError> {
     let machine = &one.machine;
-    put_member(page, "id", number(alloc, machine.id.get())?.as_str())?;
-    put_member(page, "status", machine.status.text())?;
-    put_member(page, "locked", if machine.locked { "yes" } else { "no" })?;
+    put_member(page, "id", number(alloc, machine.id.get())?.as_str());
+    put_member(page, "status", machine.status.text());
+    put_member(page, "locked", if machine.locked { "yes" } else { "no" });
     let deadline = match machine.deadline {
         Some(deadline) => until(alloc, deadline, now)?,
         None => String::from_str(alloc, "-")?,
     };
-    put_member(page, "deadline", deadline.as_str())?;
+    put_member(page, "deadline", deadline.as_str());
     put_member(
         page,
         "order",
         number_or_dash(alloc, machine.waiting)?.as_str(),
-    )?;
-    put_member(page, "boot", number_or_dash(alloc, machine.boot)?.as_str())?;
+    );
+    put_member(page, "boot", number_or_dash(alloc, machine.boot)?.as_str());
     put_member(
         page,
         "version",
         number(alloc, machine.version.get())?.as_str(),
-    )
+    );
+    Ok(())
 }
 
 fn put_members(alloc: Global, page: &mut Page, one: &Listed, now: u64) -> Result<(), AllocError> {
     let machine = &one.machine;
     put_progress(alloc, page, one, now)?;
-    put_member(page, "pool", machine.pool.text())?;
-    put_member(page, "owner", or_dash(&machine.owner))?;
-    put_member(page, "image", or_dash(&machine.image))?;
+    put_member(page, "pool", machine.pool.text());
+    put_member(page, "owner", or_dash(&machine.owner));
+    put_member(page, "image", or_dash(&machine.image));
     let erase = machine.erase.map_or("-", Erase::text);
-    put_member(page, "erase", erase)?;
-    put_member(page, "arch", machine.arch.text())?;
-    put_member(page, "uuid", uuid_text(alloc, machine)?.as_str())?;
+    put_member(page, "erase", erase);
+    put_member(page, "arch", machine.arch.text());
+    put_member(page, "uuid", uuid_text(alloc, machine)?.as_str());
     put_member(
         page,
         "addresses",
         addresses(alloc, one.interfaces.as_slice())?.as_str(),
-    )
+    );
+    Ok(())
 }
 
 // The machine as the last list has it.
@@ -132,20 +132,18 @@ fn put_listed(
         page,
         title.as_str(),
         format!(in alloc; "{advice} {allowed}.")?.as_str(),
-    )?;
+    );
     put_commands(alloc, page, state, hall, one)?;
-    end_section(page)?;
+    end_section(page);
     let age = age_text(alloc, hall, now)?;
     let caption = format!(in alloc; "The list is {age}")?;
     page.put(
-        &[
-            "<section id=\"members\">\n<h2>As the desk lists it</h2>\n<div role=\"group\" aria-label=\"As the desk lists it\" tabindex=\"0\">\n<table>\n<caption>",
-            "</caption>\n<tbody>",
-        ],
+        "<section id=\"members\">\n<h2>As the desk lists it</h2>\n<div role=\"group\" aria-label=\"As the desk lists it\" tabindex=\"0\">\n<table>\n<caption>{}</caption>\n<tbody>",
         &[caption.as_str()],
-    )?;
+    );
     put_members(alloc, page, one, now)?;
-    end_table(page)
+    end_table(page);
+    Ok(())
 }
 
 // A move, and how long the machine had had the status before.
@@ -162,14 +160,7 @@ fn put_move(
         None => String::from_str(alloc, "-")?,
     };
     page.put(
-        &[
-            "<tr><th scope=\"row\"><time datetime=\"",
-            "\">",
-            "</time></th><td>",
-            "</td><td>",
-            "</td><td>",
-            "</td>\n</tr>",
-        ],
+        "<tr><th scope=\"row\"><time datetime=\"{}\">{}</time></th><td>{}</td><td>{}</td><td>{}</td>\n</tr>",
         &[
             moment.as_str(),
             text.as_str(),
@@ -177,7 +168,8 @@ fn put_move(
             step.to.text(),
             after.as_str(),
         ],
-    )
+    );
+    Ok(())
 }
 
 fn put_moves(
@@ -198,15 +190,16 @@ fn put_moves(
         "Hallview began {time} ago, and has seen {seen} of it since{shown}."
     )?;
     page.put(
-        &["<section id=\"moves\">\n<h2>Moves</h2>\n<p>", "</p>\n"],
+        "<section id=\"moves\">\n<h2>Moves</h2>\n<p>{}</p>\n",
         &[text.as_str()],
-    )?;
+    );
     if moves.is_empty() {
         return Ok(());
     }
-    page.mark(
+    page.put(
         "<div role=\"group\" aria-label=\"Moves\" tabindex=\"0\">\n<table>\n<caption>The newest first; times are when hallview saw it</caption>\n<thead>\n<tr><th scope=\"col\">At</th><th scope=\"col\">From</th><th scope=\"col\">To</th><th scope=\"col\">After</th></tr>\n</thead>\n<tbody>",
-    )?;
+        &[],
+    );
     for (place, step) in moves.iter().enumerate().rev().take(MAX_MOVES) {
         let before = match place.checked_sub(1) {
             Some(place) => moves.get(place).map(|step| step.at),
@@ -214,7 +207,8 @@ fn put_moves(
         };
         put_move(alloc, page, step, before)?;
     }
-    end_table(page)
+    end_table(page);
+    Ok(())
 }
 
 // What the page of a machine shows.
@@ -232,14 +226,14 @@ fn shown_of(
         None => {
             let (name, number) = (hall.name.text(), id.get());
             let text = format!(in alloc; "The last list of {name} has no machine {number}.")?;
-            put_do(&mut page, "Not listed", text.as_str())?;
+            put_do(&mut page, "Not listed", text.as_str());
         }
     }
-    end_section(&mut page)?;
+    end_section(&mut page);
     let moves = hall.moves.iter().copied().filter(|step| step.machine == id);
     let moves: Vec<Move> = moves.collect(alloc)?;
     put_moves(alloc, &mut page, state, moves.as_slice(), now)?;
-    end_section(&mut page)?;
+    end_section(&mut page);
     Ok(page)
 }
 

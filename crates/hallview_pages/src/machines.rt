@@ -45,7 +45,8 @@ fn put_count(
         .iter()
         .all(|field| view.query.text(*field).is_empty())
     {
-        return put_note(page, format!(in alloc; "{all}{part}")?.as_str());
+        put_note(page, format!(in alloc; "{all}{part}")?.as_str());
+        return Ok(());
     }
     let text = format!(in alloc; "{rows} of {all}{part} ")?;
     let changes = [
@@ -57,9 +58,10 @@ fn put_count(
     ];
     let target = link(alloc, &view.query, &changes, "#machines")?;
     page.put(
-        &["<p>", "<a href=\"", "\">Show all</a></p>\n"],
+        "<p>{}<a href=\"{}\">Show all</a></p>\n",
         &[text.as_str(), target.as_str()],
-    )
+    );
+    Ok(())
 }
 
 fn put_page_link(
@@ -75,10 +77,8 @@ fn put_page_link(
         format!(in alloc; "{number}")?
     };
     let target = link(alloc, query, &[(Field::Page, number.as_str())], "#machines")?;
-    page.put(
-        &["<li><a href=\"", "\">", "</a></li>\n"],
-        &[target.as_str(), text],
-    )
+    page.put("<li><a href=\"{}\">{}</a></li>\n", &[target.as_str(), text]);
+    Ok(())
 }
 
 // The links to the page before and the next one.
@@ -91,14 +91,15 @@ fn put_pages(
     if sheet.pages == 1 {
         return Ok(());
     }
-    page.mark("<nav aria-label=\"Pages of machines\">\n<ul>\n")?;
+    page.put("<nav aria-label=\"Pages of machines\">\n<ul>\n", &[]);
     if sheet.page > 1 {
         put_page_link(alloc, page, query, sheet.page - 1, "Page before")?;
     }
     if sheet.page < sheet.pages {
         put_page_link(alloc, page, query, sheet.page + 1, "Next page")?;
     }
-    page.mark("</ul>\n</nav>\n")
+    page.put("</ul>\n</nav>\n", &[]);
+    Ok(())
 }
 
 // A column's title, which sorts by it.
@@ -126,11 +127,9 @@ fn put_title(
         )
     };
     let target = link(alloc, query, &[(Field::Sort, sort.as_str())], "#machines")?;
-    page.mark(begin)?;
-    page.put(
-        &["<a href=\"", "\">", "</a></th>"],
-        &[target.as_str(), title],
-    )
+    page.put(begin, &[]);
+    page.put("<a href=\"{}\">{}</a></th>", &[target.as_str(), title]);
+    Ok(())
 }
 
 fn put_deadline(
@@ -140,14 +139,16 @@ fn put_deadline(
     row: &Row<'_>,
 ) -> Result<(), AllocError> {
     let Some(deadline) = row.one.machine.deadline else {
-        return put_cell(page, "-");
+        put_cell(page, "-");
+        return Ok(());
     };
     let text = until(alloc, deadline, view.now)?;
     if is_passed(&row.one.machine, view.now) {
-        put_strong_cell(page, text.as_str())
+        put_strong_cell(page, text.as_str());
     } else {
-        put_cell(page, text.as_str())
+        put_cell(page, text.as_str());
     }
+    Ok(())
 }
 
 fn put_row(
@@ -159,22 +160,23 @@ fn put_row(
     let machine = &row.one.machine;
     let id = number(alloc, machine.id.get())?;
     let target = machine_link(alloc, row.hall.name.text(), machine.id.get())?;
-    begin_row(page, target.as_str(), id.as_str())?;
+    begin_row(page, target.as_str(), id.as_str());
     if view.has_several() {
-        put_cell(page, row.hall.name.text())?;
+        put_cell(page, row.hall.name.text());
     }
     let status = status_text(alloc, machine)?;
     if StatusKind::of(machine.status) == StatusKind::Trouble {
-        put_strong_cell(page, status.as_str())?;
+        put_strong_cell(page, status.as_str());
     } else {
-        put_cell(page, status.as_str())?;
+        put_cell(page, status.as_str());
     }
     put_deadline(alloc, page, view, row)?;
-    put_cell(page, machine.pool.text())?;
-    put_cell(page, or_dash(&machine.owner))?;
-    put_cell(page, or_dash(&machine.image))?;
-    put_cell(page, short_addresses(alloc, row.one)?.as_str())?;
-    end_row(page)
+    put_cell(page, machine.pool.text());
+    put_cell(page, or_dash(&machine.owner));
+    put_cell(page, or_dash(&machine.image));
+    put_cell(page, short_addresses(alloc, row.one)?.as_str());
+    end_row(page);
+    Ok(())
 }
 
 fn put_table(
@@ -189,22 +191,20 @@ fn put_table(
     let caption = format!(in alloc; "Sorted by {title}{falling}")?;
     let caption = all_aged(alloc, view.halls.as_slice(), view.now, caption.as_str())?;
     page.put(
-        &[
-            "<div role=\"group\" aria-label=\"Machines\" tabindex=\"0\">\n<table>\n<caption>",
-            "</caption>\n<thead>\n<tr>",
-        ],
+        "<div role=\"group\" aria-label=\"Machines\" tabindex=\"0\">\n<table>\n<caption>{}</caption>\n<thead>\n<tr>",
         &[caption.as_str()],
-    )?;
+    );
     for column in Column::ALL.as_slice() {
         if *column != Column::Hall || view.has_several() {
             put_title(alloc, page, &view.query, *column, order)?;
         }
     }
-    page.mark("</tr>\n</thead>\n<tbody>")?;
+    page.put("</tr>\n</thead>\n<tbody>", &[]);
     for row in rows {
         put_row(alloc, page, view, row)?;
     }
-    end_table(page)
+    end_table(page);
+    Ok(())
 }
 
 // Which rows are on a page, in words.
@@ -245,5 +245,6 @@ pub(crate) fn put_machines(
         put_table(alloc, page, view, order, here)?;
         put_pages(alloc, page, &view.query, sheet)?;
     }
-    end_section(page)
+    end_section(page);
+    Ok(())
 }

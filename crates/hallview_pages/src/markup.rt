@@ -57,6 +57,8 @@ pub(crate) struct Page {
     alloc: Global,
     octets: Vec<u8>,
     place: Place,
+    // Memory was wanting for a part.
+    is_short: bool,
 }
 
 impl Model for Page {
@@ -103,6 +105,7 @@ impl Page {
             alloc,
             octets: Vec::new(alloc),
             place: Place::Text,
+            is_short: false,
         }
     }
 
@@ -129,27 +132,35 @@ impl Page {
         Ok(true)
     }
 
-    /// Writes markup, with a text between each two of its parts.
-    pub(crate) fn put(
+    /// Writes markup, with a text in place of each `{}`, or gives up for want of memory.
+    pub(crate) fn try_put(
         &mut self,
-        markup: &[&'static str],
+        markup: &'static str,
         texts: &[&str],
     ) -> Result<(), AllocError> {
-        let Some((first, others)) = markup.split_first() else {
-            return Ok(());
-        };
-        self.mark(first)?;
-        for (part, text) in others.iter().zip(texts.iter()) {
+        let mut parts = markup.split("{}");
+        self.mark(parts.next().unwrap_or(""))?;
+        for (part, text) in parts.zip(texts.iter()) {
             let _ = self.push_text(text)?;
             self.mark(part)?;
         }
         Ok(())
     }
 
-    /// Writes all of another page. Within a tag nothing is written.
+    /// Writes markup, with a text in place of each `{}`. Want of memory is noted.
+    pub(crate) fn put(&mut self, markup: &'static str, texts: &[&str]) {
+        if self.try_put(markup, texts).is_err() {
+            self.is_short = true;
+        }
+    }
+
+    /// Writes all of another page. Within a tag nothing is written. An error is want of memory, here or of what the other page lacks.
     pub(crate) fn append(&mut self, other: Page) -> Result<(), AllocError>
         ensures { OnOk result (Grows self.old self.new) }
     {
+        if other.is_short {
+            return Err(AllocError);
+        }
         if is_text(self.place) {
             self.octets.extend_from_slice(other.octets.as_slice())?;
             self.place = other.place;
@@ -157,11 +168,14 @@ impl Page {
         Ok(())
     }
 
-    /// The octets of the page.
-    pub(crate) fn into_octets(self) -> Vec<u8>
-        ensures page { IsPage result.items }
-        ensures octets { result.items ≡ self }
+    /// The octets of the page. An error is want of memory for one of its parts.
+    pub(crate) fn into_octets(self) -> Result<Vec<u8>, AllocError>
+        ensures page { IfOk result (λ octets. IsPage octets.items) }
+        ensures octets { IfOk result (λ octets. octets.items ≡ self) }
     {
-        self.octets
+        if self.is_short {
+            return Err(AllocError);
+        }
+        Ok(self.octets)
     }
 }

@@ -54,35 +54,29 @@ pub(crate) fn title_of(
 
 /// What is on the page.
 pub(crate) fn put_nav(alloc: Global, page: &mut Page, view: &View<'_>) -> Result<(), AllocError> {
-    page.mark("<nav aria-label=\"On this page\">\n<ul>\n")?;
+    page.put("<nav aria-label=\"On this page\">\n<ul>\n", &[]);
     let trouble = view.trouble();
     let text = format!(in alloc; "In trouble: {trouble}")?;
     if trouble > 0 {
         page.put(
-            &["<li><a href=\"#trouble\"><strong>", "</strong></a></li>\n"],
+            "<li><a href=\"#trouble\"><strong>{}</strong></a></li>\n",
             &[text.as_str()],
-        )?;
+        );
     } else {
-        page.put(
-            &["<li><a href=\"#trouble\">", "</a></li>\n"],
-            &[text.as_str()],
-        )?;
+        page.put("<li><a href=\"#trouble\">{}</a></li>\n", &[text.as_str()]);
     }
     let (work, machines) = (view.work.len(), view.machines());
     let work = format!(in alloc; "At work: {work}")?;
     let machines = format!(in alloc; "Machines: {machines}")?;
     page.put(
-        &[
-            "<li><a href=\"#work\">",
-            "</a></li>\n<li><a href=\"#machines\">",
-            "</a></li>\n<li><a href=\"#day\">The last day</a></li>\n",
-        ],
+        "<li><a href=\"#work\">{}</a></li>\n<li><a href=\"#machines\">{}</a></li>\n<li><a href=\"#day\">The last day</a></li>\n",
         &[work.as_str(), machines.as_str()],
-    )?;
+    );
     if !view.query.text(Field::Hall).is_empty() {
-        page.mark("<li><a href=\"/\">All halls</a></li>\n")?;
+        page.put("<li><a href=\"/\">All halls</a></li>\n", &[]);
     }
-    page.mark("</ul>\n</nav>\n")
+    page.put("</ul>\n</nav>\n", &[]);
+    Ok(())
 }
 
 // Whether the desk answers, and how old the list is.
@@ -97,16 +91,14 @@ fn put_list(
         Some(list) if !hall.is_stale(view.now) => {
             let took = list.took;
             let text = format!(in alloc; "{age}, took {took} ms")?;
-            page.put(&["<td>up</td><td>", "</td>"], &[text.as_str()])
+            page.put("<td>up</td><td>{}</td>", &[text.as_str()]);
         }
         _ => page.put(
-            &[
-                "<td><strong>down</strong></td><td><strong>",
-                "</strong></td>",
-            ],
+            "<td><strong>down</strong></td><td><strong>{}</strong></td>",
             &[age.as_str()],
         ),
     }
+    Ok(())
 }
 
 fn put_totals(
@@ -115,46 +107,45 @@ fn put_totals(
     hall: &Hall,
     total: &Total,
 ) -> Result<(), AllocError> {
-    const ROW: [&str; 5] = [
-        "<td class=\"n\">",
-        "</td><td class=\"n\">",
-        "</td><td class=\"n\">",
-        "</td><td class=\"n\">",
-        "</td>\n</tr>",
-    ];
+    const ROW: &str =
+        "<td class=\"n\">{}</td><td class=\"n\">{}</td><td class=\"n\">{}</td><td class=\"n\">{}</td>\n</tr>";
     if hall.list.is_none() {
-        return page.put(&ROW, &["-", "-", "-", "-"]);
+        page.put(ROW, &["-", "-", "-", "-"]);
+        return Ok(());
     }
     let machines = count(alloc, total.machines)?;
     let trouble = count(alloc, total.trouble)?;
     let work = count(alloc, total.work)?;
     let orders = count(alloc, total.orders)?;
     page.put(
-        &ROW,
+        ROW,
         &[
             machines.as_str(),
             trouble.as_str(),
             work.as_str(),
             orders.as_str(),
         ],
-    )
+    );
+    Ok(())
 }
 
 fn put_table(alloc: Global, page: &mut Page, view: &View<'_>) -> Result<(), AllocError> {
-    page.mark(
+    page.put(
         "<div role=\"group\" aria-label=\"Halls\" tabindex=\"0\">\n<table>\n<thead>\n<tr><th scope=\"col\">Hall</th><th scope=\"col\">Desk</th><th scope=\"col\">List</th><th scope=\"col\" class=\"n\">Machines</th><th scope=\"col\" class=\"n\">In trouble</th><th scope=\"col\" class=\"n\">At work</th><th scope=\"col\" class=\"n\">Orders that wait</th></tr>\n</thead>\n<tbody>",
-    )?;
+        &[],
+    );
     for (hall, total) in view.halls.iter().zip(view.totals.iter()) {
         let name = hall.name.text();
         let target = link(alloc, &view.query, &[(Field::Hall, name)], "")?;
         page.put(
-            &["<tr><th scope=\"row\"><a href=\"", "\">", "</a></th>"],
+            "<tr><th scope=\"row\"><a href=\"{}\">{}</a></th>",
             &[target.as_str(), name],
-        )?;
+        );
         put_list(alloc, page, view, hall)?;
         put_totals(alloc, page, hall, total)?;
     }
-    page.mark("</tbody>\n</table>\n</div>\n")
+    page.put("</tbody>\n</table>\n</div>\n", &[]);
+    Ok(())
 }
 
 /// What is said of a hall without machines.
@@ -175,22 +166,25 @@ pub(crate) fn put_no_machines(
         "add-machine --mac 52:54:00:12:34:56 --arch uefi64 --pool default",
     )?;
     page.put(
-        &["<p><span>", "</span> <code>", "</code></p>\n"],
+        "<p><span>{}</span> <code>{}</code></p>\n",
         &[text.as_str(), line.as_str()],
-    )
+    );
+    Ok(())
 }
 
 /// The halls, and their counts by status and pool.
 pub(crate) fn put_halls(alloc: Global, page: &mut Page, view: &View<'_>) -> Result<(), AllocError> {
-    page.mark("<section id=\"halls\">\n<h2>Halls</h2>\n")?;
+    page.put("<section id=\"halls\">\n<h2>Halls</h2>\n", &[]);
     if view.halls.is_empty() {
-        put_note(page, "No hall has this name.")?;
-        return end_section(page);
+        put_note(page, "No hall has this name.");
+        end_section(page);
+        return Ok(());
     }
     put_table(alloc, page, view)?;
     if view.halls.len() > MAX_TABLES {
-        put_note(page, TOO_MANY_HALLS)?;
-        return end_section(page);
+        put_note(page, TOO_MANY_HALLS);
+        end_section(page);
+        return Ok(());
     }
     for hall in view.halls.as_slice() {
         match &hall.list {
@@ -199,5 +193,6 @@ pub(crate) fn put_halls(alloc: Global, page: &mut Page, view: &View<'_>) -> Resu
             None => {}
         }
     }
-    end_section(page)
+    end_section(page);
+    Ok(())
 }

@@ -107,7 +107,7 @@ fn put_all(
     } else {
         format!(in alloc; "The first {taken}:")?
     };
-    page.put(&[" <span>", "</span>"], &[said.as_str()])?;
+    page.put(" <span>{}</span>", &[said.as_str()]);
     let commands = group_commands(alloc, group, one)?;
     for command in commands.as_slice() {
         let line = line(
@@ -117,7 +117,7 @@ fn put_all(
             command,
             numbers.text.as_str(),
         )?;
-        put_code(page, line.as_str())?;
+        put_code(page, line.as_str());
     }
     Ok(())
 }
@@ -167,7 +167,8 @@ fn put_time(
         }
         _ => since_text(alloc, view, group.hall, one)?,
     };
-    put_cell(page, text.as_str())
+    put_cell(page, text.as_str());
+    Ok(())
 }
 
 fn put_machine(
@@ -179,20 +180,21 @@ fn put_machine(
 ) -> Result<(), AllocError> {
     let id = number(alloc, one.machine.id.get())?;
     let target = machine_link(alloc, group.hall.name.text(), one.machine.id.get())?;
-    begin_row(page, target.as_str(), id.as_str())?;
-    page.mark("<td>")?;
+    begin_row(page, target.as_str(), id.as_str());
+    page.put("<td>", &[]);
     let commands = group_commands(alloc, group, one)?;
     for command in commands.as_slice() {
         let line = line(alloc, view.state, group.hall, command, id.as_str())?;
-        put_code(page, line.as_str())?;
+        put_code(page, line.as_str());
     }
-    page.mark("</td>")?;
+    page.put("</td>", &[]);
     put_time(alloc, page, view, group, one)?;
-    put_cell(page, one.machine.pool.text())?;
-    put_cell(page, or_dash(&one.machine.owner))?;
-    put_cell(page, or_dash(&one.machine.image))?;
-    put_cell(page, short_addresses(alloc, one)?.as_str())?;
-    end_row(page)
+    put_cell(page, one.machine.pool.text());
+    put_cell(page, or_dash(&one.machine.owner));
+    put_cell(page, or_dash(&one.machine.image));
+    put_cell(page, short_addresses(alloc, one)?.as_str());
+    end_row(page);
+    Ok(())
 }
 
 // What is done by hand about an order that waits.
@@ -215,19 +217,20 @@ fn put_order(
     let machine = &order.one.machine;
     let id = number(alloc, machine.id.get())?;
     let target = machine_link(alloc, hall.name.text(), machine.id.get())?;
-    begin_row(page, target.as_str(), id.as_str())?;
+    begin_row(page, target.as_str(), id.as_str());
     let (kind, waiting) = (order.kind(), order.number);
-    put_cell(page, format!(in alloc; "{kind} {waiting}")?.as_str())?;
-    put_cell(page, span(alloc, order.waits)?.as_str())?;
-    put_cell(page, machine.status.text())?;
+    put_cell(page, format!(in alloc; "{kind} {waiting}")?.as_str());
+    put_cell(page, span(alloc, order.waits)?.as_str());
+    put_cell(page, machine.status.text());
     let said = by_hand(alloc, order)?;
     let words = format!(in alloc; "--token-file pow.token order {waiting} --done")?;
     let line = hallctl(alloc, view.state, hall, words.as_str())?;
     page.put(
-        &["<td><span>", "</span> <code>", "</code></td>"],
+        "<td><span>{}</span> <code>{}</code></td>",
         &[said.as_str(), line.as_str()],
-    )?;
-    end_row(page)
+    );
+    end_row(page);
+    Ok(())
 }
 
 fn put_rows(
@@ -252,7 +255,7 @@ fn put_advice(
     view: &View<'_>,
     group: &Group<'_>,
 ) -> Result<(), AllocError> {
-    page.put(&["<p><span>", "</span>"], &[group.advice(view.now)])?;
+    page.put("<p><span>{}</span>", &[group.advice(view.now)]);
     if group.cause == Cause::Orders {
         let line = hallctl(
             alloc,
@@ -260,11 +263,12 @@ fn put_advice(
             group.hall,
             "--token-file pow.token orders",
         )?;
-        put_code(page, line.as_str())?;
+        put_code(page, line.as_str());
     } else {
         put_all(alloc, page, view, group)?;
     }
-    page.mark("</p>\n")
+    page.put("</p>\n", &[]);
+    Ok(())
 }
 
 fn titles(group: &Group<'_>) -> &'static [&'static str] {
@@ -300,31 +304,28 @@ fn put_group(
     let title = group_title(alloc, view, group)?;
     let id = group_id(alloc, group)?;
     page.put(
-        &[
-            "<details id=\"",
-            "\" open=\"\">\n<summary><h3>",
-            "</h3></summary>\n",
-        ],
+        "<details id=\"{}\" open=\"\">\n<summary><h3>{}</h3></summary>\n",
         &[id.as_str(), title.as_str()],
-    )?;
+    );
     put_advice(alloc, page, view, group)?;
-    begin_box(page, title.as_str())?;
-    page.mark("<thead>\n<tr>")?;
-    put_columns(page, titles(group))?;
-    page.mark("</tr>\n</thead>\n<tbody>")?;
+    begin_box(page, title.as_str());
+    page.put("<thead>\n<tr>", &[]);
+    put_columns(page, titles(group));
+    page.put("</tr>\n</thead>\n<tbody>", &[]);
     put_rows(alloc, page, view, group)?;
-    page.mark("</tbody>\n</table>\n</div>\n")?;
+    page.put("</tbody>\n</table>\n</div>\n", &[]);
     let size = group.size();
     if size > MAX_ROWS {
         let more = size - MAX_ROWS;
         let text = format!(in alloc; "{more} more")?;
         let target = group_link(alloc, view, group)?;
         page.put(
-            &["<p><a href=\"", "\">", "</a></p>\n"],
+            "<p><a href=\"{}\">{}</a></p>\n",
             &[target.as_str(), text.as_str()],
-        )?;
+        );
     }
-    page.mark("</details>\n")
+    page.put("</details>\n", &[]);
+    Ok(())
 }
 
 // How many machines and orders are in groups that aren't shown.
@@ -344,10 +345,7 @@ pub(crate) fn put_trouble(
 ) -> Result<(), AllocError> {
     let trouble = view.trouble();
     let title = format!(in alloc; "In trouble: {trouble}")?;
-    page.put(
-        &["<section id=\"trouble\">\n<h2>", "</h2>\n"],
-        &[title.as_str()],
-    )?;
+    page.put("<section id=\"trouble\">\n<h2>{}</h2>\n", &[title.as_str()]);
     if trouble == 0 {
         let calm = all_aged(
             alloc,
@@ -355,7 +353,7 @@ pub(crate) fn put_trouble(
             view.now,
             "No machine has failed, no deadline has passed, and no order waits for over five minutes",
         )?;
-        put_note(page, format!(in alloc; "{calm}.")?.as_str())?;
+        put_note(page, format!(in alloc; "{calm}.")?.as_str());
     }
     for group in view.groups.iter().take(MAX_GROUPS) {
         put_group(alloc, page, view, group)?;
@@ -365,7 +363,8 @@ pub(crate) fn put_trouble(
         let text = format!(in alloc;
             "{rest} more in trouble: choose a hall in the table of halls."
         )?;
-        put_note(page, text.as_str())?;
+        put_note(page, text.as_str());
     }
-    end_section(page)
+    end_section(page);
+    Ok(())
 }

@@ -19,23 +19,15 @@ fn put_head(
     title: &str,
     heading: &str,
 ) -> Result<(), AllocError> {
-    page.put(
-        &[
-            "<!DOCTYPE html>\n<html lang=\"en\">\n<head>\n<meta charset=\"utf-8\"/>\n<meta name=\"viewport\" content=\"width=device-width, initial-scale=1\"/>\n<title>",
-            "</title>\n<style>",
-        ],
+    page.try_put(
+        "<!DOCTYPE html>\n<html lang=\"en\">\n<head>\n<meta charset=\"utf-8\"/>\n<meta name=\"viewport\" content=\"width=device-width, initial-scale=1\"/>\n<title>{}</title>\n<style>",
         &[title],
     )?;
     page.mark(STYLE)?;
     let moment = stamp(alloc, now)?;
     let text = stamp_text(alloc, now)?;
-    page.put(
-        &[
-            "</style>\n</head>\n<body>\n<main>\n<h1>",
-            "</h1>\n<p>At <time datetime=\"",
-            "\">",
-            "</time></p>\n",
-        ],
+    page.try_put(
+        "</style>\n</head>\n<body>\n<main>\n<h1>{}</h1>\n<p>At <time datetime=\"{}\">{}</time></p>\n",
         &[heading, moment.as_str(), text.as_str()],
     )
 }
@@ -112,5 +104,5 @@ pub(crate) fn whole_page(
     put_ages(alloc, &mut page, state, now)?;
     page.append(shown)?;
     put_end(&mut page)?;
-    Ok(page.into_octets())
+    Ok(page.into_octets()?)
 }

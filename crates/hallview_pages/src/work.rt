@@ -49,28 +49,28 @@ fn put_bar(
     let limit = limit_of(machine.status).unwrap_or(0);
     let id = number(alloc, machine.id.get())?;
     let target = machine_link(alloc, work.hall.name.text(), machine.id.get())?;
-    page.mark(if left < LATE {
-        "<tr class=\"trouble\">"
-    } else {
-        "<tr>"
-    })?;
     page.put(
-        &["<th scope=\"row\"><a href=\"", "\">", "</a></th>"],
+        if left < LATE {
+            "<tr class=\"trouble\">"
+        } else {
+            "<tr>"
+        },
+        &[],
+    );
+    page.put(
+        "<th scope=\"row\"><a href=\"{}\">{}</a></th>",
         &[target.as_str(), id.as_str()],
-    )?;
+    );
     if view.has_several() {
-        put_cell(page, work.hall.name.text())?;
+        put_cell(page, work.hall.name.text());
     }
     let bar = width(alloc, percent(limit.saturating_sub(left), limit))?;
     let text = until(alloc, work.deadline, view.now)?;
     page.put(
-        &[
-            "<td><svg width=\"100\" height=\"10\" aria-hidden=\"true\"><rect width=\"",
-            "\" height=\"10\"/></svg>",
-            "</td>",
-        ],
+        "<td><svg width=\"100\" height=\"10\" aria-hidden=\"true\"><rect width=\"{}\" height=\"10\"/></svg>{}</td>",
         &[bar.as_str(), text.as_str()],
-    )
+    );
+    Ok(())
 }
 
 fn put_row(
@@ -81,12 +81,13 @@ fn put_row(
 ) -> Result<(), AllocError> {
     let machine = &work.one.machine;
     put_bar(alloc, page, view, work)?;
-    put_cell(page, machine.status.text())?;
-    put_cell(page, order_text(alloc, view, work)?.as_str())?;
-    put_cell(page, machine.pool.text())?;
-    put_cell(page, or_dash(&machine.owner))?;
-    put_cell(page, or_dash(&machine.image))?;
-    end_row(page)
+    put_cell(page, machine.status.text());
+    put_cell(page, order_text(alloc, view, work)?.as_str());
+    put_cell(page, machine.pool.text());
+    put_cell(page, or_dash(&machine.owner));
+    put_cell(page, or_dash(&machine.image));
+    end_row(page);
+    Ok(())
 }
 
 fn put_table(alloc: Global, page: &mut Page, view: &View<'_>) -> Result<(), AllocError> {
@@ -97,37 +98,32 @@ fn put_table(alloc: Global, page: &mut Page, view: &View<'_>) -> Result<(), Allo
         "By deadline, the next one first",
     )?;
     page.put(
-        &[
-            "<div role=\"group\" aria-label=\"At work\" tabindex=\"0\">\n<table>\n<caption>",
-            "</caption>\n<thead>\n<tr>",
-        ],
+        "<div role=\"group\" aria-label=\"At work\" tabindex=\"0\">\n<table>\n<caption>{}</caption>\n<thead>\n<tr>",
         &[caption.as_str()],
-    )?;
-    put_columns(page, &["Machine"])?;
+    );
+    put_columns(page, &["Machine"]);
     if view.has_several() {
-        put_columns(page, &["Hall"])?;
+        put_columns(page, &["Hall"]);
     }
     put_columns(
         page,
         &["Deadline", "Status", "Order", "Pool", "Owner", "Image"],
-    )?;
-    page.mark("</tr>\n</thead>\n<tbody>")?;
+    );
+    page.put("</tr>\n</thead>\n<tbody>", &[]);
     let mut ordered = Vec::from_slice(alloc, view.work.as_slice())?;
     ordered.sort_by(|one, other| by_deadline(one, other))?;
     for work in ordered.iter().take(MAX_ROWS) {
         put_row(alloc, page, view, work)?;
     }
-    end_table(page)
+    end_table(page);
+    Ok(())
 }
 
 /// The machines that are at work.
 pub(crate) fn put_work(alloc: Global, page: &mut Page, view: &View<'_>) -> Result<(), AllocError> {
     let count = view.work.len();
     let title = format!(in alloc; "At work: {count}")?;
-    page.put(
-        &["<section id=\"work\">\n<h2>", "</h2>\n"],
-        &[title.as_str()],
-    )?;
+    page.put("<section id=\"work\">\n<h2>{}</h2>\n", &[title.as_str()]);
     if count == 0 {
         let calm = all_aged(
             alloc,
@@ -135,8 +131,9 @@ pub(crate) fn put_work(alloc: Global, page: &mut Page, view: &View<'_>) -> Resul
             view.now,
             "No machine is at work",
         )?;
-        put_note(page, format!(in alloc; "{calm}.")?.as_str())?;
-        return end_section(page);
+        put_note(page, format!(in alloc; "{calm}.")?.as_str());
+        end_section(page);
+        return Ok(());
     }
     put_table(alloc, page, view)?;
     if count > MAX_ROWS {
@@ -149,9 +146,10 @@ pub(crate) fn put_work(alloc: Global, page: &mut Page, view: &View<'_>) -> Resul
             "#machines",
         )?;
         page.put(
-            &["<p><a href=\"", "\">", "</a></p>\n"],
+            "<p><a href=\"{}\">{}</a></p>\n",
             &[target.as_str(), text.as_str()],
-        )?;
+        );
     }
-    end_section(page)
+    end_section(page);
+    Ok(())
 }

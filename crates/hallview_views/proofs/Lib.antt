@@ -1,0 +1,2 @@
+pub mod FamilyLemmas
+pub mod ValueLemmas

@@ -1,5 +1,5 @@
 //! Answers and receipts, and the octets of their responses.
-use cases::{CaseFault, Out, Played};
+use cases::{CaseFault, Out, Played, halves, parsed};
 use hall_events::{MachineList, Reply};
 use hall_http::{UNAVAILABLE, bytes_of, is_response};
 use hall_types::OrderKind::{self, Cycle, Off};
@@ -8,7 +8,7 @@ use hall_types::{
     RequestKey, Status, Text, Version,
 };
 use ipxe_script::read;
-use play_log::{halves, parsed, uuid};
+use play_log::uuid;
 use std::alloc::Global;
 
 fn print_response(reply: &Reply, out: &mut Out) -> Played {

@@ -1,9 +1,9 @@
 //! How clients are answered, by what is known of them.
 use crate::frames::print_field;
 use boot_desk::{Decision, FrameView, enlist, frame};
-use cases::{CaseFault, Out, Played};
+use cases::{CaseFault, Out, Played, halves, number};
 use hall_types::{Client, Port, RowWrite};
-use play_log::{arrival, client_of, halves, maybe, number, numbers};
+use play_log::{arrival, client_of, maybe, numbers};
 use std::alloc::Global;
 
 // The client whose frame arrives, and the port.

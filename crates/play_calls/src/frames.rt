@@ -1,9 +1,8 @@
 //! Hardware addresses, frames and their options, and frames that are written.
 ghost use Rattle.std.specs.Prelude.{◌≡◌, ◌≢◌, All, IsTrue};
 
-use cases::{CaseFault, Out, Played, octets_of, string_of, text_of};
+use cases::{CaseFault, Out, Played, halves, octets_of, string_of, text_of};
 use dhcp_frame::{DhcpOption, Frame, JoinedValue, OptionIter, ReplyFields, read, write};
-use play_log::halves;
 use std::alloc::AllocError;
 
 // Prints what a call gives, or its fault by number and name.

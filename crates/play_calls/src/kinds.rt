@@ -1,10 +1,9 @@
 //! Kinds that have words, and their numbers in tables.
-use cases::{CaseFault, Out, Played};
+use cases::{CaseFault, Out, Played, halves};
 use hall_types::{
     Erase, Numbered, OrderKind, OrderStage, Outcome, Progress, Purpose, Role, Stage, Status,
     arch_number,
 };
-use play_log::halves;
 use pxe_vendor::Arch;
 
 // Each one of a kind that has a number, with its number and its word.

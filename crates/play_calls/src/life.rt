@@ -1,12 +1,12 @@
 //! The life cycle of machines.
-use cases::{CaseFault, Out, Played};
+use cases::{CaseFault, Out, Played, halves, parsed};
 use hall_types::{
     Act, Arch, Digest, Erase, LastIssued, Machine, Moment, Name, Number, Numbers, Operator,
     Outcome, Progress, Refusal, Role, Status,
 };
 use life_cycle::Signal::{self, *};
 use life_cycle::{Action, Entered, Step, enter, may, next};
-use play_log::{halves, last, parsed};
+use play_log::last;
 
 const ACTIONS: [(&str, Signal); 4] = [
     ("commission", By(Action::Commission)),

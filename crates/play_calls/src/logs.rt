@@ -1,6 +1,6 @@
 //! Lines of logs: arrivals that are played, and what a service notes.
 use boot_desk::{FrameView, frame};
-use cases::{CaseFault, Out, Played};
+use cases::{CaseFault, Out, Played, first, halves, number, parsed};
 use desk_lines::{
     Backup, Failures, arrival_text, backup_line, lost_line, moment_text, unstamped_line,
 };
@@ -8,7 +8,7 @@ use hall_desk::{Account, Answer, Arrival, Came, Notes};
 use hall_report::LogFormat;
 use hall_types::Port;
 use hallboot_tasks::turn_line;
-use play_log::{arrival, client_of, first, halves, number, numbers, parsed};
+use play_log::{arrival, client_of, numbers};
 use serve_sockets::{Close, Handover, Kind, Said, Turn};
 use std::net::{IpAddr, Ipv4Addr, SocketAddr};
 

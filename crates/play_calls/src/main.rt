@@ -1,8 +1,7 @@
-//! Plays cases of single calls. Files `NAME.view.cases` are of what hallview knows of halls and what it answers: lists of desks in, pages,
-//! metrics and JSON out. All others are of the crates below the desk, and of what comes to a desk and goes from it: hardware addresses,
-//! frames, clients and the answers to them, words and scripts of iPXE, kinds, values, the life cycle of machines; requests and commands,
-//! responses and receipts, the run over one frame, lines of a log, readers and writers that fail. What acts say, and what they print, stands
-//! at the head of each file of cases.
+//! Plays cases of single calls: of the crates below the desk, and of what comes to a desk and goes from it: hardware addresses, frames, clients
+//! and the answers to them, words and scripts of iPXE, kinds, values, the life cycle of machines; requests and commands, responses and
+//! receipts, the run over one frame, lines of a log, readers and writers that fail. Files `NAME.sockets.cases` are of clients over a service on
+//! loopback. What acts say, and what they print, stands at the head of each file of cases.
 #![tactic(auto)]
 
 mod answers;
@@ -12,16 +11,14 @@ mod kinds;
 mod life;
 mod logs;
 mod messages;
-mod pages;
 mod requests;
 mod runs;
 mod scripts;
-mod stage;
+mod sockets;
 mod values;
 
-use cases::{CaseFault, Comparison, Out, Played, Player, files_of, play_named};
-use play_log::first;
-use stage::Stage;
+use cases::{CaseFault, CaseFile, Comparison, Out, Played, Player, first, play_cases};
+use sockets::Hall;
 use std::process::ExitCode;
 
 // A call of a crate below the desk.
@@ -58,9 +55,12 @@ fn play_lower(kind: &str, rest: &str, out: &mut Out) -> Played {
 
 /// The calls of the crates below the desk, and those by which something comes to a desk or goes from it.
 #[derive(Drop)]
-struct Calls;
+struct Calls<'a> {
+    /// What clients are served by, where a file is of them.
+    sockets: Hall<'a>,
+}
 
-impl Player for Calls {
+impl Player for Calls<'_> {
     fn play(&mut self, act: &str, out: &mut Out) -> Played {
         let (kind, rest) = first(act);
         match kind {
@@ -86,61 +86,16 @@ impl Player for Calls {
             _ => play_lower(kind, rest, out),
         }
     }
-}
 
-impl Player for Stage {
-    fn play(&mut self, act: &str, out: &mut Out) -> Played {
-        let (kind, rest) = first(act);
-        match kind {
-            "begin" => self.begin(rest),
-            "named" => self.name_halls(),
-            "hall" => self.add_hall(rest),
-            "list" => self.take(200, rest),
-            "refused" => self.take(401, rest),
-            "renew" => self.renew(rest),
-            "lose" => self.lose(rest),
-            "get" | "part" | "post" | "fields" | "open" => pages::show(
-                kind,
-                &self.state,
-                rest,
-                out,
-            ),
-            _ => Err(CaseFault::Act),
+    fn play_file(&mut self, file: &CaseFile<'_>, comparison: &mut Comparison) -> Played {
+        if file.name.ends_with(".sockets.cases") {
+            return self.sockets.play_file(file, comparison);
         }
+        self.play_acts(file, comparison)
     }
-}
-
-fn play_file(
-    rt: &HostRuntime,
-    stage: &mut Stage,
-    name: &str,
-    comparison: &mut Comparison,
-) -> Played {
-    if name.ends_with(".view.cases") {
-        play_named(rt, stage, name, comparison)
-    } else {
-        play_named(rt, &mut Calls, name, comparison)
-    }
-}
-
-// Plays the files that the arguments name, and prints what differs and how much it was.
-fn play_all(rt: &HostRuntime) -> Played {
-    let names = files_of(rt)?;
-    let mut comparison = Comparison::new(rt.alloc());
-    let mut stage = Stage::new(rt.alloc());
-    for name in names.as_slice() {
-        play_file(rt, &mut stage, name.as_str(), &mut comparison)?;
-    }
-    let counts = comparison.counts()?;
-    Ok(print!(rt; "{counts}\n")?)
 }
 
 fn main(rt: HostRuntime) -> ExitCode {
-    match play_all(&rt) {
-        Ok(()) => ExitCode::from(0),
-        Err(fault) => {
-            let _ = eprintln!(rt; "play_calls: {fault}");
-            ExitCode::from(1)
-        }
-    }
+    let sockets = Hall::new(&rt);
+    play_cases(&rt, "play_calls", &mut Calls { sockets })
 }

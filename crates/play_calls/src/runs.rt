@@ -1,9 +1,9 @@
 //! Reading and writing: runs over one frame with what they are given, and readers and writers whose failures are noted.
-use cases::{Out, Played, Short, Slow, text_of};
+use cases::{Out, Played, Short, Slow, halves, number, text_of};
 use desk_operations::{Exit, frame_run, parse, read_input};
 use hall_http::Noted;
 use hall_types::Moment;
-use play_log::{halves, number, place, port};
+use play_log::{place, port};
 
 // How a run ends, `PORT TEXT`, from a reader of so many octets a call that fails at a call, to a writer that takes so many and then fails.
 fn print_run(words: &str, step: usize, call: u64, room: usize, out: &mut Out) -> Played {

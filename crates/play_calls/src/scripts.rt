@@ -1,8 +1,7 @@
 //! Words and scripts of iPXE.
 use crate::frames::print_result;
-use cases::{Out, Played, string_of};
+use cases::{Out, Played, halves, number, string_of};
 use ipxe_script::{Command, Script, ScriptFault, Uri, Word, Words, read};
-use play_log::{halves, number};
 use std::alloc::Global;
 
 /// The word of a text.

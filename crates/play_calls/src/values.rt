@@ -1,8 +1,8 @@
 //! Values of a hall: moments, names, numbers, versions, counts of boots, images.
-use cases::{CaseFault, Out, Played, string_of};
+use cases::{CaseFault, Out, Played, halves, parsed, string_of};
 use hall_types::{Arch, BootCount, Image, ImageFault, LastIssued, Moment, Name, Number, Version};
 use ipxe_script::{Uri, Word, WordFault};
-use play_log::{halves, maybe, parsed};
+use play_log::maybe;
 use std::alloc::Global;
 
 /// The name of a text.

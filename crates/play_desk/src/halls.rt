@@ -1,11 +1,10 @@
 //! Halls that cases begin, over a store, and the tables of files.
-use cases::{CaseFault, CaseFile, Comparison, Out, Played, Player};
+use cases::{CaseFault, CaseFile, Comparison, Out, Played, Player, first};
 use hall_sql::SqlStore;
 use hall_store::HallStore;
 use hall_types::{Digest, Name};
-use play_files::{Fresh, Tables};
-use play_log::{ADA, admin, first, is_arrival};
-use play_store::{Asked, Hall, Looked, Way};
+use play_log::{ADA, admin, is_arrival};
+use play_store::{Asked, Fresh, Hall, Looked, Tables, Way};
 use std::alloc::Global;
 use store_memory::MemoryStore;
 

@@ -1,10 +1,9 @@
-//! What is played of the files that the arguments name.
+//! What is played of files of cases.
 use crate::halls::{Begun, FileTables, Halls};
 use crate::stopping::Stops;
-use cases::{Comparison, Out, Played, Player, files_of, play_named};
+use cases::{Comparison, Out, Played, Player, play_named};
 use hall_sql::SqlStore;
-use play_files::{Fresh, Made};
-use play_store::{Asked, Way};
+use play_store::{Asked, Fresh, Made, Way};
 use sqlite::FileStore;
 use sqlite_disk::{Fuse, Memory};
 use store_memory::MemoryStore;
@@ -121,10 +120,8 @@ fn play_on_disks<D: Made>(rt: &HostRuntime, names: &[String]) -> Played {
     play_in_sqlite::<FileStore<D>>(rt, names)
 }
 
-/// Plays the files that the arguments name.
-pub fn play_all(rt: &HostRuntime) -> Played {
-    let names = files_of(rt)?;
-    let names = names.as_slice();
+/// Plays files of cases.
+pub fn play_all(rt: &HostRuntime, names: &[String]) -> Played {
     play_halls::<MemoryStore>(rt, names, "memory")?;
     play_on_disks::<Fuse<Memory>>(rt, names)?;
     let mut pass = Pass::new(rt, names);

@@ -1,14 +1,14 @@
 //! Acts that are played while something stops: a disk, and then memory. `compare KEY NAME ..` says by what halls are compared, as `look` of
 //! play_store. `stop CALLS OCTETS ACT && ACT ..` plays acts over a file, from what those before them left: prints what each answers, and its
 //! repeat. Then the file's log stops after 0 calls, CALLS calls, twice as many, and so on, until it doesn't stop any more, and after it the
-//! file; what that may leave is in play_files' `stops.rt`. Then they are played over SQLite in memory and over the store in memory, where memory
+//! file; what that may leave is in play_store's `stops.rt`. Then they are played over SQLite in memory and over the store in memory, where memory
 //! ends after 0 octets, OCTETS octets, twice as many, and so on, 32 times as many for SQLite, as its `budgets.rt` says; the store in memory has
-//! the hall that the first act `create` makes, and acts that end with `migrate` aren't played over it. `halls` prints what either of them has.
+//! the hall that the first act `create` makes, and acts that end with `migrate` aren't played over it. `cut CALLS ACT && ACT ..` only has the
+//! log stop once, after CALLS calls: prints how many acts were answered, and whether it left what it may. `new` makes the file empty. `halls`
+//! prints what either of the halls in memory has.
 use crate::halls::begin_hall;
-use cases::{CaseFault, Out, Played, Player, hold_all_but};
-use play_files::{Image, Run, Tables, Which, play_in_budgets};
-use play_log::{first, number};
-use play_store::{Asked, Hall, Way};
+use cases::{CaseFault, Out, Played, Player, first, hold_all_but, number};
+use play_store::{Asked, Hall, Image, Run, Tables, Way, Which, play_in_budgets};
 use sqlite::{Connection, MemStore};
 use std::alloc::Global;
 use store_memory::MemoryStore;
@@ -65,6 +65,19 @@ impl Stops {
         Ok(())
     }
 
+    // Stops the file's log once, after so many calls, while acts are played.
+    fn cut(&mut self, words: &str, out: &mut Out) -> Played {
+        let (calls, acts) = first(words);
+        let (run, then) = Run::new(out.alloc(), &self.image, self.look.as_str(), acts)?;
+        let stopped = run.stop(Which::Log, number(calls)?)?;
+        drop(run);
+        self.image = then;
+        let (answered, is_right) = (stopped.answered, stopped.is_right);
+        let left = if is_right { "right" } else { "wrong" };
+        out.show(format_args!("{answered} answered, {left}"));
+        Ok(())
+    }
+
     fn end_memory(&mut self, octets: usize, acts: &str, out: &mut Out) -> Played {
         let (alloc, look) = (out.alloc(), self.look.as_str());
         let step = octets.saturating_mul(TIMES);
@@ -115,11 +128,16 @@ impl Stops {
 impl Player for Stops {
     fn play(&mut self, act: &str, out: &mut Out) -> Played {
         match first(act) {
+            ("new", _) => {
+                self.image = Image::empty(out.alloc());
+                Ok(())
+            }
             ("compare", words) => {
                 self.look = format!(in out.alloc(); "look {words}")?;
                 Ok(())
             }
             ("stop", words) => self.stop(words, out),
+            ("cut", words) => self.cut(words, out),
             ("halls", _) => self.print_halls(out),
             _ => Err(CaseFault::Act),
         }

@@ -1,8 +1,8 @@
 //! The words of arrivals.
 use crate::frames::frame;
 use crate::requests::request;
-use crate::values::{first, halves, parsed, port};
-use cases::{CaseFault, text_of};
+use crate::values::port;
+use cases::{CaseFault, first, halves, parsed, text_of};
 use dhcp_frame::read;
 use hall_desk::{Arrival, Input};
 use hall_types::{Client, Digest, Name, Port, Token};

@@ -1,6 +1,5 @@
 //! Messages by DHCP (RFC 2131 section 2), from the words of their arrivals. Nothing here is the desk's own: a fault of its encoder would be seen.
-use crate::values::{halves, parsed};
-use cases::{CaseFault, octets_of};
+use cases::{CaseFault, halves, octets_of, parsed};
 use hall_types::MacAddress;
 use std::alloc::{AllocError, Global};
 use std::net::Ipv4Addr;

@@ -29,6 +29,4 @@ mod values;
 
 pub use arrivals::{ADA, admin, arrival, client_of, is_arrival};
 pub use responses::{push_answer, push_response};
-pub use values::{
-    first, halves, key, last, maybe, number, numbers, parsed, place, port, some, uuid,
-};
+pub use values::{key, last, maybe, numbers, place, port, some, uuid};

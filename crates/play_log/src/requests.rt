@@ -1,7 +1,6 @@
 //! Requests by HTTP (RFC 9112), from the words of their arrivals.
 use crate::arrivals::FRESH;
-use crate::values::halves;
-use cases::CaseFault;
+use cases::{CaseFault, halves};
 use pxe_vendor::Octets;
 use std::alloc::{AllocError, Global};
 use std::fmt::Display;

@@ -1,23 +1,10 @@
 //! Values in cases.
-use cases::CaseFault;
+use cases::{CaseFault, number, parsed};
 use hall_types::{LastIssued, MachineUuid, Numbers, Port, RequestKey};
 use hex::FromHex;
 use pxe_vendor::Place;
 use std::alloc::Global;
 use std::str::FromStr;
-
-/// A number in decimal digits.
-pub fn number(word: &str) -> Result<u64, CaseFault> {
-    parsed(word)
-}
-
-/// A value of a type that reads its own text, as a name, a status or a moment.
-pub fn parsed<T: FromStr + Drop>(word: &str) -> Result<T, CaseFault>
-where
-    T::Err: Drop,
-{
-    word.parse::<T>().map_err(|_| CaseFault::Form)
-}
 
 /// A word, nothing where it is empty or `-`.
 pub fn some(word: &str) -> Option<&str> {
@@ -59,16 +46,6 @@ pub fn port(word: &str) -> Result<Port, CaseFault> {
 pub fn place(alloc: Global) -> Result<Place, CaseFault> {
     let place = Place::new(alloc, [192, 0, 2, 1], [192, 0, 2, 2], "hall.example");
     place.map_err(|_| CaseFault::Memory)
-}
-
-/// The two parts of a text that a separator parts.
-pub fn halves<'a>(text: &'a str, separator: &str) -> Result<(&'a str, &'a str), CaseFault> {
-    text.split_once(separator).ok_or(CaseFault::Form)
-}
-
-/// The first word, and the words after it.
-pub fn first(words: &str) -> (&str, &str) {
-    words.split_once(' ').unwrap_or((words, ""))
 }
 
 // 16 octets in hexadecimal.

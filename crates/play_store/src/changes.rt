@@ -3,13 +3,13 @@
 //! `machine_gone ID`, `interface MAC ID`, `interface_gone MAC`, `image_gone NAME`, `numbers MACHINE BOOT ORDER`, `boot NUMBER ID`,
 //! `order NUMBER ID` and `receipt NAME KEY`.
 use crate::hall::Hall;
-use cases::{CaseFault, Out, Played};
+use cases::{CaseFault, Out, Played, first, parsed};
 use hall_store::HallStore;
 use hall_types::{
     Arch, Boot, Change, Interface, Machine, Moment, Numbers, Order, OrderKind, OrderStage, Purpose,
     Receipt, RowWrite, Stage, Text, Token,
 };
-use play_log::{first, key, last, maybe, parsed, some, uuid};
+use play_log::{key, last, maybe, some, uuid};
 use std::alloc::Global;
 
 // `ID VERSION POOL STATUS DEADLINE`, and what may stand after it.

@@ -2,13 +2,13 @@
 use crate::arrivals::octets_of;
 use crate::hall::Hall;
 use crate::reports::push_end;
-use cases::{CaseFault, Out, Played, Short, Slow};
+use cases::{CaseFault, Out, Played, Short, Slow, first, number};
 use desk_operations::request;
 use hall_desk::{Arrival, Input};
 use hall_http::Noted;
 use hall_report::Fault;
 use hall_store::HallStore;
-use play_log::{arrival, first, number, push_response};
+use play_log::{arrival, push_response};
 
 // An answer has fewer octets.
 const MAX_PLACES: usize = 10_000;

@@ -1,10 +1,10 @@
 //! A hall over a store, and what is done with it.
 use crate::asked::{Asked, count};
 use crate::reports::rows;
-use cases::{CaseFault, Out, Played, Player};
+use cases::{CaseFault, Out, Played, Player, first, number};
 use hall_desk::Desk;
 use hall_store::{HallStore, Probe};
-use play_log::{first, is_arrival, number, place};
+use play_log::{is_arrival, place};
 use std::alloc::Global;
 
 // An act asks less of its store.

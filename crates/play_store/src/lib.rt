@@ -1,4 +1,4 @@
-//! What cases do with a hall, over any store. An act is
+//! What cases do with a hall, over any store, and with the tables of a file. An act on a hall is
 //!
 //! - an arrival, as play_log parses it: what the desk answers is printed;
 //! - `read WHAT ..` prints what a read of the store finds, as `reads.rt` says; `look KEY NAME ..` prints all that is there
@@ -21,19 +21,34 @@
 //! - `failing CALL ACT` plays an act over the store that fails at one of its calls, the first being 1; `each ACT` over the store that fails at its
 //!   first call, then at its second and so on, until it isn't refused, and prints at how many calls it was.
 //!
-//! Where the store can't answer, `unavailable` is printed.
+//! Where the store can't answer, `unavailable` is printed. An act on the tables of a file is
+//!
+//! - `sql STATEMENT` carries a statement out: `done` or `refused`; `query STATEMENT` prints the number in the first column of the first row;
+//! - `create ADMIN DIGEST` makes the tables of a hall: `created`; `open` looks at the tables: `opened`; `migrate` carries them over to the second
+//!   schema: `migrated`, or `already`; each of them or the number and the name of the fault;
+//! - any other act is one on the hall of the file, which is opened for it.
+//!
+//! Files stand on disks in memory, which may stop; memory may end.
 #![tactic(auto)]
 
 mod arrivals;
 mod asked;
+mod budgets;
 mod changes;
+mod disks;
 mod ends;
 mod hall;
 mod looking;
 mod reads;
 mod records;
 mod reports;
+mod stops;
+mod tables;
 
 pub use asked::Asked;
+pub use budgets::play_in_budgets;
 pub use changes::change;
+pub use disks::{Fresh, Image, Made, Which};
 pub use hall::{Hall, Looked, Way};
+pub use stops::{Run, Seen, Stopped};
+pub use tables::Tables;

@@ -1,9 +1,8 @@
 //! All that a store has under some keys, and what of it has changed.
 use crate::hall::Hall;
 use crate::reads::found;
-use cases::{Out, Played};
+use cases::{Out, Played, first};
 use hall_store::HallStore;
-use play_log::first;
 
 /// What is read of each name.
 const OF_NAME: [&str; 4] = ["operator", "pool", "image", "image_used"];

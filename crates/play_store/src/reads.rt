@@ -4,9 +4,9 @@
 //! is printed whole, a list record by record in its order; `none` where there is nothing.
 use crate::hall::Hall;
 use crate::records::Row;
-use cases::{CaseFault, Out, Played};
+use cases::{CaseFault, Out, Played, first, parsed};
 use hall_store::{HallStore, Unavailable};
-use play_log::{first, key, parsed, uuid};
+use play_log::{key, uuid};
 
 /// Whether something was found, and printed.
 type Found = Result<bool, CaseFault>;

@@ -1,12 +1,11 @@
 //! Reports on a hall as a command line prints them, and files of new machines.
 use crate::hall::Hall;
 use crate::records::Row;
-use cases::{CaseFault, Out, Played, Short, string_of};
+use cases::{CaseFault, Out, Played, Short, first, parsed, string_of};
 use desk_operations::{Imported, export};
 use hall_report::{Fault, What, import_rows};
 use hall_store::HallStore;
 use hall_types::{Digest, Moment, Number};
-use play_log::{first, parsed};
 
 /// Prints the name of the fault by which something ended.
 pub(crate) fn push_end(out: &mut Out, end: Result<(), Fault>) -> Played {

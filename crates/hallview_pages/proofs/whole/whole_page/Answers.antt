@@ -8,4 +8,4 @@ returns-clause-ages c =
     let now = c.args.now in
     let told = all_told_more now c.put_ages.new.page c.append.new.self c.in_ok-append.ensures halls c.in_ok-put_ages.ensures in
     let all = all_told_more now c.append.new.self c.put_end.new.page c.in_ok-put_end.ensures halls told in
-    subst (λ (octets : List ℕ). All (Told now octets) halls) (sym c.into_octets.ensures.octets) all
+    subst (λ (octets : List ℕ). All (Told now octets) halls) (sym c.in_ok-into_octets.ensures.octets) all

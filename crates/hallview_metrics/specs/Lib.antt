@@ -1,4 +1,0 @@
-pub mod Exposition
-pub mod ExpositionLaws
-pub mod Families
-pub mod Told
