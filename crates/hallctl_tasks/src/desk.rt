@@ -1,5 +1,4 @@
 //! The desk that is asked.
-use crate::address::DeskAddress;
 use crate::answer::{Answer, Exchanged, Strange};
 use crate::dial::Why;
 use crate::end::{EarlyEnd, Step, TaskFault};
@@ -7,7 +6,7 @@ use crate::exchanging::{MAX_TRY, Patience, exchange};
 use crate::session::Session;
 use crate::surroundings::Surroundings;
 use hall_events::HallCommand;
-use hallctl_requests::{Ask, BearerToken, RequestFault, request};
+use hallctl_requests::{Ask, BearerToken, DeskAddress, RequestFault, request};
 use hallctl_texts::{DeskAnswer, Question, desk_answer};
 use std::alloc::{AllocError, Global};
 

@@ -1,6 +1,5 @@
 //! Why there is no desk to be asked.
-use crate::address::AddressFault;
-use hallctl_requests::TextFault;
+use hallctl_requests::{AddressFault, TextFault};
 use std::alloc::AllocError;
 use thiserror::Error;
 

@@ -1,15 +1,13 @@
 //! Where the desk is, and the operator's token.
 ghost use Rattle.std.specs.Prelude.{◌≡◌, IsTrue, Ok, Err, false};
 
-use crate::address::DeskAddress;
 use crate::desk::Desk;
 use crate::desk_fault::DeskFault;
 use crate::end::{EarlyEnd, Step, TaskEnd, TaskFault};
 use crate::output::report;
 use crate::surroundings::Surroundings;
-use crate::tokens::token_of;
 use hall_types::Name;
-use hallctl_requests::BearerToken;
+use hallctl_requests::{BearerToken, DeskAddress, token_of};
 use hallctl_words::Line;
 use halls_file::{HallEntry, beside};
 use std::alloc::{AllocError, Global};

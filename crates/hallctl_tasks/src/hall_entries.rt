@@ -3,9 +3,9 @@ use crate::desk::Desk;
 use crate::desk_fault::DeskFault;
 use crate::end::{EarlyEnd, Step, TaskFault};
 use crate::finding::Finding;
-use crate::surroundings::{FileFault, Surroundings};
+use crate::surroundings::Surroundings;
 use hall_types::Name;
-use halls_file::{HallEntry, HallsFault, parse};
+use halls_file::{FileFault, HallEntry, HallsFault, parse};
 use std::alloc::{AllocError, Global};
 
 // The halls that a file's octets name.

@@ -1,30 +1,25 @@
 //! The system that the program runs on: a socket to the desk, the terminal, the environment, files and random octets.
-use crate::address::DeskAddress;
 use crate::dial::{Attempt, Dial, Why};
 use crate::output::goes_on_text;
 use crate::socket::{Time, connected, exchanged};
-use crate::surroundings::{FileFault, Surroundings};
+use crate::surroundings::Surroundings;
+use hallctl_requests::DeskAddress;
+use halls_file::{FileFault, file_octets, input_octets, is_open_to_others};
 use rand::rngs::SysRng;
 use rand_core::TryRng;
 use std::alloc::{AllocError, Global};
 use std::env::VarError;
-use std::fs::{File, OpenOptions, exists, hard_link, metadata, remove_file};
-use std::io::{BufRead, BufReader, ErrorKind, IsTerminal, Read, Write};
-use std::os::unix::fs::{OpenOptionsExt, PermissionsExt};
+use std::fs::{OpenOptions, exists, hard_link, remove_file};
+use std::io::{BufRead, BufReader, IsTerminal, Read, Write};
+use std::os::unix::fs::OpenOptionsExt;
 use std::time::{Duration, Instant, SystemTime, UNIX_EPOCH};
 use std::{env, io, thread};
-
-// The maximum of octets of a file that is read.
-const MAX_FILE_LEN: u64 = 16_777_216;
 
 // The maximum of octets of the operator's answer.
 const MAX_REPLY_LEN: u64 = 4_096;
 
 // Read and written by its owner alone.
 const OWNER_ONLY: u32 = 0o600;
-
-// The right of others than a file's owner to read it, in its mode.
-const OTHERS: u32 = 0o044;
 
 // Where the desk is that is asked.
 #[derive(Drop)]
@@ -96,38 +91,6 @@ impl Dial for Host<'_> {
             Err(_) => u64::MAX,
         }
     }
-}
-
-impl From<io::Error> for FileFault {
-    fn from(error: io::Error) -> FileFault {
-        match error.kind() {
-            ErrorKind::OutOfMemory => FileFault::Memory,
-            ErrorKind::AlreadyExists => FileFault::Exists,
-            _ => FileFault::Io,
-        }
-    }
-}
-
-/// The octets of a file.
-pub fn file_octets(rt: &HostRuntime, path: &str) -> Result<Vec<u8>, FileFault> {
-    let mut octets = Vec::new(rt.alloc());
-    let mut file = File::open(rt, path)?.take(MAX_FILE_LEN + 1);
-    file.read_to_end(&mut octets)?;
-    if octets.len() as u64 > MAX_FILE_LEN {
-        return Err(FileFault::TooLong);
-    }
-    Ok(octets)
-}
-
-// The octets of standard input.
-fn input_octets(rt: &HostRuntime) -> Result<Vec<u8>, FileFault> {
-    let mut octets = Vec::new(rt.alloc());
-    let mut input = rt.stdin().take(MAX_FILE_LEN + 1);
-    input.read_to_end(&mut octets)?;
-    if octets.len() as u64 > MAX_FILE_LEN {
-        return Err(FileFault::TooLong);
-    }
-    Ok(octets)
 }
 
 // Whether the next line of standard input is `yes` or `y`.
@@ -209,10 +172,7 @@ impl Surroundings for Host<'_> {
     }
 
     fn is_open_to_others(&mut self, path: &str) -> bool {
-        match metadata(self.rt, path) {
-            Ok(found) => found.permissions().mode() & OTHERS != 0,
-            Err(_) => false,
-        }
+        is_open_to_others(self.rt, path)
     }
 
     fn has_file(&mut self, path: &str) -> bool {

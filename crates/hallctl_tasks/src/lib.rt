@@ -1,7 +1,6 @@
 //! The operator's client: what it asks of the desk, tried again until there is an answer, and what it prints.
 #![tactic(auto)]
 
-mod address;
 mod answer;
 mod changes;
 mod desk;
@@ -27,16 +26,13 @@ mod sending;
 mod session;
 mod socket;
 mod surroundings;
-mod tokens;
 mod waiting;
 
-pub use address::{AddressFault, DeskAddress};
 pub use answer::{Answer, Exchanged, Strange};
 pub use dial::{Attempt, Dial, Why};
 pub use end::{TaskEnd, TaskFault};
 pub use exchanging::{Patience, exchange};
-pub use host::{Host, file_octets};
+pub use host::Host;
 pub use output::goes_on_text;
 pub use session::carry_out;
-pub use surroundings::{FileFault, Surroundings};
-pub use tokens::token_of;
+pub use surroundings::Surroundings;

@@ -2,10 +2,11 @@
 use crate::end::{Step, TaskEnd, TaskFault};
 use crate::sending::Sending;
 use crate::session::Session;
-use crate::surroundings::{FileFault, Surroundings};
+use crate::surroundings::Surroundings;
 use hall_events::HallCommand;
 use hall_types::Digest;
 use hallctl_words::NewOperator;
+use halls_file::FileFault;
 use sha2::{Digest as _, Sha256};
 use std::alloc::AllocError;
 

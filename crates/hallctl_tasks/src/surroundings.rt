@@ -1,22 +1,8 @@
 //! What a task uses besides the desk: the operator's terminal, the environment, files and random octets.
-use crate::address::DeskAddress;
 use crate::dial::Dial;
+use hallctl_requests::DeskAddress;
+use halls_file::FileFault;
 use std::alloc::{AllocError, Global};
-use thiserror::Error;
-
-/// Why a file can't be read or made.
-#[derive(Clone, Copy, Debug, PartialEq, Eq, Error)]
-pub enum FileFault {
-    #[error("there is a file already, which isn't overwritten")]
-    Exists,
-    #[error("it has more than 16 MiB")]
-    TooLong,
-    /// The system refused.
-    #[error("it can't be opened, read or written")]
-    Io,
-    #[error("there is no memory for it")]
-    Memory,
-}
 
 /// What a task uses: the way to the desk, and what is about it.
 pub trait Surroundings: Dial {

@@ -1,0 +1,4 @@
+pub mod Due
+pub mod Kept
+pub mod Least
+pub mod Slots

@@ -1,10 +1,11 @@
 //! Which halls are shown, where their desks are, and the tokens in whose name these are asked.
 use crate::asked::{Halls, Line};
+use crate::desk::Desk;
+use crate::server::Viewing;
 use crate::tokens::token_at;
 use hall_types::Name;
-use hallctl_tasks::{AddressFault, DeskAddress, file_octets};
-use halls_file::{HallEntry, HallsFault, beside, parse};
-use hallview_serve::{Desk, Viewing};
+use hallctl_requests::{AddressFault, DeskAddress};
+use halls_file::{HallEntry, HallsFault, beside, file_octets, parse};
 use hallview_state::{Hall, State};
 use std::alloc::{AllocError, Global};
 use std::time::{SystemTime, UNIX_EPOCH};
@@ -84,12 +85,9 @@ fn seconds(rt: &HostRuntime) -> Option<u64> {
 // A desk by its URL, and the token in a file.
 fn desk(rt: &HostRuntime, url: &str, token_file: &str) -> Result<Desk, FindFault> {
     let address = DeskAddress::new(rt.alloc(), url).map_err(FindFault::BadDesk)?;
-    let token = token_at(rt, token_file)?;
     Ok(Desk {
-        host: address.host,
-        port: address.port,
-        authority: address.authority,
-        token,
+        address,
+        token: token_at(rt, token_file)?,
     })
 }
 
@@ -132,7 +130,9 @@ fn add_only(
 
 // The text of a file of halls.
 fn text_at(rt: &HostRuntime, path: &str) -> Result<String, FindFault> {
-    let octets = file_octets(rt, path).map_err(|_| FindFault::UnreadFile)?;
+    let Ok(octets) = file_octets(rt, path) else {
+        return Err(FindFault::UnreadFile);
+    };
     match String::from_utf8(octets) {
         Ok(text) => Ok(text),
         Err(_) => Err(FindFault::BadFile(HallsFault::Toml)),
@@ -167,11 +167,15 @@ fn add_entry(
 
 // Adds the halls of a file.
 fn add_all(rt: &HostRuntime, viewing: &mut Viewing, path: &str) -> Result<(), Trouble> {
-    let entries = entries(rt, path).map_err(|fault| said(rt.alloc(), path, fault))?;
-    for entry in &entries {
-        add_entry(rt, viewing, path, entry)?;
+    match entries(rt, path) {
+        Ok(entries) => {
+            for entry in &entries {
+                add_entry(rt, viewing, path, entry)?;
+            }
+            Ok(())
+        }
+        Err(fault) => Err(said(rt.alloc(), path, fault)),
     }
-    Ok(())
 }
 
 // The hosts that a request may name.

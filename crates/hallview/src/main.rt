@@ -1,17 +1,39 @@
 //! Halls of machines at a glance: pages over HTTP of what their desks list. Nothing is changed, neither here nor in a hall.
 #![tactic(auto)]
 
+mod addresses;
 mod asked;
+mod asking;
+mod clients;
+mod clocks;
 mod command_line;
+mod connection;
+mod desk;
+mod dues;
+mod exchange;
+mod exchanges;
+mod fault;
 mod finding;
+mod least;
+mod marks;
 mod options;
+mod schedule;
+mod seats;
+mod server;
+mod service;
+mod slots;
+mod sockets;
+mod times;
 mod tokens;
+mod turn;
+mod watch;
 
 use asked::Line;
 use command_line::{LineFault, read};
 use command_rows::Wrong;
+use fault::ServeFault;
 use finding::{Trouble, viewing};
-use hallview_serve::{ServeFault, Server};
+use server::Server;
 use std::fmt::Display;
 use std::io::Write;
 use std::net::SocketAddr;
@@ -78,10 +100,13 @@ fn given(rt: &HostRuntime) -> io::Result<Vec<String>> {
 // Says where pages are.
 fn tell_ready(rt: &HostRuntime, server: &Server) -> Result<(), End> {
     let address = server.address();
-    let line = format!(in rt.alloc(); "hallview ready at http://{address}\n");
-    let line = line.map_err(|_| End::Serve(ServeFault::Memory))?;
-    let told = rt.stdout().write_all(line.as_bytes());
-    told.map_err(|_| End::Output)
+    let Ok(line) = format!(in rt.alloc(); "hallview ready at http://{address}\n") else {
+        return Err(End::Serve(ServeFault::Memory));
+    };
+    match rt.stdout().write_all(line.as_bytes()) {
+        Ok(()) => Ok(()),
+        Err(_) => Err(End::Output),
+    }
 }
 
 // Pages of the halls that a line asks for, which are served at its address.
@@ -101,7 +126,9 @@ fn serve(rt: &HostRuntime, line: &Line<'_>) -> Result<(), End> {
 }
 
 fn run(rt: &HostRuntime) -> Result<(), End> {
-    let words = given(rt).map_err(|_| End::NotText)?;
+    let Ok(words) = given(rt) else {
+        return Err(End::NotText);
+    };
     let line = read(rt.alloc(), words.as_slice()).map_err(End::Line)?;
     serve(rt, &line)
 }

@@ -1,7 +1,7 @@
 -- How old what is shown is. No page shows a hall by an old list as if it were of now.
 use Rattle.std.specs.Prelude.{◌≡◌, ◌-◌, ℕ, List, ◌++◌, Option, None, Some, codes, is_none, option_map, All, true}
 use Rattle.hallview_state.specs.{Age.is_stale, declared.{hall.Hall.{Hall}, state.State.{State}}}
-use Rattle.hallview_views.specs.Spans.{span_text}
+use Rattle.hallview_state.specs.Spans.{span_text}
 use Rattle.hallview_pages.specs.Markup.{escape}
 
 -- when the last list came, if there is one

@@ -1,7 +1,7 @@
 -- What answers promise, by their kinds.
 use Rattle.std.specs.Prelude.{ℕ, List, ⊤}
 use Rattle.hallview_state.specs.declared.state.State.{State}
-use Rattle.hallview_views.specs.Told.{AreMetrics}
+use Rattle.hallview_state.specs.Told.{AreMetrics}
 use Rattle.hallview_pages.specs.{Ages.TellsAges, Markup.IsPage, declared.answer.{Answer.{Answer}, Kind.{Kind, TheVariants.{Html, Prometheus, OpenMetrics, Json, Text}}}}
 
 -- a page is markup and texts, and says of each hall whose list is old how old that is; metrics are read back, with what they tell of each hall

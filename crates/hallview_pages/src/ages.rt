@@ -2,20 +2,11 @@
 ghost use Rattle.std.specs.Prelude.{◌≡◌, ◌++◌, IfOk, List, ℕ, codes, string_bytes};
 ghost use Rattle.hallview_pages.specs.Ages.{SaysAge, age_words, listed_at};
 
+use crate::markup::Page;
+use crate::value::Value;
+use hallview_state::text::span;
 use hallview_state::{Hall, Loss};
-use hallview_views::text::span;
 use std::alloc::{AllocError, Global};
-
-/// How old a hall's list is: `5 s old`, or `no list yet`.
-pub(crate) fn age_text(alloc: Global, hall: &Hall, now: u64) -> Result<String, AllocError> {
-    match hall.listed_at() {
-        Some(at) => {
-            let age = span(alloc, now.saturating_sub(at))?;
-            format!(in alloc; "{age} old")
-        }
-        None => String::from_str(alloc, "no list yet"),
-    }
-}
 
 // Why a list wasn't renewed.
 fn cause(alloc: Global, loss: Option<Loss>) -> Result<String, AllocError> {
@@ -60,39 +51,32 @@ pub(crate) fn fault_text(alloc: Global, hall: &Hall, now: u64) -> Result<String,
     Ok(text)
 }
 
-/// A text about a hall, with the age of what it rests on where that is old.
-pub(crate) fn aged(alloc: Global, hall: &Hall, now: u64, text: &str) -> Result<String, AllocError> {
-    if hall.is_stale(now) {
-        let age = age_text(alloc, hall, now)?;
-        return format!(in alloc; "{text}, {age}");
+/// How old a hall's list is: `5 s old`, or `no list yet`.
+pub(crate) fn put_age(page: &mut Page, hall: &Hall) {
+    let now = page.context.now;
+    match hall.listed_at() {
+        Some(at) => page.put("{} old", &[Value::Span(now.saturating_sub(at))]),
+        None => page.put("no list yet", &[]),
     }
-    String::from_str(alloc, text)
 }
 
-// Adds what a text about machines of several halls has to say of one of them, if that is old.
-fn push_age(alloc: Global, text: &mut String, hall: &Hall, now: u64) -> Result<(), AllocError> {
-    let name = hall.name.text();
-    let said = if hall.listed_at().is_none() {
-        format!(in alloc; "; nothing is known of {name}")?
-    } else if hall.is_stale(now) {
-        let age = age_text(alloc, hall, now)?;
-        format!(in alloc; "; {name} is {age}")?
-    } else {
-        return Ok(());
-    };
-    text.push_str(said.as_str())
+/// The same after a comma, if the list is old, and else nothing.
+pub(crate) fn put_old_age(page: &mut Page, hall: &Hall) {
+    if hall.is_stale(page.context.now) {
+        page.put(", ", &[]);
+        put_age(page, hall);
+    }
 }
 
-/// A text about machines of halls, with the age of what is old.
-pub(crate) fn all_aged(
-    alloc: Global,
-    halls: &[&Hall],
-    now: u64,
-    text: &str,
-) -> Result<String, AllocError> {
-    let mut aged = String::from_str(alloc, text)?;
+/// What a text about machines of several halls has to say of those whose lists are old.
+pub(crate) fn put_old_ages(page: &mut Page, halls: &[&Hall]) {
     for hall in halls {
-        push_age(alloc, &mut aged, hall, now)?;
+        let name = Value::Text(hall.name.text());
+        if hall.listed_at().is_none() {
+            page.put("; nothing is known of {}", &[name]);
+        } else if hall.is_stale(page.context.now) {
+            page.put("; {} is ", &[name]);
+            put_age(page, hall);
+        }
     }
-    Ok(aged)
 }

@@ -6,8 +6,7 @@ ghost use Rattle.hallview_state.specs.declared.state.State.{State};
 use crate::halls_page::halls_page;
 use crate::machine::{find, machine_page};
 use hall_types::Number;
-use hallview_state::{Hall, State};
-use hallview_views::{metrics, state_json};
+use hallview_state::{Hall, State, metrics, state_json};
 use std::alloc::{AllocError, Global};
 
 /// A request, as far as it decides its answer.
@@ -179,7 +178,7 @@ fn is_known(host: Option<&str>, names: &[String]) -> bool {
 
 /// What a request is answered, from what is known of the halls now, in seconds since 1970. `names` are the hosts by which the program is
 /// reached beside those of loopback. Each page is markup of the program's own and texts, and metrics are read back: see `IsRight`, and the
-/// laws of `MarkupLaws` and of hallview_views' `ExpositionLaws`.
+/// laws of `MarkupLaws` and of hallview_state's `ExpositionLaws`.
 pub fn answer_to(
     alloc: Global,
     state: &State,

@@ -1,10 +1,12 @@
 //! How many machines of a hall each pool has in each status.
-use crate::ages::aged;
+use crate::ages::put_old_age;
+use crate::links::put_link;
 use crate::markup::Page;
+use crate::parts::word;
+use crate::value::Value;
 use hall_types::Status;
-use hallview_state::{Hall, PoolCounts, StatusKind, count_at, counts_of, pools_of};
-use hallview_views::text::{count, counted, percent, share, width};
-use hallview_views::{Field, Query, View, link};
+use hallview_state::text::percent;
+use hallview_state::{Field, Hall, PoolCounts, StatusKind, View, count_at, counts_of, pools_of};
 use std::alloc::{AllocError, Global};
 use std::cmp::Ordering;
 
@@ -29,120 +31,113 @@ fn shown_of(alloc: Global, pools: &[PoolCounts]) -> Result<Vec<PoolCounts>, Allo
     Ok(shown)
 }
 
-fn put_count(alloc: Global, page: &mut Page, number: u64) -> Result<(), AllocError> {
-    if number == 0 {
-        page.put("<td class=\"n none\">0</td>", &[]);
-        return Ok(());
-    }
-    let number = hallview_views::text::number(alloc, number)?;
-    page.put("<td class=\"n\">{}</td>", &[number.as_str()]);
-    Ok(())
+fn put_count(page: &mut Page, number: u64) {
+    let cell = if number == 0 {
+        "<td class=\"n none\">{}</td>"
+    } else {
+        "<td class=\"n\">{}</td>"
+    };
+    page.put(cell, &[Value::Number(number)]);
 }
 
 /// A table of counts that is being written.
 #[derive(Clone, Copy)]
 struct Table<'t> {
     hall: &'t str,
-    pools: &'t [PoolCounts],
     shown: &'t [PoolCounts],
+    /// How many pools aren't shown.
+    others: usize,
     all: u64,
 }
 
 impl Table<'_> {
-    fn others(&self) -> usize {
-        self.pools.len().saturating_sub(self.shown.len())
-    }
-
-    // The cells of the pools that are shown, and of all others together.
-    fn put_cells<F: Fn(&PoolCounts) -> u64>(
-        &self,
-        alloc: Global,
-        page: &mut Page,
-        count: F,
-        all: u64,
-    ) -> Result<(), AllocError>
-        requires { F.IsAlwaysCallable count }
-    {
+    // The cells of the pools that are shown, and of all others together: of one status, or of all.
+    fn put_cells(&self, page: &mut Page, status: Option<Status>, all: u64) {
         let mut rest = all;
         for pool in self.shown {
-            let number = count(pool);
+            let number = match status {
+                Some(status) => pool.count(status),
+                None => pool.all,
+            };
             rest = rest.saturating_sub(number);
-            put_count(alloc, page, number)?;
+            put_count(page, number);
         }
-        if self.others() > 0 {
-            put_count(alloc, page, rest)?;
+        if self.others > 0 {
+            put_count(page, rest);
         }
-        Ok(())
     }
 
-    fn put_head(&self, alloc: Global, page: &mut Page) -> Result<(), AllocError> {
+    fn put_head(&self, page: &mut Page) {
         page.put(
             "<thead>\n<tr><th scope=\"col\">Status</th><th scope=\"col\" class=\"n\">All</th><th scope=\"col\">Share</th>",
             &[],
         );
         for pool in self.shown {
             let name = pool.pool.text();
-            let target = link(
-                alloc,
-                &Query::none(alloc),
-                &[(Field::Hall, self.hall), (Field::Pool, name)],
-                "#machines",
-            )?;
+            page.put("<th scope=\"col\" class=\"n\"><a href=\"", &[]);
+            put_link(page, &[(Field::Hall, self.hall), (Field::Pool, name)]);
+            page.put("#machines\">{}</a></th>", &[Value::Text(name)]);
+        }
+        if self.others > 0 {
             page.put(
-                "<th scope=\"col\" class=\"n\"><a href=\"{}\">{}</a></th>",
-                &[target.as_str(), name],
+                "<th scope=\"col\" class=\"n\">{} {}</th>",
+                &[
+                    Value::Number(self.others as u64),
+                    Value::Text(word(self.others, "other pool", "other pools")),
+                ],
             );
         }
-        if self.others() > 0 {
-            let text = counted(alloc, self.others(), "other pool", "other pools")?;
-            page.put("<th scope=\"col\" class=\"n\">{}</th>", &[text.as_str()]);
-        }
         page.put("\n</tr>\n</thead>\n<tbody>", &[]);
-        Ok(())
     }
 
-    fn put_status(
-        &self,
-        alloc: Global,
-        page: &mut Page,
-        status: Status,
-        number: u64,
-    ) -> Result<(), AllocError> {
-        let target = link(
-            alloc,
-            &Query::none(alloc),
-            &[(Field::Hall, self.hall), (Field::Status, status.text())],
-            "#machines",
-        )?;
-        let text = hallview_views::text::number(alloc, number)?;
-        let bar = width(alloc, percent(number, self.all).max(1))?;
-        let share = share(alloc, number, self.all)?;
+    fn put_status(&self, page: &mut Page, status: Status, number: u64) {
+        let name = status.text();
         page.put(
-            "<tr class=\"{}\"><th scope=\"row\"><a href=\"{}\">{}</a></th><td class=\"n\">{}</td><td><svg width=\"100\" height=\"10\" aria-hidden=\"true\"><rect width=\"{}\" height=\"10\"/></svg>{}</td>",
+            "<tr class=\"{}\"><th scope=\"row\"><a href=\"",
+            &[Value::Text(StatusKind::of(status).class())],
+        );
+        put_link(page, &[(Field::Hall, self.hall), (Field::Status, name)]);
+        page.put(
+            "#machines\">{}</a></th><td class=\"n\">{}</td><td><svg width=\"100\" height=\"10\" aria-hidden=\"true\"><rect width=\"{}%\" height=\"10\"/></svg>{}</td>",
             &[
-                StatusKind::of(status).class(),
-                target.as_str(),
-                status.text(),
-                text.as_str(),
-                bar.as_str(),
-                share.as_str(),
+                Value::Text(name),
+                Value::Number(number),
+                Value::Number(percent(number, self.all).max(1)),
+                Value::Share(number, self.all),
             ],
         );
-        self.put_cells(alloc, page, |pool| pool.count(status), number)?;
+        self.put_cells(page, Some(status), number);
         page.put("\n</tr>", &[]);
-        Ok(())
     }
 
-    fn put_foot(&self, alloc: Global, page: &mut Page) -> Result<(), AllocError> {
-        let all = hallview_views::text::number(alloc, self.all)?;
+    fn put_foot(&self, page: &mut Page) {
         page.put(
             "</tbody>\n<tfoot>\n<tr><th scope=\"row\">All</th><td class=\"n\">{}</td><td></td>",
-            &[all.as_str()],
+            &[Value::Number(self.all)],
         );
-        self.put_cells(alloc, page, |pool| pool.all, self.all)?;
+        self.put_cells(page, None, self.all);
         page.put("\n</tr>\n</tfoot>\n</table>\n</div>\n</details>\n", &[]);
-        Ok(())
     }
+}
+
+fn put_caption(page: &mut Page, hall: &Hall) {
+    page.put("{} by status and pool", &[Value::Text(hall.name.text())]);
+    put_old_age(page, hall);
+}
+
+// The beginning of a hall's counts, which are open where they are the only ones.
+fn begin(page: &mut Page, hall: &Hall, is_open: bool) {
+    let open = if is_open {
+        "<details open=\"\">\n"
+    } else {
+        "<details>\n"
+    };
+    page.put(open, &[]);
+    page.put("<summary>", &[]);
+    put_caption(page, hall);
+    page.put("</summary>\n<div role=\"group\" aria-label=\"", &[]);
+    put_caption(page, hall);
+    page.put("\" tabindex=\"0\">\n<table>\n", &[]);
 }
 
 /// The counts of a hall by status and pool.
@@ -156,37 +151,20 @@ pub(crate) fn put_counts(
     let pools = pools_of(alloc, machines)?;
     let shown = shown_of(alloc, pools.as_slice())?;
     let table = Table {
-        hall: if view.state.halls.len() > 1 {
-            hall.name.text()
-        } else {
-            ""
-        },
-        pools: pools.as_slice(),
+        hall: view.hall_in_links(hall),
         shown: shown.as_slice(),
+        others: pools.len().saturating_sub(shown.len()),
         all: machines.len() as u64,
     };
-    let name = hall.name.text();
-    let title = format!(in alloc; "{name} by status and pool")?;
-    let title = aged(alloc, hall, view.now, title.as_str())?;
-    page.put(
-        if view.has_several() {
-            "<details>\n<summary>"
-        } else {
-            "<details open=\"\">\n<summary>"
-        },
-        &[],
-    );
-    page.put(
-        "{}</summary>\n<div role=\"group\" aria-label=\"{}\" tabindex=\"0\">\n<table>\n",
-        &[title.as_str(), title.as_str()],
-    );
-    table.put_head(alloc, page)?;
+    begin(page, hall, !view.has_several());
+    table.put_head(page);
     let counts = counts_of(machines);
     for status in Status::ALL.as_slice() {
         let number = count_at(&counts, *status);
         if number > 0 {
-            table.put_status(alloc, page, *status, number)?;
+            table.put_status(page, *status, number);
         }
     }
-    table.put_foot(alloc, page)
+    table.put_foot(page);
+    Ok(())
 }

@@ -1,12 +1,12 @@
 //! The statuses of the last day, as a plot and as a table.
-use crate::ages::aged;
+use crate::ages::put_old_age;
 use crate::markup::Page;
 use crate::overview::{MAX_TABLES, TOO_MANY_HALLS};
-use crate::parts::{end_section, put_note};
+use crate::parts::{end_section, put_note, word};
+use crate::value::Value;
 use hall_types::Status;
-use hallview_state::{Hall, SLOT, STATUSES, Sample, StatusKind, count_at};
-use hallview_views::View;
-use hallview_views::text::{DAY, counted, number};
+use hallview_state::text::DAY;
+use hallview_state::{Hall, SLOT, STATUSES, Sample, StatusKind, View, count_at};
 use std::alloc::{AllocError, Global};
 
 // The height of a plot.
@@ -28,8 +28,8 @@ impl Part {
     fn of_kinds(&self, kinds: &[StatusKind]) -> u64 {
         let mut sum: u64 = 0;
         for status in Status::ALL.as_slice() {
-            if kinds.iter().any(|kind| *kind == StatusKind::of(*status)) {
-                sum = sum.saturating_add(count_at(&self.counts, *status));
+            if kinds.contains(&StatusKind::of(*status)) {
+                sum = sum.saturating_add(self.count(*status));
             }
         }
         sum
@@ -54,220 +54,199 @@ fn part_of(sample: &Sample, now: u64) -> Option<Part> {
 }
 
 fn parts_of(alloc: Global, hall: &Hall, now: u64) -> Result<Vec<Part>, AllocError> {
-    let parts = hall
-        .history
-        .iter()
-        .filter_map(|sample| part_of(sample, now));
-    parts.collect(alloc)
-}
-
-/// The area of a plot that is being drawn, as steps: a part for each stretch without a gap.
-#[derive(Drop)]
-struct Area<'t> {
-    path: &'t mut String,
-    last: Option<(u64, u64)>,
-}
-
-impl Area<'_> {
-    fn end(&mut self) -> Result<(), AllocError> {
-        if self.last.is_some() {
-            self.path.push_str("V400z")?;
+    let mut parts = Vec::new(alloc);
+    for sample in hall.history.as_slice() {
+        if let Some(part) = part_of(sample, now) {
+            parts.push(part)?;
         }
-        Ok(())
     }
+    Ok(parts)
+}
 
-    // Draws a part at a height from above.
-    fn draw(&mut self, alloc: Global, part: &Part, y: u64) -> Result<(), AllocError> {
-        let (begins, ends) = (part.begins, part.ends);
-        match self.last {
-            Some((at, height)) if at == begins => {
-                if y != height {
-                    self.path.push_str(format!(in alloc; "V{y}")?.as_str())?;
-                }
-            }
-            _ => {
-                self.end()?;
-                self.path
-                    .push_str(format!(in alloc; "M{begins} 400V{y}")?.as_str())?;
-            }
-        }
-        self.path.push_str(format!(in alloc; "H{ends}")?.as_str())?;
-        self.last = Some((ends, y));
-        Ok(())
+// The height from above of the sum of kinds.
+fn height(part: &Part, top: u64, kinds: &[StatusKind]) -> u64 {
+    let sum = part.of_kinds(kinds).saturating_mul(HEIGHT);
+    HEIGHT.saturating_sub(sum.checked_div(top).unwrap_or(0))
+}
+
+// Draws a part of an area to its end, after the last one's end and height.
+fn put_part(page: &mut Page, part: &Part, y: u64, last: Option<(u64, u64)>) {
+    let (begins, ends) = (Value::Number(part.begins), Value::Number(part.ends));
+    match last {
+        Some((at, height)) if at == part.begins && y == height => page.put("H{}", &[ends]),
+        Some((at, _)) if at == part.begins => page.put("V{}H{}", &[Value::Number(y), ends]),
+        Some(_) => page.put("V400zM{} 400V{}H{}", &[begins, Value::Number(y), ends]),
+        None => page.put("M{} 400V{}H{}", &[begins, Value::Number(y), ends]),
     }
 }
 
-// The area under the sum of kinds.
-fn path_of(
-    alloc: Global,
-    parts: &[Part],
-    top: u64,
-    kinds: &[StatusKind],
-) -> Result<String, AllocError> {
-    let mut path = String::new(alloc);
-    let mut area = Area {
-        path: &mut path,
-        last: None,
-    };
+// The area under the sum of kinds, as steps: a part for each stretch without a gap.
+fn put_area(page: &mut Page, parts: &[Part], top: u64, kinds: &[StatusKind]) {
+    let mut last = None;
     for part in parts {
-        let sum = part.of_kinds(kinds).saturating_mul(HEIGHT);
-        let y = HEIGHT.saturating_sub(sum.checked_div(top).unwrap_or(0));
-        area.draw(alloc, part, y)?;
+        let y = height(part, top, kinds);
+        put_part(page, part, y, last);
+        last = Some((part.ends, y));
     }
-    area.end()?;
-    Ok(path)
+    if last.is_some() {
+        page.put("V400z", &[]);
+    }
 }
 
-fn all_of(part: &Part) -> u64 {
-    part.of_kinds(&StatusKind::ALL)
+// The most machines that had a status of these kinds at once.
+fn most_of(parts: &[Part], kinds: &[StatusKind]) -> u64 {
+    let mut most = 0;
+    for part in parts {
+        most = part.of_kinds(kinds).max(most);
+    }
+    most
 }
 
 // What the plot says, for those who don't see it.
-fn label_of(alloc: Global, hall: &Hall, parts: &[Part], last: &Part) -> Result<String, AllocError> {
-    let name = hall.name.text();
-    let mut label = format!(in alloc; "Statuses of {name} over the last day. At the end ")?;
+fn put_label(page: &mut Page, hall: &Hall, parts: &[Part], last: &Part) {
+    page.put(
+        "Statuses of {} over the last day. At the end ",
+        &[Value::Text(hall.name.text())],
+    );
     for (place, kind) in StatusKind::ALL.iter().enumerate() {
-        if place > 0 {
-            label.push_str(", ")?;
-        }
-        let count = last.of_kinds(&[*kind]);
-        let title = kind.title().to_ascii_lowercase(alloc)?;
-        label.push_str(format!(in alloc; "{count} {title}")?.as_str())?;
+        page.put(
+            if place > 0 { ", {} {}" } else { "{} {}" },
+            &[
+                Value::Number(last.of_kinds(&[*kind])),
+                Value::Lower(kind.title()),
+            ],
+        );
     }
-    let failed = parts
-        .iter()
-        .map(|part| part.of_kinds(&[StatusKind::Trouble]));
-    let most = failed.max().unwrap_or(0);
-    label.push_str(format!(in alloc; "; {most} failed or broken at most.")?.as_str())?;
-    Ok(label)
+    let most = most_of(parts, &[StatusKind::Trouble]);
+    page.put("; {} failed or broken at most.", &[Value::Number(most)]);
 }
 
-fn put_paths(alloc: Global, page: &mut Page, parts: &[Part], top: u64) -> Result<(), AllocError> {
+fn put_areas(page: &mut Page, parts: &[Part], top: u64) {
     for count in [5, 4, 3, 2, 1] {
         let kinds = StatusKind::ALL.as_slice().get(..count).unwrap_or(&[]);
         if let Some(kind) = kinds.last() {
-            let path = path_of(alloc, parts, top, kinds)?;
-            page.put(
-                "<path class=\"{}\" d=\"{}\"/>\n",
-                &[kind.class(), path.as_str()],
-            );
+            page.put("<path class=\"{}\" d=\"", &[Value::Text(kind.class())]);
+            put_area(page, parts, top, kinds);
+            page.put("\"/>\n", &[]);
         }
     }
     page.put(
-        "<path class=\"tick\" d=\"M360 0V400M720 0V400M1080 0V400\"/>\n</svg>\n<div class=\"axis\" aria-hidden=\"true\"><span>24 h ago</span> <span>18 h</span> <span>12 h</span> <span>6 h</span> <span>now</span></div>\n<ul>\n",
+        "<path class=\"tick\" d=\"M360 0V400M720 0V400M1080 0V400\"/>\n</svg>\n<div class=\"axis\" aria-hidden=\"true\"><span>24 h ago</span> <span>18 h</span> <span>12 h</span> <span>6 h</span> <span>now</span></div>\n",
         &[],
     );
-    Ok(())
 }
 
-fn put_kinds(alloc: Global, page: &mut Page, last: &Part) -> Result<(), AllocError> {
+fn put_kinds(page: &mut Page, last: &Part) {
+    page.put("<ul>\n", &[]);
     for kind in StatusKind::ALL.as_slice() {
-        let (title, count) = (kind.title(), last.of_kinds(&[*kind]));
-        let text = format!(in alloc; "{title}: {count}")?;
-        page.put("<li class=\"{}\">{}</li>\n", &[kind.class(), text.as_str()]);
+        page.put(
+            "<li class=\"{}\">{}: {}</li>\n",
+            &[
+                Value::Text(kind.class()),
+                Value::Text(kind.title()),
+                Value::Number(last.of_kinds(&[*kind])),
+            ],
+        );
     }
-    Ok(())
+    page.put("</ul>\n", &[]);
+}
+
+fn put_number(page: &mut Page, value: Value<'_>) {
+    page.put("<td class=\"n\">{}</td>", &[value]);
 }
 
 // How many machines had a status at a minute of the day.
-fn count_then(
-    alloc: Global,
-    parts: &[Part],
-    minute: u64,
-    status: Status,
-) -> Result<String, AllocError> {
+fn count_then(parts: &[Part], minute: u64, status: Status) -> Value<'static> {
     match parts
         .iter()
         .find(|part| part.begins <= minute && minute < part.ends)
     {
-        Some(part) => number(alloc, part.count(status)),
-        None => String::from_str(alloc, "-"),
+        Some(part) => Value::Number(part.count(status)),
+        None => Value::Text("-"),
     }
 }
 
-fn put_status(
-    alloc: Global,
-    page: &mut Page,
-    parts: &[Part],
-    last: &Part,
-    status: Status,
-) -> Result<(), AllocError> {
-    let counts = parts.iter().map(|part| part.count(status));
-    let most = counts.max().unwrap_or(0);
-    if most == 0 {
-        return Ok(());
+fn put_status(page: &mut Page, parts: &[Part], last: &Part, status: Status) {
+    let (mut fewest, mut most) = (u64::MAX, 0);
+    for part in parts {
+        let count = part.count(status);
+        fewest = count.min(fewest);
+        most = count.max(most);
     }
-    let counts = parts.iter().map(|part| part.count(status));
-    let fewest = counts.min().unwrap_or(0);
-    page.put("<tr><th scope=\"row\">{}</th>", &[status.text()]);
+    if most == 0 {
+        return;
+    }
+    page.put(
+        "<tr><th scope=\"row\">{}</th>",
+        &[Value::Text(status.text())],
+    );
     for minute in [0, 360, 720, 1080] {
-        put_number(page, count_then(alloc, parts, minute, status)?.as_str());
+        put_number(page, count_then(parts, minute, status));
     }
     for count in [last.count(status), fewest, most] {
-        put_number(page, number(alloc, count)?.as_str());
+        put_number(page, Value::Number(count));
     }
     page.put("\n</tr>", &[]);
-    Ok(())
 }
 
-fn put_number(page: &mut Page, text: &str) {
-    page.put("<td class=\"n\">{}</td>", &[text]);
+fn put_caption(page: &mut Page, hall: &Hall) {
+    page.put("{} over the last day", &[Value::Text(hall.name.text())]);
+    put_old_age(page, hall);
 }
 
-fn put_table(
-    alloc: Global,
-    page: &mut Page,
-    view: &View<'_>,
-    hall: &Hall,
-    parts: &[Part],
-    last: &Part,
-) -> Result<(), AllocError> {
-    let name = hall.name.text();
-    let caption = format!(in alloc; "{name} over the last day")?;
-    let caption = aged(alloc, hall, view.now, caption.as_str())?;
+fn put_table(page: &mut Page, hall: &Hall, parts: &[Part], last: &Part) {
     page.put(
-        "</ul>\n<details>\n<summary>As a table</summary>\n<div role=\"group\" aria-label=\"{}\" tabindex=\"0\">\n<table>\n<caption>{}</caption>\n<thead>\n<tr><th scope=\"col\">Status</th><th scope=\"col\" class=\"n\">24 h ago</th><th scope=\"col\" class=\"n\">18 h ago</th><th scope=\"col\" class=\"n\">12 h ago</th><th scope=\"col\" class=\"n\">6 h ago</th><th scope=\"col\" class=\"n\">Last</th><th scope=\"col\" class=\"n\">Fewest</th><th scope=\"col\" class=\"n\">Most</th></tr>\n</thead>\n<tbody>",
-        &[caption.as_str(), caption.as_str()],
+        "<details>\n<summary>As a table</summary>\n<div role=\"group\" aria-label=\"",
+        &[],
+    );
+    put_caption(page, hall);
+    page.put("\" tabindex=\"0\">\n<table>\n<caption>", &[]);
+    put_caption(page, hall);
+    page.put(
+        "</caption>\n<thead>\n<tr><th scope=\"col\">Status</th><th scope=\"col\" class=\"n\">24 h ago</th><th scope=\"col\" class=\"n\">18 h ago</th><th scope=\"col\" class=\"n\">12 h ago</th><th scope=\"col\" class=\"n\">6 h ago</th><th scope=\"col\" class=\"n\">Last</th><th scope=\"col\" class=\"n\">Fewest</th><th scope=\"col\" class=\"n\">Most</th></tr>\n</thead>\n<tbody>",
+        &[],
     );
     for status in Status::ALL.as_slice() {
-        put_status(alloc, page, parts, last, *status)?;
+        put_status(page, parts, last, *status);
     }
-    page.put("</tbody>\n</table>\n</div>\n</details>\n</figure>\n", &[]);
-    Ok(())
+    page.put("</tbody>\n</table>\n</div>\n</details>\n", &[]);
 }
 
-fn put_plot(
-    alloc: Global,
-    page: &mut Page,
-    view: &View<'_>,
-    hall: &Hall,
-) -> Result<(), AllocError> {
-    let parts = parts_of(alloc, hall, view.now)?;
-    let parts = parts.as_slice();
-    let name = hall.name.text();
-    let top = parts.iter().map(|part| all_of(part)).max().unwrap_or(0);
-    let (Some(last), 1..) = (parts.last(), top) else {
-        put_note(
-            page,
-            format!(in alloc; "{name}: no machine was seen yet.")?.as_str(),
-        );
-        return Ok(());
-    };
-    let most = if top == 1 {
-        String::from_str(alloc, "1 machine")?
-    } else {
-        format!(in alloc; "{top} machines")?
-    };
-    let title = format!(in alloc; "{name}: {most} at most")?;
-    let title = aged(alloc, hall, view.now, title.as_str())?;
-    let label = label_of(alloc, hall, parts, last)?;
+// The plot of a hall that had this many machines at most, more than none.
+fn put_figure(page: &mut Page, hall: &Hall, parts: &[Part], last: &Part, top: u64) {
     page.put(
-        "<figure>\n<figcaption>{}</figcaption>\n<svg viewBox=\"0 0 1440 400\" preserveAspectRatio=\"none\" role=\"img\" aria-label=\"{}\">\n",
-        &[title.as_str(), label.as_str()],
+        "<figure>\n<figcaption>{}: {} {} at most",
+        &[
+            Value::Text(hall.name.text()),
+            Value::Number(top),
+            Value::Text(word(top as usize, "machine", "machines")),
+        ],
     );
-    put_paths(alloc, page, parts, top)?;
-    put_kinds(alloc, page, last)?;
-    put_table(alloc, page, view, hall, parts, last)
+    put_old_age(page, hall);
+    page.put(
+        "</figcaption>\n<svg viewBox=\"0 0 1440 400\" preserveAspectRatio=\"none\" role=\"img\" aria-label=\"",
+        &[],
+    );
+    put_label(page, hall, parts, last);
+    page.put("\">\n", &[]);
+    put_areas(page, parts, top);
+    put_kinds(page, last);
+    put_table(page, hall, parts, last);
+    page.put("</figure>\n", &[]);
+}
+
+fn put_plot(alloc: Global, page: &mut Page, hall: &Hall) -> Result<(), AllocError> {
+    let parts = parts_of(alloc, hall, page.context.now)?;
+    let parts = parts.as_slice();
+    let top = most_of(parts, &StatusKind::ALL);
+    match (parts.last(), top) {
+        (Some(last), 1..) => put_figure(page, hall, parts, last, top),
+        _ => page.put(
+            "<p>{}: no machine was seen yet.</p>\n",
+            &[Value::Text(hall.name.text())],
+        ),
+    }
+    Ok(())
 }
 
 /// The last day of each hall.
@@ -277,7 +256,7 @@ pub(crate) fn put_day(alloc: Global, page: &mut Page, view: &View<'_>) -> Result
         put_note(page, TOO_MANY_HALLS);
     } else {
         for hall in view.halls.as_slice() {
-            put_plot(alloc, page, view, hall)?;
+            put_plot(alloc, page, hall)?;
         }
     }
     end_section(page);

@@ -1,35 +1,23 @@
 //! The form by which machines are chosen.
 use crate::markup::Page;
+use crate::value::Value;
 use hall_types::{Machine, Status};
-use hallview_views::{Field, View, or_dash};
+use hallview_state::{Field, View, or_dash};
 use std::alloc::{AllocError, Global};
 
 // How many values a field offers.
 const MAX_OPTIONS: usize = 200;
 
-fn put_option(page: &mut Page, value: &str, current: &str) {
-    let text = if value == "-" { "none" } else { value };
-    let option = if value == current {
-        "<option value=\"{}\" selected=\"\">{}</option>\n"
+const CHOSEN: &str = "<option value=\"{}\" selected=\"\">{}</option>\n";
+
+fn put_option(page: &mut Page, value: &str, is_current: bool) {
+    let option = if is_current {
+        CHOSEN
     } else {
         "<option value=\"{}\">{}</option>\n"
     };
-    page.put(option, &[value, text]);
-}
-
-fn put_select(page: &mut Page, label: &str, field: Field, values: &[&str], current: &str) {
-    page.put("<label>{}<select name=\"", &[label]);
-    page.put("{}\">\n<option value=\"\">any</option>\n", &[field.name()]);
-    if !current.is_empty() && !values.iter().any(|value| *value == current) {
-        page.put(
-            "<option value=\"{}\" selected=\"\">{}</option>\n",
-            &[current, current],
-        );
-    }
-    for value in values.iter().take(MAX_OPTIONS) {
-        put_option(page, value, current);
-    }
-    page.put("</select></label>\n", &[]);
+    let text = if value == "-" { "none" } else { value };
+    page.put(option, &[Value::Text(value), Value::Text(text)]);
 }
 
 fn value_in(machine: &Machine, field: Field) -> &str {
@@ -55,47 +43,55 @@ fn values_of<'s>(alloc: Global, view: &View<'s>, field: Field) -> Result<Vec<&'s
     Ok(values)
 }
 
-fn put_values(
-    alloc: Global,
+fn put_select(
     page: &mut Page,
     view: &View<'_>,
-    label: &str,
     field: Field,
-) -> Result<(), AllocError> {
-    let values = values_of(alloc, view, field)?;
-    put_select(
-        page,
-        label,
-        field,
-        values.as_slice(),
-        view.query.text(field),
+    label: &'static str,
+    values: &[&str],
+) {
+    let current = view.query.text(field);
+    page.put("<label>{} <select name=\"", &[Value::Text(label)]);
+    page.put(
+        "{}\">\n<option value=\"\">any</option>\n",
+        &[Value::Text(field.name())],
     );
-    Ok(())
+    if !current.is_empty() && !values.iter().any(|value| *value == current) {
+        page.put(CHOSEN, &[Value::Text(current), Value::Text(current)]);
+    }
+    for value in values.iter().take(MAX_OPTIONS) {
+        put_option(page, value, *value == current);
+    }
+    page.put("</select></label>\n", &[]);
 }
 
 fn put_halls(alloc: Global, page: &mut Page, view: &View<'_>) -> Result<(), AllocError> {
-    let names = view.state.halls.iter().map(|hall| hall.name.text());
-    let names: Vec<&str> = names.collect(alloc)?;
-    put_select(
-        page,
-        "Hall ",
-        Field::Hall,
-        names.as_slice(),
-        view.query.text(Field::Hall),
-    );
+    let mut names = Vec::new(alloc);
+    for hall in view.state.halls.as_slice() {
+        names.push(hall.name.text())?;
+    }
+    put_select(page, view, Field::Hall, "Hall", names.as_slice());
     Ok(())
 }
 
 fn put_statuses(alloc: Global, page: &mut Page, view: &View<'_>) -> Result<(), AllocError> {
-    let texts = Status::ALL.iter().map(|status| status.text());
-    let texts: Vec<&str> = texts.collect(alloc)?;
-    put_select(
-        page,
-        "Status ",
-        Field::Status,
-        texts.as_slice(),
-        view.query.text(Field::Status),
-    );
+    let mut texts = Vec::new(alloc);
+    for status in Status::ALL.as_slice() {
+        texts.push(status.text())?;
+    }
+    put_select(page, view, Field::Status, "Status", texts.as_slice());
+    Ok(())
+}
+
+fn put_values(
+    alloc: Global,
+    page: &mut Page,
+    view: &View<'_>,
+    field: Field,
+    label: &'static str,
+) -> Result<(), AllocError> {
+    let values = values_of(alloc, view, field)?;
+    put_select(page, view, field, label, values.as_slice());
     Ok(())
 }
 
@@ -107,20 +103,20 @@ pub(crate) fn put_filter(
 ) -> Result<(), AllocError> {
     page.put(
         "<section id=\"machines\">\n<h2>Machines</h2>\n<form method=\"get\" action=\"/#machines\">\n<label>Address or other text <input type=\"search\" name=\"q\" value=\"{}\"/></label>\n",
-        &[view.query.text(Field::Text)],
+        &[Value::Text(view.query.text(Field::Text))],
     );
     if view.state.halls.len() > 1 {
         put_halls(alloc, page, view)?;
     }
-    put_values(alloc, page, view, "Pool ", Field::Pool)?;
+    put_values(alloc, page, view, Field::Pool, "Pool")?;
     put_statuses(alloc, page, view)?;
-    put_values(alloc, page, view, "Owner ", Field::Owner)?;
-    put_values(alloc, page, view, "Image ", Field::Image)?;
+    put_values(alloc, page, view, Field::Owner, "Owner")?;
+    put_values(alloc, page, view, Field::Image, "Image")?;
     let sort = view.query.text(Field::Sort);
     if !sort.is_empty() {
         page.put(
             "<input type=\"hidden\" name=\"sort\" value=\"{}\"/>\n",
-            &[sort],
+            &[Value::Text(sort)],
         );
     }
     page.put("<button>Show</button>\n</form>\n", &[]);

@@ -5,22 +5,29 @@ ghost use Rattle.hallview_pages.specs.{Ages.TellsAges, Markup.IsPage};
 use crate::day::put_day;
 use crate::machines::put_machines;
 use crate::markup::Page;
-use crate::overview::{heading_of, put_halls, put_nav, title_of};
+use crate::overview::{put_halls, put_heading, put_nav, put_title};
 use crate::trouble::put_trouble;
-use crate::whole::whole_page;
+use crate::whole::{Contents, whole_page};
 use crate::work::put_work;
-use hallview_state::State;
-use hallview_views::{Query, View};
+use hallview_state::{Query, State, View};
 use std::alloc::{AllocError, Global};
 
 // What the page shows.
 fn put_parts(alloc: Global, page: &mut Page, view: &View<'_>) -> Result<(), AllocError> {
-    put_nav(alloc, page, view)?;
+    put_nav(page, view);
     put_halls(alloc, page, view)?;
-    put_trouble(alloc, page, view)?;
+    put_trouble(page, view);
     put_work(alloc, page, view)?;
     put_machines(alloc, page, view)?;
     put_day(alloc, page, view)
+}
+
+fn contents_of(alloc: Global, view: &View<'_>) -> Result<Contents, AllocError> {
+    let mut contents = Contents::new(alloc, view.state, view.now);
+    put_title(&mut contents.title, view);
+    put_heading(&mut contents.heading, view);
+    put_parts(alloc, &mut contents.shown, view)?;
+    Ok(contents)
 }
 
 /// The page of halls that a query asks for.
@@ -35,9 +42,6 @@ pub(crate) fn halls_page(
 {
     let query = Query::parse(alloc, query)?;
     let view = View::new(alloc, state, now, query)?;
-    let heading = heading_of(alloc, &view)?;
-    let title = title_of(alloc, &view, heading.as_str())?;
-    let mut page = Page::new(alloc);
-    put_parts(alloc, &mut page, &view)?;
-    whole_page(alloc, state, now, (title.as_str(), heading.as_str()), page)
+    let contents = contents_of(alloc, &view)?;
+    whole_page(alloc, state, now, &contents)
 }

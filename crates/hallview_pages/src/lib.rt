@@ -3,11 +3,13 @@
 
 mod ages;
 mod answer;
+mod commands;
 mod counts;
 mod day;
 mod fields;
 mod filter;
 mod halls_page;
+mod links;
 mod machine;
 mod machines;
 mod markup;
@@ -16,6 +18,7 @@ mod parts;
 mod script;
 mod style;
 mod trouble;
+mod value;
 mod whole;
 mod work;
 

@@ -2,239 +2,210 @@
 ghost use Rattle.std.specs.Prelude.{IfOk};
 ghost use Rattle.hallview_pages.specs.{Ages.TellsAges, Markup.IsPage};
 
-use crate::ages::age_text;
+use crate::ages::put_age;
+use crate::commands::put_command;
+use crate::links::put_link;
 use crate::markup::Page;
-use crate::overview::hall_title;
-use crate::parts::{end_section, end_table, put_code};
-use crate::whole::whole_page;
-use hall_types::{Erase, Number};
-use hallctl_texts::allowed_text;
-use hallview_state::{Hall, Listed, Move, State};
-use hallview_views::text::{counted, number, span, stamp, stamp_text, until};
-use hallview_views::{
-    Field, Query, addresses, advice, commands_for, hallctl, line, link, or_dash, status_text,
-    uuid_text,
-};
+use crate::overview::put_hall_title;
+use crate::parts::{end_section, end_table, put_addresses, word};
+use crate::value::Value;
+use crate::whole::{Contents, whole_page};
+use hall_types::{Erase, Machine, MachineUuid, Number};
+use hallview_state::{Field, Hall, Listed, Move, State, advice, or_dash, words_for};
 use std::alloc::{AllocError, Global};
 
 // How many moves are shown.
 const MAX_MOVES: usize = 200;
 
-fn put_nav(alloc: Global, page: &mut Page, state: &State, hall: &Hall) -> Result<(), AllocError> {
-    let name = hall.name.text();
-    let target = link(alloc, &Query::none(alloc), &[(Field::Hall, name)], "")?;
-    let text = hall_title(alloc, state, hall)?;
+fn put_nav(page: &mut Page, hall: &Hall) {
     page.put(
-        "<nav aria-label=\"Back\">\n<ul>\n<li><a href=\"/\">All machines</a></li>\n<li><a href=\"{}\">{}</a></li>\n</ul>\n</nav>\n",
-        &[target.as_str(), text.as_str()],
+        "<nav aria-label=\"Back\">\n<ul>\n<li><a href=\"/\">All machines</a></li>\n<li><a href=\"",
+        &[],
     );
-    Ok(())
-}
-
-fn put_do(page: &mut Page, title: &str, text: &str) {
-    page.put(
-        "<section id=\"do\">\n<h2>{}</h2>\n<p>{}</p>\n",
-        &[title, text],
-    );
+    put_link(page, &[(Field::Hall, hall.name.text())]);
+    page.put("\">", &[]);
+    put_hall_title(page, hall);
+    page.put("</a></li>\n</ul>\n</nav>\n<section id=\"do\">\n", &[]);
 }
 
 // What to do about the machine, in hallctl's words.
-fn put_commands(
-    alloc: Global,
-    page: &mut Page,
-    state: &State,
-    hall: &Hall,
-    one: &Listed,
-) -> Result<(), AllocError> {
-    let id = number(alloc, one.machine.id.get())?;
-    page.put("<p><span>{}</span>", &["In hallctl's words:"]);
-    let words = format!(in alloc; "machine {id}")?;
-    put_code(page, hallctl(alloc, state, hall, words.as_str())?.as_str());
-    let commands = commands_for(alloc, &one.machine)?;
-    for command in commands.as_slice() {
-        let line = line(alloc, state, hall, command, id.as_str())?;
-        put_code(page, line.as_str());
+fn put_commands(page: &mut Page, hall: &Hall, one: &Listed) {
+    page.put("<p><span>{}</span>", &[Value::Text("In hallctl's words:")]);
+    put_command(page, hall, "machine", &[one], &one.machine);
+    for word in words_for(one.machine.status) {
+        put_command(page, hall, word, &[one], &one.machine);
     }
     page.put("</p>\n", &[]);
-    Ok(())
 }
 
-fn put_member(page: &mut Page, name: &str, text: &str) {
+fn put_member(page: &mut Page, name: &'static str, value: Value<'_>) {
     page.put(
         "<tr><th scope=\"row\">{}</th><td>{}</td>\n</tr>",
-        &[name, text],
+        &[Value::Text(name), value],
     );
 }
 
-fn number_or_dash(alloc: Global, number: Option<Number>) -> Result<String, AllocError> {
+fn number_or_dash(number: Option<Number>) -> Value<'static> {
     match number {
-        Some(number) => hallview_views::text::number(alloc, number.get()),
-        None => String::from_str(alloc, "-"),
+        Some(number) => Value::Number(number.get()),
+        None => Value::Text("-"),
+    }
+}
+
+fn until_or_dash(moment: Option<u64>) -> Value<'static> {
+    match moment {
+        Some(moment) => Value::Until(moment),
+        None => Value::Text("-"),
+    }
+}
+
+fn uuid_or_dash(uuid: Option<MachineUuid>) -> Value<'static> {
+    match uuid {
+        Some(uuid) => Value::Uuid(uuid.octets()),
+        None => Value::Text("-"),
     }
 }
 
 // The members that say how far the machine is.
-fn put_progress(alloc: Global, page: &mut Page, one: &Listed, now: u64) -> Result<(), AllocError> {
-    let machine = &one.machine;
-    put_member(page, "id", number(alloc, machine.id.get())?.as_str());
-    put_member(page, "status", machine.status.text());
-    put_member(page, "locked", if machine.locked { "yes" } else { "no" });
-    let deadline = match machine.deadline {
-        Some(deadline) => until(alloc, deadline, now)?,
-        None => String::from_str(alloc, "-")?,
-    };
-    put_member(page, "deadline", deadline.as_str());
-    put_member(
-        page,
-        "order",
-        number_or_dash(alloc, machine.waiting)?.as_str(),
-    );
-    put_member(page, "boot", number_or_dash(alloc, machine.boot)?.as_str());
-    put_member(
-        page,
-        "version",
-        number(alloc, machine.version.get())?.as_str(),
-    );
-    Ok(())
+fn put_progress(page: &mut Page, machine: &Machine) {
+    put_member(page, "id", Value::Number(machine.id.get()));
+    put_member(page, "status", Value::Text(machine.status.text()));
+    let locked = if machine.locked { "yes" } else { "no" };
+    put_member(page, "locked", Value::Text(locked));
+    put_member(page, "deadline", until_or_dash(machine.deadline));
+    put_member(page, "order", number_or_dash(machine.waiting));
+    put_member(page, "boot", number_or_dash(machine.boot));
+    put_member(page, "version", Value::Number(machine.version.get()));
 }
 
-fn put_members(alloc: Global, page: &mut Page, one: &Listed, now: u64) -> Result<(), AllocError> {
+fn put_members(page: &mut Page, one: &Listed) {
     let machine = &one.machine;
-    put_progress(alloc, page, one, now)?;
-    put_member(page, "pool", machine.pool.text());
-    put_member(page, "owner", or_dash(&machine.owner));
-    put_member(page, "image", or_dash(&machine.image));
+    put_progress(page, machine);
+    put_member(page, "pool", Value::Text(machine.pool.text()));
+    put_member(page, "owner", Value::Text(or_dash(&machine.owner)));
+    put_member(page, "image", Value::Text(or_dash(&machine.image)));
     let erase = machine.erase.map_or("-", Erase::text);
-    put_member(page, "erase", erase);
-    put_member(page, "arch", machine.arch.text());
-    put_member(page, "uuid", uuid_text(alloc, machine)?.as_str());
-    put_member(
-        page,
-        "addresses",
-        addresses(alloc, one.interfaces.as_slice())?.as_str(),
-    );
-    Ok(())
+    put_member(page, "erase", Value::Text(erase));
+    put_member(page, "arch", Value::Text(machine.arch.text()));
+    put_member(page, "uuid", uuid_or_dash(machine.uuid));
+    page.put("<tr><th scope=\"row\">addresses</th><td>", &[]);
+    put_addresses(page, one.interfaces.as_slice());
+    page.put("</td>\n</tr>", &[]);
 }
 
 // The machine as the last list has it.
-fn put_listed(
-    alloc: Global,
-    page: &mut Page,
-    state: &State,
-    hall: &Hall,
-    one: &Listed,
-    now: u64,
-) -> Result<(), AllocError> {
-    let status = one.machine.status;
-    let (advice, allowed) = (advice(status), allowed_text(alloc, status)?);
-    let title = status_text(alloc, &one.machine)?;
-    put_do(
-        page,
-        title.as_str(),
-        format!(in alloc; "{advice} {allowed}.")?.as_str(),
-    );
-    put_commands(alloc, page, state, hall, one)?;
-    end_section(page);
-    let age = age_text(alloc, hall, now)?;
-    let caption = format!(in alloc; "The list is {age}")?;
+fn put_listed(page: &mut Page, hall: &Hall, one: &Listed) {
+    let machine = &one.machine;
     page.put(
-        "<section id=\"members\">\n<h2>As the desk lists it</h2>\n<div role=\"group\" aria-label=\"As the desk lists it\" tabindex=\"0\">\n<table>\n<caption>{}</caption>\n<tbody>",
-        &[caption.as_str()],
+        "<h2>{}{}</h2>\n<p>{} {}.</p>\n",
+        &[
+            Value::Text(machine.status.text()),
+            Value::Text(if machine.locked { ", locked" } else { "" }),
+            Value::Text(advice(machine.status)),
+            Value::Allowed(machine.status),
+        ],
     );
-    put_members(alloc, page, one, now)?;
+    put_commands(page, hall, one);
+    end_section(page);
+    page.put(
+        "<section id=\"members\">\n<h2>As the desk lists it</h2>\n<div role=\"group\" aria-label=\"As the desk lists it\" tabindex=\"0\">\n<table>\n<caption>The list is ",
+        &[],
+    );
+    put_age(page, hall);
+    page.put("</caption>\n<tbody>", &[]);
+    put_members(page, one);
     end_table(page);
-    Ok(())
 }
 
 // A move, and how long the machine had had the status before.
-fn put_move(
-    alloc: Global,
-    page: &mut Page,
-    step: &Move,
-    before: Option<u64>,
-) -> Result<(), AllocError> {
-    let moment = stamp(alloc, step.at)?;
-    let text = stamp_text(alloc, step.at)?;
+fn put_move(page: &mut Page, step: &Move, before: Option<&Move>) {
     let after = match before {
-        Some(before) => span(alloc, step.at.saturating_sub(before))?,
-        None => String::from_str(alloc, "-")?,
+        Some(before) => Value::Span(step.at.saturating_sub(before.at)),
+        None => Value::Text("-"),
     };
     page.put(
         "<tr><th scope=\"row\"><time datetime=\"{}\">{}</time></th><td>{}</td><td>{}</td><td>{}</td>\n</tr>",
         &[
-            moment.as_str(),
-            text.as_str(),
-            step.from.text(),
-            step.to.text(),
-            after.as_str(),
+            Value::Stamp(step.at),
+            Value::Moment(step.at),
+            Value::Text(step.from.text()),
+            Value::Text(step.to.text()),
+            after,
         ],
     );
-    Ok(())
 }
 
-fn put_moves(
-    alloc: Global,
-    page: &mut Page,
-    state: &State,
-    moves: &[Move],
-    now: u64,
-) -> Result<(), AllocError> {
-    let time = span(alloc, now.saturating_sub(state.began))?;
-    let seen = counted(alloc, moves.len(), "move", "moves")?;
+fn put_moves(page: &mut Page, began: u64, moves: &[Move]) {
+    let time = page.context.now.saturating_sub(began);
     let shown = if moves.len() > MAX_MOVES {
         "; the last 200 are shown"
     } else {
         ""
     };
-    let text = format!(in alloc;
-        "Hallview began {time} ago, and has seen {seen} of it since{shown}."
-    )?;
     page.put(
-        "<section id=\"moves\">\n<h2>Moves</h2>\n<p>{}</p>\n",
-        &[text.as_str()],
+        "<section id=\"moves\">\n<h2>Moves</h2>\n<p>Hallview began {} ago, and has seen {} {} of it since{}.</p>\n",
+        &[
+            Value::Span(time),
+            Value::Number(moves.len() as u64),
+            Value::Text(word(moves.len(), "move", "moves")),
+            Value::Text(shown),
+        ],
     );
     if moves.is_empty() {
-        return Ok(());
+        return;
     }
     page.put(
         "<div role=\"group\" aria-label=\"Moves\" tabindex=\"0\">\n<table>\n<caption>The newest first; times are when hallview saw it</caption>\n<thead>\n<tr><th scope=\"col\">At</th><th scope=\"col\">From</th><th scope=\"col\">To</th><th scope=\"col\">After</th></tr>\n</thead>\n<tbody>",
         &[],
     );
     for (place, step) in moves.iter().enumerate().rev().take(MAX_MOVES) {
-        let before = match place.checked_sub(1) {
-            Some(place) => moves.get(place).map(|step| step.at),
-            None => None,
-        };
-        put_move(alloc, page, step, before)?;
+        put_move(page, step, moves.get(place.wrapping_sub(1)));
     }
     end_table(page);
-    Ok(())
 }
 
-// What the page of a machine shows.
-fn shown_of(
+fn put_unlisted(page: &mut Page, hall: &Hall, id: Number) {
+    page.put(
+        "<h2>Not listed</h2>\n<p>The last list of {} has no machine {}.</p>\n",
+        &[Value::Text(hall.name.text()), Value::Number(id.get())],
+    );
+}
+
+fn put_heading(page: &mut Page, hall: &Hall, id: Number) {
+    page.put(
+        "Machine {} of {}",
+        &[Value::Number(id.get()), Value::Text(hall.name.text())],
+    );
+}
+
+// What the page of a machine has, which may be in the list or not.
+fn contents_of(
     alloc: Global,
     state: &State,
+    now: u64,
     hall: &Hall,
     id: Number,
-    now: u64,
-) -> Result<Page, AllocError> {
-    let mut page = Page::new(alloc);
-    put_nav(alloc, &mut page, state, hall)?;
-    match find(hall, id) {
-        Some(one) => put_listed(alloc, &mut page, state, hall, one, now)?,
-        None => {
-            let (name, number) = (hall.name.text(), id.get());
-            let text = format!(in alloc; "The last list of {name} has no machine {number}.")?;
-            put_do(&mut page, "Not listed", text.as_str());
-        }
+    moves: &[Move],
+) -> Contents {
+    let mut contents = Contents::new(alloc, state, now);
+    let one = find(hall, id);
+    let status = match one {
+        Some(one) => one.machine.status.text(),
+        None => "not listed",
+    };
+    contents.title.put("{}, ", &[Value::Text(status)]);
+    put_heading(&mut contents.title, hall, id);
+    put_heading(&mut contents.heading, hall, id);
+    let page = &mut contents.shown;
+    put_nav(page, hall);
+    match one {
+        Some(one) => put_listed(page, hall, one),
+        None => put_unlisted(page, hall, id),
     }
-    end_section(&mut page);
-    let moves = hall.moves.iter().copied().filter(|step| step.machine == id);
-    let moves: Vec<Move> = moves.collect(alloc)?;
-    put_moves(alloc, &mut page, state, moves.as_slice(), now)?;
-    end_section(&mut page);
-    Ok(page)
+    end_section(page);
+    put_moves(page, state.began, moves);
+    end_section(page);
+    contents
 }
 
 /// The machine with this number in a hall's last list.
@@ -253,13 +224,12 @@ pub(crate) fn machine_page(
     ensures page { IfOk result (λ octets. IsPage octets.items) }
     ensures ages { IfOk result (λ octets. TellsAges state.now now octets.items) }
 {
-    let (name, number) = (hall.name.text(), id.get());
-    let heading = format!(in alloc; "Machine {number} of {name}")?;
-    let status = match find(hall, id) {
-        Some(one) => one.machine.status.text(),
-        None => "not listed",
-    };
-    let title = format!(in alloc; "{status}, {heading}")?;
-    let shown = shown_of(alloc, state, hall, id, now)?;
-    whole_page(alloc, state, now, (title.as_str(), heading.as_str()), shown)
+    let mut moves = Vec::new(alloc);
+    for step in hall.moves.as_slice() {
+        if step.machine == id {
+            moves.push(*step)?;
+        }
+    }
+    let contents = contents_of(alloc, state, now, hall, id, moves.as_slice());
+    whole_page(alloc, state, now, &contents)
 }

@@ -1,15 +1,15 @@
 //! The table of machines, with its filter and its pages.
-use crate::ages::all_aged;
+use crate::ages::put_old_ages;
 use crate::filter::put_filter;
+use crate::links::{put_change, put_sheet, put_unchosen};
 use crate::markup::Page;
 use crate::parts::{
-    begin_row, end_row, end_section, end_table, put_cell, put_note, put_strong_cell,
+    begin_row, end_row, end_section, end_table, put_cell, put_names, put_strong_cell, word,
 };
-use hallview_state::{StatusKind, is_passed};
-use hallview_views::text::{counted, number, until};
-use hallview_views::{
-    Column, Field, Order, Query, Row, View, chosen, link, machine_link, or_dash, order_of,
-    short_addresses, status_text,
+use crate::value::Value;
+use hall_types::Machine;
+use hallview_state::{
+    Column, Field, Order, Query, Row, StatusKind, View, chosen, is_passed, order_of,
 };
 use std::alloc::{AllocError, Global};
 
@@ -32,197 +32,155 @@ fn sheet_of(query: &Query, rows: usize) -> Sheet {
     }
 }
 
-// How many machines are chosen, and which of them are on this page.
-fn put_count(
-    alloc: Global,
-    page: &mut Page,
-    view: &View<'_>,
-    rows: usize,
-    part: &str,
-) -> Result<(), AllocError> {
-    let all = counted(alloc, view.machines(), "machine", "machines")?;
-    if Field::CHOOSING
-        .iter()
-        .all(|field| view.query.text(*field).is_empty())
-    {
-        put_note(page, format!(in alloc; "{all}{part}")?.as_str());
-        return Ok(());
+// Which rows are on a page, of which the first ones are on pages before it.
+fn put_part(page: &mut Page, view: &View<'_>, sheet: Sheet, first: usize, here: usize) {
+    if here == 0 {
+        put_old_ages(page, view.halls.as_slice());
+    } else if sheet.pages > 1 {
+        page.put(
+            ", here {} to {}",
+            &[
+                Value::Number(first.saturating_add(1) as u64),
+                Value::Number(first.saturating_add(here) as u64),
+            ],
+        );
     }
-    let text = format!(in alloc; "{rows} of {all}{part} ")?;
-    let changes = [
-        (Field::Text, ""),
-        (Field::Pool, ""),
-        (Field::Owner, ""),
-        (Field::Status, ""),
-        (Field::Image, ""),
-    ];
-    let target = link(alloc, &view.query, &changes, "#machines")?;
-    page.put(
-        "<p>{}<a href=\"{}\">Show all</a></p>\n",
-        &[text.as_str(), target.as_str()],
-    );
-    Ok(())
 }
 
-fn put_page_link(
-    alloc: Global,
+fn is_chosen_from(query: &Query) -> bool {
+    Field::CHOOSING
+        .iter()
+        .any(|field| !query.text(*field).is_empty())
+}
+
+// How many machines are chosen, and which of them are on this page.
+fn put_count(
     page: &mut Page,
-    query: &Query,
-    number: usize,
-    text: &str,
-) -> Result<(), AllocError> {
-    let number = if number == 1 {
-        String::new(alloc)
-    } else {
-        format!(in alloc; "{number}")?
-    };
-    let target = link(alloc, query, &[(Field::Page, number.as_str())], "#machines")?;
-    page.put("<li><a href=\"{}\">{}</a></li>\n", &[target.as_str(), text]);
-    Ok(())
+    view: &View<'_>,
+    sheet: Sheet,
+    rows: usize,
+    first: usize,
+    here: usize,
+) {
+    let is_chosen = is_chosen_from(&view.query);
+    page.put("<p>", &[]);
+    if is_chosen {
+        page.put("{} of ", &[Value::Number(rows as u64)]);
+    }
+    let all = view.machines();
+    page.put(
+        "{} {}",
+        &[
+            Value::Number(all as u64),
+            Value::Text(word(all, "machine", "machines")),
+        ],
+    );
+    put_part(page, view, sheet, first, here);
+    if is_chosen {
+        page.put(" <a href=\"", &[]);
+        put_unchosen(page, &view.query);
+        page.put("#machines\">Show all</a>", &[]);
+    }
+    page.put("</p>\n", &[]);
+}
+
+fn put_page_link(page: &mut Page, query: &Query, sheet: usize, text: &'static str) {
+    page.put("<li><a href=\"", &[]);
+    put_sheet(page, query, sheet);
+    page.put("#machines\">{}</a></li>\n", &[Value::Text(text)]);
 }
 
 // The links to the page before and the next one.
-fn put_pages(
-    alloc: Global,
-    page: &mut Page,
-    query: &Query,
-    sheet: Sheet,
-) -> Result<(), AllocError> {
+fn put_pages(page: &mut Page, query: &Query, sheet: Sheet) {
     if sheet.pages == 1 {
-        return Ok(());
+        return;
     }
     page.put("<nav aria-label=\"Pages of machines\">\n<ul>\n", &[]);
     if sheet.page > 1 {
-        put_page_link(alloc, page, query, sheet.page - 1, "Page before")?;
+        put_page_link(page, query, sheet.page - 1, "Page before");
     }
     if sheet.page < sheet.pages {
-        put_page_link(alloc, page, query, sheet.page + 1, "Next page")?;
+        put_page_link(page, query, sheet.page + 1, "Next page");
     }
     page.put("</ul>\n</nav>\n", &[]);
-    Ok(())
 }
 
 // A column's title, which sorts by it.
-fn put_title(
-    alloc: Global,
-    page: &mut Page,
-    query: &Query,
-    column: Column,
-    order: Order,
-) -> Result<(), AllocError> {
-    let name = column.name();
+fn put_title(page: &mut Page, query: &Query, column: Column, order: Order) {
     let (title, _) = column.title();
     let (begin, sort) = if column != order.column {
-        let sort = if column == Column::Id { "" } else { name };
-        ("<th scope=\"col\">", String::from_str(alloc, sort)?)
+        ("<th scope=\"col\">", column.sort(false))
     } else if order.falls {
-        (
-            "<th scope=\"col\" aria-sort=\"descending\">",
-            String::from_str(alloc, name)?,
-        )
+        ("<th scope=\"col\" aria-sort=\"descending\">", column.name())
     } else {
         (
             "<th scope=\"col\" aria-sort=\"ascending\">",
-            format!(in alloc; "-{name}")?,
+            column.sort(true),
         )
     };
-    let target = link(alloc, query, &[(Field::Sort, sort.as_str())], "#machines")?;
     page.put(begin, &[]);
-    page.put("<a href=\"{}\">{}</a></th>", &[target.as_str(), title]);
-    Ok(())
+    page.put("<a href=\"", &[]);
+    put_change(page, query, Field::Sort, sort);
+    page.put("#machines\">{}</a></th>", &[Value::Text(title)]);
 }
 
-fn put_deadline(
-    alloc: Global,
-    page: &mut Page,
-    view: &View<'_>,
-    row: &Row<'_>,
-) -> Result<(), AllocError> {
-    let Some(deadline) = row.one.machine.deadline else {
-        put_cell(page, "-");
-        return Ok(());
+fn put_deadline(page: &mut Page, machine: &Machine) {
+    match machine.deadline {
+        Some(deadline) if is_passed(machine, page.context.now) => {
+            put_strong_cell(page, Value::Until(deadline));
+        }
+        Some(deadline) => put_cell(page, Value::Until(deadline)),
+        None => put_cell(page, Value::Text("-")),
+    }
+}
+
+fn put_status(page: &mut Page, machine: &Machine) {
+    let cell = if StatusKind::of(machine.status) == StatusKind::Trouble {
+        "<td><strong>{}{}</strong></td>"
+    } else {
+        "<td>{}{}</td>"
     };
-    let text = until(alloc, deadline, view.now)?;
-    if is_passed(&row.one.machine, view.now) {
-        put_strong_cell(page, text.as_str());
-    } else {
-        put_cell(page, text.as_str());
-    }
-    Ok(())
-}
-
-fn put_row(
-    alloc: Global,
-    page: &mut Page,
-    view: &View<'_>,
-    row: &Row<'_>,
-) -> Result<(), AllocError> {
-    let machine = &row.one.machine;
-    let id = number(alloc, machine.id.get())?;
-    let target = machine_link(alloc, row.hall.name.text(), machine.id.get())?;
-    begin_row(page, target.as_str(), id.as_str());
-    if view.has_several() {
-        put_cell(page, row.hall.name.text());
-    }
-    let status = status_text(alloc, machine)?;
-    if StatusKind::of(machine.status) == StatusKind::Trouble {
-        put_strong_cell(page, status.as_str());
-    } else {
-        put_cell(page, status.as_str());
-    }
-    put_deadline(alloc, page, view, row)?;
-    put_cell(page, machine.pool.text());
-    put_cell(page, or_dash(&machine.owner));
-    put_cell(page, or_dash(&machine.image));
-    put_cell(page, short_addresses(alloc, row.one)?.as_str());
-    end_row(page);
-    Ok(())
-}
-
-fn put_table(
-    alloc: Global,
-    page: &mut Page,
-    view: &View<'_>,
-    order: Order,
-    rows: &[Row<'_>],
-) -> Result<(), AllocError> {
-    let (_, title) = order.column.title();
-    let falling = if order.falls { ", falling" } else { "" };
-    let caption = format!(in alloc; "Sorted by {title}{falling}")?;
-    let caption = all_aged(alloc, view.halls.as_slice(), view.now, caption.as_str())?;
+    let locked = if machine.locked { ", locked" } else { "" };
     page.put(
-        "<div role=\"group\" aria-label=\"Machines\" tabindex=\"0\">\n<table>\n<caption>{}</caption>\n<thead>\n<tr>",
-        &[caption.as_str()],
+        cell,
+        &[Value::Text(machine.status.text()), Value::Text(locked)],
     );
+}
+
+fn put_row(page: &mut Page, has_several: bool, row: &Row<'_>) {
+    let machine = &row.one.machine;
+    begin_row(page, row.hall, machine.id);
+    if has_several {
+        put_cell(page, Value::Text(row.hall.name.text()));
+    }
+    put_status(page, machine);
+    put_deadline(page, machine);
+    put_names(page, machine);
+    end_row(page, row.one.interfaces.as_slice());
+}
+
+fn put_table(page: &mut Page, view: &View<'_>, order: Order, rows: &[Row<'_>]) {
+    let (_, title) = order.column.title();
+    page.put(
+        "<div role=\"group\" aria-label=\"Machines\" tabindex=\"0\">\n<table>\n<caption>Sorted by {}{}",
+        &[
+            Value::Text(title),
+            Value::Text(if order.falls { ", falling" } else { "" }),
+        ],
+    );
+    put_old_ages(page, view.halls.as_slice());
+    page.put("</caption>\n<thead>\n<tr>", &[]);
+    let has_several = view.has_several();
     for column in Column::ALL.as_slice() {
-        if *column != Column::Hall || view.has_several() {
-            put_title(alloc, page, &view.query, *column, order)?;
+        if *column != Column::Hall || has_several {
+            put_title(page, &view.query, *column, order);
         }
     }
     page.put("</tr>\n</thead>\n<tbody>", &[]);
     for row in rows {
-        put_row(alloc, page, view, row)?;
+        put_row(page, has_several, row);
     }
     end_table(page);
-    Ok(())
-}
-
-// Which rows are on a page, in words.
-fn part_of(
-    alloc: Global,
-    view: &View<'_>,
-    sheet: Sheet,
-    first: usize,
-    here: usize,
-) -> Result<String, AllocError> {
-    if here == 0 {
-        return all_aged(alloc, view.halls.as_slice(), view.now, "");
-    }
-    if sheet.pages == 1 {
-        return Ok(String::new(alloc));
-    }
-    let (first, last) = (first.saturating_add(1), first.saturating_add(here));
-    format!(in alloc; ", here {first} to {last}")
 }
 
 /// The machines that a view's query chooses.
@@ -238,12 +196,11 @@ pub(crate) fn put_machines(
     let first = sheet.page.saturating_sub(1).saturating_mul(MAX_ROWS);
     let rest = rows.as_slice().get(first..).unwrap_or(&[]);
     let here = rest.get(..MAX_ROWS).unwrap_or(rest);
-    let part = part_of(alloc, view, sheet, first, here.len())?;
-    put_count(alloc, page, view, rows.len(), part.as_str())?;
-    put_pages(alloc, page, &view.query, sheet)?;
+    put_count(page, view, sheet, rows.len(), first, here.len());
+    put_pages(page, &view.query, sheet);
     if !here.is_empty() {
-        put_table(alloc, page, view, order, here)?;
-        put_pages(alloc, page, &view.query, sheet)?;
+        put_table(page, view, order, here);
+        put_pages(page, &view.query, sheet);
     }
     end_section(page);
     Ok(())

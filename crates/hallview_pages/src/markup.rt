@@ -2,6 +2,7 @@
 ghost use Rattle.std.specs.Prelude.{◌≡◌, ◌≢◌, ◌++◌, IsFalse, IsTrue, OnOk, IfOk};
 ghost use Rattle.hallview_pages.specs.{Ages.Grows, Markup.{IsPage, after, entity, escape, step}};
 
+use crate::value::{Context, Value};
 use std::alloc::{AllocError, Global};
 use std::marker::Model;
 
@@ -57,6 +58,7 @@ pub(crate) struct Page {
     alloc: Global,
     octets: Vec<u8>,
     place: Place,
+    pub(crate) context: Context,
     // Memory was wanting for a part.
     is_short: bool,
 }
@@ -100,11 +102,12 @@ fn escaped(alloc: Global, text: &str) -> Result<Vec<u8>, AllocError>
 
 impl Page {
     /// A page before its first part.
-    pub(crate) fn new(alloc: Global) -> Page {
+    pub(crate) fn new(alloc: Global, context: Context) -> Page {
         Page {
             alloc,
             octets: Vec::new(alloc),
             place: Place::Text,
+            context,
             is_short: false,
         }
     }
@@ -132,30 +135,41 @@ impl Page {
         Ok(true)
     }
 
-    /// Writes markup, with a text in place of each `{}`, or gives up for want of memory.
+    // Writes a value. Within a tag nothing is written.
+    fn push_value(&mut self, value: Value<'_>) -> Result<(), AllocError> {
+        let _ = if let Value::Text(text) = value {
+            self.push_text(text)?
+        } else {
+            let text = value.text(self.alloc, self.context.now)?;
+            self.push_text(text.as_str())?
+        };
+        Ok(())
+    }
+
+    /// Writes markup, with a value in place of each `{}`, or gives up for want of memory.
     pub(crate) fn try_put(
         &mut self,
         markup: &'static str,
-        texts: &[&str],
+        values: &[Value<'_>],
     ) -> Result<(), AllocError> {
         let mut parts = markup.split("{}");
         self.mark(parts.next().unwrap_or(""))?;
-        for (part, text) in parts.zip(texts.iter()) {
-            let _ = self.push_text(text)?;
+        for (part, value) in parts.zip(values.iter()) {
+            self.push_value(*value)?;
             self.mark(part)?;
         }
         Ok(())
     }
 
-    /// Writes markup, with a text in place of each `{}`. Want of memory is noted.
-    pub(crate) fn put(&mut self, markup: &'static str, texts: &[&str]) {
-        if self.try_put(markup, texts).is_err() {
+    /// Writes markup, with a value in place of each `{}`. Want of memory is noted.
+    pub(crate) fn put(&mut self, markup: &'static str, values: &[Value<'_>]) {
+        if self.try_put(markup, values).is_err() {
             self.is_short = true;
         }
     }
 
     /// Writes all of another page. Within a tag nothing is written. An error is want of memory, here or of what the other page lacks.
-    pub(crate) fn append(&mut self, other: Page) -> Result<(), AllocError>
+    pub(crate) fn append(&mut self, other: &Page) -> Result<(), AllocError>
         ensures { OnOk result (Grows self.old self.new) }
     {
         if other.is_short {

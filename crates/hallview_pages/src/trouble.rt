@@ -1,16 +1,11 @@
 //! What is in trouble, and what to do about it.
-use crate::ages::{aged, all_aged};
+use crate::ages::{put_old_age, put_old_ages};
+use crate::commands::{in_spans, put_command, put_hallctl, put_line};
+use crate::links::put_link;
 use crate::markup::Page;
-use crate::parts::{
-    begin_box, begin_row, end_row, end_section, put_cell, put_code, put_columns, put_note,
-};
-use hallview_state::{Hall, Listed, Move, Waiting};
-use hallview_views::text::{number, span};
-use hallview_views::{
-    Cause, Command, Field, Group, Query, View, commands_for, hallctl, line, link, machine_link,
-    or_dash, push_word, short_addresses, spans_of,
-};
-use std::alloc::{AllocError, Global};
+use crate::parts::{begin_row, end_row, end_section, put_cell, put_columns, put_names};
+use crate::value::Value;
+use hallview_state::{Cause, Field, Group, Hall, Listed, Move, View, Waiting, or_dash, words_for};
 
 // How many groups a page has, and how many rows a group.
 const MAX_GROUPS: usize = 50;
@@ -18,314 +13,222 @@ const MAX_GROUPS: usize = 50;
 const MAX_ROWS: usize = 20;
 
 // What identifies a group on the page.
-fn group_id(alloc: Global, group: &Group<'_>) -> Result<String, AllocError> {
-    let mut id = String::from_str(alloc, "trouble-")?;
-    push_word(&mut id, group.hall.name.text())?;
-    let cause = match group.cause {
-        Cause::Failed(status) => {
-            let number = status.number();
-            format!(in alloc; "-{number}")?
-        }
-        Cause::Deadline => String::from_str(alloc, "-deadline")?,
-        Cause::Orders => String::from_str(alloc, "-orders")?,
-    };
-    id.push_str(cause.as_str())?;
-    if !group.detail.is_empty() {
-        id.push('-')?;
-        id.push_str(group.detail)?;
-    }
-    Ok(id)
-}
-
-fn group_title(alloc: Global, view: &View<'_>, group: &Group<'_>) -> Result<String, AllocError> {
-    let mut title = String::new(alloc);
-    if view.has_several() {
-        title.push_str(group.hall.name.text())?;
-        title.push_str(": ")?;
-    }
-    title.push_str(group.title())?;
-    if !group.detail.is_empty() {
-        title.push_str(", ")?;
-        title.push_str(group.detail)?;
-    }
-    let size = group.size();
-    title.push_str(format!(in alloc; ": {size}")?.as_str())?;
-    aged(alloc, group.hall, view.now, title.as_str())
-}
-
-// Where all machines of a group are.
-fn group_link(alloc: Global, view: &View<'_>, group: &Group<'_>) -> Result<String, AllocError> {
-    let (field, text) = group.field();
-    let hall = if view.state.halls.len() > 1 {
-        group.hall.name.text()
-    } else {
-        ""
-    };
-    let image = match group.machines.first() {
-        Some(one) if group.is_of_image() => or_dash(&one.machine.image),
-        _ => "",
-    };
-    let changes = [(Field::Hall, hall), (field, text), (Field::Image, image)];
-    link(alloc, &Query::none(alloc), &changes, "#machines")
-}
-
-// The commands for the first machine of a group; for a deadline what shows the machine.
-fn group_commands(
-    alloc: Global,
-    group: &Group<'_>,
-    one: &Listed,
-) -> Result<Vec<Command>, AllocError> {
+fn put_id(page: &mut Page, group: &Group<'_>) {
+    page.put("trouble-{}", &[Value::Word(group.hall.name.text())]);
     match group.cause {
-        Cause::Failed(_) => commands_for(alloc, &one.machine),
-        Cause::Deadline | Cause::Orders => {
-            let shows = Command {
-                word: "machine",
-                options: String::new(alloc),
-            };
-            Ok(Vec::from_array(alloc, [shows])?)
-        }
+        Cause::Failed(status) => page.put("-{}", &[Value::Number(status.number().into())]),
+        Cause::Deadline => page.put("-deadline", &[]),
+        Cause::Orders => page.put("-orders", &[]),
+    }
+    if !group.detail.is_empty() {
+        page.put("-{}", &[Value::Text(group.detail)]);
     }
 }
 
-// The commands for all machines of a group.
-fn put_all(
-    alloc: Global,
-    page: &mut Page,
-    view: &View<'_>,
-    group: &Group<'_>,
-) -> Result<(), AllocError> {
-    let [one, _, ..] = group.machines.as_slice() else {
-        return Ok(());
+fn put_title(page: &mut Page, view: &View<'_>, group: &Group<'_>) {
+    if view.has_several() {
+        page.put("{}: ", &[Value::Text(group.hall.name.text())]);
+    }
+    page.put("{}", &[Value::Text(group.title())]);
+    if !group.detail.is_empty() {
+        page.put(", {}", &[Value::Text(group.detail)]);
+    }
+    page.put(": {}", &[Value::Number(group.size() as u64)]);
+    put_old_age(page, group.hall);
+}
+
+// The words of the commands for machines of a group; for a deadline what shows them.
+fn words_of(group: &Group<'_>) -> &'static [&'static str] {
+    match group.cause {
+        Cause::Failed(status) => words_for(status),
+        Cause::Deadline | Cause::Orders => &["machine"],
+    }
+}
+
+// The commands on machines of a group, of which one is given.
+fn put_commands(page: &mut Page, group: &Group<'_>, machines: &[&Listed], one: &Listed) {
+    for word in words_of(group) {
+        put_command(page, group.hall, word, machines, &one.machine);
+    }
+}
+
+// The commands for all machines of a group, if it has several.
+fn put_all(page: &mut Page, group: &Group<'_>) {
+    let machines = group.machines.as_slice();
+    let [one, _, ..] = machines else {
+        return;
     };
     if group.cause == Cause::Deadline {
-        return Ok(());
+        return;
     }
-    let numbers = spans_of(alloc, group.machines.as_slice())?;
-    let taken = numbers.taken;
-    let said = if taken == group.machines.len() {
-        String::from_str(alloc, "All of them:")?
+    let taken = in_spans(machines);
+    if taken == machines.len() {
+        page.put(" <span>All of them:</span>", &[]);
     } else {
-        format!(in alloc; "The first {taken}:")?
-    };
-    page.put(" <span>{}</span>", &[said.as_str()]);
-    let commands = group_commands(alloc, group, one)?;
-    for command in commands.as_slice() {
-        let line = line(
-            alloc,
-            view.state,
-            group.hall,
-            command,
-            numbers.text.as_str(),
-        )?;
-        put_code(page, line.as_str());
+        page.put(
+            " <span>The first {}:</span>",
+            &[Value::Number(taken as u64)],
+        );
     }
-    Ok(())
+    put_commands(page, group, machines, one);
 }
 
 // When a machine came to its status, as far as it was seen.
 fn since(moves: &[Move], one: &Listed) -> Option<u64> {
-    let last = moves
-        .iter()
-        .rev()
-        .find(|step| step.machine == one.machine.id)?;
-    if last.to == one.machine.status {
-        Some(last.at)
-    } else {
-        None
+    for step in moves.iter().rev() {
+        if step.machine == one.machine.id {
+            let is_last = step.to == one.machine.status;
+            return if is_last { Some(step.at) } else { None };
+        }
+    }
+    None
+}
+
+// For how long a machine has failed, or for how long its deadline has passed.
+fn put_time(page: &mut Page, began: u64, group: &Group<'_>, one: &Listed) {
+    let now = page.context.now;
+    match (group.cause, one.machine.deadline) {
+        (Cause::Deadline, Some(deadline)) => page.put(
+            "<td>{}, {} ago</td>",
+            &[
+                Value::Text(one.machine.status.text()),
+                Value::Span(now.saturating_sub(deadline)),
+            ],
+        ),
+        _ => match since(group.hall.moves.as_slice(), one) {
+            Some(at) => put_cell(page, Value::Span(now.saturating_sub(at))),
+            None => page.put(
+                "<td>over {}</td>",
+                &[Value::Span(now.saturating_sub(began))],
+            ),
+        },
     }
 }
 
-/// For how long a machine has had its status.
-fn since_text(
-    alloc: Global,
-    view: &View<'_>,
-    hall: &Hall,
-    one: &Listed,
-) -> Result<String, AllocError> {
-    match since(hall.moves.as_slice(), one) {
-        Some(at) => span(alloc, view.now.saturating_sub(at)),
-        None => {
-            let time = span(alloc, view.now.saturating_sub(view.state.began))?;
-            format!(in alloc; "over {time}")
-        }
-    }
-}
-
-// A machine's time: for how long it has failed, or for how long its deadline has passed.
-fn put_time(
-    alloc: Global,
-    page: &mut Page,
-    view: &View<'_>,
-    group: &Group<'_>,
-    one: &Listed,
-) -> Result<(), AllocError> {
-    let text = match (group.cause, one.machine.deadline) {
-        (Cause::Deadline, Some(deadline)) => {
-            let status = one.machine.status.text();
-            let time = span(alloc, view.now.saturating_sub(deadline))?;
-            format!(in alloc; "{status}, {time} ago")?
-        }
-        _ => since_text(alloc, view, group.hall, one)?,
-    };
-    put_cell(page, text.as_str());
-    Ok(())
-}
-
-fn put_machine(
-    alloc: Global,
-    page: &mut Page,
-    view: &View<'_>,
-    group: &Group<'_>,
-    one: &Listed,
-) -> Result<(), AllocError> {
-    let id = number(alloc, one.machine.id.get())?;
-    let target = machine_link(alloc, group.hall.name.text(), one.machine.id.get())?;
-    begin_row(page, target.as_str(), id.as_str());
+fn put_machine(page: &mut Page, began: u64, group: &Group<'_>, one: &Listed) {
+    begin_row(page, group.hall, one.machine.id);
     page.put("<td>", &[]);
-    let commands = group_commands(alloc, group, one)?;
-    for command in commands.as_slice() {
-        let line = line(alloc, view.state, group.hall, command, id.as_str())?;
-        put_code(page, line.as_str());
-    }
+    put_commands(page, group, &[one], one);
     page.put("</td>", &[]);
-    put_time(alloc, page, view, group, one)?;
-    put_cell(page, one.machine.pool.text());
-    put_cell(page, or_dash(&one.machine.owner));
-    put_cell(page, or_dash(&one.machine.image));
-    put_cell(page, short_addresses(alloc, one)?.as_str());
-    end_row(page);
-    Ok(())
+    put_time(page, began, group, one);
+    put_names(page, &one.machine);
+    end_row(page, one.interfaces.as_slice());
 }
 
 // What is done by hand about an order that waits.
-fn by_hand(alloc: Global, order: &Waiting<'_>) -> Result<String, AllocError> {
-    let id = order.one.machine.id.get();
+fn by_hand(order: &Waiting<'_>) -> &'static str {
     if order.kind() == "off" {
-        format!(in alloc; "Once machine {id} is off:")
+        "<td><span>Once machine {} is off:</span>"
     } else {
-        format!(in alloc; "Once machine {id} was started again, by network:")
+        "<td><span>Once machine {} was started again, by network:</span>"
     }
 }
 
-fn put_order(
-    alloc: Global,
-    page: &mut Page,
-    view: &View<'_>,
-    hall: &Hall,
-    order: &Waiting<'_>,
-) -> Result<(), AllocError> {
+fn put_order(page: &mut Page, hall: &Hall, order: &Waiting<'_>) {
     let machine = &order.one.machine;
-    let id = number(alloc, machine.id.get())?;
-    let target = machine_link(alloc, hall.name.text(), machine.id.get())?;
-    begin_row(page, target.as_str(), id.as_str());
-    let (kind, waiting) = (order.kind(), order.number);
-    put_cell(page, format!(in alloc; "{kind} {waiting}")?.as_str());
-    put_cell(page, span(alloc, order.waits)?.as_str());
-    put_cell(page, machine.status.text());
-    let said = by_hand(alloc, order)?;
-    let words = format!(in alloc; "--token-file pow.token order {waiting} --done")?;
-    let line = hallctl(alloc, view.state, hall, words.as_str())?;
+    let (id, number) = (Value::Number(machine.id.get()), Value::Number(order.number));
+    begin_row(page, hall, machine.id);
     page.put(
-        "<td><span>{}</span> <code>{}</code></td>",
-        &[said.as_str(), line.as_str()],
+        "<td>{} {}</td><td>{}</td><td>{}</td>",
+        &[
+            Value::Text(order.kind()),
+            number,
+            Value::Span(order.waits),
+            Value::Text(machine.status.text()),
+        ],
     );
-    end_row(page);
-    Ok(())
+    page.put(by_hand(order), &[id]);
+    page.put(" <code>", &[]);
+    put_hallctl(page, hall);
+    page.put(
+        " --token-file pow.token order {} --done</code></td>\n</tr>",
+        &[number],
+    );
 }
 
-fn put_rows(
-    alloc: Global,
-    page: &mut Page,
-    view: &View<'_>,
-    group: &Group<'_>,
-) -> Result<(), AllocError> {
+fn put_rows(page: &mut Page, began: u64, group: &Group<'_>) {
     for one in group.machines.iter().take(MAX_ROWS) {
-        put_machine(alloc, page, view, group, one)?;
+        put_machine(page, began, group, one);
     }
     for order in group.orders.iter().take(MAX_ROWS) {
-        put_order(alloc, page, view, group.hall, order)?;
+        put_order(page, group.hall, order);
     }
-    Ok(())
 }
 
 // What to do about a group, and the commands that do it.
-fn put_advice(
-    alloc: Global,
-    page: &mut Page,
-    view: &View<'_>,
-    group: &Group<'_>,
-) -> Result<(), AllocError> {
-    page.put("<p><span>{}</span>", &[group.advice(view.now)]);
+fn put_advice(page: &mut Page, group: &Group<'_>) {
+    let advice = group.advice(page.context.now);
+    page.put("<p><span>{}</span>", &[Value::Text(advice)]);
     if group.cause == Cause::Orders {
-        let line = hallctl(
-            alloc,
-            view.state,
-            group.hall,
-            "--token-file pow.token orders",
-        )?;
-        put_code(page, line.as_str());
+        put_line(page, group.hall, "--token-file pow.token orders");
     } else {
-        put_all(alloc, page, view, group)?;
+        put_all(page, group);
     }
     page.put("</p>\n", &[]);
-    Ok(())
 }
 
-fn titles(group: &Group<'_>) -> &'static [&'static str] {
-    match group.cause {
-        Cause::Failed(_) => &[
+fn put_titles(page: &mut Page, cause: Cause) {
+    let time = match cause {
+        Cause::Failed(_) => "Since",
+        Cause::Deadline => "Deadline",
+        Cause::Orders => return put_columns(
+            page,
+            &["Machine", "Order", "Waits", "Status", "What to do"],
+        ),
+    };
+    put_columns(
+        page,
+        &[
             "Machine",
             "What to do",
-            "Since",
+            time,
             "Pool",
             "Owner",
             "Image",
             "Addresses",
         ],
-        Cause::Deadline => &[
-            "Machine",
-            "What to do",
-            "Deadline",
-            "Pool",
-            "Owner",
-            "Image",
-            "Addresses",
-        ],
-        Cause::Orders => &["Machine", "Order", "Waits", "Status", "What to do"],
-    }
-}
-
-fn put_group(
-    alloc: Global,
-    page: &mut Page,
-    view: &View<'_>,
-    group: &Group<'_>,
-) -> Result<(), AllocError> {
-    let title = group_title(alloc, view, group)?;
-    let id = group_id(alloc, group)?;
-    page.put(
-        "<details id=\"{}\" open=\"\">\n<summary><h3>{}</h3></summary>\n",
-        &[id.as_str(), title.as_str()],
     );
-    put_advice(alloc, page, view, group)?;
-    begin_box(page, title.as_str());
-    page.put("<thead>\n<tr>", &[]);
-    put_columns(page, titles(group));
-    page.put("</tr>\n</thead>\n<tbody>", &[]);
-    put_rows(alloc, page, view, group)?;
-    page.put("</tbody>\n</table>\n</div>\n", &[]);
+}
+
+// Leads to all machines of a group that has more than are shown.
+fn put_more(page: &mut Page, view: &View<'_>, group: &Group<'_>) {
     let size = group.size();
-    if size > MAX_ROWS {
-        let more = size - MAX_ROWS;
-        let text = format!(in alloc; "{more} more")?;
-        let target = group_link(alloc, view, group)?;
-        page.put(
-            "<p><a href=\"{}\">{}</a></p>\n",
-            &[target.as_str(), text.as_str()],
-        );
+    if size <= MAX_ROWS {
+        return;
     }
+    let image = match group.machines.first() {
+        Some(one) if group.is_of_image() => or_dash(&one.machine.image),
+        _ => "",
+    };
+    let fields = [
+        (Field::Hall, view.hall_in_links(group.hall)),
+        group.field(),
+        (Field::Image, image),
+    ];
+    page.put("<p><a href=\"", &[]);
+    put_link(page, &fields);
+    page.put(
+        "#machines\">{} more</a></p>\n",
+        &[Value::Number((size - MAX_ROWS) as u64)],
+    );
+}
+
+fn put_group(page: &mut Page, view: &View<'_>, group: &Group<'_>) {
+    page.put("<details id=\"", &[]);
+    put_id(page, group);
+    page.put("\" open=\"\">\n<summary><h3>", &[]);
+    put_title(page, view, group);
+    page.put("</h3></summary>\n", &[]);
+    put_advice(page, group);
+    page.put("<div role=\"group\" aria-label=\"", &[]);
+    put_title(page, view, group);
+    page.put("\" tabindex=\"0\">\n<table>\n<thead>\n<tr>", &[]);
+    put_titles(page, group.cause);
+    page.put("</tr>\n</thead>\n<tbody>", &[]);
+    put_rows(page, view.state.began, group);
+    page.put("</tbody>\n</table>\n</div>\n", &[]);
+    put_more(page, view, group);
     page.put("</details>\n", &[]);
-    Ok(())
 }
 
 // How many machines and orders are in groups that aren't shown.
@@ -338,33 +241,29 @@ fn rest_of(groups: &[Group<'_>]) -> usize {
 }
 
 /// What is in trouble.
-pub(crate) fn put_trouble(
-    alloc: Global,
-    page: &mut Page,
-    view: &View<'_>,
-) -> Result<(), AllocError> {
+pub(crate) fn put_trouble(page: &mut Page, view: &View<'_>) {
     let trouble = view.trouble();
-    let title = format!(in alloc; "In trouble: {trouble}")?;
-    page.put("<section id=\"trouble\">\n<h2>{}</h2>\n", &[title.as_str()]);
+    page.put(
+        "<section id=\"trouble\">\n<h2>In trouble: {}</h2>\n",
+        &[Value::Number(trouble as u64)],
+    );
     if trouble == 0 {
-        let calm = all_aged(
-            alloc,
-            view.halls.as_slice(),
-            view.now,
-            "No machine has failed, no deadline has passed, and no order waits for over five minutes",
-        )?;
-        put_note(page, format!(in alloc; "{calm}.")?.as_str());
+        page.put(
+            "<p>No machine has failed, no deadline has passed, and no order waits for over five minutes",
+            &[],
+        );
+        put_old_ages(page, view.halls.as_slice());
+        page.put(".</p>\n", &[]);
     }
     for group in view.groups.iter().take(MAX_GROUPS) {
-        put_group(alloc, page, view, group)?;
+        put_group(page, view, group);
     }
     let rest = rest_of(view.groups.as_slice());
     if rest > 0 {
-        let text = format!(in alloc;
-            "{rest} more in trouble: choose a hall in the table of halls."
-        )?;
-        put_note(page, text.as_str());
+        page.put(
+            "<p>{} more in trouble: choose a hall in the table of halls.</p>\n",
+            &[Value::Number(rest as u64)],
+        );
     }
     end_section(page);
-    Ok(())
 }

@@ -6,29 +6,43 @@ use crate::ages::fault_text;
 use crate::markup::Page;
 use crate::script::SCRIPT;
 use crate::style::STYLE;
+use crate::value::{Context, Value};
 use hallview_state::{Hall, State};
-use hallview_views::hallctl;
-use hallview_views::text::{stamp, stamp_text};
 use std::alloc::{AllocError, Global};
 
+/// What stands on a page beside what all pages have.
+#[derive(Drop)]
+pub(crate) struct Contents {
+    pub(crate) title: Page,
+    pub(crate) heading: Page,
+    pub(crate) shown: Page,
+}
+
+impl Contents {
+    /// Nothing yet, of a page of a state now.
+    pub(crate) fn new(alloc: Global, state: &State, now: u64) -> Contents {
+        let context = Context::of(state, now);
+        Contents {
+            title: Page::new(alloc, context),
+            heading: Page::new(alloc, context),
+            shown: Page::new(alloc, context),
+        }
+    }
+}
+
 // A page up to its heading and the moment that it is of.
-fn put_head(
-    alloc: Global,
-    page: &mut Page,
-    now: u64,
-    title: &str,
-    heading: &str,
-) -> Result<(), AllocError> {
-    page.try_put(
-        "<!DOCTYPE html>\n<html lang=\"en\">\n<head>\n<meta charset=\"utf-8\"/>\n<meta name=\"viewport\" content=\"width=device-width, initial-scale=1\"/>\n<title>{}</title>\n<style>",
-        &[title],
+fn put_head(page: &mut Page, now: u64, title: &Page, heading: &Page) -> Result<(), AllocError> {
+    page.mark(
+        "<!DOCTYPE html>\n<html lang=\"en\">\n<head>\n<meta charset=\"utf-8\"/>\n<meta name=\"viewport\" content=\"width=device-width, initial-scale=1\"/>\n<title>",
     )?;
+    page.append(title)?;
+    page.mark("</title>\n<style>")?;
     page.mark(STYLE)?;
-    let moment = stamp(alloc, now)?;
-    let text = stamp_text(alloc, now)?;
+    page.mark("</style>\n</head>\n<body>\n<main>\n<h1>")?;
+    page.append(heading)?;
     page.try_put(
-        "</style>\n</head>\n<body>\n<main>\n<h1>{}</h1>\n<p>At <time datetime=\"{}\">{}</time></p>\n",
-        &[heading, moment.as_str(), text.as_str()],
+        "</h1>\n<p>At <time datetime=\"{}\">{}</time></p>\n",
+        &[Value::Stamp(now), Value::Moment(now)],
     )
 }
 
@@ -44,14 +58,21 @@ fn put_text(page: &mut Page, text: &str) -> Result<(), AllocError>
     }
 }
 
+// What looks at a hall's desk.
+fn put_look(page: &mut Page, hall: &Hall) -> Result<(), AllocError>
+    ensures { OnOk result (Grows page.old page.new) }
+{
+    page.mark(" <code>hallctl ")?;
+    if page.context.is_named {
+        page.mark("--hall ")?;
+        put_text(page, hall.name.text())?;
+        page.mark(" ")?;
+    }
+    page.mark("hello</code>")
+}
+
 // If a hall's list is old, says how old, and what looks at its desk.
-fn put_age(
-    alloc: Global,
-    page: &mut Page,
-    state: &State,
-    hall: &Hall,
-    now: u64,
-) -> Result<(), AllocError>
+fn put_age(alloc: Global, page: &mut Page, hall: &Hall, now: u64) -> Result<(), AllocError>
     ensures told { OnOk result (Told now page.new hall.now) }
     ensures grows { OnOk result (Grows page.old page.new) }
 {
@@ -59,12 +80,11 @@ fn put_age(
         return Ok(());
     }
     let text = fault_text(alloc, hall, now)?;
-    let line = hallctl(alloc, state, hall, "hello")?;
     page.mark("<p role=\"alert\"><strong>")?;
     put_text(page, text.as_str())?;
-    page.mark("</strong> Look at the desk: <code>")?;
-    put_text(page, line.as_str())?;
-    page.mark("</code></p>\n")
+    page.mark("</strong> Look at the desk:")?;
+    put_look(page, hall)?;
+    page.mark("</p>\n")
 }
 
 // Says of each hall whose list is old how old that is.
@@ -72,7 +92,7 @@ fn put_ages(alloc: Global, page: &mut Page, state: &State, now: u64) -> Result<(
     ensures { OnOk result (TellsAges state.now now page.new) }
 {
     for hall in state.halls.as_slice() {
-        put_age(alloc, page, state, hall, now)?;
+        put_age(alloc, page, hall, now)?;
     }
     Ok(())
 }
@@ -87,22 +107,20 @@ fn put_end(page: &mut Page) -> Result<(), AllocError>
     page.mark("</script>\n</body>\n</html>\n")
 }
 
-/// The octets of a page with this title, this heading, and what it shows.
+/// The octets of a page with these contents.
 pub(crate) fn whole_page(
     alloc: Global,
     state: &State,
     now: u64,
-    names: (&str, &str),
-    shown: Page,
+    contents: &Contents,
 ) -> Result<Vec<u8>, AllocError>
     ensures page { IfOk result (λ octets. IsPage octets.items) }
     ensures ages { IfOk result (λ octets. TellsAges state.now now octets.items) }
 {
-    let (title, heading) = names;
-    let mut page = Page::new(alloc);
-    put_head(alloc, &mut page, now, title, heading)?;
+    let mut page = Page::new(alloc, Context::of(state, now));
+    put_head(&mut page, now, &contents.title, &contents.heading)?;
     put_ages(alloc, &mut page, state, now)?;
-    page.append(shown)?;
+    page.append(&contents.shown)?;
     put_end(&mut page)?;
     Ok(page.into_octets()?)
 }

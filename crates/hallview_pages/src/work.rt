@@ -1,10 +1,11 @@
 //! What is at work, with the time that is left.
-use crate::ages::all_aged;
+use crate::ages::put_old_ages;
+use crate::links::put_change;
 use crate::markup::Page;
-use crate::parts::{end_row, end_section, end_table, put_cell, put_columns, put_note};
-use hallview_state::{limit_of, order_kind};
-use hallview_views::text::{number, percent, span, until, width};
-use hallview_views::{Field, View, Work, link, machine_link, or_dash};
+use crate::parts::{begin_cells, end_section, end_table, put_cell, put_columns, put_names};
+use crate::value::Value;
+use hallview_state::text::percent;
+use hallview_state::{Field, View, Work, limit_of, order_kind};
 use std::alloc::{AllocError, Global};
 use std::cmp::Ordering;
 
@@ -25,30 +26,37 @@ fn by_deadline(one: &Work<'_>, other: &Work<'_>) -> Ordering {
 }
 
 // The order that a machine waits for, and for how long.
-fn order_text(alloc: Global, view: &View<'_>, work: &Work<'_>) -> Result<String, AllocError> {
+fn put_order(page: &mut Page, work: &Work<'_>) {
     let Some(waiting) = work.one.machine.waiting else {
-        return String::from_str(alloc, "-");
+        return put_cell(page, Value::Text("-"));
     };
-    let last = work.hall.listed_at().unwrap_or(view.now);
+    let last = work.hall.listed_at().unwrap_or(page.context.now);
     let seen = work.hall.order_seen(waiting).unwrap_or(last);
-    let time = span(alloc, last.saturating_sub(seen))?;
-    let kind = order_kind(work.one.machine.status).text();
-    let number = waiting.get();
-    format!(in alloc; "{kind} {number}, {time}")
+    page.put(
+        "<td>{} {}, {}</td>",
+        &[
+            Value::Text(order_kind(work.one.machine.status).text()),
+            Value::Number(waiting.get()),
+            Value::Span(last.saturating_sub(seen)),
+        ],
+    );
 }
 
-// The row's beginning, and a bar of the time that has passed.
-fn put_bar(
-    alloc: Global,
-    page: &mut Page,
-    view: &View<'_>,
-    work: &Work<'_>,
-) -> Result<(), AllocError> {
+// A bar of the time that has passed.
+fn put_bar(page: &mut Page, work: &Work<'_>, left: u64) {
+    let limit = limit_of(work.one.machine.status).unwrap_or(0);
+    page.put(
+        "<td><svg width=\"100\" height=\"10\" aria-hidden=\"true\"><rect width=\"{}%\" height=\"10\"/></svg>{}</td>",
+        &[
+            Value::Number(percent(limit.saturating_sub(left), limit)),
+            Value::Until(work.deadline),
+        ],
+    );
+}
+
+fn put_row(page: &mut Page, has_several: bool, work: &Work<'_>) {
     let machine = &work.one.machine;
-    let left = work.deadline.saturating_sub(view.now);
-    let limit = limit_of(machine.status).unwrap_or(0);
-    let id = number(alloc, machine.id.get())?;
-    let target = machine_link(alloc, work.hall.name.text(), machine.id.get())?;
+    let left = work.deadline.saturating_sub(page.context.now);
     page.put(
         if left < LATE {
             "<tr class=\"trouble\">"
@@ -57,54 +65,33 @@ fn put_bar(
         },
         &[],
     );
-    page.put(
-        "<th scope=\"row\"><a href=\"{}\">{}</a></th>",
-        &[target.as_str(), id.as_str()],
-    );
-    if view.has_several() {
-        put_cell(page, work.hall.name.text());
+    begin_cells(page, work.hall, machine.id);
+    if has_several {
+        put_cell(page, Value::Text(work.hall.name.text()));
     }
-    let bar = width(alloc, percent(limit.saturating_sub(left), limit))?;
-    let text = until(alloc, work.deadline, view.now)?;
-    page.put(
-        "<td><svg width=\"100\" height=\"10\" aria-hidden=\"true\"><rect width=\"{}\" height=\"10\"/></svg>{}</td>",
-        &[bar.as_str(), text.as_str()],
-    );
-    Ok(())
-}
-
-fn put_row(
-    alloc: Global,
-    page: &mut Page,
-    view: &View<'_>,
-    work: &Work<'_>,
-) -> Result<(), AllocError> {
-    let machine = &work.one.machine;
-    put_bar(alloc, page, view, work)?;
-    put_cell(page, machine.status.text());
-    put_cell(page, order_text(alloc, view, work)?.as_str());
-    put_cell(page, machine.pool.text());
-    put_cell(page, or_dash(&machine.owner));
-    put_cell(page, or_dash(&machine.image));
-    end_row(page);
-    Ok(())
+    put_bar(page, work, left);
+    put_cell(page, Value::Text(machine.status.text()));
+    put_order(page, work);
+    put_names(page, machine);
+    page.put("\n</tr>", &[]);
 }
 
 fn put_table(alloc: Global, page: &mut Page, view: &View<'_>) -> Result<(), AllocError> {
-    let caption = all_aged(
-        alloc,
-        view.halls.as_slice(),
-        view.now,
-        "By deadline, the next one first",
-    )?;
     page.put(
-        "<div role=\"group\" aria-label=\"At work\" tabindex=\"0\">\n<table>\n<caption>{}</caption>\n<thead>\n<tr>",
-        &[caption.as_str()],
+        "<div role=\"group\" aria-label=\"At work\" tabindex=\"0\">\n<table>\n<caption>By deadline, the next one first",
+        &[],
     );
-    put_columns(page, &["Machine"]);
-    if view.has_several() {
-        put_columns(page, &["Hall"]);
-    }
+    put_old_ages(page, view.halls.as_slice());
+    page.put("</caption>\n<thead>\n<tr>", &[]);
+    let has_several = view.has_several();
+    put_columns(
+        page,
+        if has_several {
+            &["Machine", "Hall"]
+        } else {
+            &["Machine"]
+        },
+    );
     put_columns(
         page,
         &["Deadline", "Status", "Order", "Pool", "Owner", "Image"],
@@ -113,7 +100,7 @@ fn put_table(alloc: Global, page: &mut Page, view: &View<'_>) -> Result<(), Allo
     let mut ordered = Vec::from_slice(alloc, view.work.as_slice())?;
     ordered.sort_by(|one, other| by_deadline(one, other))?;
     for work in ordered.iter().take(MAX_ROWS) {
-        put_row(alloc, page, view, work)?;
+        put_row(page, has_several, work);
     }
     end_table(page);
     Ok(())
@@ -122,32 +109,23 @@ fn put_table(alloc: Global, page: &mut Page, view: &View<'_>) -> Result<(), Allo
 /// The machines that are at work.
 pub(crate) fn put_work(alloc: Global, page: &mut Page, view: &View<'_>) -> Result<(), AllocError> {
     let count = view.work.len();
-    let title = format!(in alloc; "At work: {count}")?;
-    page.put("<section id=\"work\">\n<h2>{}</h2>\n", &[title.as_str()]);
+    page.put(
+        "<section id=\"work\">\n<h2>At work: {}</h2>\n",
+        &[Value::Number(count as u64)],
+    );
     if count == 0 {
-        let calm = all_aged(
-            alloc,
-            view.halls.as_slice(),
-            view.now,
-            "No machine is at work",
-        )?;
-        put_note(page, format!(in alloc; "{calm}.")?.as_str());
-        end_section(page);
-        return Ok(());
+        page.put("<p>No machine is at work", &[]);
+        put_old_ages(page, view.halls.as_slice());
+        page.put(".</p>\n", &[]);
+    } else {
+        put_table(alloc, page, view)?;
     }
-    put_table(alloc, page, view)?;
     if count > MAX_ROWS {
-        let more = count - MAX_ROWS;
-        let text = format!(in alloc; "{more} more")?;
-        let target = link(
-            alloc,
-            &view.query,
-            &[(Field::Sort, "deadline")],
-            "#machines",
-        )?;
+        page.put("<p><a href=\"", &[]);
+        put_change(page, &view.query, Field::Sort, "deadline");
         page.put(
-            "<p><a href=\"{}\">{}</a></p>\n",
-            &[target.as_str(), text.as_str()],
+            "#machines\">{} more</a></p>\n",
+            &[Value::Number((count - MAX_ROWS) as u64)],
         );
     }
     end_section(page);

@@ -1,1 +1,3 @@
+pub mod FamilyLemmas
 pub mod SearchLemmas
+pub mod ValueLemmas

@@ -1,6 +1,11 @@
 pub mod Age
+pub mod Exposition
+pub mod ExpositionLaws
+pub mod Families
 pub mod Lists
 pub mod Moves
 pub mod OrderLaws
 pub mod Orders
+pub mod Spans
 pub mod Taken
+pub mod Told

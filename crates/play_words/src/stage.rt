@@ -1,7 +1,9 @@
 //! What a command line is run in: a desk, a terminal and files, all in memory.
 use crate::desk::attempt_of;
 use cases::{CaseFault, Out, Played};
-use hallctl_tasks::{Attempt, DeskAddress, Dial, FileFault, Surroundings, Why, goes_on_text};
+use hallctl_requests::DeskAddress;
+use hallctl_tasks::{Attempt, Dial, Surroundings, Why, goes_on_text};
+use halls_file::FileFault;
 use std::alloc::{AllocError, Global};
 use std::collections::VecDeque;
 

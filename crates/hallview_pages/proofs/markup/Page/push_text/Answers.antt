@@ -1,6 +1,6 @@
-use Rattle.std.proofs.{Common.{◌∙◌, sym, ap, subst, ◌≡◌, ◌≢◌, ◌++◌}, lemmas.List.Sums.fold-append}
+use Rattle.std.proofs.{Common.{◌∙◌, sym, ap, subst, ◌≡◌, ◌++◌}, lemmas.List.Sums.fold-append}
 use Rattle.hallview_pages.specs.{Markup.{after, escape, step, IsPage, IsPage.text}, MarkupLaws.text_stays}
-use Rattle.hallview_pages.specs.declared.markup.Place.{Place, TheVariants.{Text, Tag}}
+use Rattle.hallview_pages.specs.declared.markup.Place.{TheVariants.{Text, Tag}}
 use Rattle.hallview_pages.proofs.markup.Page.push_text.Goals as goal
 
 pub invariant_of-self-2 : goal.invariant_of-self-2

@@ -1,4 +1,0 @@
-pub mod Due
-pub mod Kept
-pub mod Least
-pub mod Slots

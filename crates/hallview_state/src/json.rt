@@ -1,0 +1,122 @@
+//! What `GET /state.json` answers: what is known of the halls, as JSON (RFC 8259).
+use crate::hall::Hall;
+use crate::history::Sample;
+use crate::listed::Listed;
+use crate::moves::Move;
+use crate::orders::Seen;
+use crate::state::State;
+use hall_events::{MachineList, Reply};
+use serde_json::Value;
+use std::alloc::{AllocError, Global};
+
+// A text as JSON has it.
+fn quoted(alloc: Global, text: &str) -> Result<String, AllocError> {
+    Value::try_from_str(alloc, text)?.to_string(alloc)
+}
+
+fn or_null(alloc: Global, number: Option<u64>) -> Result<String, AllocError> {
+    match number {
+        Some(number) => format!(in alloc; "{number}"),
+        None => String::from_str(alloc, "null"),
+    }
+}
+
+// A comma before all items but the first.
+fn comma(text: &mut String, place: usize) -> Result<(), AllocError> {
+    if place > 0 {
+        text.push(',')?;
+    }
+    Ok(())
+}
+
+// The machines, each as the desk writes it.
+fn push_machines(alloc: Global, text: &mut String, machines: &[Listed]) -> Result<(), AllocError> {
+    let mut list = MachineList::new(alloc, machines.len())?;
+    for one in machines {
+        list.push(alloc, &one.machine, one.interfaces.as_slice())?;
+    }
+    let Reply::Http { body, .. } = list.finish()? else {
+        return Ok(());
+    };
+    let inner = body.as_str().strip_prefix("{").unwrap_or("");
+    text.push_str(inner.strip_suffix("}").unwrap_or(inner))
+}
+
+fn push_moves(alloc: Global, text: &mut String, moves: &[Move]) -> Result<(), AllocError> {
+    for (place, step) in moves.iter().enumerate() {
+        comma(text, place)?;
+        let (at, id) = (step.at, step.machine.get());
+        let (from, to) = (step.from.text(), step.to.text());
+        text.push_str(format!(in alloc; "[{at},{id},\"{from}\",\"{to}\"]")?.as_str())?;
+    }
+    Ok(())
+}
+
+fn push_orders(alloc: Global, text: &mut String, orders: &[Seen]) -> Result<(), AllocError> {
+    for (place, order) in orders.iter().enumerate() {
+        comma(text, place)?;
+        let (number, at) = (order.number.get(), order.at);
+        text.push_str(format!(in alloc; "[{number},{at}]")?.as_str())?;
+    }
+    Ok(())
+}
+
+fn push_history(alloc: Global, text: &mut String, history: &[Sample]) -> Result<(), AllocError> {
+    for (place, sample) in history.iter().enumerate() {
+        comma(text, place)?;
+        let at = sample.at;
+        text.push_str(format!(in alloc; "[{at},[")?.as_str())?;
+        for (place, count) in sample.counts.iter().enumerate() {
+            comma(text, place)?;
+            text.push_str(format!(in alloc; "{count}")?.as_str())?;
+        }
+        text.push_str("]]")?;
+    }
+    Ok(())
+}
+
+// The members of a hall that come before its lists.
+fn push_members(alloc: Global, text: &mut String, hall: &Hall) -> Result<(), AllocError> {
+    let (name, every, up) = (hall.name.text(), hall.every, hall.is_up());
+    let desk = quoted(alloc, hall.desk.as_str())?;
+    let fault = match hall.loss {
+        Some(loss) => loss.text(alloc)?,
+        None => String::new(alloc),
+    };
+    let fault = quoted(alloc, fault.as_str())?;
+    let listed = or_null(alloc, hall.listed_at())?;
+    let took = match &hall.list {
+        Some(list) => list.took,
+        None => 0,
+    };
+    text.push_str(format!(in alloc;
+        "{{\"name\":\"{name}\",\"desk\":{desk},\"every\":{every},\"up\":{up},\"fault\":{fault},\"listed\":{listed},\"took_ms\":{took},"
+    )?.as_str())
+}
+
+fn push_hall(alloc: Global, text: &mut String, hall: &Hall) -> Result<(), AllocError> {
+    push_members(alloc, text, hall)?;
+    push_machines(alloc, text, hall.machines())?;
+    text.push_str(",\"orders_seen\":[")?;
+    push_orders(alloc, text, hall.orders.as_slice())?;
+    text.push_str("],\"moves\":[")?;
+    push_moves(alloc, text, hall.moves.as_slice())?;
+    text.push_str("],\"history\":[")?;
+    push_history(alloc, text, hall.history.as_slice())?;
+    text.push_str("]}")
+}
+
+/// What is known of all halls. `machines` are as in the desks' lists; `moves` are `[moment,machine,from,to]`, `orders_seen`
+/// `[number,moment]`, and `history` `[moment,counts]` by the statuses' numbers, each with the oldest first.
+pub fn state_json(alloc: Global, state: &State, now: u64) -> Result<String, AllocError> {
+    let (began, named) = (state.began, state.is_named);
+    let mut text = format!(in alloc;
+        "{{\"now\":{now},\"began\":{began},\"named\":{named},\"halls\":["
+    )?;
+    for (place, hall) in state.halls.iter().enumerate() {
+        comma(&mut text, place)?;
+        push_hall(alloc, &mut text, hall)?;
+    }
+    text.push_str("]}\n")?;
+    Ok(text)
+}

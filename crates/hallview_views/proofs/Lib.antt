@@ -1,2 +1,0 @@
-pub mod FamilyLemmas
-pub mod ValueLemmas

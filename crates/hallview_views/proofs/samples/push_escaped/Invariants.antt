@@ -1,6 +1,0 @@
-use Rattle.std.proofs.Common.{◌≡◌, ◌++◌, flat_map}
-use Rattle.hallview_views.specs.Exposition.{escaped}
-use Rattle.hallview_views.proofs.samples.push_escaped.Given as goal
-
-abbrev pub invariant-loop-octet : goal.invariant-loop-octet
-invariant-loop-octet l = l.octets.items ≡ l.initial.octets.items ++ flat_map escaped l.yielded
