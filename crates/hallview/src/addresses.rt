@@ -34,7 +34,10 @@ impl Addresses {
 
     /// Whether the resolver is to be asked before the desk: after a failure, and not too soon after it was asked last.
     pub(crate) fn are_to_be_found(&self, now: u64) -> bool {
-        self.is_old && self.asked.is_none_or(|asked| has_passed(now, asked, AGAIN))
+        match self.asked {
+            Some(asked) => self.is_old && has_passed(now, asked, AGAIN),
+            None => self.is_old,
+        }
     }
 
     /// Asks the resolver, which is waited for unless the host is an address.

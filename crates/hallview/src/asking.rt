@@ -10,7 +10,7 @@ use crate::seats::{MAX_EXCHANGES, exchange_seat};
 use crate::sockets::Sockets;
 use crate::times::until;
 use crate::turn::Turn;
-use crate::watch::Watch;
+use crate::watch::{Watch, is_down};
 use hallview_state::{Hall, Loss};
 use mio::net::TcpStream;
 use std::alloc::{AllocError, Global};
@@ -64,13 +64,6 @@ impl Asking {
             exchanges: Exchanges::new(alloc)?,
             resolver_at: 0,
         })
-    }
-
-    fn is_down(&self, place: usize) -> bool {
-        match self.watches.get(place) {
-            Some(watch) => watch.is_down,
-            None => false,
-        }
     }
 
     // Whether a desk that is down may be asked beside those that are asked.
@@ -137,7 +130,7 @@ impl Asking {
         requires { slot < 8 }
     {
         if self.waits_for_resolver(turn, place) {
-            let is_down = self.is_down(place);
+            let is_down = is_down(self.watches.as_slice(), place);
             self.dues.set(place, is_down, self.resolver_at);
             return;
         }

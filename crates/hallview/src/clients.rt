@@ -42,7 +42,7 @@ impl Clients {
             return Err(ServeFault::Random);
         };
         let Ok(mut listener) = TcpListener::bind(rt, listen) else {
-            return Err(ServeFault::Bind);
+            return Err(ServeFault::Bind(listen));
         };
         if sockets.register(&mut listener, LISTENER).is_err() {
             return Err(ServeFault::Wait);

@@ -16,8 +16,8 @@ pub(crate) struct Clocks {
     start: Instant,
 }
 
-// The seconds since 1970 by the system's clock. None before.
-fn seconds_since_1970(rt: &HostRuntime) -> Option<u64> {
+/// The seconds since 1970 by the system's clock. None where it fails, or is before that.
+pub(crate) fn seconds_since_1970(rt: &HostRuntime) -> Option<u64> {
     let time = SystemTime::now(rt).ok()?;
     Some(time.duration_since(UNIX_EPOCH).ok()?.as_secs())
 }

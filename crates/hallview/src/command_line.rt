@@ -44,12 +44,13 @@ fn every(options: &Options<'_>) -> Result<u64, Wrong>
     }
 }
 
-fn is_host_octet(octet: u8) -> bool {
-    octet.is_ascii_alphanumeric() || octet == b'-' || octet == b'.'
-}
-
 fn is_host(text: &str) -> bool {
-    !text.is_empty() && text.len() <= MAX_HOST_LEN && text.bytes().all(|octet| is_host_octet(octet))
+    for octet in text.bytes() {
+        if !(octet.is_ascii_alphanumeric() || octet == b'-' || octet == b'.') {
+            return false;
+        }
+    }
+    !text.is_empty() && text.len() <= MAX_HOST_LEN
 }
 
 fn names<'a>(options: &Options<'a>) -> Result<Vec<&'a str>, Wrong> {

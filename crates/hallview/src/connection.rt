@@ -30,7 +30,6 @@ pub(crate) enum Step {
 }
 
 /// A connection of a client.
-#[derive(Drop)]
 pub(crate) struct Connection {
     stream: TcpStream,
     http: http_server::Connection,
@@ -41,6 +40,22 @@ pub(crate) struct Connection {
     moved: u64,
     // How many octets the answer has that the client hasn't taken whole.
     kept: usize,
+}
+
+impl Drop for Connection {
+    // What HTTP's part gives up is dropped. A derived `drop` would have that of each type of a request proved anew here.
+    fn drop(self) {
+        let Connection {
+            stream,
+            http,
+            since: _,
+            is_answering: _,
+            moved: _,
+            kept: _,
+        } = self;
+        drop(stream);
+        drop(http.into_buffers());
+    }
 }
 
 // No request has a body, and each answer is taken before the next request is read, so that a client makes no more work at a time.

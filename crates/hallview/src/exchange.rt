@@ -26,7 +26,7 @@ const MAX_ANSWER_LEN: usize = 33_554_432;
 pub(crate) const PIECE: usize = 262_144;
 
 /// How far an exchange is.
-#[derive(Clone, Copy, PartialEq, Eq)]
+#[derive(Clone, Copy)]
 enum Stage {
     Connecting,
     Sending,

@@ -1,7 +1,7 @@
 //! The slots of exchanges with desks. Moments and times are milliseconds.
 use crate::exchange::{Exchange, PIECE, Progress};
 use crate::seats::MAX_EXCHANGES;
-use crate::watch::Watch;
+use crate::watch::{Watch, is_down};
 use std::alloc::{AllocError, Global};
 
 /// A slot for each exchange that there may be.
@@ -43,16 +43,15 @@ impl Exchanges {
 
     /// How many exchanges are with desks that are down.
     pub(crate) fn count_down(&self, watches: &[Watch]) -> usize {
-        let is_down = |exchange: &Exchange| match watches.get(exchange.hall) {
-            Some(watch) => watch.is_down,
-            None => false,
-        };
-        let held = self.held.iter();
-        held.filter(|held| match held {
-            Some(exchange) => is_down(exchange),
-            None => false,
-        })
-        .count()
+        let mut count: usize = 0;
+        for held in &self.held {
+            if let Some(exchange) = held {
+                if is_down(watches, exchange.hall) {
+                    count = count.saturating_add(1);
+                }
+            }
+        }
+        count
     }
 
     /// Takes a step of the exchange in a slot.

@@ -1,12 +1,13 @@
 //! Why nothing is served.
 use std::alloc::AllocError;
+use std::net::SocketAddr;
 use thiserror::Error;
 
 /// Why pages aren't served, or not any more. No client and no desk can be the cause.
-#[derive(Clone, Copy, Debug, PartialEq, Eq, Error)]
+#[derive(Clone, Copy, Debug, Error)]
 pub(crate) enum ServeFault {
-    #[error("the address to listen at can't be taken")]
-    Bind,
+    #[error("{0}: the address to listen at can't be taken")]
+    Bind(SocketAddr),
     /// The system's clocks fail, or one of them is before 1970.
     #[error("the system's clock fails")]
     Clock,

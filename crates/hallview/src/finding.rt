@@ -1,6 +1,9 @@
 //! Which halls are shown, where their desks are, and the tokens in whose name these are asked.
 use crate::asked::{Halls, Line};
+use crate::clocks::seconds_since_1970;
 use crate::desk::Desk;
+use crate::end::End;
+use crate::fault::ServeFault;
 use crate::server::Viewing;
 use crate::tokens::token_at;
 use hall_types::Name;
@@ -8,11 +11,10 @@ use hallctl_requests::{AddressFault, DeskAddress};
 use halls_file::{HallEntry, HallsFault, beside, file_octets, parse};
 use hallview_state::{Hall, State};
 use std::alloc::{AllocError, Global};
-use std::time::{SystemTime, UNIX_EPOCH};
 use thiserror::Error;
 
 /// Why halls can't be shown.
-#[derive(Clone, Copy, Debug, PartialEq, Eq, Error)]
+#[derive(Clone, Copy, Debug, Error)]
 pub(crate) enum FindFault {
     #[error("it can't be read")]
     UnreadFile,
@@ -34,37 +36,21 @@ impl From<AllocError> for FindFault {
     }
 }
 
-/// Why halls can't be shown, in words.
-#[derive(Drop)]
-pub(crate) enum Trouble {
-    Said(String),
-    /// The system's clock fails.
-    Clock,
-    /// There is no memory, for words either.
-    Memory,
-}
-
-impl From<AllocError> for Trouble {
-    fn from(_refused: AllocError) -> Trouble {
-        Trouble::Memory
-    }
-}
-
 // Says of what a fault is.
-fn said(alloc: Global, about: &str, fault: FindFault) -> Trouble {
+fn said(alloc: Global, about: &str, fault: FindFault) -> End {
     match format!(in alloc; "{about}: {fault}") {
-        Ok(words) => Trouble::Said(words),
-        Err(AllocError) => Trouble::Memory,
+        Ok(words) => End::Halls(words),
+        Err(refused) => End::from(refused),
     }
 }
 
 // Says of what a fault of a hall is. One of its token names the token's file.
-fn said_of_hall(alloc: Global, about: &str, token_file: &str, fault: FindFault) -> Trouble {
+fn said_of_hall(alloc: Global, about: &str, token_file: &str, fault: FindFault) -> End {
     match fault {
         FindFault::UnreadToken | FindFault::BadToken => {
             match format!(in alloc; "{about}: {token_file}") {
                 Ok(about) => said(alloc, about.as_str(), fault),
-                Err(AllocError) => Trouble::Memory,
+                Err(refused) => End::from(refused),
             }
         }
         _ => said(alloc, about, fault),
@@ -74,12 +60,6 @@ fn said_of_hall(alloc: Global, about: &str, token_file: &str, fault: FindFault) 
 fn push<T: Drop>(list: &mut Vec<T>, item: T) -> Result<(), AllocError> {
     list.push(item)?;
     Ok(())
-}
-
-// The seconds since 1970 by the system's clock. None before.
-fn seconds(rt: &HostRuntime) -> Option<u64> {
-    let time = SystemTime::now(rt).ok()?;
-    Some(time.duration_since(UNIX_EPOCH).ok()?.as_secs())
 }
 
 // A desk by its URL, and the token in a file.
@@ -121,28 +101,25 @@ fn add_only(
     viewing: &mut Viewing,
     url: &str,
     token_file: &str,
-) -> Result<(), Trouble> {
+) -> Result<(), End> {
     match add_hall(rt, viewing, only_name(), url, token_file) {
         Ok(()) => Ok(()),
         Err(fault) => Err(said_of_hall(rt.alloc(), url, token_file, fault)),
     }
 }
 
-// The text of a file of halls.
-fn text_at(rt: &HostRuntime, path: &str) -> Result<String, FindFault> {
+// The halls that a file names.
+fn entries(rt: &HostRuntime, path: &str) -> Result<Vec<HallEntry>, FindFault> {
     let Ok(octets) = file_octets(rt, path) else {
         return Err(FindFault::UnreadFile);
     };
-    match String::from_utf8(octets) {
-        Ok(text) => Ok(text),
-        Err(_) => Err(FindFault::BadFile(HallsFault::Toml)),
+    let Ok(text) = std::str::from_utf8(octets.as_slice()) else {
+        return Err(FindFault::BadFile(HallsFault::Toml));
+    };
+    match parse(rt.alloc(), text) {
+        Ok(entries) => Ok(entries),
+        Err(fault) => Err(FindFault::BadFile(fault)),
     }
-}
-
-// The halls that a file names.
-fn entries(rt: &HostRuntime, path: &str) -> Result<Vec<HallEntry>, FindFault> {
-    let text = text_at(rt, path)?;
-    parse(rt.alloc(), text.as_str()).map_err(FindFault::BadFile)
 }
 
 // Adds a hall that a file names.
@@ -151,7 +128,7 @@ fn add_entry(
     viewing: &mut Viewing,
     path: &str,
     entry: &HallEntry,
-) -> Result<(), Trouble> {
+) -> Result<(), End> {
     let alloc = rt.alloc();
     let token_file = beside(alloc, path, entry.token_file.as_str())?;
     let url = entry.desk.as_str();
@@ -166,7 +143,7 @@ fn add_entry(
 }
 
 // Adds the halls of a file.
-fn add_all(rt: &HostRuntime, viewing: &mut Viewing, path: &str) -> Result<(), Trouble> {
+fn add_all(rt: &HostRuntime, viewing: &mut Viewing, path: &str) -> Result<(), End> {
     match entries(rt, path) {
         Ok(entries) => {
             for entry in &entries {
@@ -188,10 +165,10 @@ fn names(alloc: Global, line: &Line<'_>) -> Result<Vec<String>, AllocError> {
 }
 
 /// What a line asks to show.
-pub(crate) fn viewing(rt: &HostRuntime, line: &Line<'_>) -> Result<Viewing, Trouble> {
+pub(crate) fn viewing(rt: &HostRuntime, line: &Line<'_>) -> Result<Viewing, End> {
     let alloc = rt.alloc();
-    let Some(began) = seconds(rt) else {
-        return Err(Trouble::Clock);
+    let Some(began) = seconds_since_1970(rt) else {
+        return Err(End::Serve(ServeFault::Clock));
     };
     let is_named = matches!(line.halls, Halls::File(_));
     let mut viewing = Viewing {

@@ -35,12 +35,12 @@ impl Marks {
     }
 
     pub(crate) fn is_marked(&self, seat: usize) -> bool {
-        self.marked.get(seat).copied().unwrap_or(false)
+        matches!(self.marked.get(seat), Some(true))
     }
 
     /// Whether any socket may have something.
     pub(crate) fn has_any(&self) -> bool {
-        self.marked.iter().any(|is_marked| *is_marked)
+        self.marked.contains(&true)
     }
 
     /// Marks the seats of which the events are.

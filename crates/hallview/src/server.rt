@@ -62,7 +62,7 @@ impl Server {
         let sockets = Sockets::new(rt, rt.alloc())?;
         let clients = Clients::bind(rt, &sockets, listen)?;
         let Ok(address) = clients.address() else {
-            return Err(ServeFault::Bind);
+            return Err(ServeFault::Bind(listen));
         };
         let asking = Asking::new(rt.alloc(), desks, every.saturating_mul(SECOND))?;
         Ok(Server {

@@ -88,7 +88,7 @@ fn add_fields(
     fields: &[Field],
 ) -> Result<bool, AllocError> {
     for field in fields {
-        if !add_field(alloc, response, field.name.as_str(), field.value.as_str())? {
+        if !add_field(alloc, response, field.name, field.value.as_str())? {
             return Ok(false);
         }
     }

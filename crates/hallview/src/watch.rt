@@ -43,6 +43,14 @@ fn request_to(alloc: Global, desk: &Desk, ask: &Ask<'_>) -> Result<Vec<u8>, Allo
     }
 }
 
+/// Whether the desk at this place is down.
+pub(crate) fn is_down(watches: &[Watch], place: usize) -> bool {
+    match watches.get(place) {
+        Some(watch) => watch.is_down,
+        None => false,
+    }
+}
+
 impl Watch {
     /// That of a hall with this desk.
     pub(crate) fn new(alloc: Global, desk: Desk) -> Result<Watch, AllocError> {

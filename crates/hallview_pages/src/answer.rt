@@ -54,17 +54,16 @@ fn line(alloc: Global, status: u16, text: &str) -> Result<Answer, AllocError>
     })
 }
 
-fn no_page(alloc: Global) -> Result<Answer, AllocError>
-    ensures { IfOk result (λ answer. (state : State) (now : ℕ) → IsRight state now answer) }
-{
-    line(alloc, 404, "There is no such page.\n")
-}
-
 // The hall and the number of a machine's path, as `/machines/hall/7`.
 fn machine_of<'s>(state: &'s State, path: &str) -> Option<(&'s Hall, Number)> {
     let (name, id) = path.strip_prefix("/machines/")?.split_once("/")?;
-    let hall = state.halls.iter().find(|hall| hall.name.text() == name)?;
-    Some((hall, id.parse::<Number>().ok()?))
+    let id = id.parse::<Number>().ok()?;
+    for hall in state.halls.as_slice() {
+        if hall.name.text() == name {
+            return Some((hall, id));
+        }
+    }
+    None
 }
 
 // The page of a machine.
@@ -146,7 +145,7 @@ fn routed(alloc: Global, state: &State, now: u64, asked: &Asked<'_>) -> Result<A
         "/healthz" => line(alloc, 200, "ok\n"),
         _ => match machine_of(state, path) {
             Some((hall, id)) => one_machine(alloc, state, now, hall, id),
-            None => no_page(alloc),
+            None => line(alloc, 404, "There is no such page.\n"),
         },
     }
 }
@@ -168,12 +167,12 @@ fn is_known(host: Option<&str>, names: &[String]) -> bool {
         return false;
     };
     let host = without_port(host);
-    host.eq_ignore_ascii_case("localhost")
-        || host == "127.0.0.1"
-        || host == "::1"
-        || names
-            .iter()
-            .any(|name| host.eq_ignore_ascii_case(name.as_str()))
+    for name in names {
+        if host.eq_ignore_ascii_case(name.as_str()) {
+            return true;
+        }
+    }
+    host.eq_ignore_ascii_case("localhost") || host == "127.0.0.1" || host == "::1"
 }
 
 /// What a request is answered, from what is known of the halls now, in seconds since 1970. `names` are the hosts by which the program is

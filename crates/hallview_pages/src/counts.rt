@@ -24,7 +24,7 @@ fn by_size(one: &PoolCounts, other: &PoolCounts) -> Ordering {
 fn shown_of(alloc: Global, pools: &[PoolCounts]) -> Result<Vec<PoolCounts>, AllocError> {
     let mut shown = Vec::from_slice(alloc, pools)?;
     if shown.len() > MAX_POOLS {
-        shown.sort_by(|one, other| by_size(one, other))?;
+        shown.sort_by(by_size)?;
         shown.truncate(MAX_POOLS);
         shown.sort_by(|one, other| one.pool.text().cmp(other.pool.text()))?;
     }
@@ -128,12 +128,11 @@ fn put_caption(page: &mut Page, hall: &Hall) {
 // The beginning of a hall's counts, which are open where they are the only ones.
 fn begin(page: &mut Page, hall: &Hall, is_open: bool) {
     let open = if is_open {
-        "<details open=\"\">\n"
+        "<details open=\"\">\n<summary>"
     } else {
-        "<details>\n"
+        "<details>\n<summary>"
     };
     page.put(open, &[]);
-    page.put("<summary>", &[]);
     put_caption(page, hall);
     page.put("</summary>\n<div role=\"group\" aria-label=\"", &[]);
     put_caption(page, hall);

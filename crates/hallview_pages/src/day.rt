@@ -157,13 +157,12 @@ fn put_number(page: &mut Page, value: Value<'_>) {
 
 // How many machines had a status at a minute of the day.
 fn count_then(parts: &[Part], minute: u64, status: Status) -> Value<'static> {
-    match parts
-        .iter()
-        .find(|part| part.begins <= minute && minute < part.ends)
-    {
-        Some(part) => Value::Number(part.count(status)),
-        None => Value::Text("-"),
+    for part in parts {
+        if part.begins <= minute && minute < part.ends {
+            return Value::Number(part.count(status));
+        }
     }
+    Value::Text("-")
 }
 
 fn put_status(page: &mut Page, parts: &[Part], last: &Part, status: Status) {

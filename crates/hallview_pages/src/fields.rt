@@ -9,7 +9,7 @@ use std::alloc::{AllocError, Global};
 /// A field: its name and its value.
 #[derive(Drop)]
 pub struct Field {
-    pub name: String,
+    pub name: &'static str,
     pub value: String,
 }
 
@@ -30,6 +30,14 @@ fn policy(alloc: Global) -> Result<String, AllocError> {
     )
 }
 
+// The fields that each answer has.
+const FIXED: [(&str, &str); 4] = [
+    ("x-content-type-options", "nosniff"),
+    ("referrer-policy", "no-referrer"),
+    ("cross-origin-resource-policy", "same-origin"),
+    ("cache-control", "no-store"),
+];
+
 fn content_type(kind: Kind) -> &'static str {
     match kind {
         Kind::Html => "text/html; charset=utf-8",
@@ -40,11 +48,14 @@ fn content_type(kind: Kind) -> &'static str {
     }
 }
 
-fn push(alloc: Global, fields: &mut Vec<Field>, name: &str, value: &str) -> Result<(), AllocError> {
-    fields.push(Field {
-        name: String::from_str(alloc, name)?,
-        value: String::from_str(alloc, value)?,
-    })?;
+fn push(
+    alloc: Global,
+    fields: &mut Vec<Field>,
+    name: &'static str,
+    value: &str,
+) -> Result<(), AllocError> {
+    let value = String::from_str(alloc, value)?;
+    fields.push(Field { name, value })?;
     Ok(())
 }
 
@@ -62,15 +73,9 @@ impl Answer {
                 policy.as_str(),
             )?;
         }
-        push(alloc, &mut fields, "x-content-type-options", "nosniff")?;
-        push(alloc, &mut fields, "referrer-policy", "no-referrer")?;
-        push(
-            alloc,
-            &mut fields,
-            "cross-origin-resource-policy",
-            "same-origin",
-        )?;
-        push(alloc, &mut fields, "cache-control", "no-store")?;
+        for (name, value) in FIXED.as_slice() {
+            push(alloc, &mut fields, *name, value)?;
+        }
         if self.status == 405 {
             push(alloc, &mut fields, "allow", "GET, HEAD")?;
         }

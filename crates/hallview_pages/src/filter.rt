@@ -43,6 +43,15 @@ fn values_of<'s>(alloc: Global, view: &View<'s>, field: Field) -> Result<Vec<&'s
     Ok(values)
 }
 
+fn has(values: &[&str], text: &str) -> bool {
+    for value in values {
+        if *value == text {
+            return true;
+        }
+    }
+    false
+}
+
 fn put_select(
     page: &mut Page,
     view: &View<'_>,
@@ -51,12 +60,11 @@ fn put_select(
     values: &[&str],
 ) {
     let current = view.query.text(field);
-    page.put("<label>{} <select name=\"", &[Value::Text(label)]);
     page.put(
-        "{}\">\n<option value=\"\">any</option>\n",
-        &[Value::Text(field.name())],
+        "<label>{} <select name=\"{}\">\n<option value=\"\">any</option>\n",
+        &[Value::Text(label), Value::Text(field.name())],
     );
-    if !current.is_empty() && !values.iter().any(|value| *value == current) {
+    if !current.is_empty() && !has(values, current) {
         page.put(CHOSEN, &[Value::Text(current), Value::Text(current)]);
     }
     for value in values.iter().take(MAX_OPTIONS) {

@@ -210,7 +210,12 @@ fn contents_of(
 
 /// The machine with this number in a hall's last list.
 pub(crate) fn find(hall: &Hall, id: Number) -> Option<&Listed> {
-    hall.machines().iter().find(|one| one.machine.id == id)
+    for one in hall.machines() {
+        if one.machine.id == id {
+            return Some(one);
+        }
+    }
+    None
 }
 
 /// The page of a machine of a hall, also of one that the hall's last list doesn't have.

@@ -48,9 +48,12 @@ fn put_part(page: &mut Page, view: &View<'_>, sheet: Sheet, first: usize, here: 
 }
 
 fn is_chosen_from(query: &Query) -> bool {
-    Field::CHOOSING
-        .iter()
-        .any(|field| !query.text(*field).is_empty())
+    for field in Field::CHOOSING.as_slice() {
+        if !query.text(*field).is_empty() {
+            return true;
+        }
+    }
+    false
 }
 
 // How many machines are chosen, and which of them are on this page.

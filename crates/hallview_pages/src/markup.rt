@@ -7,7 +7,7 @@ use std::alloc::{AllocError, Global};
 use std::marker::Model;
 
 /// Where a reader of markup stands.
-#[derive(Clone, Copy, PartialEq, Eq)]
+#[derive(Clone, Copy)]
 pub(crate) enum Place {
     /// In text.
     Text,
@@ -137,12 +137,8 @@ impl Page {
 
     // Writes a value. Within a tag nothing is written.
     fn push_value(&mut self, value: Value<'_>) -> Result<(), AllocError> {
-        let _ = if let Value::Text(text) = value {
-            self.push_text(text)?
-        } else {
-            let text = value.text(self.alloc, self.context.now)?;
-            self.push_text(text.as_str())?
-        };
+        let text = value.text(self.alloc, self.context.now)?;
+        let _ = self.push_text(text.as_str())?;
         Ok(())
     }
 

@@ -30,14 +30,12 @@ fn put_order(page: &mut Page, work: &Work<'_>) {
     let Some(waiting) = work.one.machine.waiting else {
         return put_cell(page, Value::Text("-"));
     };
-    let last = work.hall.listed_at().unwrap_or(page.context.now);
-    let seen = work.hall.order_seen(waiting).unwrap_or(last);
     page.put(
         "<td>{} {}, {}</td>",
         &[
             Value::Text(order_kind(work.one.machine.status).text()),
             Value::Number(waiting.get()),
-            Value::Span(last.saturating_sub(seen)),
+            Value::Span(work.hall.order_waits(waiting)),
         ],
     );
 }
@@ -98,7 +96,7 @@ fn put_table(alloc: Global, page: &mut Page, view: &View<'_>) -> Result<(), Allo
     );
     page.put("</tr>\n</thead>\n<tbody>", &[]);
     let mut ordered = Vec::from_slice(alloc, view.work.as_slice())?;
-    ordered.sort_by(|one, other| by_deadline(one, other))?;
+    ordered.sort_by(by_deadline)?;
     for work in ordered.iter().take(MAX_ROWS) {
         put_row(page, has_several, work);
     }

@@ -1,5 +1,5 @@
 //! What `GET /metrics` answers.
-ghost use Rattle.std.specs.Prelude.{◌≡◌, ◌++◌, true, List, IfOk, OnOk, decimal, string_bytes, map, flat_map};
+ghost use Rattle.std.specs.Prelude.{◌≡◌, ◌++◌, true, List, IfOk, OnOk, string_bytes, map, flat_map};
 ghost use Rattle.hallview_state.specs.{Exposition.{Sample, is_one_line}, Told.{AreMetrics, age_text, of_age, of_took, of_up, seconds_text, up_text, zeros}};
 
 use crate::families::{Family, Label};
@@ -9,20 +9,13 @@ use crate::listed::Listed;
 use crate::pools::pools_of;
 use crate::samples::Metrics;
 use crate::state::State;
+use crate::text::number;
 use crate::waiting::{Waiting, waiting_orders};
 use hall_types::Status;
 use std::alloc::{AllocError, Global};
 
 // A hall with more pools than these has no zeros for statuses that no machine of a pool has.
 const MAX_ZEROS: usize = 100;
-
-#[tactic(auto, using(crate::proofs::ValueLemmas::decimal_is_one_line))]
-fn number(alloc: Global, number: u64) -> Result<String, AllocError>
-    ensures text { IfOk result (λ text. string_bytes text ≡ decimal number) }
-    ensures line { IfOk result (λ text. is_one_line (string_bytes text) ≡ true) }
-{
-    format!(in alloc; "{number}")
-}
 
 fn push_machines(alloc: Global, metrics: &mut Metrics, hall: &Hall) -> Result<(), AllocError> {
     let pools = pools_of(alloc, hall.machines())?;
@@ -54,16 +47,11 @@ fn count_of(orders: &[Waiting<'_>], kind: &str) -> u64 {
     count
 }
 
-fn push_orders(
-    alloc: Global,
-    metrics: &mut Metrics,
-    hall: &Hall,
-    now: u64,
-) -> Result<(), AllocError> {
+fn push_orders(alloc: Global, metrics: &mut Metrics, hall: &Hall) -> Result<(), AllocError> {
     if hall.list.is_none() {
         return Ok(());
     }
-    let orders = waiting_orders(alloc, hall, now)?;
+    let orders = waiting_orders(alloc, hall)?;
     for kind in ["cycle", "off"] {
         let own = number(alloc, count_of(orders.as_slice(), kind))?;
         metrics.add_labelled(
@@ -164,7 +152,7 @@ fn push_counts(
     }
     metrics.begin(Family::Orders)?;
     for hall in halls {
-        push_orders(alloc, metrics, hall, now)?;
+        push_orders(alloc, metrics, hall)?;
     }
     metrics.begin(Family::Deadlines)?;
     for hall in halls {

@@ -4,7 +4,7 @@ ghost use Rattle.hallview_state.specs.Exposition.{is_one_line};
 ghost use Rattle.hallview_state.specs.Families.{label_name, sample_name};
 
 /// A family of metrics.
-#[derive(Clone, Copy, PartialEq, Eq)]
+#[derive(Clone, Copy)]
 pub(crate) enum Family {
     Machines,
     Orders,
@@ -79,7 +79,7 @@ impl Family {
 }
 
 /// What a sample is labelled with.
-#[derive(Clone, Copy, PartialEq, Eq)]
+#[derive(Clone, Copy)]
 pub(crate) enum Label {
     Hall,
     Pool,

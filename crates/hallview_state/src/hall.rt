@@ -53,20 +53,17 @@ fn is_old(now: u64, every: u64, at: u64) -> bool
     now.saturating_sub(at) > every.saturating_mul(3).max(30)
 }
 
-// The refusal that an answer names.
-fn refusal_in(alloc: Global, body: &str) -> Result<Option<Refusal>, AllocError> {
-    let Some(value) = value_of(alloc, body.as_bytes())? else {
-        return Ok(None);
-    };
-    let name = value.get("refusal").and_then(Value::as_str);
-    Ok(name.and_then(|name| name.parse::<Refusal>().ok()))
-}
-
-// Why an answer is no list.
+// Why an answer is no list: the refusal that it names, if it names one.
 fn loss_of(alloc: Global, body: &str) -> Result<Loss, AllocError> {
-    match refusal_in(alloc, body)? {
-        Some(refusal) => Ok(Loss::Refused(refusal)),
-        None => Ok(Loss::NotTheDesk),
+    let Some(value) = value_of(alloc, body.as_bytes())? else {
+        return Ok(Loss::NotTheDesk);
+    };
+    let Some(Value::String(name)) = value.get("refusal") else {
+        return Ok(Loss::NotTheDesk);
+    };
+    match name.as_str().parse::<Refusal>() {
+        Ok(refusal) => Ok(Loss::Refused(refusal)),
+        Err(_) => Ok(Loss::NotTheDesk),
     }
 }
 
@@ -140,9 +137,12 @@ impl Hall {
         }
     }
 
-    /// When the order with this number was first seen in a list.
-    pub fn order_seen(&self, number: Number) -> Option<u64> {
-        seen_at(self.orders.as_slice(), number)
+    /// For how many seconds the order with this number was seen in lists, up to the last one.
+    pub fn order_waits(&self, number: Number) -> u64 {
+        match (seen_at(self.orders.as_slice(), number), self.listed_at()) {
+            (Some(seen), Some(last)) => last.saturating_sub(seen),
+            _ => 0,
+        }
     }
 
     // Takes a list, which came at a moment after so many milliseconds.

@@ -1,5 +1,6 @@
 //! The statuses of a hall over the last day, a sample every ten minutes.
 use crate::listed::Listed;
+use crate::text::DAY;
 use hall_types::Status;
 use std::alloc::AllocError;
 
@@ -8,9 +9,6 @@ pub const STATUSES: usize = Status::ALL.len();
 
 /// The seconds between two samples.
 pub const SLOT: u64 = 600;
-
-// The seconds of a day.
-const DAY: u64 = 86_400;
 
 /// How many machines had each status, by the statuses' numbers.
 #[derive(Clone, Copy)]
@@ -31,11 +29,6 @@ pub fn counts_of(machines: &[Listed]) -> [u64; STATUSES] {
     counts
 }
 
-// Whether a sample is a part of the day that ends now.
-fn is_of_day(sample: &Sample, now: u64) -> bool {
-    sample.at.saturating_add(SLOT + DAY) > now
-}
-
 /// Adds the sample of a list, if it is the first one of its ten minutes, and takes out those that are older than a day.
 pub(crate) fn add_sample(
     history: &mut Vec<Sample>,
@@ -48,7 +41,7 @@ pub(crate) fn add_sample(
             return Ok(());
         }
     }
-    history.retain(|sample| is_of_day(sample, now));
+    history.retain(|sample| sample.at.saturating_add(SLOT + DAY) > now);
     history.push(Sample {
         at,
         counts: counts_of(machines),

@@ -14,13 +14,6 @@ fn quoted(alloc: Global, text: &str) -> Result<String, AllocError> {
     Value::try_from_str(alloc, text)?.to_string(alloc)
 }
 
-fn or_null(alloc: Global, number: Option<u64>) -> Result<String, AllocError> {
-    match number {
-        Some(number) => format!(in alloc; "{number}"),
-        None => String::from_str(alloc, "null"),
-    }
-}
-
 // A comma before all items but the first.
 fn comma(text: &mut String, place: usize) -> Result<(), AllocError> {
     if place > 0 {
@@ -42,33 +35,33 @@ fn push_machines(alloc: Global, text: &mut String, machines: &[Listed]) -> Resul
     text.push_str(inner.strip_suffix("}").unwrap_or(inner))
 }
 
-fn push_moves(alloc: Global, text: &mut String, moves: &[Move]) -> Result<(), AllocError> {
+fn push_moves(text: &mut String, moves: &[Move]) -> Result<(), AllocError> {
     for (place, step) in moves.iter().enumerate() {
         comma(text, place)?;
         let (at, id) = (step.at, step.machine.get());
         let (from, to) = (step.from.text(), step.to.text());
-        text.push_str(format!(in alloc; "[{at},{id},\"{from}\",\"{to}\"]")?.as_str())?;
+        write!(text, "[{at},{id},\"{from}\",\"{to}\"]")?;
     }
     Ok(())
 }
 
-fn push_orders(alloc: Global, text: &mut String, orders: &[Seen]) -> Result<(), AllocError> {
+fn push_orders(text: &mut String, orders: &[Seen]) -> Result<(), AllocError> {
     for (place, order) in orders.iter().enumerate() {
         comma(text, place)?;
         let (number, at) = (order.number.get(), order.at);
-        text.push_str(format!(in alloc; "[{number},{at}]")?.as_str())?;
+        write!(text, "[{number},{at}]")?;
     }
     Ok(())
 }
 
-fn push_history(alloc: Global, text: &mut String, history: &[Sample]) -> Result<(), AllocError> {
+fn push_history(text: &mut String, history: &[Sample]) -> Result<(), AllocError> {
     for (place, sample) in history.iter().enumerate() {
         comma(text, place)?;
         let at = sample.at;
-        text.push_str(format!(in alloc; "[{at},[")?.as_str())?;
+        write!(text, "[{at},[")?;
         for (place, count) in sample.counts.iter().enumerate() {
             comma(text, place)?;
-            text.push_str(format!(in alloc; "{count}")?.as_str())?;
+            write!(text, "{count}")?;
         }
         text.push_str("]]")?;
     }
@@ -84,25 +77,28 @@ fn push_members(alloc: Global, text: &mut String, hall: &Hall) -> Result<(), All
         None => String::new(alloc),
     };
     let fault = quoted(alloc, fault.as_str())?;
-    let listed = or_null(alloc, hall.listed_at())?;
-    let took = match &hall.list {
-        Some(list) => list.took,
-        None => 0,
-    };
-    text.push_str(format!(in alloc;
-        "{{\"name\":\"{name}\",\"desk\":{desk},\"every\":{every},\"up\":{up},\"fault\":{fault},\"listed\":{listed},\"took_ms\":{took},"
-    )?.as_str())
+    write!(
+        text,
+        "{{\"name\":\"{name}\",\"desk\":{desk},\"every\":{every},\"up\":{up},\"fault\":{fault},"
+    )?;
+    match &hall.list {
+        Some(list) => {
+            let (at, took) = (list.at, list.took);
+            write!(text, "\"listed\":{at},\"took_ms\":{took},")
+        }
+        None => text.push_str("\"listed\":null,\"took_ms\":0,"),
+    }
 }
 
 fn push_hall(alloc: Global, text: &mut String, hall: &Hall) -> Result<(), AllocError> {
     push_members(alloc, text, hall)?;
     push_machines(alloc, text, hall.machines())?;
     text.push_str(",\"orders_seen\":[")?;
-    push_orders(alloc, text, hall.orders.as_slice())?;
+    push_orders(text, hall.orders.as_slice())?;
     text.push_str("],\"moves\":[")?;
-    push_moves(alloc, text, hall.moves.as_slice())?;
+    push_moves(text, hall.moves.as_slice())?;
     text.push_str("],\"history\":[")?;
-    push_history(alloc, text, hall.history.as_slice())?;
+    push_history(text, hall.history.as_slice())?;
     text.push_str("]}")
 }
 

@@ -41,10 +41,10 @@ fn machines_at(alloc: Global, body: &str) -> Result<Option<Vec<Listed>>, AllocEr
     let Some(value) = value_of(alloc, body.as_bytes())? else {
         return Ok(None);
     };
-    let Some(objects) = value.get("machines").and_then(Value::as_array) else {
-        return Ok(None);
-    };
-    machines_in(alloc, objects.as_slice())
+    match value.get("machines") {
+        Some(Value::Array(objects)) => machines_in(alloc, objects.as_slice()),
+        _ => Ok(None),
+    }
 }
 
 // The desk's answer that lists these machines.

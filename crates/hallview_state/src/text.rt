@@ -1,6 +1,6 @@
 //! Moments, times and counts in words.
-ghost use Rattle.std.specs.Prelude.{◌≡◌, IfOk, string_bytes};
-ghost use Rattle.hallview_state.specs.Spans.{span_text};
+ghost use Rattle.std.specs.Prelude.{◌≡◌, true, IfOk, decimal, string_bytes};
+ghost use Rattle.hallview_state.specs.{Exposition.is_one_line, Spans.span_text};
 
 use jiff::Timestamp;
 use std::alloc::{AllocError, Global};
@@ -63,7 +63,11 @@ pub fn span(alloc: Global, seconds: u64) -> Result<String, AllocError>
 }
 
 /// A number in decimal digits.
-pub fn number(alloc: Global, number: u64) -> Result<String, AllocError> {
+#[tactic(auto, using(crate::proofs::ValueLemmas::decimal_is_one_line))]
+pub fn number(alloc: Global, number: u64) -> Result<String, AllocError>
+    ensures text { IfOk result (λ text. string_bytes text ≡ decimal number) }
+    ensures line { IfOk result (λ text. is_one_line (string_bytes text) ≡ true) }
+{
     format!(in alloc; "{number}")
 }
 

@@ -83,7 +83,7 @@ impl<'s> View<'s> {
     }
 
     fn add(&mut self, alloc: Global, hall: &'s Hall) -> Result<(), AllocError> {
-        let orders = waiting_orders(alloc, hall, self.now)?;
+        let orders = waiting_orders(alloc, hall)?;
         let trouble = groups_of(alloc, &mut self.groups, hall, orders.as_slice(), self.now)?;
         let work = push_work(&mut self.work, hall, self.now)?;
         self.halls.push(hall)?;

@@ -21,18 +21,11 @@ impl Waiting<'_> {
 }
 
 /// The orders that machines of a hall wait for, by number.
-pub fn waiting_orders<'s>(
-    alloc: Global,
-    hall: &'s Hall,
-    now: u64,
-) -> Result<Vec<Waiting<'s>>, AllocError> {
-    let last = hall.listed_at().unwrap_or(now);
+pub fn waiting_orders<'s>(alloc: Global, hall: &'s Hall) -> Result<Vec<Waiting<'s>>, AllocError> {
     let mut orders = Vec::new(alloc);
     for one in hall.machines() {
-        if let Some(number) = one.machine.waiting {
-            let seen = hall.order_seen(number).unwrap_or(last);
-            let waits = last.saturating_sub(seen);
-            let number = number.get();
+        if let Some(order) = one.machine.waiting {
+            let (number, waits) = (order.get(), hall.order_waits(order));
             orders.push(Waiting { number, one, waits })?;
         }
     }

@@ -55,7 +55,7 @@ fn show_body(alloc: Global, answer: &Answer, name: &str, out: &mut Out) -> Playe
 fn show_fields(alloc: Global, answer: &Answer, out: &mut Out) -> Played {
     let fields = answer.fields(alloc)?;
     for field in fields.as_slice() {
-        let (name, value) = (field.name.as_str(), field.value.as_str());
+        let (name, value) = (field.name, field.value.as_str());
         out.show(format_args!("{name}: {value}"));
         out.line("");
     }
