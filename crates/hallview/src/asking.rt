@@ -1,7 +1,6 @@
 //! The desks of all halls are asked for their machines, each at its times, and few at once. Moments and times are milliseconds.
 ghost use Rattle.std.specs.Prelude.{◌<◌};
 
-use crate::desk::Desk;
 use crate::dues::Dues;
 use crate::exchange::{Exchange, Progress};
 use crate::exchanges::Exchanges;
@@ -31,14 +30,6 @@ pub(crate) struct Asking {
     resolver_at: u64,
 }
 
-fn watches(alloc: Global, desks: Vec<Desk>) -> Result<Vec<Watch>, AllocError> {
-    let mut watches = Vec::with_capacity(alloc, desks.len())?;
-    for desk in desks {
-        watches.push(Watch::new(alloc, desk)?)?;
-    }
-    Ok(watches)
-}
-
 // A connection that is begun to an address.
 fn connected(
     rt: &HostRuntime,
@@ -55,10 +46,14 @@ fn connected(
 
 impl Asking {
     /// No desk was asked yet. Each is asked so often.
-    pub(crate) fn new(alloc: Global, desks: Vec<Desk>, wished: u64) -> Result<Asking, AllocError> {
-        let dues = Dues::new(alloc, wished, desks.len())?;
+    pub(crate) fn new(
+        alloc: Global,
+        watches: Vec<Watch>,
+        wished: u64,
+    ) -> Result<Asking, AllocError> {
+        let dues = Dues::new(alloc, wished, watches.len())?;
         Ok(Asking {
-            watches: watches(alloc, desks)?,
+            watches,
             dues,
             wished,
             exchanges: Exchanges::new(alloc)?,
@@ -170,7 +165,7 @@ impl Asking {
         }
         if let Some(hall) = halls.get_mut(place) {
             hall.lose(loss);
-            hall.set_every(seconds_of(pause));
+            hall.every = seconds_of(pause);
         }
         self.dues.set_again(place, true, begun, pause);
     }
@@ -192,7 +187,7 @@ impl Asking {
         );
         watch.is_down = !hall.is_up();
         let pause = pause(self.wished, until(begun, turn.later()));
-        hall.set_every(seconds_of(pause));
+        hall.every = seconds_of(pause);
         self.dues.set_again(place, watch.is_down, begun, pause);
     }
 

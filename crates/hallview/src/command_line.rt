@@ -2,8 +2,9 @@
 ghost use Rattle.std.specs.Prelude.{◌≤◌, IfOk, IfSome};
 
 use crate::asked::{Halls, Line};
+use crate::end::End;
 use crate::options::{CONFIG, DESK, EVERY, LISTEN, NAME, OPTIONS, TOKEN_FILE};
-use command_rows::{Front, Options, Usage, Wrong};
+use command_rows::{Front, Options, Wrong};
 use hall_types::Number;
 use std::alloc::Global;
 
@@ -15,15 +16,6 @@ const MAX_SECONDS: u64 = 3_600;
 
 // The characters of the longest host (RFC 1123 section 2.1).
 const MAX_HOST_LEN: usize = 253;
-
-/// Why a command line asks for nothing.
-#[derive(Drop)]
-pub(crate) enum LineFault {
-    /// The words are none of the command line's, or ask for help.
-    Usage(Usage),
-    /// An option isn't what it must be.
-    Wrong(Wrong),
-}
 
 // The seconds from one look at a desk to the next.
 fn seconds_of(text: &str) -> Option<u64>
@@ -93,7 +85,7 @@ fn line_of<'a>(options: &Options<'a>) -> Result<Line<'a>, Wrong>
 /// # Errors
 ///
 /// `Usage` where the words are none of the command line's or ask for help, and `Wrong` where an option isn't what it must be.
-pub(crate) fn read<'a>(alloc: Global, words: &'a [String]) -> Result<Line<'a>, LineFault>
+pub(crate) fn read<'a>(alloc: Global, words: &'a [String]) -> Result<Line<'a>, End>
     ensures { IfOk result (λ line. (1 ≤ line.every) × (line.every ≤ 3600)) }
 {
     let front = Front {
@@ -105,6 +97,6 @@ pub(crate) fn read<'a>(alloc: Global, words: &'a [String]) -> Result<Line<'a>, L
         commands: &[],
         needs_command: false,
     };
-    let options = Options::read(alloc, &front, words).map_err(LineFault::Usage)?;
-    line_of(&options).map_err(LineFault::Wrong)
+    let options = Options::read(alloc, &front, words)?;
+    Ok(line_of(&options)?)
 }

@@ -1,6 +1,4 @@
 //! One connection of a client: what it asks by HTTP, and what of the answer it has taken. Moments and times are milliseconds.
-ghost use Rattle.std.specs.Prelude.{◌≡◌};
-
 use crate::service::Pages;
 use crate::times::{has_passed, left};
 use http_server::Config;
@@ -36,10 +34,10 @@ pub(crate) struct Connection {
     // Since when a request is waited for, or an answer is taken.
     since: u64,
     is_answering: bool,
-    // When octets were last read or written.
-    moved: u64,
-    // How many octets the answer has that the client hasn't taken whole.
-    kept: usize,
+    /// When octets were last read or written.
+    pub(crate) moved: u64,
+    /// How many octets the answer has that the client hasn't taken whole; 0 if there is none.
+    pub(crate) kept: usize,
 }
 
 impl Drop for Connection {
@@ -54,7 +52,9 @@ impl Drop for Connection {
             kept: _,
         } = self;
         drop(stream);
-        drop(http.into_buffers());
+        let (input, output) = http.into_buffers();
+        drop(input);
+        drop(output);
     }
 }
 
@@ -83,18 +83,6 @@ impl Connection {
             moved: now,
             kept: 0,
         }
-    }
-
-    /// When octets were last read or written.
-    pub(crate) fn moved(&self) -> u64
-        ensures { result ≡ self.now.moved }
-    {
-        self.moved
-    }
-
-    /// How many octets the answer has that the client hasn't taken whole; 0 if there is none.
-    pub(crate) fn kept(&self) -> usize {
-        self.kept
     }
 
     /// Whether the client has taken too long.

@@ -1,7 +1,6 @@
 //! Why the program ends, and what it says then.
-use crate::command_line::LineFault;
 use crate::fault::ServeFault;
-use command_rows::Wrong;
+use command_rows::{Usage, Wrong};
 use std::alloc::AllocError;
 use std::fmt::Display;
 
@@ -14,8 +13,10 @@ const USAGE: u8 = 2;
 /// Why the program ends.
 #[derive(Drop)]
 pub(crate) enum End {
-    /// The line asks for nothing, or for help.
-    Line(LineFault),
+    /// The words are none of the command line's, or ask for help.
+    Usage(Usage),
+    /// An option isn't what it must be.
+    Wrong(Wrong),
     /// A word of the command line isn't UTF-8.
     NotText,
     /// The halls, their desks or their tokens can't be had: why, in words.
@@ -23,6 +24,18 @@ pub(crate) enum End {
     /// The line that says where pages are can't be written.
     Output,
     Serve(ServeFault),
+}
+
+impl From<Usage> for End {
+    fn from(usage: Usage) -> End {
+        End::Usage(usage)
+    }
+}
+
+impl From<Wrong> for End {
+    fn from(wrong: Wrong) -> End {
+        End::Wrong(wrong)
+    }
 }
 
 impl From<ServeFault> for End {
@@ -46,12 +59,12 @@ impl End {
     /// Prints the help, or why the program ends, and gives its exit status.
     pub(crate) fn report(&self, rt: &HostRuntime) -> u8 {
         match self {
-            End::Line(LineFault::Usage(usage)) if !usage.is_memory() => {
+            End::Usage(usage) if !usage.is_memory() => {
                 usage.print(rt);
                 usage.status()
             }
-            End::Line(LineFault::Wrong(Wrong::Text(line))) => report(rt, line.as_str(), USAGE),
-            End::Line(_) => report(rt, ServeFault::Memory, FAULT),
+            End::Wrong(Wrong::Text(line)) => report(rt, line.as_str(), USAGE),
+            End::Usage(_) | End::Wrong(_) => report(rt, ServeFault::Memory, FAULT),
             End::NotText => report(rt, "a word of the command line isn't UTF-8", USAGE),
             End::Halls(words) => report(rt, words.as_str(), FAULT),
             End::Output => report(rt, "standard output can't be written", FAULT),

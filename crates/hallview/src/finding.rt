@@ -1,11 +1,11 @@
 //! Which halls are shown, where their desks are, and the tokens in whose name these are asked.
 use crate::asked::{Halls, Line};
 use crate::clocks::seconds_since_1970;
-use crate::desk::Desk;
 use crate::end::End;
 use crate::fault::ServeFault;
 use crate::server::Viewing;
 use crate::tokens::token_at;
+use crate::watch::Watch;
 use hall_types::Name;
 use hallctl_requests::{AddressFault, DeskAddress};
 use halls_file::{HallEntry, HallsFault, beside, file_octets, parse};
@@ -62,16 +62,14 @@ fn push<T: Drop>(list: &mut Vec<T>, item: T) -> Result<(), AllocError> {
     Ok(())
 }
 
-// A desk by its URL, and the token in a file.
-fn desk(rt: &HostRuntime, url: &str, token_file: &str) -> Result<Desk, FindFault> {
+// What it needs to watch the hall of a desk, by its URL and the file of a token.
+fn watch(rt: &HostRuntime, url: &str, token_file: &str) -> Result<Watch, FindFault> {
     let address = DeskAddress::new(rt.alloc(), url).map_err(FindFault::BadDesk)?;
-    Ok(Desk {
-        address,
-        token: token_at(rt, token_file)?,
-    })
+    let token = token_at(rt, token_file)?;
+    Ok(Watch::new(rt.alloc(), address, &token)?)
 }
 
-// Adds a hall with its desk.
+// Adds a hall, and what watches it.
 fn add_hall(
     rt: &HostRuntime,
     viewing: &mut Viewing,
@@ -79,9 +77,9 @@ fn add_hall(
     url: &str,
     token_file: &str,
 ) -> Result<(), FindFault> {
-    let desk = desk(rt, url, token_file)?;
+    let watch = watch(rt, url, token_file)?;
     let hall = Hall::new(rt.alloc(), name, url, viewing.every)?;
-    push(&mut viewing.desks, desk)?;
+    push(&mut viewing.watches, watch)?;
     push(&mut viewing.state.halls, hall)?;
     Ok(())
 }
@@ -173,7 +171,7 @@ pub(crate) fn viewing(rt: &HostRuntime, line: &Line<'_>) -> Result<Viewing, End>
     let is_named = matches!(line.halls, Halls::File(_));
     let mut viewing = Viewing {
         state: State::new(alloc, began, is_named),
-        desks: Vec::new(alloc),
+        watches: Vec::new(alloc),
         names: names(alloc, line)?,
         every: line.every,
     };

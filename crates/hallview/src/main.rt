@@ -8,7 +8,6 @@ mod clients;
 mod clocks;
 mod command_line;
 mod connection;
-mod desk;
 mod dues;
 mod end;
 mod exchange;
@@ -45,7 +44,7 @@ fn given(rt: &HostRuntime) -> io::Result<Vec<String>> {
 
 // Says where pages are.
 fn tell_ready(rt: &HostRuntime, server: &Server) -> Result<(), End> {
-    let address = server.address();
+    let address = server.address;
     let line = format!(in rt.alloc(); "hallview ready at http://{address}\n")?;
     match rt.stdout().write_all(line.as_bytes()) {
         Ok(()) => Ok(()),
@@ -65,7 +64,7 @@ fn run(rt: &HostRuntime) -> Result<(), End> {
     let Ok(words) = given(rt) else {
         return Err(End::NotText);
     };
-    let line = read(rt.alloc(), words.as_slice()).map_err(End::Line)?;
+    let line = read(rt.alloc(), words.as_slice())?;
     serve(rt, &line)
 }
 

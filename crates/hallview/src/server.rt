@@ -2,11 +2,11 @@
 use crate::asking::Asking;
 use crate::clients::Clients;
 use crate::clocks::Clocks;
-use crate::desk::Desk;
 use crate::fault::ServeFault;
 use crate::service::Pages;
 use crate::sockets::Sockets;
 use crate::turn::Turn;
+use crate::watch::Watch;
 use hallview_state::State;
 use std::net::SocketAddr;
 
@@ -20,8 +20,8 @@ const LONGEST: u64 = 60_000;
 #[derive(Drop)]
 pub(crate) struct Viewing {
     pub(crate) state: State,
-    /// The desk of each hall, in the halls' order.
-    pub(crate) desks: Vec<Desk>,
+    /// What it needs to watch each hall, in the halls' order.
+    pub(crate) watches: Vec<Watch>,
     /// The hosts that a request may name beside loopback's, without a port.
     pub(crate) names: Vec<String>,
     /// How often each desk is asked, in seconds.
@@ -35,7 +35,8 @@ pub(crate) struct Server {
     clients: Clients,
     asking: Asking,
     clocks: Clocks,
-    address: SocketAddr,
+    /// Where it listens.
+    pub(crate) address: SocketAddr,
     state: State,
     names: Vec<String>,
 }
@@ -54,7 +55,7 @@ impl Server {
     ) -> Result<Server, ServeFault> {
         let Viewing {
             state,
-            desks,
+            watches,
             names,
             every,
         } = viewing;
@@ -64,7 +65,7 @@ impl Server {
         let Ok(address) = clients.address() else {
             return Err(ServeFault::Bind(listen));
         };
-        let asking = Asking::new(rt.alloc(), desks, every.saturating_mul(SECOND))?;
+        let asking = Asking::new(rt.alloc(), watches, every.saturating_mul(SECOND))?;
         Ok(Server {
             sockets,
             clients,
@@ -74,11 +75,6 @@ impl Server {
             state,
             names,
         })
-    }
-
-    /// Where it listens.
-    pub(crate) fn address(&self) -> SocketAddr {
-        self.address
     }
 
     fn turn<'a>(&self, rt: &'a HostRuntime) -> Result<Turn<'a>, ServeFault> {

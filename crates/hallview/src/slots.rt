@@ -20,7 +20,7 @@ fn rank_at(slots: &[Option<Connection>], slot: usize) -> u64
     ensures { result ≡ rank_at slots.now slot }
 {
     match slots.get(slot) {
-        Some(Some(connection)) => connection.moved().saturating_add(1),
+        Some(Some(connection)) => connection.moved.saturating_add(1),
         Some(None) => 0,
         None => u64::MAX,
     }
@@ -104,7 +104,7 @@ impl Slots {
         let mut sum = 0usize;
         for held in &self.held {
             if let Some(connection) = held {
-                sum = sum.saturating_add(connection.kept());
+                sum = sum.saturating_add(connection.kept);
             }
         }
         sum

@@ -1,8 +1,7 @@
 //! What it needs to watch a hall.
 use crate::addresses::Addresses;
-use crate::desk::Desk;
 use hall_events::HallCommand;
-use hallctl_requests::{Ask, read_response, request};
+use hallctl_requests::{Ask, BearerToken, DeskAddress, read_response, request};
 use hallview_state::{Hall, Loss};
 use std::alloc::{AllocError, Global};
 
@@ -35,14 +34,6 @@ fn question(_command: Option<&HallCommand>) -> Ask<'_> {
     Ask::Machines
 }
 
-// The octets by which a desk is asked.
-fn request_to(alloc: Global, desk: &Desk, ask: &Ask<'_>) -> Result<Vec<u8>, AllocError> {
-    match request(alloc, &desk.address.authority, &desk.token, ask) {
-        Ok(octets) => Ok(octets),
-        Err(_) => Err(AllocError),
-    }
-}
-
 /// Whether the desk at this place is down.
 pub(crate) fn is_down(watches: &[Watch], place: usize) -> bool {
     match watches.get(place) {
@@ -52,12 +43,18 @@ pub(crate) fn is_down(watches: &[Watch], place: usize) -> bool {
 }
 
 impl Watch {
-    /// That of a hall with this desk.
-    pub(crate) fn new(alloc: Global, desk: Desk) -> Result<Watch, AllocError> {
-        let request = request_to(alloc, &desk, &question(None))?;
+    /// That of the hall of a desk, which is asked in the name of a token. The token is sent to this desk only.
+    pub(crate) fn new(
+        alloc: Global,
+        address: DeskAddress,
+        token: &BearerToken,
+    ) -> Result<Watch, AllocError> {
+        let Ok(request) = request(alloc, &address.authority, token, &question(None)) else {
+            return Err(AllocError);
+        };
         Ok(Watch {
-            host: desk.address.host,
-            port: desk.address.port,
+            host: address.host,
+            port: address.port,
             request,
             addresses: Addresses::new(alloc),
             is_down: false,

@@ -14,10 +14,10 @@ use std::cmp::Ordering;
 const MAX_POOLS: usize = 12;
 
 fn by_size(one: &PoolCounts, other: &PoolCounts) -> Ordering {
-    match other.all.cmp(&one.all) {
-        Ordering::Equal => one.pool.text().cmp(other.pool.text()),
-        order => order,
-    }
+    other
+        .all
+        .cmp(&one.all)
+        .then(one.pool.text().cmp(other.pool.text()))
 }
 
 // The largest pools, by name.
@@ -56,7 +56,7 @@ impl Table<'_> {
         let mut rest = all;
         for pool in self.shown {
             let number = match status {
-                Some(status) => pool.count(status),
+                Some(status) => count_at(&pool.counts, status),
                 None => pool.all,
             };
             rest = rest.saturating_sub(number);
@@ -109,15 +109,6 @@ impl Table<'_> {
         self.put_cells(page, Some(status), number);
         page.put("\n</tr>", &[]);
     }
-
-    fn put_foot(&self, page: &mut Page) {
-        page.put(
-            "</tbody>\n<tfoot>\n<tr><th scope=\"row\">All</th><td class=\"n\">{}</td><td></td>",
-            &[Value::Number(self.all)],
-        );
-        self.put_cells(page, None, self.all);
-        page.put("\n</tr>\n</tfoot>\n</table>\n</div>\n</details>\n", &[]);
-    }
 }
 
 fn put_caption(page: &mut Page, hall: &Hall) {
@@ -164,6 +155,11 @@ pub(crate) fn put_counts(
             table.put_status(page, *status, number);
         }
     }
-    table.put_foot(page);
+    page.put(
+        "</tbody>\n<tfoot>\n<tr><th scope=\"row\">All</th><td class=\"n\">{}</td><td></td>",
+        &[Value::Number(table.all)],
+    );
+    table.put_cells(page, None, table.all);
+    page.put("\n</tr>\n</tfoot>\n</table>\n</div>\n</details>\n", &[]);
     Ok(())
 }

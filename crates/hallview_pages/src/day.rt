@@ -29,14 +29,10 @@ impl Part {
         let mut sum: u64 = 0;
         for status in Status::ALL.as_slice() {
             if kinds.contains(&StatusKind::of(*status)) {
-                sum = sum.saturating_add(self.count(*status));
+                sum = sum.saturating_add(count_at(&self.counts, *status));
             }
         }
         sum
-    }
-
-    fn count(&self, status: Status) -> u64 {
-        count_at(&self.counts, status)
     }
 }
 
@@ -159,7 +155,7 @@ fn put_number(page: &mut Page, value: Value<'_>) {
 fn count_then(parts: &[Part], minute: u64, status: Status) -> Value<'static> {
     for part in parts {
         if part.begins <= minute && minute < part.ends {
-            return Value::Number(part.count(status));
+            return Value::Number(count_at(&part.counts, status));
         }
     }
     Value::Text("-")
@@ -168,7 +164,7 @@ fn count_then(parts: &[Part], minute: u64, status: Status) -> Value<'static> {
 fn put_status(page: &mut Page, parts: &[Part], last: &Part, status: Status) {
     let (mut fewest, mut most) = (u64::MAX, 0);
     for part in parts {
-        let count = part.count(status);
+        let count = count_at(&part.counts, status);
         fewest = count.min(fewest);
         most = count.max(most);
     }
@@ -182,7 +178,7 @@ fn put_status(page: &mut Page, parts: &[Part], last: &Part, status: Status) {
     for minute in [0, 360, 720, 1080] {
         put_number(page, count_then(parts, minute, status));
     }
-    for count in [last.count(status), fewest, most] {
+    for count in [count_at(&last.counts, status), fewest, most] {
         put_number(page, Value::Number(count));
     }
     page.put("\n</tr>", &[]);

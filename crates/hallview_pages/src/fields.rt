@@ -23,20 +23,16 @@ fn hash_of(alloc: Global, source: &str) -> Result<String, AllocError> {
 }
 
 // Nothing is loaded from elsewhere, and nothing runs but the page's own style and script.
-fn policy(alloc: Global) -> Result<String, AllocError> {
+fn policy(alloc: Global) -> Result<Field, AllocError> {
     let (style, script) = (hash_of(alloc, STYLE)?, hash_of(alloc, SCRIPT)?);
-    format!(in alloc;
+    let value = format!(in alloc;
         "default-src 'none'; style-src {style}; script-src {script}; connect-src 'self'; form-action 'self'; base-uri 'none'; frame-ancestors 'none'"
-    )
+    )?;
+    Ok(Field {
+        name: "content-security-policy",
+        value,
+    })
 }
-
-// The fields that each answer has.
-const FIXED: [(&str, &str); 4] = [
-    ("x-content-type-options", "nosniff"),
-    ("referrer-policy", "no-referrer"),
-    ("cross-origin-resource-policy", "same-origin"),
-    ("cache-control", "no-store"),
-];
 
 fn content_type(kind: Kind) -> &'static str {
     match kind {
@@ -48,36 +44,27 @@ fn content_type(kind: Kind) -> &'static str {
     }
 }
 
-fn push(
-    alloc: Global,
-    fields: &mut Vec<Field>,
-    name: &'static str,
-    value: &str,
-) -> Result<(), AllocError> {
-    let value = String::from_str(alloc, value)?;
-    fields.push(Field { name, value })?;
-    Ok(())
-}
-
 impl Answer {
     /// The fields that it is sent with, but for Content-Length.
     pub fn fields(&self, alloc: Global) -> Result<Vec<Field>, AllocError> {
+        let allow = if self.status == 405 { "GET, HEAD" } else { "" };
+        let values = [
+            ("content-type", content_type(self.kind)),
+            ("x-content-type-options", "nosniff"),
+            ("referrer-policy", "no-referrer"),
+            ("cross-origin-resource-policy", "same-origin"),
+            ("cache-control", "no-store"),
+            ("allow", allow),
+        ];
         let mut fields = Vec::new(alloc);
-        push(alloc, &mut fields, "content-type", content_type(self.kind))?;
+        for (name, value) in values {
+            if !value.is_empty() {
+                let value = String::from_str(alloc, value)?;
+                fields.push(Field { name, value })?;
+            }
+        }
         if self.kind == Kind::Html {
-            let policy = policy(alloc)?;
-            push(
-                alloc,
-                &mut fields,
-                "content-security-policy",
-                policy.as_str(),
-            )?;
-        }
-        for (name, value) in FIXED.as_slice() {
-            push(alloc, &mut fields, *name, value)?;
-        }
-        if self.status == 405 {
-            push(alloc, &mut fields, "allow", "GET, HEAD")?;
+            fields.push(policy(alloc)?)?;
         }
         Ok(fields)
     }

@@ -10,15 +10,7 @@ const MAX_OPTIONS: usize = 200;
 
 const CHOSEN: &str = "<option value=\"{}\" selected=\"\">{}</option>\n";
 
-fn put_option(page: &mut Page, value: &str, is_current: bool) {
-    let option = if is_current {
-        CHOSEN
-    } else {
-        "<option value=\"{}\">{}</option>\n"
-    };
-    let text = if value == "-" { "none" } else { value };
-    page.put(option, &[Value::Text(value), Value::Text(text)]);
-}
+const OFFERED: &str = "<option value=\"{}\">{}</option>\n";
 
 fn value_in(machine: &Machine, field: Field) -> &str {
     match field {
@@ -68,7 +60,11 @@ fn put_select(
         page.put(CHOSEN, &[Value::Text(current), Value::Text(current)]);
     }
     for value in values.iter().take(MAX_OPTIONS) {
-        put_option(page, value, *value == current);
+        let text = if *value == "-" { "none" } else { value };
+        page.put(
+            if *value == current { CHOSEN } else { OFFERED },
+            &[Value::Text(value), Value::Text(text)],
+        );
     }
     page.put("</select></label>\n", &[]);
 }

@@ -17,7 +17,7 @@ fn put_parts(alloc: Global, page: &mut Page, view: &View<'_>) -> Result<(), Allo
     put_nav(page, view);
     put_halls(alloc, page, view)?;
     put_trouble(page, view);
-    put_work(alloc, page, view)?;
+    put_work(page, view);
     put_machines(alloc, page, view)?;
     put_day(alloc, page, view)
 }

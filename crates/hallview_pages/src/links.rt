@@ -37,15 +37,6 @@ pub(crate) fn put_change(page: &mut Page, query: &Query, changed: Field, text: &
     }
 }
 
-/// The page of halls with what of a query doesn't choose machines.
-pub(crate) fn put_unchosen(page: &mut Page, query: &Query) {
-    let fields = [
-        (Field::Hall, query.text(Field::Hall)),
-        (Field::Sort, query.text(Field::Sort)),
-    ];
-    put_link(page, &fields);
-}
-
 /// The page of halls with a query, and this page of machines, from 1 on.
 pub(crate) fn put_sheet(page: &mut Page, query: &Query, sheet: usize) {
     page.put("/", &[]);

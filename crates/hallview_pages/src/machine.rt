@@ -10,7 +10,7 @@ use crate::overview::put_hall_title;
 use crate::parts::{end_section, end_table, put_addresses, word};
 use crate::value::Value;
 use crate::whole::{Contents, whole_page};
-use hall_types::{Erase, Machine, MachineUuid, Number};
+use hall_types::{Machine, Number};
 use hallview_state::{Field, Hall, Listed, Move, State, advice, or_dash, words_for};
 use std::alloc::{AllocError, Global};
 
@@ -52,42 +52,34 @@ fn number_or_dash(number: Option<Number>) -> Value<'static> {
     }
 }
 
-fn until_or_dash(moment: Option<u64>) -> Value<'static> {
-    match moment {
-        Some(moment) => Value::Until(moment),
-        None => Value::Text("-"),
-    }
-}
-
-fn uuid_or_dash(uuid: Option<MachineUuid>) -> Value<'static> {
-    match uuid {
-        Some(uuid) => Value::Uuid(uuid.octets()),
-        None => Value::Text("-"),
-    }
-}
-
-// The members that say how far the machine is.
-fn put_progress(page: &mut Page, machine: &Machine) {
+fn put_members(page: &mut Page, one: &Listed) {
+    let machine = &one.machine;
     put_member(page, "id", Value::Number(machine.id.get()));
     put_member(page, "status", Value::Text(machine.status.text()));
     let locked = if machine.locked { "yes" } else { "no" };
     put_member(page, "locked", Value::Text(locked));
-    put_member(page, "deadline", until_or_dash(machine.deadline));
+    let deadline = match machine.deadline {
+        Some(deadline) => Value::Until(deadline),
+        None => Value::Text("-"),
+    };
+    put_member(page, "deadline", deadline);
     put_member(page, "order", number_or_dash(machine.waiting));
     put_member(page, "boot", number_or_dash(machine.boot));
     put_member(page, "version", Value::Number(machine.version.get()));
-}
-
-fn put_members(page: &mut Page, one: &Listed) {
-    let machine = &one.machine;
-    put_progress(page, machine);
     put_member(page, "pool", Value::Text(machine.pool.text()));
     put_member(page, "owner", Value::Text(or_dash(&machine.owner)));
     put_member(page, "image", Value::Text(or_dash(&machine.image)));
-    let erase = machine.erase.map_or("-", Erase::text);
+    let erase = match machine.erase {
+        Some(erase) => erase.text(),
+        None => "-",
+    };
     put_member(page, "erase", Value::Text(erase));
     put_member(page, "arch", Value::Text(machine.arch.text()));
-    put_member(page, "uuid", uuid_or_dash(machine.uuid));
+    let uuid = match machine.uuid {
+        Some(uuid) => Value::Uuid(uuid.octets()),
+        None => Value::Text("-"),
+    };
+    put_member(page, "uuid", uuid);
     page.put("<tr><th scope=\"row\">addresses</th><td>", &[]);
     put_addresses(page, one.interfaces.as_slice());
     page.put("</td>\n</tr>", &[]);
@@ -164,13 +156,6 @@ fn put_moves(page: &mut Page, began: u64, moves: &[Move]) {
     end_table(page);
 }
 
-fn put_unlisted(page: &mut Page, hall: &Hall, id: Number) {
-    page.put(
-        "<h2>Not listed</h2>\n<p>The last list of {} has no machine {}.</p>\n",
-        &[Value::Text(hall.name.text()), Value::Number(id.get())],
-    );
-}
-
 fn put_heading(page: &mut Page, hall: &Hall, id: Number) {
     page.put(
         "Machine {} of {}",
@@ -200,7 +185,10 @@ fn contents_of(
     put_nav(page, hall);
     match one {
         Some(one) => put_listed(page, hall, one),
-        None => put_unlisted(page, hall, id),
+        None => page.put(
+            "<h2>Not listed</h2>\n<p>The last list of {} has no machine {}.</p>\n",
+            &[Value::Text(hall.name.text()), Value::Number(id.get())],
+        ),
     }
     end_section(page);
     put_moves(page, state.began, moves);

@@ -1,11 +1,9 @@
 //! The table of machines, with its filter and its pages.
 use crate::ages::put_old_ages;
 use crate::filter::put_filter;
-use crate::links::{put_change, put_sheet, put_unchosen};
+use crate::links::{put_change, put_link, put_sheet};
 use crate::markup::Page;
-use crate::parts::{
-    begin_row, end_row, end_section, end_table, put_cell, put_names, put_strong_cell, word,
-};
+use crate::parts::{begin_row, end_row, end_section, end_table, put_cell, put_names, word};
 use crate::value::Value;
 use hall_types::Machine;
 use hallview_state::{
@@ -70,7 +68,7 @@ fn put_count(
     if is_chosen {
         page.put("{} of ", &[Value::Number(rows as u64)]);
     }
-    let all = view.machines();
+    let all = view.machines;
     page.put(
         "{} {}",
         &[
@@ -81,7 +79,13 @@ fn put_count(
     put_part(page, view, sheet, first, here);
     if is_chosen {
         page.put(" <a href=\"", &[]);
-        put_unchosen(page, &view.query);
+        put_link(
+            page,
+            &[
+                (Field::Hall, view.query.text(Field::Hall)),
+                (Field::Sort, view.query.text(Field::Sort)),
+            ],
+        );
         page.put("#machines\">Show all</a>", &[]);
     }
     page.put("</p>\n", &[]);
@@ -130,7 +134,7 @@ fn put_title(page: &mut Page, query: &Query, column: Column, order: Order) {
 fn put_deadline(page: &mut Page, machine: &Machine) {
     match machine.deadline {
         Some(deadline) if is_passed(machine, page.context.now) => {
-            put_strong_cell(page, Value::Until(deadline));
+            page.put("<td><strong>{}</strong></td>", &[Value::Until(deadline)]);
         }
         Some(deadline) => put_cell(page, Value::Until(deadline)),
         None => put_cell(page, Value::Text("-")),

@@ -42,7 +42,7 @@ pub(crate) fn put_heading(page: &mut Page, view: &View<'_>) {
 
 /// The page's title: what is wrong, and the heading.
 pub(crate) fn put_title(page: &mut Page, view: &View<'_>) {
-    let (stale, trouble) = (view.stale(), view.trouble());
+    let (stale, trouble) = (view.stale, view.trouble);
     if stale > 0 {
         page.put(
             "{} {}, ",
@@ -60,7 +60,7 @@ pub(crate) fn put_title(page: &mut Page, view: &View<'_>) {
 
 /// What is on the page.
 pub(crate) fn put_nav(page: &mut Page, view: &View<'_>) {
-    let trouble = view.trouble();
+    let trouble = view.trouble;
     page.put(
         "<nav aria-label=\"On this page\">\n<ul>\n<li><a href=\"#trouble\">",
         &[],
@@ -77,7 +77,7 @@ pub(crate) fn put_nav(page: &mut Page, view: &View<'_>) {
         "</a></li>\n<li><a href=\"#work\">At work: {}</a></li>\n<li><a href=\"#machines\">Machines: {}</a></li>\n<li><a href=\"#day\">The last day</a></li>\n",
         &[
             Value::Number(view.work.len() as u64),
-            Value::Number(view.machines() as u64),
+            Value::Number(view.machines as u64),
         ],
     );
     if !view.query.text(Field::Hall).is_empty() {

@@ -51,10 +51,6 @@ pub(crate) fn put_cell(page: &mut Page, value: Value<'_>) {
     page.put("<td>{}</td>", &[value]);
 }
 
-pub(crate) fn put_strong_cell(page: &mut Page, value: Value<'_>) {
-    page.put("<td><strong>{}</strong></td>", &[value]);
-}
-
 /// The cells of a machine's pool, owner and image.
 pub(crate) fn put_names(page: &mut Page, machine: &Machine) {
     put_cell(page, Value::Text(machine.pool.text()));

@@ -37,17 +37,13 @@ fn put_title(page: &mut Page, view: &View<'_>, group: &Group<'_>) {
     put_old_age(page, group.hall);
 }
 
-// The words of the commands for machines of a group; for a deadline what shows them.
-fn words_of(group: &Group<'_>) -> &'static [&'static str] {
-    match group.cause {
+// The commands on machines of a group, of which one is given; for a deadline what shows them.
+fn put_commands(page: &mut Page, group: &Group<'_>, machines: &[&Listed], one: &Listed) {
+    let words: &'static [&'static str] = match group.cause {
         Cause::Failed(status) => words_for(status),
         Cause::Deadline | Cause::Orders => &["machine"],
-    }
-}
-
-// The commands on machines of a group, of which one is given.
-fn put_commands(page: &mut Page, group: &Group<'_>, machines: &[&Listed], one: &Listed) {
-    for word in words_of(group) {
+    };
+    for word in words {
         put_command(page, group.hall, word, machines, &one.machine);
     }
 }
@@ -115,15 +111,6 @@ fn put_machine(page: &mut Page, began: u64, group: &Group<'_>, one: &Listed) {
     end_row(page, one.interfaces.as_slice());
 }
 
-// What is done by hand about an order that waits.
-fn by_hand(order: &Waiting<'_>) -> &'static str {
-    if order.kind() == "off" {
-        "<td><span>Once machine {} is off:</span>"
-    } else {
-        "<td><span>Once machine {} was started again, by network:</span>"
-    }
-}
-
 fn put_order(page: &mut Page, hall: &Hall, order: &Waiting<'_>) {
     let machine = &order.one.machine;
     let (id, number) = (Value::Number(machine.id.get()), Value::Number(order.number));
@@ -137,22 +124,18 @@ fn put_order(page: &mut Page, hall: &Hall, order: &Waiting<'_>) {
             Value::Text(machine.status.text()),
         ],
     );
-    page.put(by_hand(order), &[id]);
+    let by_hand = if order.kind() == "off" {
+        "<td><span>Once machine {} is off:</span>"
+    } else {
+        "<td><span>Once machine {} was started again, by network:</span>"
+    };
+    page.put(by_hand, &[id]);
     page.put(" <code>", &[]);
     put_hallctl(page, hall);
     page.put(
         " --token-file pow.token order {} --done</code></td>\n</tr>",
         &[number],
     );
-}
-
-fn put_rows(page: &mut Page, began: u64, group: &Group<'_>) {
-    for one in group.machines.iter().take(MAX_ROWS) {
-        put_machine(page, began, group, one);
-    }
-    for order in group.orders.iter().take(MAX_ROWS) {
-        put_order(page, group.hall, order);
-    }
 }
 
 // What to do about a group, and the commands that do it.
@@ -225,7 +208,12 @@ fn put_group(page: &mut Page, view: &View<'_>, group: &Group<'_>) {
     page.put("\" tabindex=\"0\">\n<table>\n<thead>\n<tr>", &[]);
     put_titles(page, group.cause);
     page.put("</tr>\n</thead>\n<tbody>", &[]);
-    put_rows(page, view.state.began, group);
+    for one in group.machines.iter().take(MAX_ROWS) {
+        put_machine(page, view.state.began, group, one);
+    }
+    for order in group.orders.iter().take(MAX_ROWS) {
+        put_order(page, group.hall, order);
+    }
     page.put("</tbody>\n</table>\n</div>\n", &[]);
     put_more(page, view, group);
     page.put("</details>\n", &[]);
@@ -242,7 +230,7 @@ fn rest_of(groups: &[Group<'_>]) -> usize {
 
 /// What is in trouble.
 pub(crate) fn put_trouble(page: &mut Page, view: &View<'_>) {
-    let trouble = view.trouble();
+    let trouble = view.trouble;
     page.put(
         "<section id=\"trouble\">\n<h2>In trouble: {}</h2>\n",
         &[Value::Number(trouble as u64)],

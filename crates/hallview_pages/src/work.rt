@@ -6,24 +6,12 @@ use crate::parts::{begin_cells, end_section, end_table, put_cell, put_columns, p
 use crate::value::Value;
 use hallview_state::text::percent;
 use hallview_state::{Field, View, Work, limit_of, order_kind};
-use std::alloc::{AllocError, Global};
-use std::cmp::Ordering;
 
 // How many rows a page has.
 const MAX_ROWS: usize = 100;
 
 // A deadline that is nearer than these seconds is marked.
 const LATE: u64 = 120;
-
-fn by_deadline(one: &Work<'_>, other: &Work<'_>) -> Ordering {
-    match one.deadline.cmp(&other.deadline) {
-        Ordering::Equal => match one.hall.name.text().cmp(other.hall.name.text()) {
-            Ordering::Equal => one.one.machine.id.cmp(&other.one.machine.id),
-            order => order,
-        },
-        order => order,
-    }
-}
 
 // The order that a machine waits for, and for how long.
 fn put_order(page: &mut Page, work: &Work<'_>) {
@@ -36,18 +24,6 @@ fn put_order(page: &mut Page, work: &Work<'_>) {
             Value::Text(order_kind(work.one.machine.status).text()),
             Value::Number(waiting.get()),
             Value::Span(work.hall.order_waits(waiting)),
-        ],
-    );
-}
-
-// A bar of the time that has passed.
-fn put_bar(page: &mut Page, work: &Work<'_>, left: u64) {
-    let limit = limit_of(work.one.machine.status).unwrap_or(0);
-    page.put(
-        "<td><svg width=\"100\" height=\"10\" aria-hidden=\"true\"><rect width=\"{}%\" height=\"10\"/></svg>{}</td>",
-        &[
-            Value::Number(percent(limit.saturating_sub(left), limit)),
-            Value::Until(work.deadline),
         ],
     );
 }
@@ -67,14 +43,21 @@ fn put_row(page: &mut Page, has_several: bool, work: &Work<'_>) {
     if has_several {
         put_cell(page, Value::Text(work.hall.name.text()));
     }
-    put_bar(page, work, left);
+    let limit = limit_of(machine.status).unwrap_or(0);
+    page.put(
+        "<td><svg width=\"100\" height=\"10\" aria-hidden=\"true\"><rect width=\"{}%\" height=\"10\"/></svg>{}</td>",
+        &[
+            Value::Number(percent(limit.saturating_sub(left), limit)),
+            Value::Until(work.deadline),
+        ],
+    );
     put_cell(page, Value::Text(machine.status.text()));
     put_order(page, work);
     put_names(page, machine);
     page.put("\n</tr>", &[]);
 }
 
-fn put_table(alloc: Global, page: &mut Page, view: &View<'_>) -> Result<(), AllocError> {
+fn put_table(page: &mut Page, view: &View<'_>) {
     page.put(
         "<div role=\"group\" aria-label=\"At work\" tabindex=\"0\">\n<table>\n<caption>By deadline, the next one first",
         &[],
@@ -95,17 +78,14 @@ fn put_table(alloc: Global, page: &mut Page, view: &View<'_>) -> Result<(), Allo
         &["Deadline", "Status", "Order", "Pool", "Owner", "Image"],
     );
     page.put("</tr>\n</thead>\n<tbody>", &[]);
-    let mut ordered = Vec::from_slice(alloc, view.work.as_slice())?;
-    ordered.sort_by(by_deadline)?;
-    for work in ordered.iter().take(MAX_ROWS) {
+    for work in view.work.iter().take(MAX_ROWS) {
         put_row(page, has_several, work);
     }
     end_table(page);
-    Ok(())
 }
 
 /// The machines that are at work.
-pub(crate) fn put_work(alloc: Global, page: &mut Page, view: &View<'_>) -> Result<(), AllocError> {
+pub(crate) fn put_work(page: &mut Page, view: &View<'_>) {
     let count = view.work.len();
     page.put(
         "<section id=\"work\">\n<h2>At work: {}</h2>\n",
@@ -116,7 +96,7 @@ pub(crate) fn put_work(alloc: Global, page: &mut Page, view: &View<'_>) -> Resul
         put_old_ages(page, view.halls.as_slice());
         page.put(".</p>\n", &[]);
     } else {
-        put_table(alloc, page, view)?;
+        put_table(page, view);
     }
     if count > MAX_ROWS {
         page.put("<p><a href=\"", &[]);
@@ -127,5 +107,4 @@ pub(crate) fn put_work(alloc: Global, page: &mut Page, view: &View<'_>) -> Resul
         );
     }
     end_section(page);
-    Ok(())
 }

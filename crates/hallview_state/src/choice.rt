@@ -2,8 +2,9 @@
 use crate::hall::Hall;
 use crate::listed::Listed;
 use crate::query::{Field, Query};
-use crate::rows::{addresses, or_dash, shows};
-use crate::view::View;
+use crate::rows::{or_dash, shows};
+use crate::view::{View, by_place};
+use hall_types::Interface;
 use std::alloc::{AllocError, Global};
 use std::cmp::Ordering;
 
@@ -106,27 +107,24 @@ pub fn order_of(query: &Query, has_several: bool) -> Order {
     }
 }
 
-/// A row of the table: a machine, its hall, and by what it is sorted, where that is a text.
-#[derive(Drop)]
+/// A row of the table: a machine and its hall.
+#[derive(Clone, Copy)]
 pub struct Row<'s> {
     pub hall: &'s Hall,
     pub one: &'s Listed,
-    key: String,
 }
 
-// By what a machine is sorted in a column of texts; empty where it has nothing there.
-fn key_of(alloc: Global, column: Column, hall: &Hall, one: &Listed) -> Result<String, AllocError> {
-    let machine = &one.machine;
-    let name = match (column, &machine.owner, &machine.image) {
-        (Column::Hall, _, _) => hall.name.text(),
+// The text of a row in a column of names; empty where the machine has none.
+fn text_in<'s>(column: Column, row: &Row<'s>) -> &'s str {
+    let machine = &row.one.machine;
+    match (column, &machine.owner, &machine.image) {
+        (Column::Hall, _, _) => row.hall.name.text(),
         (Column::Status, _, _) => machine.status.text(),
         (Column::Pool, _, _) => machine.pool.text(),
         (Column::Owner, Some(owner), _) => owner.text(),
         (Column::Image, _, Some(image)) => image.text(),
-        (Column::Addresses, _, _) => return addresses(alloc, one.interfaces.as_slice()),
         _ => "",
-    };
-    String::from_str(alloc, name)
+    }
 }
 
 fn turned(order: Ordering, falls: bool) -> Ordering {
@@ -139,10 +137,7 @@ fn by_presence(one: bool, other: bool) -> Ordering {
 }
 
 fn by_texts(one: &str, other: &str, falls: bool) -> Ordering {
-    match by_presence(!one.is_empty(), !other.is_empty()) {
-        Ordering::Equal => turned(one.cmp(other), falls),
-        order => order,
-    }
+    by_presence(!one.is_empty(), !other.is_empty()).then(turned(one.cmp(other), falls))
 }
 
 fn by_deadlines(one: Option<u64>, other: Option<u64>, falls: bool) -> Ordering {
@@ -152,31 +147,33 @@ fn by_deadlines(one: Option<u64>, other: Option<u64>, falls: bool) -> Ordering {
     }
 }
 
-// Rows that are equal in the column are in the order of halls and numbers.
-fn by_place(one: &Row<'_>, other: &Row<'_>) -> Ordering {
-    match one.hall.name.text().cmp(other.hall.name.text()) {
-        Ordering::Equal => one.one.machine.id.cmp(&other.one.machine.id),
-        order => order,
+// By the first address that differs.
+fn by_addresses(one: &[Interface], other: &[Interface], falls: bool) -> Ordering {
+    let mut order = by_presence(!one.is_empty(), !other.is_empty());
+    for (one, other) in one.iter().zip(other.iter()) {
+        order = order.then(turned(one.mac.cmp(&other.mac), falls));
     }
+    order.then(turned(one.len().cmp(&other.len()), falls))
 }
 
+// Rows that are equal in the column are in the order of halls and numbers.
 fn by_order(one: &Row<'_>, other: &Row<'_>, order: Order) -> Ordering {
+    let (column, falls) = (order.column, order.falls);
     let (a, b) = (&one.one.machine, &other.one.machine);
-    let first = match order.column {
-        Column::Id => turned(a.id.cmp(&b.id), order.falls),
-        Column::Deadline => by_deadlines(a.deadline, b.deadline, order.falls),
-        _ => by_texts(one.key.as_str(), other.key.as_str(), order.falls),
+    let first = match column {
+        Column::Id => turned(a.id.cmp(&b.id), falls),
+        Column::Deadline => by_deadlines(a.deadline, b.deadline, falls),
+        Column::Addresses => by_addresses(
+            one.one.interfaces.as_slice(),
+            other.one.interfaces.as_slice(),
+            falls,
+        ),
+        _ => by_texts(text_in(column, one), text_in(column, other), falls),
     };
     match first {
-        Ordering::Equal => by_place(one, other),
-        order => order,
+        Ordering::Equal => by_place(one.hall, one.one, other.hall, other.one),
+        _ => first,
     }
-}
-
-// Whether a query asks for what a machine has in a field, or for nothing.
-fn agrees(query: &Query, field: Field, own: &str) -> bool {
-    let wanted = query.text(field);
-    wanted.is_empty() || wanted == own
 }
 
 fn is_chosen(
@@ -188,9 +185,9 @@ fn is_chosen(
 ) -> Result<bool, AllocError> {
     let machine = &one.machine;
     let status = query.text(Field::Status);
-    if !agrees(query, Field::Pool, machine.pool.text())
-        || !agrees(query, Field::Owner, or_dash(&machine.owner))
-        || !agrees(query, Field::Image, or_dash(&machine.image))
+    if !query.takes(Field::Pool, machine.pool.text())
+        || !query.takes(Field::Owner, or_dash(&machine.owner))
+        || !query.takes(Field::Image, or_dash(&machine.image))
         || !(status.is_empty() || status.eq_ignore_ascii_case(machine.status.text()))
     {
         return Ok(false);
@@ -204,13 +201,11 @@ fn push_chosen<'s>(
     rows: &mut Vec<Row<'s>>,
     query: &Query,
     hall: &'s Hall,
-    column: Column,
     search: &str,
 ) -> Result<(), AllocError> {
     for one in hall.machines() {
         if is_chosen(alloc, query, hall, one, search)? {
-            let key = key_of(alloc, column, hall, one)?;
-            rows.push(Row { hall, one, key })?;
+            rows.push(Row { hall, one })?;
         }
     }
     Ok(())
@@ -225,14 +220,7 @@ pub fn chosen<'s>(
     let search = view.query.text(Field::Text).to_ascii_lowercase(alloc)?;
     let mut rows = Vec::new(alloc);
     for hall in view.halls.as_slice() {
-        push_chosen(
-            alloc,
-            &mut rows,
-            &view.query,
-            hall,
-            order.column,
-            search.as_str(),
-        )?;
+        push_chosen(alloc, &mut rows, &view.query, hall, search.as_str())?;
     }
     rows.sort_by(|one, other| by_order(one, other, order))?;
     Ok(rows)

@@ -6,11 +6,11 @@ use crate::families::{Family, Label};
 use crate::hall::Hall;
 use crate::life_cycle_ways::LifeCycle;
 use crate::listed::Listed;
-use crate::pools::pools_of;
+use crate::pools::{count_at, pools_of};
 use crate::samples::Metrics;
 use crate::state::State;
 use crate::text::number;
-use crate::waiting::{Waiting, waiting_orders};
+use crate::waiting::waiting_orders;
 use hall_types::Status;
 use std::alloc::{AllocError, Global};
 
@@ -21,7 +21,7 @@ fn push_machines(alloc: Global, metrics: &mut Metrics, hall: &Hall) -> Result<()
     let pools = pools_of(alloc, hall.machines())?;
     for pool in pools.as_slice() {
         for status in Status::ALL.as_slice() {
-            let count = pool.count(*status);
+            let count = count_at(&pool.counts, *status);
             if count > 0 || pools.len() <= MAX_ZEROS {
                 metrics.add_twice_labelled(
                     Family::Machines,
@@ -36,24 +36,19 @@ fn push_machines(alloc: Global, metrics: &mut Metrics, hall: &Hall) -> Result<()
     Ok(())
 }
 
-// How many orders are of a kind.
-fn count_of(orders: &[Waiting<'_>], kind: &str) -> u64 {
-    let mut count: u64 = 0;
-    for order in orders {
-        if order.kind() == kind {
-            count = count.saturating_add(1);
-        }
-    }
-    count
-}
-
 fn push_orders(alloc: Global, metrics: &mut Metrics, hall: &Hall) -> Result<(), AllocError> {
     if hall.list.is_none() {
         return Ok(());
     }
     let orders = waiting_orders(alloc, hall)?;
     for kind in ["cycle", "off"] {
-        let own = number(alloc, count_of(orders.as_slice(), kind))?;
+        let mut count: u64 = 0;
+        for order in orders.as_slice() {
+            if order.kind() == kind {
+                count = count.saturating_add(1);
+            }
+        }
+        let own = number(alloc, count)?;
         metrics.add_labelled(
             Family::Orders,
             hall.name.text(),

@@ -53,11 +53,6 @@ impl Family {
         }
     }
 
-    /// Whether its unit is the second.
-    pub(crate) fn is_seconds(self) -> bool {
-        matches!(self, Family::Took | Family::Age)
-    }
-
     /// What it is, in a sentence.
     pub(crate) fn help(self) -> &'static str
         ensures { is_one_line result.now ≡ true }

@@ -67,18 +67,12 @@ fn loss_of(alloc: Global, body: &str) -> Result<Loss, AllocError> {
     }
 }
 
-// Takes out the oldest moves, so that there is room for so many more.
-fn forget_moves(kept: &mut Vec<Move>, more: usize) {
-    let room = MAX_MOVES.saturating_sub(more);
-    let len = kept.len();
+// Keeps moves in the place of the oldest ones, and counts them.
+fn add_moves(kept: &mut Vec<Move>, ways: &mut Ways, moves: &[Move]) -> Result<(), AllocError> {
+    let (room, len) = (MAX_MOVES.saturating_sub(moves.len()), kept.len());
     if len > room {
         kept.drain(..len - room);
     }
-}
-
-// Keeps moves, and counts them.
-fn add_moves(kept: &mut Vec<Move>, ways: &mut Ways, moves: &[Move]) -> Result<(), AllocError> {
-    forget_moves(kept, moves.len());
     for one in moves {
         kept.push(*one)?;
         ways.add(one);
@@ -225,10 +219,5 @@ impl Hall {
         ensures lost { self.new.loss ≡ Some loss }
     {
         self.loss = Some(loss);
-    }
-
-    /// Takes how often the desk is asked for now, in seconds.
-    pub fn set_every(&mut self, every: u64) {
-        self.every = every;
     }
 }

@@ -4,8 +4,9 @@ use crate::history::Sample;
 use crate::listed::Listed;
 use crate::moves::Move;
 use crate::orders::Seen;
+use crate::reading::list_reply;
 use crate::state::State;
-use hall_events::{MachineList, Reply};
+use hall_events::Reply;
 use serde_json::Value;
 use std::alloc::{AllocError, Global};
 
@@ -24,11 +25,7 @@ fn comma(text: &mut String, place: usize) -> Result<(), AllocError> {
 
 // The machines, each as the desk writes it.
 fn push_machines(alloc: Global, text: &mut String, machines: &[Listed]) -> Result<(), AllocError> {
-    let mut list = MachineList::new(alloc, machines.len())?;
-    for one in machines {
-        list.push(alloc, &one.machine, one.interfaces.as_slice())?;
-    }
-    let Reply::Http { body, .. } = list.finish()? else {
+    let Reply::Http { body, .. } = list_reply(alloc, machines)? else {
         return Ok(());
     };
     let inner = body.as_str().strip_prefix("{").unwrap_or("");

@@ -19,11 +19,6 @@ impl PoolCounts {
             *count = u64::saturating_add(*count, 1);
         }
     }
-
-    /// How many machines of the pool have a status.
-    pub fn count(&self, status: Status) -> u64 {
-        count_at(&self.counts, status)
-    }
 }
 
 /// How many there are of a status.

@@ -144,6 +144,12 @@ impl Query {
     pub fn text(&self, field: Field) -> &str {
         self.given_text(field).unwrap_or("")
     }
+
+    /// Whether it asks for this text in a field, or for nothing in it.
+    pub fn takes(&self, field: Field, text: &str) -> bool {
+        let wanted = self.text(field);
+        wanted.is_empty() || wanted == text
+    }
 }
 
 // What stands for itself in a URL (RFC 3986 section 2.3).

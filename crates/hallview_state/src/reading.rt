@@ -47,8 +47,8 @@ fn machines_at(alloc: Global, body: &str) -> Result<Option<Vec<Listed>>, AllocEr
     }
 }
 
-// The desk's answer that lists these machines.
-fn list_reply(alloc: Global, machines: &[Listed]) -> Result<Reply, AllocError>
+/// The desk's answer that lists these machines.
+pub(crate) fn list_reply(alloc: Global, machines: &[Listed]) -> Result<Reply, AllocError>
     ensures { IfOk result (λ reply. reply ≡ reply_of second (machine_list (map listed_of machines.now))) }
 {
     let mut list = MachineList::new(alloc, machines.len())?;

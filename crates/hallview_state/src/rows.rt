@@ -13,8 +13,8 @@ pub fn or_dash(name: &Option<Name>) -> &str {
     }
 }
 
-/// Addresses, a comma between each two.
-pub(crate) fn addresses(alloc: Global, interfaces: &[Interface]) -> Result<String, AllocError> {
+// Addresses, a comma between each two.
+fn addresses(alloc: Global, interfaces: &[Interface]) -> Result<String, AllocError> {
     let mut text = String::new(alloc);
     for interface in interfaces {
         if !text.is_empty() {

@@ -94,10 +94,9 @@ fn rank(cause: Cause) -> u8 {
 }
 
 fn order_of(one: &Group<'_>, cause: Cause, detail: &str) -> Ordering {
-    match rank(one.cause).cmp(&rank(cause)) {
-        Ordering::Equal => one.detail.cmp(detail),
-        other => other,
-    }
+    rank(one.cause)
+        .cmp(&rank(cause))
+        .then(one.detail.cmp(detail))
 }
 
 // Adds a machine to its group among those from a place on, which are of its hall and in their order.

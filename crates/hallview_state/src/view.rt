@@ -7,6 +7,7 @@ use crate::state::State;
 use crate::trouble_groups::{Group, groups_of};
 use crate::waiting::waiting_orders;
 use std::alloc::{AllocError, Global};
+use std::cmp::Ordering;
 
 /// A machine that is at work, and its deadline.
 #[derive(Clone, Copy)]
@@ -25,6 +26,21 @@ pub struct Total {
     pub orders: usize,
 }
 
+/// The order of two machines by the names of their halls, and in one hall by their numbers.
+pub(crate) fn by_place(hall: &Hall, one: &Listed, other_hall: &Hall, other: &Listed) -> Ordering {
+    hall.name
+        .text()
+        .cmp(other_hall.name.text())
+        .then(one.machine.id.cmp(&other.machine.id))
+}
+
+fn by_deadline(one: &Work<'_>, other: &Work<'_>) -> Ordering {
+    match one.deadline.cmp(&other.deadline) {
+        Ordering::Equal => by_place(one.hall, one.one, other.hall, other.one),
+        order => order,
+    }
+}
+
 /// What a page shows.
 #[derive(Drop)]
 pub struct View<'s> {
@@ -34,9 +50,16 @@ pub struct View<'s> {
     pub query: Query,
     pub halls: Vec<&'s Hall>,
     pub groups: Vec<Group<'s>>,
+    /// By deadline, the next one first.
     pub work: Vec<Work<'s>>,
     /// A total for each of the halls.
     pub totals: Vec<Total>,
+    /// How many machines there are.
+    pub machines: usize,
+    /// How many machines and orders are in trouble.
+    pub trouble: usize,
+    /// How many halls are shown by a list that is old.
+    pub stale: usize,
 }
 
 // The machines of a hall that are at work, and whose deadlines haven't passed.
@@ -72,23 +95,38 @@ impl<'s> View<'s> {
             groups: Vec::new(alloc),
             work: Vec::new(alloc),
             totals: Vec::new(alloc),
+            machines: 0,
+            trouble: 0,
+            stale: 0,
         };
+        view.fill(alloc)?;
+        Ok(view)
+    }
+
+    fn fill(&mut self, alloc: Global) -> Result<(), AllocError> {
+        let state = self.state;
         for hall in state.halls.as_slice() {
-            let wanted = view.query.text(Field::Hall);
-            if wanted.is_empty() || wanted == hall.name.text() {
-                view.add(alloc, hall)?;
+            if self.query.takes(Field::Hall, hall.name.text()) {
+                self.add(alloc, hall)?;
             }
         }
-        Ok(view)
+        self.work.sort_by(by_deadline)?;
+        Ok(())
     }
 
     fn add(&mut self, alloc: Global, hall: &'s Hall) -> Result<(), AllocError> {
         let orders = waiting_orders(alloc, hall)?;
         let trouble = groups_of(alloc, &mut self.groups, hall, orders.as_slice(), self.now)?;
         let work = push_work(&mut self.work, hall, self.now)?;
+        let machines = hall.machines().len();
+        self.machines = self.machines.saturating_add(machines);
+        self.trouble = self.trouble.saturating_add(trouble);
+        if hall.is_stale(self.now) {
+            self.stale = self.stale.saturating_add(1);
+        }
         self.halls.push(hall)?;
         self.totals.push(Total {
-            machines: hall.machines().len(),
+            machines,
             trouble,
             work,
             orders: orders.len(),
@@ -108,34 +146,5 @@ impl<'s> View<'s> {
         } else {
             ""
         }
-    }
-
-    /// How many machines and orders are in trouble.
-    pub fn trouble(&self) -> usize {
-        let mut sum: usize = 0;
-        for total in self.totals.as_slice() {
-            sum = sum.saturating_add(total.trouble);
-        }
-        sum
-    }
-
-    /// How many machines there are.
-    pub fn machines(&self) -> usize {
-        let mut sum: usize = 0;
-        for total in self.totals.as_slice() {
-            sum = sum.saturating_add(total.machines);
-        }
-        sum
-    }
-
-    /// How many halls are shown by a list that is old.
-    pub fn stale(&self) -> usize {
-        let mut sum: usize = 0;
-        for hall in self.halls.as_slice() {
-            if hall.is_stale(self.now) {
-                sum = sum.saturating_add(1);
-            }
-        }
-        sum
     }
 }

@@ -23,12 +23,14 @@ impl Waiting<'_> {
 /// The orders that machines of a hall wait for, by number.
 pub fn waiting_orders<'s>(alloc: Global, hall: &'s Hall) -> Result<Vec<Waiting<'s>>, AllocError> {
     let mut orders = Vec::new(alloc);
-    for one in hall.machines() {
-        if let Some(order) = one.machine.waiting {
-            let (number, waits) = (order.get(), hall.order_waits(order));
+    let Some(list) = &hall.list else {
+        return Ok(orders);
+    };
+    for order in hall.orders.as_slice() {
+        if let Some(one) = list.machines.get(order.place) {
+            let (number, waits) = (order.number.get(), list.at.saturating_sub(order.at));
             orders.push(Waiting { number, one, waits })?;
         }
     }
-    orders.sort_by_key(|order| order.number)?;
     Ok(orders)
 }
