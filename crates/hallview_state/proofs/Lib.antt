@@ -1,3 +1,4 @@
 pub mod FamilyLemmas
+pub mod ListLemmas
 pub mod SearchLemmas
 pub mod ValueLemmas

@@ -9,3 +9,4 @@ pub mod Orders
 pub mod Spans
 pub mod Taken
 pub mod Told
+pub mod Ways

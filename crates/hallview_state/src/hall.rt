@@ -1,8 +1,9 @@
 //! What is known of one hall.
-ghost use Rattle.std.specs.Prelude.{◌≡◌, is_none, option_map, None, OnErr, OnOk, Some};
-ghost use Rattle.hallview_state.specs.{Age.{is_old, is_stale}, Taken.{IsTaken, renewed}};
+ghost use Rattle.std.specs.{Prelude.{◌≡◌, is_none, option_map, None, OnErr, OnOk, Some}, List.Sorted.IsNonDecreasingBy};
+ghost use Rattle.hallview_state.specs.{Age.{is_old, is_stale}, Taken.{Follows, IsRenewed, IsTaken, Stays, machines_of, newest}};
 
 use crate::history::{Sample, add_sample};
+use crate::list::List;
 use crate::listed::Listed;
 use crate::loss::Loss;
 use crate::moves::{Move, moves_between};
@@ -16,16 +17,6 @@ use std::alloc::{AllocError, Global};
 
 // How many moves of a hall are kept.
 const MAX_MOVES: usize = 65_536;
-
-/// The last list of a hall.
-#[derive(Drop)]
-pub struct List {
-    /// When it came, in seconds since 1970.
-    pub at: u64,
-    /// How long it took, in milliseconds.
-    pub took: u64,
-    pub machines: Vec<Listed>,
-}
 
 /// What is known of a hall.
 #[derive(Drop)]
@@ -67,17 +58,14 @@ fn loss_of(alloc: Global, body: &str) -> Result<Loss, AllocError> {
     }
 }
 
-// Keeps moves in the place of the oldest ones, and counts them.
-fn add_moves(kept: &mut Vec<Move>, ways: &mut Ways, moves: &[Move]) -> Result<(), AllocError> {
-    let (room, len) = (MAX_MOVES.saturating_sub(moves.len()), kept.len());
-    if len > room {
-        kept.drain(..len - room);
+// Takes out the oldest moves beyond those that are kept.
+fn keep_newest(moves: &mut Vec<Move>)
+    ensures { moves.new.items ≡ newest moves.old.items }
+{
+    let len = moves.len();
+    if len > MAX_MOVES {
+        moves.drain(..len - MAX_MOVES);
     }
-    for one in moves {
-        kept.push(*one)?;
-        ways.add(one);
-    }
-    Ok(())
 }
 
 impl Hall {
@@ -124,7 +112,9 @@ impl Hall {
     }
 
     /// The machines of the last list.
-    pub fn machines(&self) -> &[Listed] {
+    pub fn machines(&self) -> &[Listed]
+        ensures { result.now ≡ machines_of self.now }
+    {
         match &self.list {
             Some(list) => list.machines.as_slice(),
             None => &[],
@@ -139,7 +129,7 @@ impl Hall {
         }
     }
 
-    // Takes a list, which came at a moment after so many milliseconds.
+    // Takes a list whose numbers rise, which came at a moment after so many milliseconds: as a whole, or not at all.
     fn set_list(
         &mut self,
         alloc: Global,
@@ -147,13 +137,17 @@ impl Hall {
         now: u64,
         took: u64,
     ) -> Result<(), AllocError>
-        ensures set { OnOk result ((self.new.list ≡ Some (record { at = now; took = took; machines = machines })) × (self.new.loss ≡ None)) }
-        ensures kept { OnErr result (self.new.list ≡ self.old.list) }
+        requires { IsNonDecreasingBy (λ one. one.machine.id) machines.items }
+        ensures set { OnOk result (Follows self.old self.new machines.items now took) }
+        ensures stays { OnErr result (Stays self.old self.new) }
     {
         let moves = moves_between(alloc, self.machines(), machines.as_slice(), now)?;
         let orders = orders_of(alloc, self.orders.as_slice(), machines.as_slice(), now)?;
-        add_sample(&mut self.history, machines.as_slice(), now)?;
-        add_moves(&mut self.moves, &mut self.ways, moves.as_slice())?;
+        self.history.reserve(1)?;
+        self.moves.extend_from_slice(moves.as_slice())?;
+        keep_newest(&mut self.moves);
+        self.ways.add_all(moves.as_slice());
+        add_sample(&mut self.history, machines.as_slice(), now);
         self.orders = orders;
         self.list = Some(List {
             at: now,
@@ -172,8 +166,8 @@ impl Hall {
         now: u64,
         took: u64,
     ) -> Result<(), AllocError>
-        ensures taken { OnOk result (IsTaken self.old self.new status body.now now) }
-        ensures kept { OnErr result (self.new.list ≡ self.old.list) }
+        ensures taken { OnOk result (IsTaken self.old self.new status body.now now took) }
+        ensures stays { OnErr result (Stays self.old self.new) }
     {
         match list_of(alloc, status, body)? {
             Some(machines) => self.set_list(alloc, machines, now, took),
@@ -186,7 +180,7 @@ impl Hall {
 
     /// Takes a desk's answer to `GET /machines`, which came at a moment after so many milliseconds. What isn't a list leaves the last one.
     pub fn take(&mut self, alloc: Global, status: u16, body: &[u8], now: u64, took: u64)
-        ensures { IsTaken self.old self.new status body.now now }
+        ensures { IsTaken self.old self.new status body.now now took }
     {
         let Ok(text) = std::str::from_utf8(body) else {
             self.loss = Some(Loss::NotTheDesk);
@@ -200,7 +194,7 @@ impl Hall {
 
     /// Takes it that the desk has answered with the very octets of the last list.
     pub fn renew(&mut self, now: u64, took: u64)
-        ensures { self.new.list ≡ option_map (renewed now took) self.old.list }
+        ensures { IsRenewed self.old self.new now took }
     {
         let Some(list) = &mut self.list else {
             return;
@@ -208,14 +202,16 @@ impl Hall {
         list.at = now;
         list.took = took;
         self.loss = None;
-        if add_sample(&mut self.history, list.machines.as_slice(), now).is_err() {
+        if self.history.reserve(1).is_err() {
             self.loss = Some(Loss::Memory);
+            return;
         }
+        add_sample(&mut self.history, list.machines.as_slice(), now);
     }
 
     /// Takes it that no answer came.
     pub fn lose(&mut self, loss: Loss)
-        ensures kept { self.new.list ≡ self.old.list }
+        ensures stays { Stays self.old self.new }
         ensures lost { self.new.loss ≡ Some loss }
     {
         self.loss = Some(loss);

@@ -1,8 +1,9 @@
 //! The statuses of a hall over the last day, a sample every ten minutes.
+ghost use Rattle.std.specs.Prelude.{◌<◌, vec_capacity, vec_len};
+
 use crate::listed::Listed;
 use crate::text::DAY;
 use hall_types::Status;
-use std::alloc::AllocError;
 
 /// The number of statuses.
 pub const STATUSES: usize = Status::ALL.len();
@@ -29,22 +30,19 @@ pub fn counts_of(machines: &[Listed]) -> [u64; STATUSES] {
     counts
 }
 
-/// Adds the sample of a list, if it is the first one of its ten minutes, and takes out those that are older than a day.
-pub(crate) fn add_sample(
-    history: &mut Vec<Sample>,
-    machines: &[Listed],
-    now: u64,
-) -> Result<(), AllocError> {
+/// Adds the sample of a list, if it is the first one of its ten minutes, and takes out those that are older than a day. There is room for it.
+pub(crate) fn add_sample(history: &mut Vec<Sample>, machines: &[Listed], now: u64)
+    requires { vec_len history.old < vec_capacity history.old }
+{
     let at = now - now % SLOT;
     if let Some(last) = history.last() {
         if last.at == at {
-            return Ok(());
+            return;
         }
     }
     history.retain(|sample| sample.at.saturating_add(SLOT + DAY) > now);
-    history.push(Sample {
-        at,
-        counts: counts_of(machines),
-    })?;
-    Ok(())
+    let counts = counts_of(machines);
+    if history.push(Sample { at, counts }).is_err() {
+        unreachable!();
+    }
 }

@@ -1,4 +1,7 @@
 //! How many moves were seen on each way from one status to another.
+ghost use Rattle.std.specs.Prelude.{◌≡◌, fold};
+ghost use Rattle.hallview_state.specs.Ways.{count_on, counted, way_number};
+
 use crate::history::STATUSES;
 use crate::moves::Move;
 use hall_types::Status;
@@ -7,7 +10,9 @@ use hall_types::Status;
 pub(crate) const WAYS: usize = STATUSES * STATUSES;
 
 /// The number of a way, below `WAYS`.
-pub(crate) fn way_number(from: Status, to: Status) -> usize {
+pub(crate) fn way_number(from: Status, to: Status) -> usize
+    ensures { result ≡ way_number from to }
+{
     from.number() as usize * STATUSES + to.number() as usize
 }
 
@@ -23,15 +28,28 @@ impl Ways {
         Ways { counts: [0; WAYS] }
     }
 
-    /// Counts a move.
-    pub fn add(&mut self, one: &Move) {
-        if let Some(count) = self.counts.get_mut(way_number(one.from, one.to)) {
-            *count = count.saturating_add(1);
+    fn add(&mut self, one: &Move)
+        ensures { self.new ≡ counted self.old one.now }
+    {
+        let way = way_number(one.from, one.to);
+        if let Some(count) = self.counts.get(way) {
+            self.counts[way] = count.saturating_add(1);
+        }
+    }
+
+    /// Counts moves.
+    pub(crate) fn add_all(&mut self, moves: &[Move])
+        ensures { self.new ≡ fold counted self.old moves.now }
+    {
+        for one in moves {
+            self.add(one);
         }
     }
 
     /// How many moves were seen on a way.
-    pub fn count(&self, from: Status, to: Status) -> u64 {
+    pub fn count(&self, from: Status, to: Status) -> u64
+        ensures { result ≡ count_on self.now (way_number from to) }
+    {
         match self.counts.get(way_number(from, to)) {
             Some(count) => *count,
             None => 0,
