@@ -6,6 +6,7 @@ pub mod Lists
 pub mod Moves
 pub mod OrderLaws
 pub mod Orders
+pub mod Received
 pub mod Spans
 pub mod Taken
 pub mod Told

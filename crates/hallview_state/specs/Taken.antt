@@ -1,7 +1,7 @@
 -- What becomes of a hall when its desk has answered, or hasn't.
 use Rattle.std.specs.Prelude.{◌≡◌, ◌≢◌, ◌⊎◌, ◌-◌, ℕ, List, [], ◌++◌, Option, Some, None, drop, filter_map, fold, length}
 use Rattle.hallview_state.specs.{Lists.IsListOf, Moves.move_of, Ways.counted}
-use Rattle.hallview_state.specs.declared.{hall.Hall.{Hall}, list.List.{List as Last}, listed.Listed.{Listed}, loss.Loss.{TheVariants.Memory}, moves.Move.{Move}}
+use Rattle.hallview_state.specs.declared.{hall.Hall.{Hall}, list.List.{List as Last}, listed.Listed.{Listed}, moves.Move.{Move}}
 
 -- the machines that are shown
 abbrev pub listed_in : Option Last → List Listed
@@ -46,22 +46,18 @@ pub record Follows (old new : Hall) (machines : List Listed) (now took : ℕ) : 
   pub moves : new.moves.items ≡ newest (old.moves.items ++ moves_to old machines now)
   pub ways : new.ways ≡ fold counted old.ways (moves_to old machines now)
 
--- the answer lists machines, and the hall follows; or all that is known of it stays, and it isn't up
-abbrev pub IsTaken : Hall → Hall → ℕ → List ℕ → ℕ → ℕ → Type 0
-IsTaken old new status body now took =
-    ((machines : List Listed) × IsListOf machines status body × Follows old new machines now took)
-    ⊎ (Stays old new × (new.loss ≢ None))
-
--- the last list has come again, if there was one
-abbrev pub ComesAgain : ℕ → ℕ → Option Last → Option Last → Type 0
-ComesAgain now took None new = new ≡ None
-ComesAgain now took (Some old) new = IsLast old.machines.items now took new
-
--- the last list came again at a moment, after so many milliseconds: the hall is up, unless memory was wanting for a sample
-pub record IsRenewed (old new : Hall) (now took : ℕ) : Type 0 where
+-- the same machines came again at a moment, after so many milliseconds: none has moved
+pub record Renews (old new : Hall) (now took : ℕ) : Type 0 where
   pub hall : IsSameHall old new
-  pub list : ComesAgain now took old.list new.list
-  pub up : old.list ≢ None → (new.loss ≡ None) ⊎ (new.loss ≡ Some Memory)
+  pub list : IsLast (machines_of old) now took new.list
+  pub up : new.loss ≡ None
   pub moves : new.moves ≡ old.moves
   pub ways : new.ways ≡ old.ways
   pub orders : new.orders ≡ old.orders
+
+-- the answer lists machines that the hall follows, or those that it shows; or all that is known of it stays, and it isn't up
+abbrev pub IsTaken : Hall → Hall → ℕ → List ℕ → ℕ → ℕ → Type 0
+IsTaken old new status body now took =
+    ((machines : List Listed) × IsListOf machines status body × Follows old new machines now took)
+    ⊎ (IsListOf (machines_of old) status body × Renews old new now took)
+    ⊎ (Stays old new × (new.loss ≢ None))

@@ -1,6 +1,6 @@
 //! What is known of one hall.
-ghost use Rattle.std.specs.{Prelude.{◌≡◌, is_none, option_map, None, OnErr, OnOk, Some}, List.Sorted.IsNonDecreasingBy};
-ghost use Rattle.hallview_state.specs.{Age.{is_old, is_stale}, Taken.{Follows, IsRenewed, IsTaken, Stays, machines_of, newest}};
+ghost use Rattle.std.specs.Prelude.{◌≡◌, is_none, option_map, IsSome, IsTrue, None, OnErr, OnOk, Some};
+ghost use Rattle.hallview_state.specs.{Age.{is_old, is_stale}, Lists.IsListOf, Received.body_of, Taken.{Follows, IsTaken, Renews, Stays, machines_of, newest}};
 
 use crate::history::{Sample, add_sample};
 use crate::list::List;
@@ -9,6 +9,7 @@ use crate::loss::Loss;
 use crate::moves::{Move, moves_between};
 use crate::orders::{Seen, orders_of, seen_at};
 use crate::reading::list_of;
+use crate::received::Received;
 use crate::ways::Ways;
 use hall_types::{Name, Number, Refusal};
 use hallctl_texts::value_of;
@@ -129,84 +130,110 @@ impl Hall {
         }
     }
 
-    // Takes a list whose numbers rise, which came at a moment after so many milliseconds: as a whole, or not at all.
-    fn set_list(
-        &mut self,
-        alloc: Global,
-        machines: Vec<Listed>,
-        now: u64,
-        took: u64,
-    ) -> Result<(), AllocError>
-        requires { IsNonDecreasingBy (λ one. one.machine.id) machines.items }
-        ensures set { OnOk result (Follows self.old self.new machines.items now took) }
+    // Takes another list than the last one: as a whole, or not at all.
+    fn set_list(&mut self, alloc: Global, list: List) -> Result<(), AllocError>
+        ensures follows { OnOk result (Follows self.old self.new list.machines.items list.at list.took) }
         ensures stays { OnErr result (Stays self.old self.new) }
     {
-        let moves = moves_between(alloc, self.machines(), machines.as_slice(), now)?;
-        let orders = orders_of(alloc, self.orders.as_slice(), machines.as_slice(), now)?;
+        let machines = list.machines.as_slice();
+        let moves = moves_between(alloc, self.machines(), machines, list.at)?;
+        let orders = orders_of(alloc, self.orders.as_slice(), machines, list.at)?;
         self.history.reserve(1)?;
         self.moves.extend_from_slice(moves.as_slice())?;
         keep_newest(&mut self.moves);
         self.ways.add_all(moves.as_slice());
-        add_sample(&mut self.history, machines.as_slice(), now);
+        add_sample(&mut self.history, machines, list.at);
         self.orders = orders;
-        self.list = Some(List {
-            at: now,
-            took,
-            machines,
-        });
+        self.list = Some(list);
         self.loss = None;
         Ok(())
     }
 
-    fn try_to_take(
+    // Whether the last list was the very same answer.
+    fn has_list_of(&self, received: &Received) -> bool
+        ensures { IsTrue result → IsSome self.now.list × IsListOf (machines_of self.now) received.now.status (body_of received.now) }
+    {
+        match &self.list {
+            Some(list) => list.is_of(received),
+            None => false,
+        }
+    }
+
+    // Takes it that the last list has come again.
+    fn renew(&mut self, now: u64, took: u64) -> Result<(), AllocError>
+        requires { IsSome self.old.list }
+        ensures renews { OnOk result (Renews self.old self.new now took) }
+        ensures stays { OnErr result (Stays self.old self.new) }
+    {
+        self.history.reserve(1)?;
+        let Some(list) = &mut self.list else {
+            unreachable!();
+        };
+        list.at = now;
+        list.took = took;
+        add_sample(&mut self.history, list.machines.as_slice(), now);
+        self.loss = None;
+        Ok(())
+    }
+
+    // Takes an answer that isn't that of the last list.
+    fn read(
         &mut self,
         alloc: Global,
-        status: u16,
-        body: &str,
+        received: Received,
         now: u64,
         took: u64,
     ) -> Result<(), AllocError>
-        ensures taken { OnOk result (IsTaken self.old self.new status body.now now took) }
+        ensures taken { OnOk result (IsTaken self.old self.new received.status (body_of received) now took) }
         ensures stays { OnErr result (Stays self.old self.new) }
     {
-        match list_of(alloc, status, body)? {
-            Some(machines) => self.set_list(alloc, machines, now, took),
+        let Ok(text) = std::str::from_utf8(received.body()) else {
+            self.loss = Some(Loss::NotTheDesk);
+            return Ok(());
+        };
+        match list_of(alloc, received.status, text)? {
+            Some(machines) => self.set_list(
+                alloc,
+                List {
+                    at: now,
+                    took,
+                    machines,
+                    answer: received,
+                },
+            ),
             None => {
-                self.loss = Some(loss_of(alloc, body)?);
+                self.loss = Some(loss_of(alloc, text)?);
                 Ok(())
             }
         }
     }
 
-    /// Takes a desk's answer to `GET /machines`, which came at a moment after so many milliseconds. What isn't a list leaves the last one.
-    pub fn take(&mut self, alloc: Global, status: u16, body: &[u8], now: u64, took: u64)
-        ensures { IsTaken self.old self.new status body.now now took }
+    fn try_to_take(
+        &mut self,
+        alloc: Global,
+        received: Received,
+        now: u64,
+        took: u64,
+    ) -> Result<(), AllocError>
+        ensures taken { OnOk result (IsTaken self.old self.new received.status (body_of received) now took) }
+        ensures stays { OnErr result (Stays self.old self.new) }
     {
-        let Ok(text) = std::str::from_utf8(body) else {
-            self.loss = Some(Loss::NotTheDesk);
-            return;
-        };
-        match self.try_to_take(alloc, status, text, now, took) {
-            Ok(()) => (),
-            Err(AllocError) => self.loss = Some(Loss::Memory),
+        if self.has_list_of(&received) {
+            self.renew(now, took)
+        } else {
+            self.read(alloc, received, now, took)
         }
     }
 
-    /// Takes it that the desk has answered with the very octets of the last list.
-    pub fn renew(&mut self, now: u64, took: u64)
-        ensures { IsRenewed self.old self.new now took }
+    /// Takes a desk's answer to `GET /machines`, which came at a moment after so many milliseconds. What isn't a list leaves the last one,
+    /// and so does one for which memory is wanting. The same answer as the last list's isn't read again.
+    pub fn take(&mut self, alloc: Global, received: Received, now: u64, took: u64)
+        ensures { IsTaken self.old self.new received.status (body_of received) now took }
     {
-        let Some(list) = &mut self.list else {
-            return;
-        };
-        list.at = now;
-        list.took = took;
-        self.loss = None;
-        if self.history.reserve(1).is_err() {
-            self.loss = Some(Loss::Memory);
-            return;
+        match self.try_to_take(alloc, received, now, took) {
+            Ok(()) => (),
+            Err(AllocError) => self.loss = Some(Loss::Memory),
         }
-        add_sample(&mut self.history, list.machines.as_slice(), now);
     }
 
     /// Takes it that no answer came.
