@@ -7,6 +7,7 @@ use crate::exchanges::Exchanges;
 use crate::schedule::{pause, retry_pause, seconds_of};
 use crate::seats::{MAX_EXCHANGES, exchange_seat};
 use crate::sockets::Sockets;
+use crate::taking::take;
 use crate::times::until;
 use crate::turn::Turn;
 use crate::watch::{Watch, is_down};
@@ -178,7 +179,7 @@ impl Asking {
             return;
         };
         watch.addresses.answered(exchange.tried);
-        watch.take(
+        take(
             turn.rt.alloc(),
             hall,
             exchange.answer,

@@ -23,6 +23,7 @@ mod server;
 mod service;
 mod slots;
 mod sockets;
+mod taking;
 mod times;
 mod tokens;
 mod turn;

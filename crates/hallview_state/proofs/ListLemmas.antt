@@ -1,5 +1,5 @@
 -- The last list of a hall.
-use Rattle.std.proofs.Common.{◌≡◌, ℕ, List, Option, None, Some, arith, refl, subst, sym}
+use Rattle.std.proofs.Common.{◌≡◌, Option, None, Some, arith, refl, subst, sym}
 use Rattle.std.specs.List.Sorted.{IsNonDecreasingBy}
 use Rattle.hallview_state.specs.{Taken.{IsLast, listed_in}, declared.list.List.{List as Last}}
 

@@ -10,4 +10,5 @@ pub mod Received
 pub mod Spans
 pub mod Taken
 pub mod Told
+pub mod WayLaws
 pub mod Ways

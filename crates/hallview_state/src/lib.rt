@@ -51,4 +51,4 @@ pub use statuses::{advice, words_for};
 pub use trouble_groups::{Cause, Group};
 pub use view::{Total, View, Work};
 pub use waiting::{Waiting, waiting_orders};
-pub use ways::Ways;
+pub use ways::{Ways, moves_are_counted};

@@ -1,6 +1,6 @@
 //! How many moves were seen on each way from one status to another.
-ghost use Rattle.std.specs.Prelude.{◌≡◌, fold};
-ghost use Rattle.hallview_state.specs.Ways.{count_on, counted, way_number};
+ghost use Rattle.std.specs.Prelude.{◌≡◌, ◌+◌, ◌-◌, ◌^◌, ◌<◌, ℕ, List, Some, fold, min, slice_get};
+ghost use Rattle.hallview_state.specs.{Ways.{count_on, counted, moves_on, way_number}, declared.{moves.Move.{Move}, ways.Ways.{Ways}}};
 
 use crate::history::STATUSES;
 use crate::moves::Move;
@@ -56,3 +56,10 @@ impl Ways {
         }
     }
 }
+
+/// Each move is counted on its way, and on no other one: a count is what it was, and how many of the moves are on its way.
+#[tactic(auto, using(crate::specs::WayLaws::moves_are_counted))]
+pub fn moves_are_counted()
+    ensures { (ways : Ways) (moves : List Move) (way count : ℕ) → slice_get ways.counts way ≡ Some count → count < 2 ^ 64
+        → count_on (fold counted ways moves) way ≡ min (count + moves_on way moves) (2 ^ 64 - 1) }
+{}

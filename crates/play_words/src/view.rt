@@ -2,7 +2,7 @@
 use crate::pages::show;
 use cases::{CaseFault, Out, Played, Player, first, number};
 use hall_types::Name;
-use hallview_state::{Hall, Loss, State};
+use hallview_state::{Hall, Loss, Received, State};
 use std::alloc::Global;
 
 /// What is known of halls.
@@ -67,16 +67,12 @@ impl View {
         let (now, words) = first(words);
         let (took, body) = first(words);
         let (now, took, alloc) = (number(now)?, number(took)?, self.alloc);
-        self.hall(name)?
-            .take(alloc, status, body.as_bytes(), now, took);
-        Ok(())
-    }
-
-    fn renew(&mut self, words: &str) -> Played {
-        let (name, words) = first(words);
-        let (now, took) = first(words);
-        let (now, took) = (number(now)?, number(took)?);
-        self.hall(name)?.renew(now, took);
+        let received = Received {
+            status,
+            octets: Vec::from_slice(alloc, body.as_bytes())?,
+            start: 0,
+        };
+        self.hall(name)?.take(alloc, received, now, took);
         Ok(())
     }
 
@@ -97,7 +93,6 @@ impl Player for View {
             "hall" => self.add_hall(rest),
             "list" => self.take(200, rest),
             "refused" => self.take(401, rest),
-            "renew" => self.renew(rest),
             "lose" => self.lose(rest),
             "get" | "part" | "post" | "fields" | "open" => show(kind, &self.state, rest, out),
             _ => Err(CaseFault::Act),

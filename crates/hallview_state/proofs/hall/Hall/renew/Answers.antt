@@ -10,5 +10,5 @@ returns-clause-renews c =
       up = refl;
       moves = refl;
       ways = refl;
-      orders = refl
+      orders = refl;
     }

@@ -17,6 +17,6 @@ returns-clause-follows c =
       list = (_, refl, refl, refl, refl);
       up = refl;
       moves = c.keep_newest.ensures
-      ∙ ap newest (c.in_ok-extend_from_slice.ensures.items ∙ ap (λ (more : List Move). hall.moves.items ++ more) (c.as_slice-2.ensures.value ∙ moved));
-      ways = c.add_all.ensures ∙ ap (fold counted hall.ways) (c.as_slice-3.ensures.value ∙ moved)
+          ∙ ap newest (c.in_ok-extend_from_slice.ensures.items ∙ ap (λ (more : List Move). hall.moves.items ++ more) (c.as_slice-2.ensures.value ∙ moved));
+      ways = c.add_all.ensures ∙ ap (fold counted hall.ways) (c.as_slice-3.ensures.value ∙ moved);
     }
