@@ -1,4 +1,4 @@
-use Rattle.std.proofs.{Common.{◌≡◌, ◌∙◌, ◌++◌, ◌+◌, ◌-◌, ℕ, List, Ok, ap, arith, inl, length, rules, subst, sym}, lemmas.List.length-append, Math.Seq.drop-append_seam}
+use Rattle.std.proofs.{Common.{◌≡◌, ◌∙◌, ◌++◌, ◌-◌, ℕ, List, Ok, ap, arith, inl, length, rules, subst, sym}, lemmas.List.length-append, Math.Seq.drop-append_seam}
 use Rattle.std.specs.Prelude.{drop}
 use Rattle.hallctl_requests.specs.Response.{IsReading}
 use Rattle.hallview_state.specs.Taken.{IsTaken}
@@ -26,5 +26,5 @@ returns c =
       body,
       subst (λ (all : List ℕ). IsReading all (Ok (c.in-Ok.response.status, body))) c.as_slice.ensures.value c.in-Ok.ensures.exact,
       subst (λ (taken : List ℕ). IsTaken c.args.hall.now c.take.new.self c.in-Ok.response.status taken c.args.now c.args.took)
-      (ap (λ (start : ℕ). drop start octets) (search rules) ∙ last octets rest.0 body is) c.take.ensures,
+          (ap (λ (start : ℕ). drop start octets) (search rules) ∙ last octets rest.0 body is) c.take.ensures,
     )
