@@ -3,7 +3,8 @@
 
 A machine that is switched on does what firmware, loader and live image would do: it sends its DISCOVER as firmware (PXE 2.1 section 2.2,
 RFC 4578) and again as iPXE (RFC 3004), takes each OFFER, asks for its script, and obeys it: it starts its own disk, powers off where it is
-held, or works: it reports started, then done or failed, and powers off, or restarts after a deployment. In rescue it stays up.
+held, or works: it reports started, begins once that was counted, reports done or failed, and powers off, or restarts after a deployment. Where
+the desk refuses `started` it powers off, by any other answer it starts anew. In rescue it stays up.
 
 With --power-token-file it is also the power controller: it asks the desk for orders, switches its machines by them and answers. A machine
 has the number that the desk gave it: --ids FIRST says that of the first one, else each machine is switched on once, at the start.
@@ -28,6 +29,7 @@ OWN_DISK = {"#!ipxe\nexit\n", "#!ipxe\nsanboot --no-describe --drive 0x80\n"}
 HELD = "#!ipxe\necho This machine is held by the hall desk\npoweroff\n"
 WORK = re.compile(rf"#!ipxe\nkernel (http://\S+)((?: {WORD})*)\n(?:initrd (http://\S+)\n)?boot\n")
 PURPOSES = {"commission", "test", "deploy", "erase", "rescue"}
+COUNTED, REPEAT, REFUSAL = (200, b'{"result":"counted"}'), (200, b'{"result":"repeat"}'), re.compile(rb'\{"refusal":"\w+"\}')
 
 
 class Wrong(Exception):
@@ -164,14 +166,30 @@ class Machine:
                 await asyncio.sleep(1)
 
     async def report(self, words, stage):
-        """Sends a stage until it is answered; returns whether it counted, or may have before an answer came."""
+        """Sends a stage until it has an answer other than 5xx; returns its status and body."""
         while True:
             status, body = await self.ask("POST", f"/report/{words['boot']}/{words['token']}", {"stage": stage})
-            if status == 503:
+            if status >= 500:
                 await asyncio.sleep(1)
                 continue
             self.say(f"reports {stage} of boot {words['boot']}: {status} {body.decode(errors='replace')}")
-            return status == 200
+            return status, body
+
+    async def leave(self, words):
+        """Whether the work may begin; if not, whether the machine starts anew in place of switching off."""
+        status, body = await self.report(words, "started")
+        is_refused = status in (404, 409, 410) and REFUSAL.fullmatch(body)
+        return (status, body) == COUNTED, not is_refused
+
+    async def conclude(self, words, stage):
+        """Sends a verdict until the desk has answered it; returns whether it counted."""
+        while True:
+            status, body = await self.report(words, stage)
+            if (status, body) in (COUNTED, REPEAT):
+                return True
+            if 400 <= status < 500 and REFUSAL.fullmatch(body):
+                return False
+            await asyncio.sleep(1)
 
     # ---- a start
 
@@ -243,15 +261,16 @@ class Machine:
         purpose = words["purpose"] + (f" {words['erase']}" if "erase" in words else "")
         self.say(f"boots {kernel} to {purpose}, boot {words['boot']}")
         self.state = purpose
-        if not await self.report(words, "started"):
-            self.say("isn't wanted any more, and powers off")
+        is_leave, starts_anew = await self.leave(words)
+        if not is_leave:
+            self.say("has no leave, and starts anew" if starts_anew else "isn't wanted any more, and powers off")
             self.state = "off"
-            return False
+            return starts_anew
         if words["purpose"] == "rescue":
             return False
         await asyncio.sleep(self.hall.given.work)
         fails = words["purpose"] in self.hall.given.fail
-        counted = await self.report(words, "failed" if fails else "done")
+        counted = await self.conclude(words, "failed" if fails else "done")
         if words["purpose"] == "deploy" and counted and not fails:
             self.deployed_by = int(words["boot"])
             self.say("restarts")
