@@ -1,9 +1,12 @@
-"""power/hall_power.py against a hall and stand-ins of controllers: power_trial.py HALLBOOT HALL_POWER. Run by power_trial.sh, which says what is looked at."""
+"""power/hall_power.py against a hall, and against stand-ins of the desk and of controllers: power_trial.py HALLBOOT HALL_POWER. Run by
+power_trial.sh, which says what is looked at. The hall, and the cases of power_cases.py, are looked at side by side."""
 import hashlib, json, os, re, socket, ssl, subprocess, sys, threading, time
+import power_cases
+from power_case import certificate, ipmitool
 from pretend_controllers import NEVER, ON, UNTIL_OFF, Controller, Redfish
+from pretend_desk import POWER, READER
 from served_hall import Hall, address, digest
 
-POWER, READER = "powers-secret-1", "readers-secret-1"
 # Each machine of the trial, once for each driver: what its controller has at first, what it is ordered (commission is a `cycle`, release an
 # `off`), what its controller is told in the end, what is answered, and how it is then.
 EACH = [
@@ -73,7 +76,8 @@ def orders(hall):
 
 def answered(hall, number):
     """The outcome that the desk took for an order, and when; None if none was sent."""
-    found = [re.match(rf"(\d+) .* POST /orders/{number} (done|failed) .*: 200", line) for line in open(hall.log)]
+    with open(hall.log) as log:
+        found = [re.match(rf"(\d+) .* POST /orders/{number} (done|failed) .*: 200", line) for line in log]
     return next(((one[2], int(one[1])) for one in found if one), (None, None))
 
 
@@ -84,10 +88,9 @@ def write(path, text):
 
 class Trial:
     def __init__(self, hall, power, proxy):
-        self.hall, self.power, self.faults = hall, power, []
+        self.hall, self.power, self.results = hall, power, []
         proxies = {name: proxy.url for name in ["http_proxy", "https_proxy", "all_proxy", "HTTP_PROXY", "ALL_PROXY"]}
-        self.surroundings = {"PATH": f"{os.getcwd()}/bin:{os.environ['PATH']}", **proxies}
-        subprocess.run("openssl req -x509 -newkey rsa:2048 -nodes -days 2 -subj /CN=bmc -keyout bmc.key -out bmc.pem", shell=True, check=True, capture_output=True)
+        self.surroundings = {"PATH": f"{os.getcwd()}:{os.environ['PATH']}", "PYTHONDONTWRITEBYTECODE": "1", **proxies}
         self.redfish = Redfish("controllers", "bmc.pem", "bmc.key", "desk:redfish's secret")
         self.told()
 
@@ -98,7 +101,8 @@ class Trial:
         write("ipmi.password", "ipmi's secret\n")
         write("redfish.password", "redfish's secret\n")
         self.settings(f"http://127.0.0.1:{self.hall.http}/")
-        fingerprint = hashlib.sha256(ssl.PEM_cert_to_DER_cert(open("bmc.pem").read())).hexdigest().upper()
+        with open("bmc.pem") as file:
+            fingerprint = hashlib.sha256(ssl.PEM_cert_to_DER_cert(file.read())).hexdigest().upper()
         lines = ["# the machines of the trial", ""]
         for number, driver, *_ in CASES:
             machine = address(number).upper().replace(":", "-") if number == BY_ADDRESS else number
@@ -118,17 +122,18 @@ class Trial:
         with open("power.err", "a") as log:
             return subprocess.Popen([sys.executable, self.power, "--config", "hall-power.toml", *words], stderr=log, env=self.surroundings)
 
+    def said(self):
+        with open("power.err", errors="replace") as log:
+            return log.read()
+
     def ended(self, *words):
         """Its status and what it says, where it ends by itself."""
         it = subprocess.run([sys.executable, self.power, "--config", "hall-power.toml", *words], stderr=subprocess.PIPE, text=True,
-                            env=self.surroundings, timeout=90)
+                            env=self.surroundings, timeout=120)
         return it.returncode, it.stderr
 
     def wants(self, what, is_so, seen=""):
-        if is_so:
-            print("good:", what)
-        else:
-            self.faults.append(f"{what}: {seen}")
+        self.results.append((what, bool(is_so), seen))
 
     def refusals(self):
         """What it doesn't begin with."""
@@ -140,8 +145,9 @@ class Trial:
         status, said = self.ended("--once")
         self.wants("a path behind the desk's name ends it", status == 2 and "http://HOST" in said, said)
         self.settings(f"http://127.0.0.1:{self.hall.http}/")
-        table = open("table").read()
-        write("table", table + "1 ipmi bmc1\n")
+        with open("table") as file:
+            table = file.read()
+        write("table", table + "1 ipmi other\n")
         status, said = self.ended("--once")
         self.wants("a machine that stands twice in the table ends it", status == 2 and "twice" in said, said)
         write("table", table)
@@ -158,19 +164,22 @@ class Trial:
 
     def carried_out(self, waiting, running):
         """What becomes of the orders."""
-        end = time.monotonic() + 120
-        aborted = [number for number, _, _, what, *_ in CASES if what == "aborted in the midst"]
-        for number in aborted:
-            while time.monotonic() < end and "off" not in [what for _, what in controller(number).told()]:
-                time.sleep(0.05)
-            self.hall.command(command="abort", machine=number)
+        end = time.monotonic() + 150
+        to_abort = [number for number, _, _, what, *_ in CASES if what == "aborted in the midst"]
+        while time.monotonic() < end and to_abort:
+            for number in [number for number in to_abort if "off" in [what for _, what in controller(number).told()]]:
+                self.hall.command(command="abort", machine=number)
+                to_abort.remove(number)
+            time.sleep(0.03)
         while time.monotonic() < end and orders(self.hall) and running.poll() is None:
             time.sleep(0.3)
-        time.sleep(UNTIL_OFF + 3)    # for what shouldn't come any more
-        self.faults += [f"machine {number} has an order still" for number in orders(self.hall)]
+        time.sleep(UNTIL_OFF + 1)    # for what shouldn't come any more
+        self.wants("no machine has an order still", not orders(self.hall), orders(self.hall))
         for number, driver, _, what, acts, outcome, state in CASES:
             came, (taken, moment) = controller(number).told(), answered(self.hall, waiting[number])
             seen = [one for _, one in came], taken, "off" if controller(number).is_off() else "on"
+            if outcome == "failed" and acts and seen[0] == acts * (len(came) // len(acts)):
+                seen = seen[0][-len(acts):] if len(came) > len(acts) else "one try", *seen[1:]    # each try is alike, and there is more than one
             what = f"machine {number}, {driver or 'in no table'}, {what}: {', '.join(acts) or 'no act'}; {outcome or 'no outcome'}; {state}"
             self.wants(what, seen == (acts, outcome, state), seen)
             if acts[-1:] == ["off"] and taken == "done":
@@ -180,7 +189,7 @@ class Trial:
         waiting = orders(self.hall)
         self.refusals()
         self.looks(waiting)
-        running = self.begun("--every", "0.5")
+        running = self.begun("--every", "0.5", "--try-for", "10", "--off-within", "10")
         try:
             self.carried_out(waiting, running)
         finally:
@@ -189,31 +198,43 @@ class Trial:
         status, said = self.ended("--once")
         self.wants("--once ends where no order waits", status == 0, said)
         self.wants("no password goes to a controller that isn't its own", self.redfish.strangers == [], self.redfish.strangers)
-        return self.faults
+        self.wants("no secret is in the log", not any(secret in self.said() for secret in (POWER, READER, "'s secret")))
 
 
-def main(hallboot, power):
+def play_hall(hallboot, power, results):
     proxy = Proxy()
     proxy.start()
     os.makedirs("controllers")
-    os.makedirs("bin")
-    with open("bin/ipmitool", "w") as stand_in:
-        script = os.path.join(os.path.dirname(os.path.abspath(__file__)), "pretend_controllers.py")
-        print(f"#!/bin/sh\nexec {sys.executable} {script} ipmitool {os.getcwd()}/controllers \"$@\"", file=stand_in)
-    os.chmod("bin/ipmitool", 0o700)
+    ipmitool(os.getcwd())
     for number, _, off_at, *_ in CASES:
         controller(number).set(off_at)
     with Hall(hallboot, "power") as hall:
         hall.serve()
         made(hall)
-        faults = Trial(hall, power, proxy).run()
-    if proxy.came:
-        faults.append(f"a proxy got {proxy.came[0][:200]}")
-    for text in faults:
-        print("BAD:", text)
-    if faults:
-        sys.exit(open("power.err").read()[-3000:])
-    print("good: a proxy of the environment gets nothing")
+        trial = Trial(hall, power, proxy)
+        try:
+            trial.run()
+        except Exception as fault:
+            trial.wants("the hall's part itself", False, repr(fault))
+        trial.wants("a proxy of the environment gets nothing", not proxy.came, proxy.came[:1])
+        results += [("hall: " + what, is_so, seen if is_so else f"{seen}\n{trial.said()[-3000:]}") for what, is_so, seen in trial.results]
+
+
+def main(hallboot, power):
+    certificate()
+    results, cases = [], power_cases.Trial(power)
+    others = threading.Thread(target=lambda: results.extend(cases.run()), daemon=True)
+    others.start()
+    try:
+        play_hall(hallboot, os.path.abspath(power), results)
+        others.join()
+    finally:
+        cases.stop()
+    failed = [(what, seen) for what, is_so, seen in results if not is_so]
+    for what, seen in failed:
+        print("BAD:", what, seen, file=sys.stderr)
+    print(f"power_trial: {len(results)} checks, {len(failed)} failed (a hall with both drivers, {len(power_cases.CASES)} cases of faults)")
+    sys.exit(1 if failed else 0)
 
 
 if __name__ == "__main__":
