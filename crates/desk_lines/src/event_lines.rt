@@ -77,6 +77,8 @@ pub enum Backup {
     /// It has so many octets, and nothing was served for so many milliseconds.
     Made { octets: u64, milliseconds: u64 },
     Failed,
+    /// It wasn't made: the copy that is there has later numbers than the hall, so that it is of another hall, or of a later one.
+    Refused,
 }
 
 // The nanoseconds of a millisecond.
@@ -89,6 +91,10 @@ fn backup_text(alloc: Global, backup: &Backup) -> Text {
             milliseconds,
         } => format!(in alloc; "backup of {octets} octets in {milliseconds} ms"),
         Backup::Failed => String::from_str(alloc, "backup failed"),
+        Backup::Refused => String::from_str(
+            alloc,
+            "backup refused, the copy there has later numbers: move it away",
+        ),
     }
 }
 
@@ -104,7 +110,7 @@ fn backup_object(alloc: Global, moment: Option<Moment>, backup: &Backup, words: 
             members.push_number("event.duration", milliseconds.saturating_mul(NANOSECONDS));
             members.push_number("file.size", *octets);
         }
-        Backup::Failed => members.push_text("event.outcome", "failure"),
+        Backup::Failed | Backup::Refused => members.push_text("event.outcome", "failure"),
     }
     members.push_text("message", words);
     members.into_line()

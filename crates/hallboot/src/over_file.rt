@@ -2,13 +2,14 @@
 use desk_operations::Exit;
 use hall_report::Fault;
 use hall_store::HallStore;
-use hallboot_files::{Joining, is_foreign, remove_with_beside, write_copy};
+use hallboot_files::{Joining, is_foreign, now_seconds, remove_with_beside, write_copy};
 use hallboot_tasks::{HallSum, Suspended, carried_out, served, sum_of, tell};
 use hallboot_words::{Serving, Task};
 use sql_file::{Ended, FileFault, StoreTask, Unjoined, one_file, over};
 use std::alloc::Global;
 use std::fs::File;
 use std::io::{self, ErrorKind, Write};
+use std::ops::Range;
 
 pub(crate) fn of_file(fault: FileFault) -> Fault {
     match fault {
@@ -38,11 +39,34 @@ fn refused(unjoined: Unjoined) -> io::Error {
     }
 }
 
+// Where a file of SQLite has its user version, which SQLite leaves to programs (the file format of SQLite, section 1.3).
+const USER_VERSION: Range<usize> = 60..64;
+
 impl Joining for Joined {
-    fn write(&self, alloc: Global, file: &[u8], log: &[u8], writer: &mut File) -> io::Result<u64> {
+    // The moment is the file's user version, so that a copy of the copy has it too.
+    fn write(
+        &self,
+        alloc: Global,
+        file: &[u8],
+        log: &[u8],
+        moment: Option<u32>,
+        writer: &mut File,
+    ) -> io::Result<u64> {
         let one = one_file(alloc, file, log).map_err(refused)?;
-        writer.write_all(one.bytes())?;
-        Ok(one.bytes().len() as u64)
+        let octets = one.bytes();
+        let (before, after) = (
+            octets.get(..USER_VERSION.start),
+            octets.get(USER_VERSION.end..),
+        );
+        match (moment, before, after) {
+            (Some(moment), Some(before), Some(after)) => {
+                writer.write_all(before)?;
+                writer.write_all(&moment.to_be_bytes())?;
+                writer.write_all(after)?;
+            }
+            _ => writer.write_all(octets)?,
+        }
+        Ok(octets.len() as u64)
     }
 }
 
@@ -91,7 +115,7 @@ fn look<S: HallStore>(
     found.sum = Some(sum_of(store)?);
     if let Some(Copying { path, new }) = copying {
         remove_with_beside(rt, new);
-        found.written = Some(write_copy(rt, &Joined, path, new));
+        found.written = Some(write_copy(rt, &Joined, path, now_seconds(rt), new));
     }
     Ok(Exit::Done)
 }

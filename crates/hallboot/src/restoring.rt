@@ -147,10 +147,20 @@ fn of_writing(rt: &HostRuntime, from: &str, new: &str, error: &io::Error) -> Fai
 fn taken(rt: &HostRuntime, from: &str, new: &str) -> Result<HallSum, Failure> {
     check_journal(rt, from)?;
     check_copy(rt, from)?;
-    match write_copy(rt, &Joined, from, new) {
+    match write_copy(rt, &Joined, from, None, new) {
         Ok(_) => copy_sum(rt, new),
         Err(error) => Err(of_writing(rt, from, new, &error)),
     }
+}
+
+/// What the copy amounts to that is at a path where copies of a service are put; None where there is none that is whole. The copy stays as it is,
+/// with nothing beside it.
+pub(crate) fn sum_of_copy(rt: &HostRuntime, path: &str) -> Option<HallSum> {
+    let new = with_end(rt.alloc(), path, ".new").ok()?;
+    remove_with_beside(rt, new.as_str());
+    let sum = taken(rt, path, new.as_str()).ok();
+    remove_with_beside(rt, new.as_str());
+    sum
 }
 
 // Puts a whole new file in the place of a hall that no program has open, and what was there aside: whether there was anything.

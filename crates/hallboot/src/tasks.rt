@@ -1,7 +1,7 @@
 //! What the words ask for is done.
 use crate::init::init;
 use crate::over_file::{Doing, ended_over, looked_at, of_file, outcome_of, over_file};
-use crate::restoring::{backup, restore};
+use crate::restoring::{backup, restore, sum_of_copy};
 use desk_operations::{Exit, frame_run};
 use hall_report::Fault;
 use hallboot_files::first_open_to_others;
@@ -61,7 +61,11 @@ fn served_once(
 fn serve(rt: &HostRuntime, serving: &Serving) -> Result<Exit, Fault> {
     let path = serving.path.as_str();
     tell_of_others(rt, serving);
-    let mut suspended = Suspended::new(serving.turns);
+    let copy = serving
+        .backup
+        .as_ref()
+        .and_then(|plan| sum_of_copy(rt, plan.path.as_str()));
+    let mut suspended = Suspended::new(serving.turns, copy);
     for _ in 0..u64::MAX {
         if let Some(outcome) = served_once(rt, serving, &mut suspended) {
             return outcome;
@@ -97,6 +101,7 @@ pub(crate) fn carry_out(rt: &HostRuntime, job: Job) -> Result<Exit, Failure> {
         Job::Restore(asked) => restore(rt, &asked),
         Job::Serve(serving) => Ok(serve(rt, &serving)?),
         Job::Import(path, asked) => once(rt, path.as_str(), asked.task(rt)?),
+        Job::Adopt(path, asked) => once(rt, path.as_str(), asked.task(rt)?),
         Job::Over(path, task) => once(rt, path.as_str(), task),
     }
 }

@@ -22,8 +22,20 @@ pub fn changed_at(rt: &HostRuntime, path: &str) -> io::Result<String> {
     text_of(rt.alloc(), fs::metadata(rt, path)?.modified()?)
 }
 
+/// When a file was last written, as the end of a name, as `.2026-09-21T14-13-20Z`.
+pub(crate) fn changed_name(rt: &HostRuntime, path: &str) -> io::Result<String> {
+    let text = changed_at(rt, path)?.replace(rt.alloc(), ":", "-")?;
+    Ok(format!(in rt.alloc(); ".{text}")?)
+}
+
 /// The system's moment in UTC, with hyphens in place of colons, for the name of a file.
 pub fn now_text(rt: &HostRuntime) -> io::Result<String> {
     let text = text_of(rt.alloc(), SystemTime::now(rt)?)?;
     Ok(text.replace(rt.alloc(), ":", "-")?)
+}
+
+/// The system's moment in seconds since 1970, None where 32 bits don't hold it.
+pub fn now_seconds(rt: &HostRuntime) -> Option<u32> {
+    let since = SystemTime::now(rt).ok()?.duration_since(UNIX_EPOCH).ok()?;
+    u32::try_from(since.as_secs()).ok()
 }

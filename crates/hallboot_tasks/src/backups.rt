@@ -1,6 +1,6 @@
 //! Copies of a hall's file that are made while it is served, between two turns.
 use desk_lines::Backup;
-use hallboot_files::{Joining, copy};
+use hallboot_files::{Joining, Keeping, copy};
 use hallboot_words::BackupPlan;
 use std::time::Instant;
 
@@ -20,6 +20,8 @@ pub(crate) struct Backups<'a, J> {
     pub(crate) plan: Option<&'a BackupPlan>,
     pub(crate) joining: &'a J,
     pub(crate) last: LastBackup,
+    /// Whether the copy that was there before the service has later numbers than the hall, so that it is of another hall, or of a later one.
+    pub(crate) is_behind: bool,
 }
 
 impl<'a, J: Joining> Backups<'a, J> {
@@ -39,11 +41,18 @@ impl<'a, J: Joining> Backups<'a, J> {
     pub(crate) fn made(&mut self, rt: &HostRuntime, db: &str) -> Option<Backup> {
         let plan = self.due(rt)?;
         let begun = Instant::now(rt).ok()?;
+        let keeping = Keeping {
+            before: self.last.is_first,
+            dated: plan.kept,
+        };
         self.last = LastBackup {
             at: begun,
             is_first: false,
         };
-        let copied = copy(rt, self.joining, db, plan.path.as_str());
+        if self.is_behind {
+            return Some(Backup::Refused);
+        }
+        let copied = copy(rt, self.joining, db, plan.path.as_str(), keeping);
         let milliseconds = match begun.elapsed(rt) {
             Ok(passed) => u64::try_from(passed.as_millis()).unwrap_or(u64::MAX),
             Err(_) => 0,

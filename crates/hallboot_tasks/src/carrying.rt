@@ -1,13 +1,17 @@
 //! The tasks over an open store, which they give back. The store's type stays open here, so that no proof looks into a file.
+use crate::random_block::RandomBlock;
 use crate::serving::serve;
 use crate::suspended::Suspended;
+use desk_adoption::{Adopted, Adopters, Server};
 use desk_operations::{Exit, Imported};
 use hall_desk::Desk;
 use hall_http::Noted;
 use hall_report::Fault;
 use hall_store::{Cached, HallStore};
 use hallboot_files::Joining;
-use hallboot_words::{ImportTask, Request, Serving, Task};
+use hallboot_words::{AdoptTask, ImportTask, Request, Serving, Task};
+use rand::rngs::SysRng;
+use std::alloc::AllocError;
 
 /// What came of a task, and its store.
 pub type Carried<S> = (Result<Exit, Fault>, S);
@@ -37,6 +41,55 @@ fn import<S: HallStore>(rt: &HostRuntime, store: S, asked: ImportTask) -> Carrie
     (exit, desk.into_store())
 }
 
+// Servers with octets that nobody can guess.
+fn servers_of(
+    rt: &HostRuntime,
+    asked: &AdoptTask,
+) -> Result<Result<Vec<Server>, Fault>, AllocError> {
+    let (mut random, mut block) = (SysRng::new(rt), RandomBlock::new());
+    let mut servers = Vec::new(rt.alloc());
+    for (machine, image) in asked.running.as_slice() {
+        let (Some(keys), Some(token)) = (block.token(&mut random), block.token(&mut random)) else {
+            return Ok(Err(Fault::Io));
+        };
+        servers.push(Server {
+            machine: *machine,
+            image: *image,
+            keys,
+            token,
+        })?;
+    }
+    Ok(Ok(servers))
+}
+
+fn adopt<S: HallStore>(rt: &HostRuntime, store: S, asked: &AdoptTask) -> Carried<S> {
+    let servers = match servers_of(rt, asked) {
+        Ok(Ok(servers)) => servers,
+        Ok(Err(fault)) => return (Err(fault), store),
+        Err(AllocError) => return (Err(Fault::Memory), store),
+    };
+    let adopters = Adopters {
+        owner: asked.owner,
+        power: asked.power,
+        admin: asked.admin,
+    };
+    let (place, moment, mut out) = (&asked.place, asked.moment, rt.stdout());
+    let (adopted, store) = desk_adoption::adopt(
+        rt.alloc(),
+        store,
+        place,
+        &mut out,
+        &adopters,
+        &servers,
+        moment,
+    );
+    let exit = adopted.map(|adopted| match adopted {
+        Adopted::All => Exit::Done,
+        Adopted::NotAll => Exit::NotAll,
+    });
+    (exit, store)
+}
+
 fn carried_out_over<S: HallStore>(rt: &HostRuntime, mut store: S, task: Task) -> Carried<S> {
     match task {
         Task::Request(asked) => request(rt, store, asked),
@@ -49,6 +102,7 @@ fn carried_out_over<S: HallStore>(rt: &HostRuntime, mut store: S, task: Task) ->
             (done(task), store)
         }
         Task::Import(asked) => import(rt, store, asked),
+        Task::Adopt(asked) => adopt(rt, store, &asked),
     }
 }
 

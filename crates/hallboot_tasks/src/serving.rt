@@ -6,17 +6,17 @@ use crate::backups::Backups;
 use crate::lines::Lines;
 use crate::notices::tell;
 use crate::stamps::{Stamps, now};
+use crate::sums::sum_of;
 use crate::suspended::{Bound, Suspended};
 use desk_lines::Backup;
 use hall_desk::Desk;
 use hall_report::Fault;
 use hall_store::{GroupStore, HallStore};
 use hallboot_files::{Joining, ServedFile};
-use hallboot_words::Serving;
+use hallboot_words::{Serving, fault_of};
 use pxe_vendor::{Place, PlaceFault};
 use rand::rngs::SysRng;
 use serve_sockets::{Service, Source};
-use std::alloc::Global;
 use store_group::Group;
 
 /// After how many turns it is looked whether the hall's file is still there.
@@ -39,6 +39,8 @@ struct Part<'a> {
     serving: &'a Serving,
     file: ServedFile,
     turns: u64,
+    // Whether the copy that was there before the service has later numbers than the hall.
+    is_behind: bool,
 }
 
 // Says what became of a copy: in the log, or at standard error where there is none and it failed.
@@ -47,11 +49,17 @@ fn tell_of_backup(rt: &HostRuntime, lines: &mut Lines, serving: &Serving, backup
         if let Some(moment) = now(rt) {
             lines.backed_up(moment, backup);
         }
-    } else if *backup == Backup::Failed {
-        let path = serving.path.as_str();
-        let words = format!(in rt.alloc(); "the backup of {path} failed");
-        tell(rt, serving.has_json_errors(), words);
+        return;
     }
+    let path = serving.path.as_str();
+    let words = match backup {
+        Backup::Made { .. } => return,
+        Backup::Failed => format!(in rt.alloc(); "the backup of {path} failed"),
+        Backup::Refused => format!(in rt.alloc();
+            "no backup of {path} is made: the copy there has later numbers, move it away"
+        ),
+    };
+    tell(rt, serving.has_json_errors(), words);
 }
 
 // Serves a part's turns, and says how that ended and how many turns are left.
@@ -109,6 +117,7 @@ fn serve_over<S: HallStore, J: Joining>(
         plan: part.serving.backup.as_ref(),
         joining,
         last,
+        is_behind: part.is_behind,
     };
     let store = Group::new(rt.alloc(), store);
     let desk = desk_over(store, place, part.serving.enlists);
@@ -126,9 +135,23 @@ fn serve_over<S: HallStore, J: Joining>(
     (ended, desk.into_store().into_inner(), bound)
 }
 
+// The host by which scripts name a desk: where it listens, if it is served on loopback.
+fn host_of(rt: &HostRuntime, serving: &Serving, bound: &Bound) -> Result<String, Fault> {
+    if !serving.is_loopback {
+        return Ok(String::from_str(rt.alloc(), serving.place.host())?);
+    }
+    let http = bound
+        .sockets
+        .http_address()
+        .map_err(|error| fault_of(&error))?;
+    Ok(format!(in rt.alloc(); "{http}")?)
+}
+
 // A place of its own for a desk.
-fn copied(alloc: Global, place: &Place) -> Result<Place, Fault> {
-    let copy = Place::new(alloc, place.server(), place.next(), place.host());
+fn place_of(rt: &HostRuntime, serving: &Serving, bound: &Bound) -> Result<Place, Fault> {
+    let (alloc, place) = (rt.alloc(), &serving.place);
+    let host = host_of(rt, serving, bound)?;
+    let copy = Place::new(alloc, place.server(), place.next(), host.as_str());
     copy.map_err(|fault| match fault {
         PlaceFault::BadHost => Fault::BadInput,
         PlaceFault::Memory => Fault::Memory,
@@ -181,15 +204,15 @@ fn prepared(
         tell_of_gone(rt, serving);
         return Err(Fault::Unavailable);
     }
-    let place = copied(rt.alloc(), &serving.place)?;
     let bound = suspended.take(rt, serving)?;
+    let place = place_of(rt, serving, &bound)?;
     Ok((file, place, bound))
 }
 
 /// Serves the turns that are left over a store, or until a fault shuts it, or its file goes.
 pub(crate) fn serve<S: HallStore, J: Joining>(
     rt: &HostRuntime,
-    store: S,
+    mut store: S,
     serving: &Serving,
     suspended: &mut Suspended,
     joining: &J,
@@ -198,10 +221,12 @@ pub(crate) fn serve<S: HallStore, J: Joining>(
         Ok(prepared) => prepared,
         Err(fault) => return (Err(fault), store),
     };
+    let is_behind = sum_of(&mut store).is_ok_and(|sum| suspended.is_behind(&sum));
     let mut part = Part {
         serving,
         file,
         turns: suspended.left(),
+        is_behind,
     };
     let ((ended, left), store, bound) = serve_over(rt, store, place, bound, &mut part, joining);
     let outcome = told(rt, serving, ended, &bound);

@@ -11,6 +11,16 @@ pub struct HallSum {
     last: Numbers,
 }
 
+impl HallSum {
+    /// Whether a last number is lower than that of another hall: it is another hall, or was later.
+    pub(crate) fn is_behind(&self, other: &HallSum) -> bool {
+        let (last, its) = (self.last, other.last);
+        last.machine.get() < its.machine.get()
+            || last.boot.get() < its.boot.get()
+            || last.order.get() < its.order.get()
+    }
+}
+
 /// That of a store's hall.
 pub fn sum_of<S: HallStore>(store: &mut S) -> Result<HallSum, Fault> {
     Ok(HallSum {

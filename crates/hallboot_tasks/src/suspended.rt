@@ -5,6 +5,7 @@ use crate::outlet::Outlet;
 use crate::random_block::RandomBlock;
 use crate::serving::tell_of_gone;
 use crate::stamps::now;
+use crate::sums::HallSum;
 use hall_report::{Fault, LogFormat};
 use hallboot_files::ServedFile;
 use hallboot_words::{Serving, fault_of};
@@ -75,11 +76,25 @@ fn reserve_stack<R: TryRng>(source: &mut R) {
     let _ = has_frames(source, FRAMES);
 }
 
+// Says where the sockets are.
+fn print_addresses(rt: &HostRuntime, sockets: &Sockets) -> Result<(), Fault> {
+    let discover = sockets
+        .discover_address()
+        .map_err(|error| fault_of(&error))?;
+    let boot = sockets.boot_address().map_err(|error| fault_of(&error))?;
+    let http = sockets.http_address().map_err(|error| fault_of(&error))?;
+    let text = format!(in rt.alloc(); "discover {discover}\nboot {boot}\nhttp {http}\n")?;
+    desk_operations::write_text(&mut rt.stdout(), text.as_str())
+}
+
 // When a service begins that has all that it needs, of which one is told that it is ready.
-fn ready(rt: &HostRuntime) -> Result<Instant, Fault> {
+fn ready(rt: &HostRuntime, serving: &Serving, sockets: &Sockets) -> Result<Instant, Fault> {
     has_room(rt).map_err(|error| fault_of(&error))?;
     reserve_stack(&mut SysRng::new(rt));
     let start = Instant::now(rt).map_err(|error| fault_of(&error))?;
+    if serving.is_loopback {
+        print_addresses(rt, sockets)?;
+    }
     desk_operations::write_text(&mut rt.stdout(), "hall desk ready\n")?;
     Ok(start)
 }
@@ -100,7 +115,7 @@ impl Bound {
         let path = serving.log.as_ref();
         let log = path.map(|path| Outlet::at(rt, path.as_str(), serving.format));
         let mut log = log.transpose()?;
-        let start = ready(rt)?;
+        let start = ready(rt, serving, &sockets)?;
         if let Some(log) = &mut log {
             note_ready(rt, log);
         }
@@ -124,19 +139,22 @@ pub struct Suspended {
     file: Option<ServedFile>,
     left: u64,
     is_shut: bool,
+    // What the copy amounts to that was there before the service, if there was one.
+    copy_before: Option<HallSum>,
     // How many turns were left at the last wait, and how many there were in a row after which nothing was served for long.
     left_before: u64,
     waits: usize,
 }
 
 impl Suspended {
-    /// A service of so many turns, which holds nothing yet.
-    pub fn new(turns: u64) -> Suspended {
+    /// A service of so many turns, which holds nothing yet, and what the copy amounts to that is where its copies are put, if there is one.
+    pub fn new(turns: u64, copy_before: Option<HallSum>) -> Suspended {
         Suspended {
             bound: None,
             file: None,
             left: turns,
             is_shut: false,
+            copy_before,
             left_before: turns,
             waits: 0,
         }
@@ -158,6 +176,11 @@ impl Suspended {
             Some(bound) => Ok(bound),
             None => Bound::new(rt, serving),
         }
+    }
+
+    /// Whether a hall is behind the copy that was there before the service.
+    pub(crate) fn is_behind(&self, sum: &HallSum) -> bool {
+        self.copy_before.is_some_and(|copy| sum.is_behind(&copy))
     }
 
     /// Whether another file than this one was served before.

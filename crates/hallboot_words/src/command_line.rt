@@ -1,4 +1,5 @@
 //! The program's commands.
+use crate::adopt::ADOPT_ROW;
 use crate::backup::{BACKUP_ROW, RESTORE_ROW};
 use crate::common::WHY;
 use crate::frame::FRAME_ROW;
@@ -23,6 +24,7 @@ pub fn read<'a>(alloc: Global, words: &'a [String]) -> Result<Options<'a>, Usage
         SERVE_ROW,
         REPORT_ROW,
         IMPORT_ROW,
+        ADOPT_ROW,
         EXPORT_ROW,
         BACKUP_ROW,
         RESTORE_ROW,

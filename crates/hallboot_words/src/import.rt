@@ -58,7 +58,7 @@ pub struct Import {
     place: Place,
 }
 
-fn digest_of(token: &str) -> Option<Digest> {
+pub(crate) fn digest_of(token: &str) -> Option<Digest> {
     if is_bearer_token(token.as_bytes()) {
         Some(Digest::from(Sha256::digest(token.as_bytes())))
     } else {

@@ -1,4 +1,5 @@
 //! What a command line asks for.
+use crate::adopt::{Adopt, Running};
 use crate::backup::{FROM, HallCopy, TO};
 use crate::common::{DB, owned};
 use crate::failure::Failure;
@@ -31,6 +32,8 @@ pub enum Job {
     Serve(Serving),
     /// The machines of a file are imported into the hall in another one.
     Import(String, Import),
+    /// Running servers are adopted in the hall in a file.
+    Adopt(String, Adopt),
     /// A task over the hall in a file.
     Over(String, Task),
 }
@@ -46,6 +49,8 @@ pub enum Task {
     Export,
     /// The machines of a file's octets are imported.
     Import(ImportTask),
+    /// Running servers are adopted.
+    Adopt(AdoptTask),
 }
 
 /// The octets of a file of machines, who imports them, and when and where.
@@ -54,6 +59,17 @@ pub struct ImportTask {
     pub place: Place,
     pub octets: Vec<u8>,
     pub bearer: Digest,
+    pub moment: Moment,
+}
+
+/// Machines whose servers run, the digests of the tokens by which they are adopted, and when and where.
+#[derive(Drop)]
+pub struct AdoptTask {
+    pub place: Place,
+    pub running: Vec<Running>,
+    pub owner: Digest,
+    pub power: Digest,
+    pub admin: Option<Digest>,
     pub moment: Moment,
 }
 
@@ -70,6 +86,7 @@ fn job_of(options: &Options<'_>) -> Result<Job, Wrong> {
         Some("serve") => Job::Serve(Serving::read(options)?),
         Some("report") => over(options, Task::Report(options.parse(WHAT)?))?,
         Some("import") => Job::Import(owned(options, DB)?, Import::read(options)?),
+        Some("adopt") => Job::Adopt(owned(options, DB)?, Adopt::read(options)?),
         Some("export") => over(options, Task::Export)?,
         Some("backup") => Job::Backup(HallCopy::read(options, TO)?),
         Some("restore") => Job::Restore(HallCopy::read(options, FROM)?),

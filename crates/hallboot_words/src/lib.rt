@@ -2,6 +2,7 @@
 //! name, and why a fault came.
 #![tactic(auto)]
 
+mod adopt;
 mod backup;
 mod command_line;
 mod common;
@@ -15,7 +16,9 @@ mod named_files;
 mod report;
 mod request;
 mod serve;
+mod servers;
 
+pub use adopt::{Adopt, Running};
 pub use backup::HallCopy;
 pub use command_line::{read, wants_reason};
 pub use explaining::reason;
@@ -23,6 +26,6 @@ pub use failure::{Failure, because, fault_of, refused};
 pub use frame::Frame;
 pub use import::{Bearer, Import};
 pub use init::Init;
-pub use job::{ImportTask, Job, Task};
+pub use job::{AdoptTask, ImportTask, Job, Task};
 pub use request::Request;
 pub use serve::{BackupPlan, Serving, has_json_errors};

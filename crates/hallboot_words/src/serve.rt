@@ -4,14 +4,15 @@ use command_rows::{CommandRow, OptionRow, Options, Shape, Wrong};
 use hall_report::{LogFormat, count_of};
 use pxe_vendor::Place;
 use std::fmt;
-use std::net::{Ipv4Addr, SocketAddr};
+use std::net::{Ipv4Addr, SocketAddr, SocketAddrV4};
 
 pub(crate) const DISCOVER: &OptionRow = &OptionRow {
     name: "discover",
     value: "ADDR",
     help: "The socket for DHCP, port 67",
     must: SOCKET,
-    ..OptionRow::ALWAYS
+    shape: Shape::Unless("loopback"),
+    ..OptionRow::MAYBE
 };
 
 pub(crate) const BOOT: &OptionRow = &OptionRow {
@@ -19,7 +20,8 @@ pub(crate) const BOOT: &OptionRow = &OptionRow {
     value: "ADDR",
     help: "The socket of the boot server, port 4011",
     must: SOCKET,
-    ..OptionRow::ALWAYS
+    shape: Shape::Unless("loopback"),
+    ..OptionRow::MAYBE
 };
 
 pub(crate) const HTTP: &OptionRow = &OptionRow {
@@ -27,7 +29,14 @@ pub(crate) const HTTP: &OptionRow = &OptionRow {
     value: "ADDR",
     help: "The socket for HTTP",
     must: SOCKET,
-    ..OptionRow::ALWAYS
+    shape: Shape::Unless("loopback"),
+    ..OptionRow::MAYBE
+};
+
+const LOOPBACK: &OptionRow = &OptionRow {
+    name: "loopback",
+    help: "In place of the three sockets: free ports at 127.0.0.1, which it prints, and which its scripts name",
+    ..OptionRow::FLAG
 };
 
 const SOCKET: &str = "an address and a port are as in 10.0.0.5:67";
@@ -99,6 +108,17 @@ const BACKUP_EVERY: &OptionRow = &OptionRow {
     ..OptionRow::MAYBE
 };
 
+const BACKUP_KEEP: &OptionRow = &OptionRow {
+    name: "backup-keep",
+    value: "N",
+    help: "How many copies before the last one are kept, as FILE.DATE; none without it",
+    must: "it is a number without a leading zero, at most 10000",
+    ..OptionRow::MAYBE
+};
+
+// The maximum of copies that are kept.
+const MAX_KEPT: u64 = 10_000;
+
 pub(crate) const SERVE_ROW: CommandRow = CommandRow {
     name: "serve",
     about: "Serves the hall to its machines and operators",
@@ -108,6 +128,7 @@ pub(crate) const SERVE_ROW: CommandRow = CommandRow {
         DISCOVER,
         BOOT,
         HTTP,
+        LOOPBACK,
         TURNS,
         ENLIST,
         LOG,
@@ -116,6 +137,7 @@ pub(crate) const SERVE_ROW: CommandRow = CommandRow {
         LOG_CONNECTIONS,
         BACKUP,
         BACKUP_EVERY,
+        BACKUP_KEEP,
     ],
     common: &WITH_PLACE,
 };
@@ -130,6 +152,8 @@ pub struct Serving {
     /// For datagrams to the boot server.
     pub boot: SocketAddr,
     pub http: SocketAddr,
+    /// Whether these are free ports of loopback, one of which the scripts name.
+    pub is_loopback: bool,
     pub log: Option<String>,
     pub format: LogFormat,
     /// Whether the log has lines of connections.
@@ -139,11 +163,12 @@ pub struct Serving {
     pub backup: Option<BackupPlan>,
 }
 
-/// Where a copy of the hall's file is put, and how many seconds it is from one copy to the next.
+/// Where a copy of the hall's file is put, how many seconds it is from one copy to the next, and how many copies before the last one are kept.
 #[derive(Drop)]
 pub struct BackupPlan {
     pub path: String,
     pub seconds: u64,
+    pub kept: u64,
 }
 
 // How many seconds it is from one copy to the next where nothing else is said.
@@ -152,17 +177,37 @@ const HOUR: u64 = 3_600;
 impl BackupPlan {
     fn read(options: &Options<'_>) -> Result<Option<BackupPlan>, Wrong> {
         let seconds = options.value_if(BACKUP_EVERY, |text| count_of(text).filter(|n| *n > 0))?;
+        let kept = options.value_if(BACKUP_KEEP, |text| {
+            count_of(text).filter(|n| *n <= MAX_KEPT)
+        })?;
         if options.is_given(BACKUP) {
             return Ok(Some(BackupPlan {
                 path: path(options, BACKUP)?,
                 seconds: seconds.unwrap_or(HOUR),
+                kept: kept.unwrap_or(0),
             }));
         }
-        match seconds {
-            Some(_) => Err(options.wrong_because(BACKUP_EVERY, "it is given beside --backup")),
-            None => Ok(None),
+        for row in [BACKUP_EVERY, BACKUP_KEEP] {
+            if options.is_given(row) {
+                return Err(options.wrong_because(row, "it is given beside --backup"));
+            }
         }
+        Ok(None)
     }
+}
+
+// The port that stands for a free one.
+const FREE: u16 = 0;
+
+// The address of a socket: a free one of loopback, where that is asked for.
+fn socket(options: &Options<'_>, row: &OptionRow) -> Result<SocketAddr, Wrong> {
+    if !options.is_given(LOOPBACK) {
+        return options.parse(row);
+    }
+    if options.is_given(row) {
+        return Err(options.wrong_because(row, "it isn't given beside --loopback"));
+    }
+    Ok(SocketAddr::V4(SocketAddrV4::new(Ipv4Addr::LOCALHOST, FREE)))
 }
 
 fn log_format(options: &Options<'_>) -> Result<LogFormat, Wrong> {
@@ -183,9 +228,10 @@ impl Serving {
             logs_connections: is_yes(options, LOG_CONNECTIONS)?,
             enlists: is_yes(options, ENLIST)?,
             turns: options.value(TURNS, |text| count_of(text))?,
-            discover: options.parse(DISCOVER)?,
-            boot: options.parse(BOOT)?,
-            http: options.parse(HTTP)?,
+            discover: socket(options, DISCOVER)?,
+            boot: socket(options, BOOT)?,
+            http: socket(options, HTTP)?,
+            is_loopback: options.is_given(LOOPBACK),
             place: place(options)?,
             backup: BackupPlan::read(options)?,
             log: options.text(LOG).map(|_| owned(options, LOG)).transpose()?,
@@ -208,6 +254,9 @@ impl fmt::Display for Serving {
             f,
             "serve {path}, discover {discover}, boot {boot}, http {http}"
         )?;
+        if self.is_loopback {
+            write!(f, " of loopback")?;
+        }
         let not = if self.enlists { "" } else { "not " };
         write!(f, ", turns {turns}, {not}enlisting")?;
         let (server, next) = (Ipv4Addr::from(place.server()), Ipv4Addr::from(place.next()));
@@ -225,7 +274,13 @@ impl fmt::Display for Serving {
         };
         write!(f, ", log {log} in {format}{without}")?;
         match &self.backup {
-            Some(backup) => write!(f, ", backup {} every {}", backup.path, backup.seconds),
+            Some(backup) => {
+                write!(f, ", backup {} every {}", backup.path, backup.seconds)?;
+                if backup.kept > 0 {
+                    write!(f, ", {} kept", backup.kept)?;
+                }
+                Ok(())
+            }
             None => Ok(()),
         }
     }

@@ -129,7 +129,7 @@ impl<S: Surroundings> Session<'_, S> {
         Ok(end)
     }
 
-    /// Sends the commands of a line, and prints a line for each. Where one erases or deletes, the machines are looked at first, and the
+    /// Sends the commands of a line, and prints a line for each. Where one is dangerous, the machines are looked at first, and the
     /// operator is asked. A refused command is no reason not to send the others; one without an answer is. Where
     /// the line says so, the machines are waited for afterwards.
     pub(crate) fn change(&mut self, commands: &[HallCommand]) -> Step<TaskEnd> {

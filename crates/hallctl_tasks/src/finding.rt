@@ -102,7 +102,9 @@ impl<S: Surroundings> Finding<'_, S> {
 
     fn token_at(&mut self, path: &str) -> Result<BearerToken, DeskFault> {
         if self.surroundings.is_open_to_others(path) {
-            let text = format_args!("others can read the token in {path}: chmod 600 {path}");
+            let text = format_args!(
+                "others can read the token in {path}: chmod o= {path}, and g= unless it is root's"
+            );
             report(self.alloc, self.surroundings, text)?;
         }
         // A file's name that is standard input's elsewhere.

@@ -7,7 +7,7 @@ use hall_events::HallCommand;
 use hall_report::{ImportFault, ImportRow, import_rows};
 use std::alloc::AllocError;
 
-fn command_of(row: &ImportRow) -> HallCommand {
+pub(crate) fn command_of(row: &ImportRow) -> HallCommand {
     HallCommand::AddMachine {
         mac: row.mac,
         arch: row.arch,
@@ -56,14 +56,14 @@ impl<S: Surroundings> Session<'_, S> {
         Ok(end)
     }
 
-    /// Adds the machines of a file, each with the key of its row, so that the file may be imported again.
-    pub(crate) fn import(&mut self, path: &str) -> Step<TaskEnd> {
+    /// The rows of a file of machines.
+    pub(crate) fn rows_of(&mut self, path: &str) -> Step<Vec<ImportRow>> {
         let octets = match self.surroundings.octets_of(self.alloc, path) {
             Ok(octets) => octets,
             Err(fault) => return self.end_by_file(path, fault),
         };
         match import_rows(self.alloc, octets.as_slice()) {
-            Ok(rows) => self.add_rows(rows.as_slice()),
+            Ok(rows) => Ok(rows),
             Err(ImportFault::BadHeader) => {
                 self.end_by_file(path, "its first line must be key,mac,arch,uuid,pool")
             }
@@ -75,5 +75,11 @@ impl<S: Surroundings> Session<'_, S> {
             ),
             Err(ImportFault::Memory) => Err(EarlyEnd::Fault(TaskFault::Memory)),
         }
+    }
+
+    /// Adds the machines of a file, each with the key of its row, so that the file may be imported again.
+    pub(crate) fn import(&mut self, path: &str) -> Step<TaskEnd> {
+        let rows = self.rows_of(path)?;
+        self.add_rows(rows.as_slice())
     }
 }

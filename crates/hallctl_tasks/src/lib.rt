@@ -6,6 +6,7 @@ mod changes;
 mod desk;
 mod desk_fault;
 mod dial;
+mod dry_run;
 mod end;
 mod exchanging;
 mod finding;

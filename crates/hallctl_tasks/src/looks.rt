@@ -7,7 +7,9 @@ use crate::surroundings::Surroundings;
 use hall_events::HallCommand;
 use hall_types::{Number, Refusal, Status, Version};
 use hallctl_requests::Ask;
-use hallctl_texts::{DeskAnswer, ListedMachine, is_dangerous, refusal_line, version_of, warning};
+use hallctl_texts::{
+    DeskAnswer, ListedMachine, is_dangerous, refusal_line, total_text, version_of, warning,
+};
 use std::alloc::AllocError;
 
 /// A machine as it was listed before a command.
@@ -46,6 +48,20 @@ fn machine_of(command: &HallCommand) -> Option<Number> {
 fn push(looks: &mut Vec<Look>, look: Look) -> Result<(), AllocError> {
     looks.push(look)?;
     Ok(())
+}
+
+// How many machines were listed, and how many of these as Deployed.
+fn count(looks: &[Look]) -> (usize, usize) {
+    let (mut listed, mut deployed) = (0_usize, 0_usize);
+    for look in looks {
+        if let Look::Listed(before) = look {
+            listed = listed.saturating_add(1);
+            if before.status == Status::Deployed {
+                deployed = deployed.saturating_add(1);
+            }
+        }
+    }
+    (listed, deployed)
 }
 
 impl<S: Surroundings> Session<'_, S> {
@@ -130,36 +146,42 @@ impl<S: Surroundings> Session<'_, S> {
         self.end(TaskEnd::Refused, "nothing was sent")
     }
 
-    // Why commands of which one erases or deletes can't be sent as the line says.
+    // Why commands of which one is dangerous can't be sent as the line says.
     fn misuse_of(&self, commands: &[HallCommand]) -> Option<&'static str> {
         if !self.line.yes && !self.surroundings.can_ask() {
-            return Some("this erases or deletes: say --yes where nobody can be asked");
+            return Some(
+                "this switches off, restarts, erases or deletes: say --yes where nobody can be asked",
+            );
         }
         let mut commands = commands.iter();
         if self.line.key.is_some() && !commands.all(|command| version_of(command).is_some()) {
             return Some(
-                "a command that erases or deletes is said again with its --key and its --version",
+                "a command that switches off, restarts, erases or deletes is said again with its --key and its --version",
             );
         }
         None
     }
 
-    // The looks before commands of which one erases or deletes, after which the operator is asked.
+    // The looks before commands of which one is dangerous, after which the operator is asked.
     fn look_and_ask(&mut self, commands: &[HallCommand]) -> Step<Vec<Look>> {
         // What is said again may be done already, and its machine changed or gone: it was looked at when it was first said.
         if self.line.key.is_some() {
-            self.report("this erases or deletes, and is said again")?;
+            self.report("this switches off, restarts, erases or deletes, and is said again")?;
             self.ask_operator()?;
             return Ok(Vec::new(self.alloc));
         }
         let looks = self.looks_at(commands)?;
-        if looks.iter().any(|look| matches!(look, Look::Listed(_))) {
+        let (listed, deployed) = count(looks.as_slice());
+        if listed > 1 {
+            self.report(total_text(self.alloc, listed, deployed)?)?;
+        }
+        if listed > 0 {
             self.ask_operator()?;
         }
         Ok(looks)
     }
 
-    /// The look before each command. Where one erases or deletes, its machine's listing is read, what would be done to it is reported, and the
+    /// The look before each command. Where one is dangerous, its machine's listing is read, what would be done to it is reported, and the
     /// operator is asked, unless that isn't wanted.
     pub(crate) fn look_before(&mut self, commands: &[HallCommand]) -> Step<Vec<Look>> {
         if !commands.iter().any(|command| is_dangerous(command)) {

@@ -2,6 +2,7 @@
 use crate::desk::Desk;
 use crate::end::{EarlyEnd, Step, TaskEnd, TaskFault};
 use crate::finding::Finding;
+use crate::output::print;
 use crate::surroundings::Surroundings;
 use hallctl_words::{Line, Wish};
 use std::alloc::Global;
@@ -20,6 +21,9 @@ impl<S: Surroundings> Session<'_, S> {
     // Does what the line asks of the desk.
     fn carry_out(&mut self) -> Step<TaskEnd> {
         let line = self.line;
+        if line.dry_run {
+            return self.tell();
+        }
         match &line.wish {
             Wish::List(listing) => self.list(listing),
             Wish::Answer { order, outcome } => self.answer_order(*order, *outcome),
@@ -48,6 +52,10 @@ impl<S: Surroundings> Finding<'_, S> {
 
     fn carry_out(&mut self) -> Step<TaskEnd> {
         match self.line.wish {
+            Wish::Halls if self.line.dry_run => {
+                print(self.surroundings, "GET /machines of each hall\n")?;
+                Ok(TaskEnd::Done)
+            }
             Wish::Halls => self.look_at_halls(),
             Wish::Completion => Ok(TaskEnd::Done),
             _ => self.ask_desk(),

@@ -1,14 +1,22 @@
--- Commands that erase disks or delete machines.
+-- Commands that erase disks, delete machines, or switch off or restart what may run on them.
 use Rattle.std.specs.Prelude.{ℕ, Bool, true, false, Option, Some, None}
-use Rattle.hall_events.specs.declared.command.{HallCommand.{HallCommand, TheVariants.OnMachine}, MachineCommand.{MachineCommand, TheVariants.{Delete, Release}}}
+use Rattle.hall_events.specs.declared.command.{HallCommand.{HallCommand, TheVariants.OnMachine}, MachineCommand.{MachineCommand, TheVariants.{Delete, Release, Act}}}
+use Rattle.hall_types.specs.declared.act.Act.{Act as Word, TheVariants.{Rescue, ExitRescue}}
 
--- the command on a machine deletes it, or erases its disks
+-- the word restarts what may run on a machine
+abbrev pub restarts : Word → Bool
+restarts Rescue = true
+restarts ExitRescue = true
+restarts other = false
+
+-- the command on a machine deletes it, releases it, with its disks erased or not, or restarts it
 abbrev pub is_dangerous_on : MachineCommand → Bool
 is_dangerous_on Delete = true
-is_dangerous_on (Release (Some erase)) = true
+is_dangerous_on (Release erase) = true
+is_dangerous_on (Act word) = restarts word
 is_dangerous_on other = false
 
--- the command deletes a machine, or erases its disks
+-- the command deletes a machine, releases it or restarts it
 abbrev pub is_dangerous : HallCommand → Bool
 is_dangerous (OnMachine machine version command) = is_dangerous_on command
 is_dangerous other = false

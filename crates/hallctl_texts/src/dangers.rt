@@ -1,10 +1,10 @@
-//! Commands that erase disks or delete machines.
+//! Commands that erase disks, delete machines, or switch off or restart what may run on them.
 ghost use Rattle.std.specs.Prelude.{◌≡◌};
 ghost use Rattle.hallctl_texts.specs.Dangers.{is_dangerous, is_dangerous_on, unversioned, with_version};
 
 use crate::listings::ListedMachine;
 use hall_events::{HallCommand, MachineCommand};
-use hall_types::{Number, Version};
+use hall_types::{Act, Number, Version};
 use std::alloc::{AllocError, Global};
 
 fn is_dangerous_on(command: &MachineCommand) -> bool
@@ -12,11 +12,13 @@ fn is_dangerous_on(command: &MachineCommand) -> bool
 {
     matches!(
         command,
-        MachineCommand::Delete | MachineCommand::Release { erase: Some(_) }
+        MachineCommand::Delete
+            | MachineCommand::Release { .. }
+            | MachineCommand::Act(Act::Rescue | Act::ExitRescue)
     )
 }
 
-/// Whether a command erases a machine's disks or deletes the machine.
+/// Whether a command deletes a machine, releases it, with its disks erased or not, or restarts it for a rescue or after one.
 pub fn is_dangerous(command: &HallCommand) -> bool
     ensures { result ≡ is_dangerous command.now }
 {
@@ -59,15 +61,29 @@ pub fn with_version(command: HallCommand, version: Version) -> HallCommand
     }
 }
 
-// What a command will do that can't be taken back.
-fn deed(alloc: Global, command: &MachineCommand) -> Result<Option<String>, AllocError> {
+// What a command will do, without the kind of erasing.
+fn deed(command: &MachineCommand) -> Option<&'static str> {
     match command {
-        MachineCommand::Delete => Ok(Some(String::from_str(alloc, "it will be deleted")?)),
-        MachineCommand::Release { erase: Some(erase) } => {
-            let kind = erase.text();
-            Ok(Some(format!(in alloc; "all of its disks will be erased, {kind}")?))
+        MachineCommand::Delete => Some("it will be deleted"),
+        MachineCommand::Release { erase: Some(_) } => Some("all of its disks will be erased, "),
+        MachineCommand::Release { erase: None } => {
+            Some("it will be switched off, its disks keep their data")
         }
-        _ => Ok(None),
+        MachineCommand::Act(Act::Rescue) => {
+            Some("it will be restarted, with the rescue system in place of its own")
+        }
+        MachineCommand::Act(Act::ExitRescue) => {
+            Some("it will be restarted, and its rescue system ends")
+        }
+        _ => None,
+    }
+}
+
+// The kind of erasing that a command asks for.
+fn kind(command: &MachineCommand) -> &'static str {
+    match command {
+        MachineCommand::Release { erase: Some(erase) } => erase.text(),
+        _ => "",
     }
 }
 
@@ -95,9 +111,14 @@ pub fn warning(
     let HallCommand::OnMachine { command, .. } = command else {
         return Ok(None);
     };
-    let Some(deed) = deed(alloc, command)? else {
+    let Some(deed) = deed(command) else {
         return Ok(None);
     };
-    let machine = machine_text(alloc, machine)?;
-    Ok(Some(format!(in alloc; "{machine}: {deed}")?))
+    let (machine, kind) = (machine_text(alloc, machine)?, kind(command));
+    Ok(Some(format!(in alloc; "{machine}: {deed}{kind}")?))
+}
+
+/// The line on several machines of which dangerous commands were looked at, without a line feed: `500 machines, 480 of them Deployed`.
+pub fn total_text(alloc: Global, machines: usize, deployed: usize) -> Result<String, AllocError> {
+    format!(in alloc; "{machines} machines, {deployed} of them Deployed")
 }

@@ -24,7 +24,7 @@ pub use answer_lines::{deleted_line, done_line, refusal_line, state_line, subjec
 pub use answers::{DeskAnswer, MachineState, Question, desk_answer};
 pub use choosing::{Choice, chosen};
 pub use columns::Column;
-pub use dangers::{is_dangerous, version_of, warning, with_version};
+pub use dangers::{is_dangerous, total_text, version_of, warning, with_version};
 pub use json::value_of;
 pub use listings::{Filter, ListedMachine, lets_through, listed};
 pub use machine_texts::{

@@ -22,8 +22,10 @@ pub struct Line<'a> {
     pub keys: Option<&'a str>,
     /// For how many seconds it is waited, after commands on machines, until these have got where the commands lead.
     pub wait: Option<u64>,
-    /// Whether a command that erases or deletes is sent without a question.
+    /// Whether a dangerous command is sent without a question.
     pub yes: bool,
+    /// Whether it is only said what would be sent.
+    pub dry_run: bool,
     /// Whether the desk's JSON is printed.
     pub json: bool,
     pub wish: Wish<'a>,

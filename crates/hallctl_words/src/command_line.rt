@@ -4,8 +4,8 @@ use crate::hall::{add_operator, hall_command};
 use crate::halls::{all_halls, hall_of};
 use crate::machines::{WAIT_FOR, YES, commands_on};
 use crate::options::{
-    CHANGING, COMMAND, DESK, EACH_HALL, HALLS, JSON, KEY, KEYS, READING, TIMEOUT, TOKEN_FILE,
-    WAITING,
+    CHANGING, COMMAND, DESK, DRY_RUN, EACH_HALL, HALLS, JSON, KEY, KEYS, READING, TIMEOUT,
+    TOKEN_FILE, WAITING,
 };
 use crate::values::{key_of, seconds_of};
 use crate::waiting::wait;
@@ -162,6 +162,7 @@ fn line_of<'a>(options: &Options<'a>) -> Result<Line<'a>, Wrong> {
         keys: options.text(KEYS),
         wait,
         yes: options.is_given(YES),
+        dry_run: options.is_given(DRY_RUN),
         json: options.is_given(JSON),
         wish,
     })

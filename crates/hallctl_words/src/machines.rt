@@ -48,18 +48,24 @@ pub(crate) static ROWS: [CommandRow; 18] = [
     CommandRow {
         name: "release",
         about: "Gives machines back, with all of their disks erased first or not",
-        example: "Example: hallctl release 1 --erase none",
+        example: "Example: hallctl release 1 --erase none\n\nThe machine is switched off. With none its disks keep their data, for the next owner too.",
         options: &[MACHINES, ERASE, VERSION, YES, WAIT_FOR],
         ..COMMAND
     },
     CommandRow {
         name: "rescue",
         about: "Boots the rescue system on machines",
-        example: "Example: hallctl rescue 1",
-        options: &[MACHINES, VERSION, WAIT_FOR],
+        example: "Example: hallctl rescue 1\n\nThe machine is restarted.",
+        options: &[MACHINES, VERSION, YES, WAIT_FOR],
         ..COMMAND
     },
-    act!("exit-rescue", "Ends the rescue of machines"),
+    CommandRow {
+        name: "exit-rescue",
+        about: "Ends the rescue of machines",
+        example: "Example: hallctl exit-rescue 1\n\nThe machine is restarted.",
+        options: &[MACHINES, VERSION, YES],
+        ..COMMAND
+    },
     act!("abort", "Stops what machines are doing"),
     act!("break", "Marks machines as broken"),
     act!("fix", "Takes broken machines as ready"),

@@ -68,19 +68,27 @@ pub(crate) const JSON: &OptionRow = &OptionRow {
     ..OptionRow::FLAG
 };
 
+pub(crate) const DRY_RUN: &OptionRow = &OptionRow {
+    name: "dry-run",
+    help: "Says what would be sent to the desk, and sends nothing",
+    ..OptionRow::FLAG
+};
+
 /// What a command that reads shares with all others. It may stand before the command as well.
-pub(crate) static READING: [&OptionRow; 6] = [DESK, TOKEN_FILE, HALL, HALLS, TIMEOUT, JSON];
+pub(crate) static READING: [&OptionRow; 7] = [
+    DESK, TOKEN_FILE, HALL, HALLS, TIMEOUT, JSON, DRY_RUN,
+];
 
 /// What commands share that change something: a command's key beside.
-pub(crate) static CHANGING: [&OptionRow; 8] = [
-    DESK, TOKEN_FILE, HALL, HALLS, TIMEOUT, KEY, KEYS, JSON,
+pub(crate) static CHANGING: [&OptionRow; 9] = [
+    DESK, TOKEN_FILE, HALL, HALLS, TIMEOUT, KEY, KEYS, JSON, DRY_RUN,
 ];
 
 /// What a command shares whose time limit is its own.
-pub(crate) static WAITING: [&OptionRow; 5] = [DESK, TOKEN_FILE, HALL, HALLS, JSON];
+pub(crate) static WAITING: [&OptionRow; 6] = [DESK, TOKEN_FILE, HALL, HALLS, JSON, DRY_RUN];
 
 /// What a command has of these that asks the desk of each hall.
-pub(crate) static EACH_HALL: [&OptionRow; 2] = [HALLS, JSON];
+pub(crate) static EACH_HALL: [&OptionRow; 3] = [HALLS, JSON, DRY_RUN];
 
 /// What the rows of commands have in common, before what they share is added.
 pub(crate) const COMMAND: CommandRow = CommandRow {

@@ -2,14 +2,19 @@
 use std::fs::{File, metadata};
 use std::io;
 use std::io::{ErrorKind, Read};
-use std::os::unix::fs::PermissionsExt;
+use std::os::unix::fs::{MetadataExt, PermissionsExt};
 use thiserror::Error;
 
 // The maximum of octets of a file that is read.
 const MAX_FILE_LEN: u64 = 16_777_216;
 
-// The right of others than a file's owner to read it, in its mode.
-const OTHERS: u32 = 0o044;
+// The rights of all and of a file's group to read it, in its mode.
+const ALL: u32 = 0o004;
+
+const GROUP: u32 = 0o040;
+
+// The number of root.
+const ROOT: u32 = 0;
 
 /// Why a file can't be read or made.
 #[derive(Clone, Copy, Debug, PartialEq, Eq, Error)]
@@ -57,10 +62,13 @@ pub fn input_octets(rt: &HostRuntime) -> Result<Vec<u8>, FileFault> {
     Ok(octets)
 }
 
-/// Whether others than its owner can read a file.
+/// Whether others can read a file than its owner, and than its group where root owns it: so a service reads a file of root's.
 pub fn is_open_to_others(rt: &HostRuntime, path: &str) -> bool {
     match metadata(rt, path) {
-        Ok(found) => found.permissions().mode() & OTHERS != 0,
+        Ok(found) => {
+            let mode = found.permissions().mode();
+            mode & ALL != 0 || mode & GROUP != 0 && found.uid() != ROOT
+        }
         Err(_) => false,
     }
 }

@@ -6,7 +6,9 @@ use halls_file::{file_octets, is_open_to_others};
 /// The token in the first line of a file. Warns where others than its owner can read it.
 pub(crate) fn token_at(rt: &HostRuntime, path: &str) -> Result<BearerToken, FindFault> {
     if is_open_to_others(rt, path) {
-        let _ = eprintln!(rt; "hallview: others can read the token in {path}: chmod 600 {path}");
+        let _ = eprintln!(rt;
+            "hallview: others can read the token in {path}: chmod o= {path}, and g= unless it is root's"
+        );
     }
     let Ok(octets) = file_octets(rt, path) else {
         return Err(FindFault::UnreadToken);

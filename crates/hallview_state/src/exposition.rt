@@ -134,6 +134,16 @@ fn push_moves(
     Ok(())
 }
 
+// How long it is from one list of a hall to the next, of which three make a list old.
+fn push_pauses(alloc: Global, metrics: &mut Metrics, halls: &[Hall]) -> Result<(), AllocError> {
+    metrics.begin(Family::Pause)?;
+    for hall in halls {
+        let pause = number(alloc, hall.every)?;
+        metrics.add(Family::Pause, hall.name.text(), pause.as_str())?;
+    }
+    Ok(())
+}
+
 // What is counted in the halls.
 fn push_counts(
     alloc: Global,
@@ -158,7 +168,7 @@ fn push_counts(
     for hall in halls {
         push_moves(alloc, metrics, hall, &life_cycle)?;
     }
-    Ok(())
+    push_pauses(alloc, metrics, halls)
 }
 
 fn up_text(hall: &Hall) -> &'static str

@@ -10,6 +10,7 @@ pub(crate) enum Family {
     Orders,
     Deadlines,
     Moves,
+    Pause,
     Up,
     Took,
     Age,
@@ -37,6 +38,7 @@ impl Family {
             Family::Orders => "hall_orders_waiting",
             Family::Deadlines => "hall_deadline_seconds_min",
             Family::Moves => "hall_moves_total",
+            Family::Pause => "hall_list_pause_seconds",
             Family::Up => "hall_desk_up",
             Family::Took => "hall_list_seconds",
             Family::Age => "hall_list_age_seconds",
@@ -66,6 +68,7 @@ impl Family {
             Family::Moves => {
                 "Moves of machines from one status to another that were seen since hallview began."
             }
+            Family::Pause => "How long it is from one list to the next.",
             Family::Up => "Whether the desk's last answer was a list.",
             Family::Took => "How long the last list took.",
             Family::Age => "How old the last list is.",

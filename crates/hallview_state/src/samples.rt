@@ -158,7 +158,7 @@ impl Metrics {
     {
         let name = self.name_of(family);
         self.push_comment(" TYPE ", name, family.kind())?;
-        if self.is_open && matches!(family, Family::Took | Family::Age) {
+        if self.is_open && matches!(family, Family::Pause | Family::Took | Family::Age) {
             self.push_comment(" UNIT ", name, "seconds")?;
         }
         self.push_comment(" HELP ", name, family.help())

@@ -64,12 +64,13 @@ fn backup(words: &str) -> Result<Backup, CaseFault> {
             octets: number(octets)?,
             milliseconds: number(milliseconds)?,
         }),
+        None if words == "refused" => Ok(Backup::Refused),
         None => Ok(Backup::Failed),
     }
 }
 
 /// A line at the moment 1,790,000,000: of a `turn`, `FORM TURN` or `FORM TURN ARRIVAL`, with the text or the members of its arrival; of a
-/// `backup`, `FORM OCTETS MILLISECONDS` or `FORM failed`; of so many lines that were `lost`, `FORM COUNT`; `unstamped` of a clock that fails.
+/// `backup`, `FORM OCTETS MILLISECONDS`, `FORM failed` or `FORM refused`; of so many lines that were `lost`, `FORM COUNT`; `unstamped` of a clock that fails.
 pub fn line(kind: &str, rest: &str, out: &mut Out) -> Played {
     let (format, words) = formatted(rest)?;
     let (alloc, now) = (out.alloc(), parsed("1790000000")?);

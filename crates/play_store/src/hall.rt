@@ -105,6 +105,7 @@ impl<S: HallStore + Drop> Hall<S> {
             "log" | "log_object" | "log_unlisted" => self.log(kind, words, out),
             "rows" => rows(words, out),
             "import" => self.import(usize::MAX, words, out),
+            "adopt" => self.adopt(words, out),
             "serve" => self.serve(words, out),
             "short" => self.short(words, out),
             "slow" => self.slow(words, out),

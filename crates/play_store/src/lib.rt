@@ -10,6 +10,8 @@
 //! - `hall`, `machine-text ID`, `order-text` and `export` print reports;
 //! - `import MOMENT DIGEST TEXT` imports a file, with `\n` for each line feed, and prints what is printed for its rows; `rows TEXT` prints the
 //!   rows that are parsed;
+//! - `adopt MOMENT OWNER POWER ADMIN IMAGE MACHINE ..` adopts running servers, by three digests of tokens, `-` for no admin's, and prints
+//!   what is printed for them;
 //! - `serve REQUEST` answers a request from a reader to a writer; `short ROOM ACT` an import or a request with a writer that takes so many
 //!   octets and then fails; `slow STEP CALL REQUEST` a request from a reader that gives so many octets a read at most, and fails at that
 //!   read, the first being 1, or at none where CALL is `-`. The fault's name is printed where one of them failed;
@@ -31,6 +33,7 @@
 //! Files stand on disks in memory, which may stop; memory may end.
 #![tactic(auto)]
 
+mod adoptions;
 mod arrivals;
 mod asked;
 mod budgets;

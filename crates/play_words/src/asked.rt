@@ -3,7 +3,7 @@ use crate::words::words_of;
 use cases::{Out, Played};
 use hall_report::What;
 use hall_types::Port;
-use hallboot_words::{Failure, Frame, HallCopy, Job, Task, read, wants_reason};
+use hallboot_words::{AdoptTask, Failure, Frame, HallCopy, Job, Task, read, wants_reason};
 use pxe_vendor::Place;
 use std::net::Ipv4Addr;
 
@@ -29,6 +29,22 @@ fn show_task(task: Task, out: &mut Out) {
             out.hex(&asked.bearer.octets());
             show_place(&asked.place, out);
         }
+        Task::Adopt(asked) => show_adoption(&asked, out),
+    }
+}
+
+fn show_adoption(asked: &AdoptTask, out: &mut Out) {
+    out.push("adopt");
+    for (machine, image) in asked.running.as_slice() {
+        out.show(format_args!(" {} {image},", machine.get()));
+    }
+    out.show(format_args!(" at {}, owner ", asked.moment.get()));
+    out.hex(&asked.owner.octets());
+    out.push(", power ");
+    out.hex(&asked.power.octets());
+    if let Some(admin) = asked.admin {
+        out.push(", admin ");
+        out.hex(&admin.octets());
     }
 }
 
@@ -58,6 +74,7 @@ fn show(rt: &HostRuntime, job: Job, out: &mut Out) -> Result<(), Failure> {
         }
         Job::Serve(serving) => out.show(format_args!("{serving}")),
         Job::Import(path, import) => show_over(path.as_str(), import.task(rt)?, out),
+        Job::Adopt(path, adopt) => show_over(path.as_str(), adopt.task(rt)?, out),
         Job::Over(path, task) => show_over(path.as_str(), task, out),
     }
     Ok(())

@@ -116,6 +116,7 @@ fn show_line(line: &Line<'_>, out: &mut Out) -> Played {
         out.show(format_args!(", wait {seconds} s"));
     }
     out.push(if line.yes { ", yes" } else { "" });
+    out.push(if line.dry_run { ", dry run" } else { "" });
     out.push(if line.json { ", json" } else { "" });
     Ok(())
 }
