@@ -1,6 +1,6 @@
 #!/usr/bin/env bash
 # The packages of make_deb.sh in a Debian of their own (debootstrap's): installed; a hall is made and served as the unit says; the package is
-# upgraded over it and the hall is as it was; purged, after which the hall alone is left. systemd-analyze and lintian look at unit and packages
+# upgraded over it and the hall is as it was; purged, after which halls, copies and logs are left, and empty folders are not. systemd-analyze and lintian look at unit and packages
 # where they are there. It takes some minutes, and wants root, debootstrap, setpriv, curl and what make_deb.sh wants.
 # Usage: tools/deb_trial.sh     HALLBOOT=PROGRAM, HALLCTL=PROGRAM and HALLVIEW=PROGRAM name programs that are built already, DEBIAN=FOLDER a Debian to copy.
 set -euo pipefail
@@ -42,7 +42,7 @@ holds 'four packages, with which lintian finds no error' [ "$(ls "$work/debs" | 
 mkdir "$root/debs"
 cp "$work/debs"/*.deb "$root/debs/"
 holds 'they can be installed' inside sh -c 'dpkg --install /debs/hall*.deb'
-holds 'the man pages are there' [ "$(ls "$root"/usr/share/man/man[18]/hall* | wc -l)" = 5 ]
+holds 'the man pages are there' [ "$(ls "$root"/usr/share/man/man[18]/hall* | wc -l)" = 6 ]
 holds 'hall-power without settings says which file it wants' [ "$(inside hall-power --once 2>&1 || true)" = 'hall-power: /etc/hall-power/hall-power.toml: No such file or directory' ]
 if command -v systemd-analyze > /dev/null; then
     for unit in hallboot hallview hall-power; do
@@ -83,6 +83,15 @@ inside hallview --config /root/halls.toml --listen "127.0.0.1:$view" --every 1 >
 for _ in $(seq 50); do curl -sS --max-time 5 "http://127.0.0.1:$view/state.json" 2> /dev/null | grep -q 52:54:00:12:34:56 && break; sleep 0.2; done
 holds 'hallview shows it' grep -q '<td>52:54:00:12:34:56</td>' <(curl -sS --max-time 5 "http://127.0.0.1:$view/")
 pkill -f "hallview --config /root/halls.toml --listen 127.0.0.1:$view" || true
+python3 - "$discover" << 'PYTHON'
+import socket, sys
+options = bytes.fromhex("63825363 350101 3c20") + b"PXEClient:Arch:00007:UNDI:003000" + bytes.fromhex("5d020007 ff")
+discover = (bytes.fromhex("010106000000000100000000") + bytes(16) + bytes.fromhex("525400123499") + bytes(202) + options).ljust(300, bytes(1))
+socket.socket(socket.AF_INET, socket.SOCK_DGRAM).sendto(discover, ("127.0.0.1", int(sys.argv[1])))
+PYTHON
+unknown='discover DISCOVER 52:54:00:12:34:99 uefi64: silence, unknown, and no client is enlisted$'
+for _ in $(seq 100); do ! grep -q "$unknown" "$work/log" || break; sleep 0.1; done
+holds 'by the packaged settings a machine that nobody added gets silence' grep -q "$unknown" "$work/log"
 holds 'the log is in UTC' grep -qE '^20..-..-..T..:..:..Z .* POST /commands add_pool lab by ada: 200' "$work/log"
 before=$(machines)
 stop
@@ -95,9 +104,17 @@ holds 'settings stay as they were' grep -q "^HTTP=127.0.0.1:$http\$" "$root/etc/
 holds 'it serves the hall again' start
 holds 'which is as it was' [ "$(machines)" = "$before" ]
 stop
+as_hallboot 'touch hall.db.replaced-1 /var/log/hallboot/desk.log'
 holds 'it is purged' inside dpkg --purge hallboot hallctl hallview hall-power
-holds 'the hall stays' [ -s "$root/var/lib/hallboot/hall.db" ]
-left=$(find "$root/etc" "$root/usr" "$root/lib/systemd" -name '*hallboot*' -o -name 'hallctl*' -o -name 'hallview*' -o -name 'hall-power*' -o -name 'hall-lists*')
+cp "$work/out" "$work/purged"
+for folder in lib log; do holds "it is said why /var/$folder/hallboot stays" grep -q "^hallboot: /var/$folder/hallboot stays (Directory not empty)" "$work/purged"; done
+holds 'hall, replaced hall and log stay' [ "$(inside sh -c 'cd /var; ls lib/hallboot/hall.db lib/hallboot/hall.db.replaced-1 log/hallboot/desk.log' | wc -l)" = 3 ]
+holds 'an empty folder goes' [ ! -e "$root/var/backups/hallboot" ]
+left=$(find "$root/etc" "$root/usr" "$root/lib/systemd" -name '*hallboot*' -o -name 'hallctl*' -o -name 'hallview*' -o -name 'hall-power*' -o -name 'hall-lists*' -o -name 'hall-moved*')
 [ -z "$left" ] || bad "nothing else stays: $left"
 good
+inside sh -c 'mv /var/lib/hallboot /srv/hall; ln -s /srv/hall /var/lib/hallboot'
+holds 'it is installed where the hall is behind a link' inside dpkg --install /debs/next.deb
+holds 'and purged' inside dpkg --purge hallboot
+holds 'the link stays, and the hall behind it' [ -L "$root/var/lib/hallboot" -a -s "$root/srv/hall/hall.db" ]
 all_good 'the packages in a Debian of their own'

@@ -1,5 +1,5 @@
 #!/usr/bin/env bash
-# Debian packages of the programs and of what is beside them: hallboot (the program, hall-lists, the unit, the loader's files), hallctl (the
+# Debian packages of the programs and of what is beside them: hallboot (the program, hall-lists, hall-moved, the unit, the loader's files), hallctl (the
 # program, completion, man pages), hallview (the program, its unit, alarms and a dashboard) and hall-power. Their man pages are made from the programs' own help.
 # Usage: tools/make_deb.sh FOLDER     HALLBOOT=PROGRAM, HALLCTL=PROGRAM and HALLVIEW=PROGRAM name programs that are built already. It wants dpkg-deb, strip and
 # gzip; where lintian is there, it looks at the packages.
@@ -19,7 +19,7 @@ target=$(cd "$1" && pwd)
 work=$(mktemp -d)
 trap 'rm -rf "$work"' EXIT
 umask 022
-version=$("$HALLCTL" --version | sed -E 's/^hallctl ([0-9.]+).*/\1/')-$(git -C "$top" log -1 --format=%cd --date=format:%Y%m%d 2> /dev/null || date +%Y%m%d)${VERSION_END:-}
+version=$("$HALLCTL" --version | sed -E 's/^hallctl ([0-9.]+).*/\1/')-$(TZ=UTC git -C "$top" log -1 --format=%cd --date=format-local:%Y%m%d%H%M%S 2> /dev/null || date -u +%Y%m%d%H%M%S)${VERSION_END:-}
 day=$(date -u +%Y-%m-%d)
 maintainer='Dalkuxer maintainers <maintainers@users.noreply.dalkuxer.example>'
 
@@ -41,7 +41,7 @@ begin() {    # begin NAME
     printf '%s (%s) unstable; urgency=medium\n\n  * Made by tools/make_deb.sh: see changelog.gz.\n\n -- %s  %s\n' \
         "$name" "$version" "$maintainer" "$(date -uR)" | packed "usr/share/doc/$name/changelog.Debian.gz"
 }
-end() {    # end ARCHITECTURE SECTION DEPENDS SUMMARY: the description stands at standard input
+end() {    # end ARCHITECTURE SECTION DEPENDS SUMMARY [RECOMMENDS]: the description stands at standard input
     for script in postinst prerm postrm; do
         [ ! -e "$top/packaging/$name.$script" ] || put 0755 "$top/packaging/$name.$script" "DEBIAN/$script"
     done
@@ -51,6 +51,7 @@ end() {    # end ARCHITECTURE SECTION DEPENDS SUMMARY: the description stands at
         printf 'Package: %s\nVersion: %s\nArchitecture: %s\nMaintainer: %s\nInstalled-Size: %s\n' \
             "$name" "$version" "$1" "$maintainer" "$(du -sk --exclude=DEBIAN "$root" | cut -f1)"
         [ -z "$3" ] || printf 'Depends: %s\n' "$3"
+        [ -z "${5:-}" ] || printf 'Recommends: %s\n' "$5"
         printf 'Section: %s\nPriority: optional\nDescription: %s\n' "$2" "$4"
         sed 's/^/ /; s/^ $/ ./'
     } > "$root/DEBIAN/control"
@@ -65,6 +66,7 @@ begin hallboot
 put 0755 "$HALLBOOT" usr/bin/hallboot
 strip --strip-unneeded "$root/usr/bin/hallboot"
 put 0755 "$top/lists/hall_lists.py" usr/bin/hall-lists
+put 0755 "$top/lists/hall_moved.py" usr/bin/hall-moved
 put 0644 "$top/packaging/hallboot.service" lib/systemd/system/hallboot.service
 put 0644 "$top/packaging/hallboot.default" etc/default/hallboot
 put 0644 "$top/packaging/hallboot.logrotate" etc/logrotate.d/hallboot
@@ -72,6 +74,7 @@ put 0644 "$top/loader/autoexec.ipxe" usr/share/hallboot/autoexec.ipxe
 put 0755 "$top/live/hall-live" usr/share/hallboot/hall-live
 "$here/make_man.py" "$HALLBOOT" hallboot 8 "$version" "$day" | packed usr/share/man/man8/hallboot.8.gz
 "$here/make_man.py" "$root/usr/bin/hall-lists" hall-lists 1 "$version" "$day" | packed usr/share/man/man1/hall-lists.1.gz
+"$here/make_man.py" "$root/usr/bin/hall-moved" hall-moved 1 "$version" "$day" | packed usr/share/man/man1/hall-moved.1.gz
 end amd64 net "$(needs "$HALLBOOT")adduser, python3" 'boot desk of a server hall: proxyDHCP and iPXE scripts' << 'END'
 When a server starts over the network, hallboot answers what it should boot:
 it gives each machine a loader or an iPXE script (PXE 2.1), and walks it
@@ -112,9 +115,10 @@ END
 begin hall-power
 put 0755 "$top/power/hall_power.py" usr/bin/hall-power
 put 0644 "$top/packaging/hall-power.service" lib/systemd/system/hall-power.service
+put 0644 "$top/packaging/hall-power@.service" lib/systemd/system/hall-power@.service
 put 0644 "$top/packaging/hall-power.toml" usr/share/doc/hall-power/examples/hall-power.toml
 "$here/make_man.py" "$root/usr/bin/hall-power" hall-power 8 "$version" "$day" | packed usr/share/man/man8/hall-power.8.gz
-end all net 'python3 (>= 3.11), adduser' "power program of a server hall's boot desk" << 'END'
+end all net 'python3 (>= 3.11), adduser' "power program of a server hall's boot desk" ipmitool << 'END'
 It asks the boot desk of a server hall for power orders, switches machines by
 their controllers over IPMI (ipmitool) or Redfish, and answers the desk.
 END

@@ -34,6 +34,7 @@ comes() {    # comes WORDS COMMAND..: waits until the command ends with status 0
 is() { [ "$2" = "$3" ] || bad "$1: '$2' and not '$3'"; good; }
 
 # ---- two hosts, and what the guide leaves to its reader: a certificate and accounts
+cp /etc/nginx/nginx.conf /etc/nginx/mime.types .
 for folder in /etc/nginx /etc/stunnel /etc/ssh /var/log/nginx /run; do mount -t tmpfs none $folder; done
 mkdir -p /run/netns /run/sshd /etc/nginx/conf.d /etc/ssl/hall
 mount -t tmpfs none /etc/ssl/hall
@@ -66,14 +67,16 @@ echo powers-secret-1 > pow
 chmod 600 ada pow
 digest_of() { printf %s "$(cat "$1")" | sha256sum | cut -c1-64; }
 "$HALLBOOT" init --db hall.db --admin ada --digest "$(digest_of ada)" > /dev/null
-"$HALLBOOT" serve --db hall.db --discover 10.9.0.1:67 --boot 10.9.0.1:4011 --http 127.0.0.1:8067 --turns 1000000000000 --server 10.9.0.1 \
-    --next 10.9.0.1 --host desk.hall.example --log desk.log > ready &
+"$HALLBOOT" serve --db hall.db --discover 10.9.0.1:67 --boot 10.9.0.1:4011 --http 127.0.0.1:8066 --turns 1000000000000 --server 10.9.0.1 \
+    --next 10.9.0.1 --host desk.hall.example --log desk.log > ready & desk=$!
 comes 'the desk serves' grep -q 'hall desk ready' ready
 
 # ---- nginx
 block 'map $uri' > /etc/nginx/conf.d/hall.conf
-echo 'daemon off; events { } http { include /etc/nginx/conf.d/*.conf; }' > /etc/nginx/nginx.conf
-nginx &
+# Debian's own settings, which have logs too
+cp nginx.conf mime.types /etc/nginx/
+is 'nginx.conf has logs of its own' "$(grep -cE '^\s*(access|error)_log' /etc/nginx/nginx.conf)" 2
+nginx -g 'daemon off;' &
 comes 'nginx answers at port 443' at curl --silent --cacert authority.pem https://desk.hall.example/
 code() { at curl --silent --output answer --write-out '%{http_code}' --cacert authority.pem "$@"; }
 is 'a script, at the machines'"'"' port' "$(code http://desk.hall.example/ipxe/52:54:00:12:34:56)" 404
@@ -90,13 +93,13 @@ is 'no token, at the operators'"'"' port' "$(code https://desk.hall.example/mach
 
 # ---- hallctl by stunnel
 hallctl() { at "$HALLCTL" --token-file ada --timeout 5s "$@"; }
-hello=$(block 'hallctl --desk http://127.0.0.1:8067' | sed 's/^hallctl //')
+hello=$(block 'hallctl --desk http://127.0.0.1:8066' | sed 's/^hallctl //')
 block 'verifyChain' > /etc/stunnel/hall.conf
 { echo 'foreground = yes'; cat /etc/stunnel/hall.conf; } > stunnel.conf
 at stunnel4 stunnel.conf > stunnel.log 2>&1 &
 comes 'the desk by stunnel' hallctl $hello
-is 'hello by stunnel' "$(hallctl $hello)" 'the boot desk at http://127.0.0.1:8067 is there; your role is admin'
-export HALL_DESK=http://127.0.0.1:8067
+is 'hello by stunnel' "$(hallctl $hello)" 'the boot desk at http://127.0.0.1:8066 is there; your role is admin'
+export HALL_DESK=http://127.0.0.1:8066
 is 'a command by stunnel' "$(hallctl add-pool lab)" 'pool lab added'
 is 'a refusal by stunnel' "$(hallctl add-pool lab || true)" 'pool lab: Taken: The name, digest, address or UUID is in use'
 is 'an operator by stunnel' "$(hallctl add-operator pow --role power --digest "$(digest_of pow)")" 'operator pow added'
@@ -134,6 +137,10 @@ grep -q ' 10.9.0.2:[0-9]* POST /commands 200$' /var/log/nginx/hall.log || bad "n
 good
 grep -q ' POST /report/1 404$' /var/log/nginx/hall.log || bad "a report in nginx's log: $(grep report /var/log/nginx/hall.log)"
 good
+kill $desk
+wait $desk || true
+is 'a report while no desk serves' "$(code --data '{"stage":"started"}' http://desk.hall.example/report/1/00112233445566778899aabbccddeeff)" 502
+comes 'it is in nginx'"'"'s log' grep -q ' POST /report/1 502$' /var/log/nginx/hall.log
 ! grep -rq -e 00112233445566778899aabbccddeeff -e secret-1 /var/log/nginx || bad 'a token is in a log of nginx'
 good
 all_good

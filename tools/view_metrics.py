@@ -70,12 +70,17 @@ def hall_age(state, hall):
     return [([("hall", hall["name"])], "%d" % (state["now"] - (state["began"] if hall["listed"] is None else hall["listed"])))]
 
 
+def hall_pause(state, hall):
+    return [([("hall", hall["name"])], "%d" % hall["every"])]
+
+
 # Family, type, unit, help, samples
 FAMILIES = [
     ("hall_machines", "gauge", "", "Machines by pool and status, as the desk listed them last.", hall_machines),
     ("hall_orders_waiting", "gauge", "", "Power orders that wait, by kind.", hall_orders),
     ("hall_deadline_seconds_min", "gauge", "", "Seconds until the next deadline of a status; negative once it has passed.", hall_deadlines),
     ("hall_moves", "counter", "", "Moves of machines from one status to another that were seen since hallview began.", hall_moves),
+    ("hall_list_pause_seconds", "gauge", "seconds", "How long it is from one list to the next.", hall_pause),
     ("hall_desk_up", "gauge", "", "Whether the desk's last answer was a list.", hall_up),
     ("hall_list_seconds", "gauge", "seconds", "How long the last list took.", hall_took),
     ("hall_list_age_seconds", "gauge", "seconds", "How old the last list is.", hall_age),
