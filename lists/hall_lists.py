@@ -17,6 +17,9 @@ PURPOSES = ["commission", "test", "deploy", "erase", "rescue"]
 STAGES = ["offered", "started", "done", "failed"]
 
 
+EMPTY = {"-wal": 41, "-journal": 0}     # so many octets of a log have nothing in them
+
+
 class Refused(Exception):
     """It isn't a copy that can be read."""
 
@@ -28,7 +31,7 @@ def is_in_use(file):
 
 
 def opened(path):
-    """The copy, and the moment of its last change."""
+    """The copy, and its moment: that in the file, which a copy of the copy has too, or that of the file's last change."""
     try:
         with open(path, "rb+" if os.access(path, os.W_OK) else "rb") as file:
             moment = os.fstat(file.fileno()).st_mtime
@@ -36,17 +39,18 @@ def opened(path):
                 raise Refused(f"{path} is in use, as a hall that is served: make a copy by serve --backup")
     except OSError as fault:
         raise Refused(f"{path}: {fault.strerror}") from fault
-    for end in ("-wal", "-journal"):
-        if os.path.exists(path + end) and os.path.getsize(path + end):
+    for end, empty in EMPTY.items():
+        if os.path.exists(path + end) and os.path.getsize(path + end) > empty:
             raise Refused(f"{path} has a log beside it ({path}{end}), as a hall in use has: make a copy by hallboot backup, or serve --backup")
     try:
         hall = sqlite3.connect(f"file:{path}?mode=ro&immutable=1".replace("%", "%25").replace("#", "%23"), uri=True)
         schema, = hall.execute("SELECT schema FROM hall").fetchone()
+        stamp, = hall.execute("PRAGMA user_version").fetchone()
     except (sqlite3.Error, TypeError) as fault:
         raise Refused(f"{path} isn't a hall's file: {fault}") from fault
     if schema not in (1, 2):
         raise Refused(f"{path} has a hall of another schema, {schema}")
-    return hall, datetime.datetime.fromtimestamp(int(moment), datetime.timezone.utc).strftime("%Y-%m-%dT%H:%M:%SZ")
+    return hall, datetime.datetime.fromtimestamp(stamp & 0xFFFFFFFF or int(moment), datetime.timezone.utc).strftime("%Y-%m-%dT%H:%M:%SZ")
 
 
 def word(words, number):

@@ -18,6 +18,10 @@ tools=(
     hallctl_peer.sh
     token_trial.sh
     lists_trial.sh
+    live_trial.sh
+    power_trial.sh
+    moved_trial.sh
+    mending_trial.sh
     openapi_trial.sh
     'view_peer.sh pages clients halls'
     stop_everywhere.sh

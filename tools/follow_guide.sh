@@ -19,8 +19,9 @@ guide=${GUIDE:-$docs/INSTALL.md:$docs/DAILY.md:$docs/TROUBLE.md:$docs/REFERENCE.
 #     DIGEST          what its own line printed
 #     machine 7       in examples: a machine that there is (`of_machine`); order 5: an order that waits
 #     the tokens      TOKEN is carried over to the desk's host, olga.token to olga, pow.token to the power program's host
-#     --yes           behind what erases or deletes, since nobody is asked here
+#     --yes           behind what deletes, releases or restarts, since nobody is asked here
 #     --log-format    json, behind what the unit starts, from the erasing on
+#     OPTIONS         without --enlist no, where an unknown machine enlists itself
 router=10.0.0.1         # the relay's host, which passes packets on between the hall's network and the machines' (10.1.0.1)
 files=10.0.0.3          # the web server, files.example
 switcher=10.0.0.7       # where the power program runs
@@ -228,6 +229,7 @@ live_image() {    # live_image FILE
     for name in virtio_pci virtio_blk virtio_net; do module $name; done
     if compgen -G "$root/modules/*.xz" > /dev/null; then xz -d "$root"/modules/*.xz; fi
     cp "$here/../live/hall-live" "$root/hall.sh"
+    : > "$root/etc/hall-live-image"
     cat > "$root/init" <<'INIT'
 #!/bin/busybox sh
 /bin/busybox --install -s /bin
@@ -285,7 +287,7 @@ shell_of desk desk bash --norc
 done_by desk 600 <<< "export HALLBOOT=$HALLBOOT HALLCTL=$HALLCTL HALLVIEW=$HALLVIEW
 $(block 'tools/make_deb.sh' | sed "s|^tools/|$here/|; s|^apt install|dpkg --install|; s| *#.*||")"
 for user in hallboot hallview hall-power; do getent passwd $user > "$work/said" || bad "the user $user"; done
-for program in hallboot hall-lists hallctl hallview hall-power; do [ "$(type -P $program)" = /usr/bin/$program ] || bad "/usr/bin/$program"; done
+for program in hallboot hall-lists hall-moved hallctl hallview hall-power; do [ "$(type -P $program)" = /usr/bin/$program ] || bad "/usr/bin/$program"; done
 good 'four packages, made and installed'
 
 # ---- 2. The hall
@@ -373,7 +375,7 @@ for text in 'operator pow' 'operator olga' "$(span 'pool lab added' | sed 's/ ad
 says '^operator olga is a member of pool lab$'
 says '^image live64 is live$'
 done_by ada 120 <<< "bash -n /usr/share/bash-completion/completions/hallctl; $(span 'hallctl --help'); hallctl add-image --help"
-done_by ada 120 <<< "$(block 'hallctl hello')"
+done_by ada 120 <<< "$(block $'HALL_TOKEN_FILE=~/.config/hall/token\nhallctl hello')"
 says .
 good 'hallctl: operators, a pool, an image, a live image, its completion, and hello'
 done_by ada 120 <<< "$(block 'until answer=$(curl')"
@@ -472,14 +474,17 @@ good 'the Deployed machine restarts by network, and goes on to its own disk'
 
 done_by olga 120 <<< "$(line 'hallctl lock 1')"
 types olga 120 <<< "$(line 'hallctl rescue 1')"
+[ -s "$work/failed" ] || bad 'where nobody can be asked it wants --yes'
+complains 'say --yes where nobody can be asked$'
+types olga 120 <<< "$(line 'hallctl rescue 1') --yes"
 says '^machine 1: Locked: '
 done_by olga 120 <<< "$(line 'hallctl unlock 1')"
 good 'locked: a rescue is refused; unlocked'
-done_by olga 120 <<< "$(line 'hallctl rescue 1')"
+done_by olga 120 <<< "$(line 'hallctl rescue 1') --yes"
 done_by olga 1300 <<< "hallctl wait 1 --for 'Rescue mode' --or 'Failed to enter rescue mode'"
 says '^machine 1: Rescue mode'
 within 120 'the live image stays up' shown '^live image: rescue goes on'
-done_by olga 120 <<< "$(line 'hallctl exit-rescue 1')"
+done_by olga 120 <<< "$(line 'hallctl exit-rescue 1') --yes"
 done_by olga 1300 <<< "hallctl wait 1 --for Deployed --or 'Failed to exit rescue mode'"
 says '^machine 1: Deployed'
 within 600 'after its rescue the machine starts its own disk' shown "$own_disk"
@@ -526,6 +531,12 @@ stop
 done_by service 120 <<< "$(span 'hallboot backup --db hall.db --to')"
 says '^copied hall.db to /var/backups/hallboot/hall.db, [0-9]* octets: '
 good "backed up: $(cat "$work/said")"
+# Since the backup machine 2 goes back to New: its order waits in the backup alone.
+serve "$json" --log-format json
+done_by ada 120 <<< "$(line 'hallctl abort 1' | sed 's/ 1$/ 2/')"
+says '^machine 2: Commissioning to New, version '
+[ "$(block 'systemctl stop hallboot')" = 'systemctl stop hallboot hall-power' ] || bad 'both are stopped'
+stop
 done_by service 120 <<< "$(block 'hallboot restore --db hall.db --from')"
 says '^restored hall.db from /var/backups/hallboot/hall.db of 20'
 says '^what was there is kept as /var/lib/hallboot/hall.db.replaced-20'
@@ -533,11 +544,40 @@ good 'restored, and what was there is kept'
 done_by service 120 <<< "$(block "bash -e <<'END'")"
 cp "$work/said" "$work/kept/report"
 good 'restored by hand, and reported on'
-types service 120 <<< "$(block 'hallboot export --db hall.db | grep' | of_machine 2)"
-[ ! -s "$work/failed" ] || bad 'all lines succeed'
-says '^2,.*Commissioning'
-says '^\{"id":2,"status":"New"'
-good 'what went on is found in the export, and aborted'
+
+step 'Mend what was restored'
+install -m 644 "$journal" /var/log/hallboot/desk.log.1    # the unit of this run writes elsewhere
+install -m 644 "$json" /var/log/hallboot/desk.log
+install -m 600 -o hallboot -g hallboot "$work/at/ada/.config/hall/token" /var/lib/hallboot/ada.token
+install -m 600 -o hallboot -g hallboot "$work/at/ada/pow.token" /var/lib/hallboot/pow.token
+done_by service 120 <<< "$(block 'hall-moved --db hall.db --log /var/log/hallboot/* > moved.txt')"
+cp /var/lib/hallboot/moved.txt "$work/said"
+says ', by the moment in the file\.$'
+says '^1 machines have moved since\. 1 orders wait\.$'
+says '^machine 2 52:54:00:12:34:58$'
+says '^    in the restored hall: Commissioning, '
+says '^    by the log: New, '
+good 'hall-moved: machine 2 has moved, and its order waits'
+(cd /var/lib/hallboot && exec ip netns exec desk setpriv --reuid hallboot --regid hallboot --init-groups \
+    bash -c "umask 077; exec $(block 'hallboot serve --db hall.db --loopback')") 2>> "$work/log/loopback" & server=$!
+within 120 'the desk on loopback is ready' has_line /var/lib/hallboot/addresses '^hall desk ready$'
+done_by service 120 <<< "$(block 'addresses) HALL_TOKEN_FILE=ada.token')"
+says 'your role is admin'
+says '\b2\b'
+answer=$(sed -n 's/^    \(hallctl --token-file pow.token order [0-9]* --failed\) .*/\1/p' /var/lib/hallboot/moved.txt)
+[ "$(grep -c . <<< "$answer")" = 1 ] || bad 'one line of hall-moved answers the order'
+done_by service 120 <<< "$answer
+hallctl machine 2"
+says 'Failed commissioning'
+stop
+looks=$(block 'systemctl start hallboot hall-power')
+[ "$(tail -n 1 <<< "$looks")" = 'systemctl start hallboot hall-power' ] || bad 'both are started'
+done_by service 120 <<< "$(sed -n 1p <<< "$looks")"
+says '^1,.*,Ready,'
+says '^2,.*,Failed commissioning,'
+done_by service 120 <<< "$(sed -n 2p <<< "$looks")"
+[ ! -s "$work/said" ] || bad 'no order waits'
+good 'on loopback its order is answered by the line of hall-moved; the export has both machines, and no order waits'
 
 # ---- Reports, while serve is stopped
 step 'Reports'
@@ -577,6 +617,9 @@ good 'who did what to a machine'
 
 # ---- Strangers
 step Strangers
+stop
+sed -i 's/ --enlist no//' "$(unit EnvironmentFile)"    # as INSTALL has it for a network of new machines
+serve "$journal"
 plug stranger 52:54:00:12:34:99 11111111-4455-6677-8899-aabbccddeeff
 PATH=/usr/local/bin:$PATH ipmitool -H stranger -f /etc/hall-power/ipmi.password chassis power on > "$work/said"
 within 600 'an unknown machine enlists itself' has_line "$journal" 'discover DISCOVER 52:54:00:12:34:99 .*New'
@@ -667,7 +710,7 @@ for form in hallctl hall; do
         *) if [ $form = hall ]; then begin="hall '\"command\":\"$name\""; else begin="hallctl ${name//_/-} "; fi ;;
         esac
         text=$(line "$begin" | sed "s/DIGEST/$olga/")
-        case $begin in 'hallctl release 1 --erase full' | 'hallctl delete ') text+=' --yes' ;; esac
+        case $begin in 'hallctl release '* | 'hallctl rescue ' | 'hallctl exit-rescue ' | 'hallctl delete ') text+=' --yes' ;; esac
         done_by ada 120 <<< "$text"
         if [ $form = hall ]; then says ' 200$'; fi
         [ -z "$status" ] || says "(\"|: | to )$status(\"|, version)"

@@ -94,7 +94,7 @@ life() {
     machine deploy
     ada wait 1 --for Deployed
     ada lock 1; ada unlock 1
-    ada rescue 1; machine rescue; ada exit-rescue 1; power; ada wait 1 --for Deployed
+    ada rescue 1 --yes; machine rescue; ada exit-rescue 1 --yes; power; ada wait 1 --for Deployed
     ada release 1 --erase quick --yes
     machine erase; power
     ada wait 1 --for Ready

@@ -99,7 +99,7 @@ def worked(hall):
     for number in range(141, 197):
         hall.report(number, "started", "done")
     hall.ctl("lock", "150")
-    hall.ctl("rescue", "151-153")
+    hall.ctl("rescue", "151-153", "--yes")
     hall.report(151, "started")
     hall.report(152, "failed")
     hall.ctl("release", "160-165", "--erase", "none", "--yes")
