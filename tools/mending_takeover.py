@@ -145,7 +145,7 @@ def takes_over(trial, hallboot, programs):
         trial.wants("a second adoption says the same, and changes nothing", (said, failed) == (lines, "") and after == export, failed + errors + after[:300])
         looks_at_server(trial, hallboot, folder, macs)
         midst = killed(trial, reader, adopts, cut)
-        trial.wants("it was killed in the midst of its servers", midst >= 2, midst)
+        trial.wants("it was killed in the midst of its servers", midst >= 1, midst)
         after = exported(reader, f"{cut}/hall.db")
         trial.wants("an adoption that was killed comes to the same end", after == export, after[:600])
         looks_at_server(trial, hallboot, cut, macs)
