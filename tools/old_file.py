@@ -2,7 +2,7 @@
 # are that are refused. The variable HALLBOOT names the program.
 import os, re, shutil, sqlite3, subprocess, sys, tempfile
 from concurrent.futures import ThreadPoolExecutor
-from spoiled import ENDED, Spoiler, compiler, end
+from spoiled import ENDED, Spoiler, end, end_without_compiler
 
 TOOL, APART, HALLBOOT = "old_file", int(sys.argv[1]), os.environ["HALLBOOT"]
 CASES = os.path.join(os.path.dirname(os.path.abspath(__file__)), "..", "crates", "play_desk", "data", "migration.tables.cases")
@@ -109,20 +109,19 @@ def spoil_all(spoiler, first, what, tries):
     return f"{counts['unseen']} unseen, {counts['first']} left the first schema, {counts['second']} the second"
 
 
-whole = "nothing refused or stopped: no C compiler"
+end_without_compiler(TOOL)
 with tempfile.TemporaryDirectory() as folder:
     carry_over(folder)
-if compiler():
-    with tempfile.TemporaryDirectory() as first, tempfile.TemporaryDirectory() as second, Spoiler() as spoiler:
-        make(first)
-        shutil.copy(f"{first}/old.db", second)
-        FIRST = dump(first)
-        done, requests, calls, _ = spoiler.run(MIGRATE, "", folder=second)
-        SECOND = dump(second)
-        check(done.stdout == "migrated\n" and FIRST != SECOND and calls > 0, f"a migration that nothing spoils: {done}, {calls} calls")
-        refused, stopped = range(1, requests + 1, APART), range(1, calls + 1)
-        whole = (f"{len(refused)} of {requests} requests for memory of a migration: {spoil_all(spoiler, first, 'request', refused)}; "
-                 f"ended before each of {calls} calls on files: {spoil_all(spoiler, first, 'call', stopped)}")
+with tempfile.TemporaryDirectory() as first, tempfile.TemporaryDirectory() as second, Spoiler() as spoiler:
+    make(first)
+    shutil.copy(f"{first}/old.db", second)
+    FIRST = dump(first)
+    done, requests, calls, _ = spoiler.run(MIGRATE, "", folder=second)
+    SECOND = dump(second)
+    check(done.stdout == "migrated\n" and FIRST != SECOND and calls > 0, f"a migration that nothing spoils: {done}, {calls} calls")
+    refused, stopped = range(1, requests + 1, APART), range(1, calls + 1)
+    whole = (f"{len(refused)} of {requests} requests for memory of a migration: {spoil_all(spoiler, first, 'request', refused)}; "
+             f"ended before each of {calls} calls on files: {spoil_all(spoiler, first, 'call', stopped)}")
 with tempfile.TemporaryDirectory() as folder:
     make(folder, "UPDATE hall SET schema = 9")
     ends(folder, 1, "", "hallboot: OtherVersion", *MIGRATE[1:])

@@ -4,7 +4,7 @@
 # file whole. Then each single request for memory of the migration is refused, and the program ends before each of its calls on files: the file is as
 # before or carried over, and the next migration ends it. At last the same texts with another number of the schema, and an empty file.
 # Usage: tools/old_file.sh [APART]     every APART-th request for memory (1 by default). HALLBOOT=PROGRAM names a program that is built already. Wants
-# python3, and a C compiler, without which nothing is refused or stopped.
+# python3 and a C compiler.
 set -euo pipefail
 here=$(cd "$(dirname "$0")" && pwd)
 . "$here/program.sh"

@@ -1,7 +1,7 @@
 //! A connection becomes a store: of a new hall, or of the hall that the file has, which is carried over if it's of the first schema.
 ghost use Rattle.sql_schema.specs.Words.{state, HasCleanDisk, Survives, Hall, new_hall, second, Holds, IsHeld, SpellHall};
 ghost use Rattle.std.specs.Prelude.{◌≡◌, ◌≢◌, ◌↔◌, ◌⊎◌, IsTrue, IfOk, IfErr, Ok, Err, [], ◌∷◌};
-ghost use Rattle.sql_tables.specs.{Creating.{KeepsTables, MayLeaveBesides, is_a_name_taken}, Migrating.{BecomeHall, IsRightMigration}, Opening.{IsRightAnswer, NamesNoSchema}};
+ghost use Rattle.sql_tables.specs.{Creating.{IsBlank, IsWhole, KeepsTables, MayLeaveBesides, is_a_name_taken}, Migrating.{BecomeHall, IsRightMigration}, Opening.{IsRightAnswer, NamesNoSchema}};
 ghost use Rattle.hall_sql.specs.{Opening.{connection_after, connection_of, migration_of, outcome}, Store.connection};
 
 use crate::store::SqlStore;
@@ -19,8 +19,9 @@ pub struct Refused<S: Alter, F> {
 }
 
 impl<S: Alter> SqlStore<S> {
-    /// Makes the tables of a new hall of the second schema, with this enabled admin, this digest of its token and the pool
-    /// `default`, and answers its store. `alloc` is for what the store reads for itself.
+    /// Makes the tables of a new hall of the second schema, beside what the file has, with this enabled admin, this digest of its token
+    /// and the pool `default`, and answers its store. `alloc` is for what the store reads for itself. Which hall it is is said of a file
+    /// that had no table.
     ///
     /// # Errors
     ///
@@ -33,12 +34,13 @@ impl<S: Alter> SqlStore<S> {
         digest: Digest,
     ) -> Result<SqlStore<S>, Refused<S, CreateFault>>
         ensures clean { HasCleanDisk (state S.Store (connection_of result)) → HasCleanDisk (state S.Store conn) }
-        ensures held { IfOk result (λ store. ⟦<SqlStore<S> as HallStore>⟧.is_clean store → ⟦<SqlStore<S> as HallStore>⟧.holds store (new_hall second admin digest)) }
-        ensures settled { IfOk result (λ store. ⟦<SqlStore<S> as HallStore>⟧.is_clean store → ⟦<SqlStore<S> as HallStore>⟧.leaves store (new_hall second admin digest ∷ [])) }
-        ensures made { IfOk result (λ store. HasCleanDisk (state S.Store (connection store)) → IsHeld (state S.Store (connection store)) (new_hall second admin digest)) }
+        ensures held { IfOk result (λ store. ⟦<SqlStore<S> as HallStore>⟧.is_clean store → IsBlank (state S.Store conn) → ⟦<SqlStore<S> as HallStore>⟧.holds store (new_hall second admin digest)) }
+        ensures settled { IfOk result (λ store. ⟦<SqlStore<S> as HallStore>⟧.is_clean store → IsBlank (state S.Store conn) → ⟦<SqlStore<S> as HallStore>⟧.leaves store (new_hall second admin digest ∷ [])) }
+        ensures made { IfOk result (λ store. HasCleanDisk (state S.Store (connection store)) → IsBlank (state S.Store conn) → IsHeld (state S.Store (connection store)) (new_hall second admin digest)) }
         ensures taken { (outcome result ≡ Err CreateFault.NotEmpty) ↔ IsTrue (is_a_name_taken (state S.Store conn).now.schema) }
         ensures refused { IfErr result (λ refused. HasCleanDisk (state S.Store refused.connection) → KeepsTables (state S.Store conn) (state S.Store refused.connection)) }
-        ensures crash { HasCleanDisk (state S.Store (connection_of result)) → MayLeaveBesides (new_hall second admin digest) (state S.Store conn) (state S.Store (connection_of result)) }
+        ensures crash { HasCleanDisk (state S.Store (connection_of result)) → IsBlank (state S.Store conn) → MayLeaveBesides (new_hall second admin digest) (state S.Store conn) (state S.Store (connection_of result)) }
+        ensures whole { HasCleanDisk (state S.Store (connection_of result)) → IsWhole (state S.Store conn) (state S.Store (connection_of result)) (outcome result) }
     {
         match create_tables(&mut conn, admin, digest) {
             Ok(()) => Ok(SqlStore::over(alloc, conn)),
@@ -54,8 +56,8 @@ impl<S: Alter> SqlStore<S> {
     ///
     /// # Errors
     ///
-    /// `NotAHall` where a table, a column, an index or the one row that names the schema is missing, `OtherVersion` where that
-    /// row names another schema than the second, and `Unavailable` where memory or the disk failed.
+    /// `NotAHall` where a table, a column or the one row that names the schema is missing, `OtherVersion` where that row
+    /// names another schema than the second, and `Unavailable` where memory or the disk failed.
     pub fn open(
         alloc: Global,
         mut conn: Connection<S>,
@@ -87,7 +89,7 @@ impl<S: Alter> SqlStore<S> {
     ///
     /// # Errors
     ///
-    /// `NotAHall` where a table, a column, an index or the one row that names the schema is missing, or the first schema has a table
+    /// `NotAHall` where a table, a column or the one row that names the schema is missing, or the first schema has a table
     /// `wipes`, which only the second has; `OtherVersion` where that row names neither the first schema nor the second; `Unavailable` where
     /// memory or the disk failed. A refusal leaves the tables as they were.
     pub fn migrate(

@@ -52,7 +52,7 @@ fn made_at(rt: &HostRuntime, path: &str, asked: &Init) -> Result<(), Failure> {
     if is_free {
         return make(rt, path, asked);
     }
-    // A file is there, and has no tables.
+    // A file is there, and has no hall.
     looked_at(rt, path)?;
     create(rt, path, asked.admin, asked.digest).map_err(|fault| Failure::from(of_file(fault)))
 }

@@ -7,13 +7,13 @@ pub enum FileFault {
     /// The file already has one of a hall's tables.
     #[error("the file already has one of a hall's tables")]
     NotEmpty,
-    /// There is no file, or a hall's table is missing in it, or a column of one, an index, or the one row that names its schema.
+    /// There is no file, or a hall's table is missing in it, or a column of one, or the one row that names its schema.
     #[error("the file isn't a hall's")]
     NotAHall,
     /// The tables are those of another schema.
     #[error("the hall's tables are of another version")]
     OtherVersion,
-    /// Memory or the disk failed, another program has the file open, or a file that is to be a new hall's has other tables.
+    /// Memory or the disk failed, or another program has the file open.
     #[error("the file can't be read or written now")]
     Unavailable,
 }

@@ -137,14 +137,13 @@ fn over_tables<T: TablesTask>(
     }
 }
 
-/// Makes the tables of a new hall in a file, with this enabled admin and this digest of its token, and closes it. The file is
-/// made where there is none.
+/// Makes the tables of a new hall in a file, beside what it has, with this enabled admin and this digest of its token, and closes it.
+/// The file is made where there is none.
 ///
 /// # Errors
 ///
-/// `NotEmpty` where a table, an index or a view of the file has the name of one of a hall's tables. `Unavailable` where the file
-/// has other tables, where another program has it open, and where memory or the disk failed. A refusal leaves the file's tables
-/// as they were.
+/// `NotEmpty` where a table, an index or a view of the file has the name of one of a hall's tables. `Unavailable` where another program
+/// has it open, and where memory or the disk failed. A refusal leaves the file's tables as they were.
 pub fn create(rt: &HostRuntime, path: &str, admin: Name, digest: Digest) -> Result<(), FileFault> {
     over_tables(rt, path, Making { admin, digest })?.closing
 }
@@ -163,8 +162,8 @@ fn look(rt: &HostRuntime, path: &str) -> Result<(), FileFault> {
 ///
 /// # Errors
 ///
-/// `NotAHall` where there is no file, which isn't made, where a hall's table is missing in it, or a column of one, an index, or the one
-/// row that names its schema, and where a file of the first schema has a table `wipes`. `OtherVersion` where that row names neither schema.
+/// `NotAHall` where there is no file, which isn't made, where a hall's table is missing in it, or a column of one, or the one row
+/// that names its schema, and where a file of the first schema has a table `wipes`. `OtherVersion` where that row names neither schema.
 /// `Unavailable` where another program has the file open, and where memory or the disk failed. A refusal leaves the tables as they
 /// were.
 pub fn migrate(rt: &HostRuntime, path: &str) -> Result<Ended<Migrated>, FileFault> {
@@ -177,7 +176,7 @@ pub fn migrate(rt: &HostRuntime, path: &str) -> Result<Ended<Migrated>, FileFaul
 /// # Errors
 ///
 /// The task isn't done: `NotAHall` where there is no file, which isn't made, and where a hall's table is missing in it, or a column
-/// of one, an index, or the one row that names its schema. `OtherVersion` where that row names another schema. `Unavailable` where another
+/// of one, or the one row that names its schema. `OtherVersion` where that row names another schema. `Unavailable` where another
 /// program has the file open, and where memory or the disk failed.
 pub fn over<T: StoreTask>(
     rt: &HostRuntime,

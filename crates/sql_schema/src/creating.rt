@@ -137,14 +137,14 @@ pub const LIST_COUNTS: &str = "SELECT pool, status, machines FROM counts ORDER B
 /// The count of a pool and a status that had none.
 pub const ADD_COUNT: &str = "INSERT INTO counts (pool, status, machines) VALUES (?1, ?2, ?3)";
 
-// Makes the index of `interfaces` on their machine.
-const INDEX_INTERFACES: &str = "CREATE INDEX interfaces_machine ON interfaces (machine)";
+/// Makes the index of `interfaces` on their machine.
+pub const INDEX_INTERFACES: &str = "CREATE INDEX interfaces_machine ON interfaces (machine)";
 
-// Makes the index of `boots` on their machine.
-const INDEX_BOOTS: &str = "CREATE INDEX boots_machine ON boots (machine)";
+/// Makes the index of `boots` on their machine.
+pub const INDEX_BOOTS: &str = "CREATE INDEX boots_machine ON boots (machine)";
 
-// Makes the index of `orders` on their machine.
-const INDEX_ORDERS: &str = "CREATE INDEX orders_machine ON orders (machine)";
+/// Makes the index of `orders` on their machine.
+pub const INDEX_ORDERS: &str = "CREATE INDEX orders_machine ON orders (machine)";
 
 /// Makes the table `wipes`.
 pub const CREATE_WIPES: &str =

@@ -5,7 +5,7 @@ use Rattle.sqlite_resolve.specs.{Compile.compiled, Lowering.{Checked, and_then},
 use Rattle.sqlite_tied.specs.Compute.{everything}
 use Rattle.sqlite.specs.{Effect.Reads, Listing.{IsSourceOf, if_select, listing_schema, misses_table, understood}, State.{FailsToQuery, IsNotRun, Shown}}
 use Rattle.sqlite_trees.specs.declared.error.StoreError.TheVariants as fault
-use Rattle.sql_tables.specs.{declared.{fault.OpenFault.{OpenFault, TheVariants.{NotAHall, OtherVersion, Unavailable}}, looking.Wanted.{Wanted, TheVariants.{First, Second}}}, Opening.{AreFound, AreUnderstood, HasTables, IsAnswerFor, IsAnswerOf, IsFoundBy, IsOneRow, IsSchemaRow, IsUnderstood, IsVersionOf, NamesSchema, SaysSchema, ShowsRows, first_rows, has_indexes, if_indexed, second_rows, wanted_number, wanted_rows}}
+use Rattle.sql_tables.specs.{declared.{fault.OpenFault.{OpenFault, TheVariants.{NotAHall, OtherVersion, Unavailable}}, looking.Wanted.{Wanted, TheVariants.{First, Second}}}, Opening.{AreFound, AreUnderstood, HasTables, IsAnswerFor, IsFoundBy, IsOneRow, IsSchemaRow, IsUnderstood, IsVersionOf, NamesSchema, SaysSchema, ShowsRows, first_rows, second_rows, wanted_number, wanted_rows}}
 
 -- ---- whether texts are understood
 
@@ -158,22 +158,14 @@ found_in wanted db rows (Err Unavailable) shown none = tt
 
 module _ (wanted : Wanted) (db : Database) where
   -- the number of the schema can't be read, or isn't the one that is wanted
-  pub stopped : (e : OpenFault) → ((n : ℤ) → SaysSchema db n → IsVersionOf wanted n (Err e)) → IsFoundBy (NamesSchema db) wanted (Err e) → IsAnswerOf (HasTables wanted) wanted db (Err e)
+  pub stopped : (e : OpenFault) → ((n : ℤ) → SaysSchema db n → IsVersionOf wanted n (Err e)) → IsFoundBy (NamesSchema db) wanted (Err e) → IsAnswerFor wanted db (Err e)
   stopped NotAHall told found = record { told = (λ n says. absurd (told n says), λ says has. told (wanted_number wanted) says) }
   stopped OtherVersion told found = record { told = found }
   stopped Unavailable told found = record { told = tt }
 
   -- it is, and the other tables were asked for
-  pub looked : (now : Database) (r : Result (Unit {0}) OpenFault) → NamesSchema db (wanted_number wanted) → now ≡ db → AreFound (wanted_rows wanted) now r → IsAnswerOf (HasTables wanted) wanted db r
+  pub looked : (now : Database) (r : Result (Unit {0}) OpenFault) → NamesSchema db (wanted_number wanted) → now ≡ db → AreFound (wanted_rows wanted) now r → IsAnswerFor wanted db r
   looked now (Ok done) names same found = record { told = (names, subst (λ (d : Database). HasTables wanted d.schema) same found) }
   looked now (Err NotAHall) names same found = record { told = (λ n says. one_schema db n (wanted_number wanted) says names, λ says has. found (subst (λ (d : Database). HasTables wanted d.schema) (sym same) has)) }
   looked now (Err OtherVersion) names same found = absurd found
   looked now (Err Unavailable) names same found = record { told = tt }
-
-  -- the indexes were asked for besides
-  pub indexed : (has : Bool) (r : Result (Unit {0}) OpenFault) → has ≡ has_indexes db.schema → IsAnswerOf (HasTables wanted) wanted db r → IsAnswerFor wanted db (if_indexed has r)
-  indexed true (Ok done) is looked = record { told = (looked.told.0, (looked.told.1, sym is)) }
-  indexed false (Ok done) is looked = record { told = (λ n says. one_schema db n (wanted_number wanted) says looked.told.0, λ says all. absurd (true≢false (sym (is ∙ all.1)))) }
-  indexed has (Err NotAHall) is looked = record { told = (looked.told.0, λ says all. looked.told.1 says all.0) }
-  indexed has (Err OtherVersion) is looked = record { told = looked.told }
-  indexed has (Err Unavailable) is looked = record { told = tt }

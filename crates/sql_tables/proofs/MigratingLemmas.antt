@@ -4,7 +4,7 @@ use Rattle.std.proofs.Common.{◌≡◌, ◌≢◌, inl, inr, pos, true, false, 
 use Rattle.sqlite.specs.Listing.{understood}
 use Rattle.sqlite_schema.specs.Names.{same_name}
 use Rattle.sqlite_tied.specs.Compute.{everything}
-use Rattle.sql_tables.{specs.{Creating.{IsMade, MayLeaveBesides}, Migrating.{BecomeHall, IsCarriedOver, IsFirst, IsRightMigration, TellsMigrated, SpellFirst, first_schema}, Opening.{HasAll, IsAnswerFor, IsReady, IsRightAnswer, SaysSchema, first_rows, has_indexes}, declared.{fault.OpenFault.{OpenFault, TheVariants.{NotAHall, OtherVersion, Unavailable}}, looking.Wanted.TheVariants.First, migrating.Migrated.Migrated}}, proofs.{LookLemmas.{all_compiled, one_schema}, OpenLemmas.{has_second, says_second}}}
+use Rattle.sql_tables.{specs.{Creating.{IsMade, MayLeaveBesides}, Indexes.{all_indexes, indexes_of}, Migrating.{BecomeHall, IsCarriedOver, IsFirst, IsRightMigration, TellsMigrated, SpellFirst, first_schema}, Opening.{HasTables, IsAnswerFor, IsReady, IsRightAnswer, SaysSchema, first_rows}, declared.{fault.OpenFault.{OpenFault, TheVariants.{NotAHall, OtherVersion, Unavailable}}, looking.Wanted.TheVariants.First, migrating.Migrated.Migrated}}, proofs.{LookLemmas.{all_compiled, one_schema}, OpenLemmas.{has_second, says_second}}}
 
 -- ---- a hall of the first schema
 
@@ -21,7 +21,7 @@ wipes_free : is_used first_schema (codes "wipes") ≡ false
 unfolding same_name
 wipes_free = refl
 
-first_indexed : has_indexes first_schema ≡ true
+pub first_indexed : indexes_of first_schema ≡ all_indexes
 unfolding same_name
 first_indexed = refl
 
@@ -33,8 +33,8 @@ module _ (db : Database) (h : Hall) (sound : IsSound db.schema db.trees) (spelt 
   says_first : SaysSchema db (pos 1)
   says_first = record { reads = subst (λ s. IsQueryText s FIND_NUMBERS.now find_numbers_query) (sym (first_schema_of db h sound spelt)) find_numbers_is_first; last = (_, _, _, spelt.last) }
 
-  has_first : HasAll First db.schema
-  has_first = subst (HasAll First) (sym (first_schema_of db h sound spelt)) (all_compiled first_schema first_rows plain_first, first_indexed)
+  has_first : HasTables First db.schema
+  has_first = subst (HasTables First) (sym (first_schema_of db h sound spelt)) (all_compiled first_schema first_rows plain_first)
 
   has_no_wipes : is_used db.schema (codes "wipes") ≡ false
   has_no_wipes = ap (λ s. is_used s (codes "wipes")) (first_schema_of db h sound spelt) ∙ wipes_free

@@ -1,8 +1,7 @@
 -- From what was looked for to the hall that is held.
 use Rattle.sql_schema.specs.{Words.{of_last, SpellHall, Database, State, IsLive, IsSound, lists_once, IsQueryText, Hall, find_numbers_query, hall_schema, IsHeld, find_is}, SchemaLaws.reads_plain, declared.creating.TheConstants.FIND_NUMBERS}
-use Rattle.sqlite_schema.specs.Names.{same_name}
 use Rattle.std.proofs.Common.{◌≡◌, pos, Ok, Err, Result, IfErr, OnOk, refl, sym, ap, subst, ◌∙◌}
-use Rattle.sql_tables.{specs.{declared.{fault.OpenFault.{OpenFault, TheVariants.{NotAHall, OtherVersion, Unavailable}}, looking.Wanted.{Wanted, TheVariants.Second}}, Opening.{HasAll, IfSaid, IsAnswerFor, IsReady, SaysSchema, wanted_number, wanted_rows}}, proofs.LookLemmas.{all_compiled, one_schema}}
+use Rattle.sql_tables.{specs.{declared.{fault.OpenFault.{OpenFault, TheVariants.{NotAHall, OtherVersion, Unavailable}}, looking.Wanted.{Wanted, TheVariants.Second}}, Opening.{HasTables, IfSaid, IsAnswerFor, IsReady, SaysSchema, wanted_number, wanted_rows}}, proofs.LookLemmas.{all_compiled, one_schema}}
 
 -- ---- a hall of the second schema
 
@@ -10,19 +9,18 @@ use Rattle.sql_tables.{specs.{declared.{fault.OpenFault.{OpenFault, TheVariants.
 pub schema_of : (db : Database) (h : Hall) → IsSound db.schema db.trees → SpellHall db.trees h → db.schema ≡ hall_schema
 schema_of db h sound spelt = lists_once _ db.schema hall_schema sound.lists spelt.tables.sound.lists
 
-has_all : HasAll Second hall_schema
-unfolding same_name
-has_all = (all_compiled hall_schema (wanted_rows Second) reads_plain, refl)
+has_all : HasTables Second hall_schema
+has_all = all_compiled hall_schema (wanted_rows Second) reads_plain
 
 module _ (db : Database) (h : Hall) (sound : IsSound db.schema db.trees) (spelt : SpellHall db.trees h) where
   pub says_second : SaysSchema db (pos 2)
   says_second = record { reads = subst (λ s. IsQueryText s FIND_NUMBERS.now find_numbers_query) (sym (schema_of db h sound spelt)) (find_is of_last); last = (_, _, _, (spelt.tables.each of_last)) }
 
-  pub has_second : HasAll Second db.schema
-  has_second = subst (HasAll Second) (sym (schema_of db h sound spelt)) has_all
+  pub has_second : HasTables Second db.schema
+  has_second = subst (HasTables Second) (sym (schema_of db h sound spelt)) has_all
 
--- tables and indexes that are looked for and are all there are refused as Unavailable alone
-pub refused_as : (wanted : Wanted) (db : Database) (r : Result (Unit {0}) OpenFault) → SaysSchema db (wanted_number wanted) → HasAll wanted db.schema → IsAnswerFor wanted db r → IfErr r (λ e. e ≡ Unavailable)
+-- tables that are looked for and are all there are refused as Unavailable alone
+pub refused_as : (wanted : Wanted) (db : Database) (r : Result (Unit {0}) OpenFault) → SaysSchema db (wanted_number wanted) → HasTables wanted db.schema → IsAnswerFor wanted db r → IfErr r (λ e. e ≡ Unavailable)
 refused_as wanted db (Ok done) says has told = tt
 refused_as wanted db (Err NotAHall) says has told = absurd (told.told.1 says has)
 refused_as wanted db (Err OtherVersion) says has told = absurd (told.told.2 (sym (one_schema db (wanted_number wanted) told.told.0 says told.told.1)))

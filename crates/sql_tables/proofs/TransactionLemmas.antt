@@ -2,7 +2,7 @@
 use Rattle.sql_schema.specs.{Words.{cases_Bool, at_drop_more, drop_all, Error, Database, State, HasCleanDisk, IsRolledBack, Survives, Held, state, Hall, SpellHall, hall_schema, earlier}, Steps.IsStep}
 use Rattle.std.proofs.Common.{◌≡◌, ◌<◌, ◌≤◌, ◌+◌, inl, inr, ℕ, List, [], ◌∷◌, length, drop, get_or, true, false, Ok, Err, Result, IfOk, OnOk, OnErr, IsTrue, sym, ap, subst, ◌∙◌}
 use Rattle.sqlite_trees.specs.declared.store.Store as store
-use Rattle.sql_tables.specs.{Creating.{IsFlat, IsMade, KeepsTables}, Running.IsEnded}
+use Rattle.sql_tables.specs.{Creating.{IsFlat, IsMade, IsWhole, KeepsTables}, Running.IsEnded}
 
 -- a step further
 pub on_ok : {X E : Type 0} (P Q : Type 0) (r : Result X E) → OnOk r P → (P → Q) → OnOk r Q
@@ -17,6 +17,10 @@ on_err P Q (Err e) p then = then p
 pub whatever : {X E A : Type 0} (r : Result X E) → A → IfOk r (λ _. A)
 whatever (Ok x) a = a
 whatever (Err e) a = tt
+
+-- a refusal before anything was asked leaves all as it was
+pub nothing_made : {X E : Type 0} (s : State) (e : E) → IsWhole s s {Y = X} (Err e)
+nothing_made s e = record { after = s.now.trees; shown = tt; crash = λ db may. inl may }
 
 -- what is left of a slice at an index
 pub left_at : {X : Type 0} (slice xs : List X) (i : ℕ) (x : X) → slice ≡ xs → i < length slice → x ≡ get_or slice i x → drop i xs ≡ x ∷ drop (i + 1) xs
@@ -61,6 +65,17 @@ module _ {S : Type 0} (g : store.Ghosts S) (h0 h1 t u : Held S) {E F : Type 0} (
   -- which a refusal says
   pub refused : IsFlat (state g h0) → OnErr r (KeepsTables (state g h0) (state g u))
   refused flat = on_err _ _ r (ended clean).undone (λ undone. tables_kept flat (undone (on_ok _ _ done stepped.mode (λ mode. mode going))))
+
+  -- all of it is there or none
+  pub whole : IsWhole (state g h0) (state g u) r
+  whole = record {
+    after = (state g t).now.trees;
+    shown = on_ok _ _ r (ended clean).committed (λ it. ap (λ (d : Database). d.trees) it.1.now_is);
+    crash = λ db may. elim (two.crash clean db may) [
+      | inl before ↦ elim (one.crash (earlier two clean) db before) [ inl start ↦ inl (subst (λ k. (state g k).may_leave db) begun start) | inr none ↦ absurd none ]
+      | inr all ↦ inr all.1
+    ];
+  }
 
   -- where the step makes tables that spell a hall, they are held once they're committed, and while they were a stop could leave them
   pub made : (h : Hall) → (A tt → ((state g t).now.schema ≡ hall_schema) × SpellHall (state g t).now.trees h) → IsMade (state g h0) (state g u) r h

@@ -1,4 +1,5 @@
 pub mod Creating
+pub mod Indexes
 pub mod Migrating
 pub mod Opening
 pub mod OpeningLaws

@@ -1,7 +1,6 @@
 -- What is asked of a file before its hall is used, and what each refusal says.
-use Rattle.sql_schema.specs.{Words.{AllByRecursion, Null, Int, Database, understood, Row, Schema, State, Compiled, Index, IsQueryText, column, find_numbers_query, list_all}, Described.{boots_index, interfaces_index, orders_index}, declared.creating.TheConstants.{FIND_NUMBERS, READ_FIRST, READ_SECOND}}
-use Rattle.sqlite_schema.specs.Names.{index_named}
-use Rattle.std.specs.Prelude.{◌≡◌, ◌≢◌, ℕ, ℤ, pos, Bool, true, false, if◌then◌else◌, List, [], ◌∷◌, ◌++◌, map, is_some, ⊤, Result, Ok, Err, IsTrue}
+use Rattle.sql_schema.specs.{Words.{AllByRecursion, Null, Int, Database, understood, Row, Schema, State, Compiled, IsQueryText, column, find_numbers_query}, declared.creating.TheConstants.{FIND_NUMBERS, READ_FIRST, READ_SECOND}}
+use Rattle.std.specs.Prelude.{◌≡◌, ◌≢◌, ℕ, ℤ, pos, false, List, [], ◌∷◌, ◌++◌, map, ⊤, Result, Ok, Err, IsTrue}
 use Rattle.sqlite.specs.Effect.{Reads}
 use Rattle.sql_tables.specs.declared.{fault.OpenFault.{OpenFault, TheVariants.{NotAHall, OtherVersion, Unavailable}}, looking.Wanted.{Wanted, TheVariants.{First, Second}}}
 
@@ -35,14 +34,6 @@ AreUnderstood schema texts = AllByRecursion (IsUnderstood schema) texts
 -- each table of this schema but `hall` is there with its columns
 abbrev pub HasTables : Wanted → Schema → Type 0
 HasTables wanted schema = AreUnderstood schema (wanted_rows wanted)
-
--- indexes of these three names are there
-abbrev pub has_indexes : Schema → Bool
-has_indexes schema = list_all (λ (i : Index). is_some (index_named schema i.name)) (interfaces_index ∷ boots_index ∷ orders_index ∷ [])
-
--- all of this schema is there but `hall`
-abbrev pub HasAll : Wanted → Schema → Type 0
-HasAll wanted schema = HasTables wanted schema × (has_indexes schema ≡ true)
 
 -- a query without parameters shows these rows of a database
 pub record ShowsRows (db : Database) (sql : List ℕ) (rows : List Row) : Type 0 where
@@ -84,16 +75,12 @@ Tells (Err Unavailable) Good Missing Other = ⊤
 abbrev pub IfSaid : Result (Unit {0}) OpenFault → Type 0 → Type 0
 IfSaid r P = Tells r P P P
 
--- what the answer says of a file that is asked for this schema and what else has to be there. Ok: the one row of `hall` names the schema, and
--- all is there. OtherVersion: that row names another schema. NotAHall: neither is so of a `hall` as this program makes it
-pub record IsAnswerOf (Has : Schema → Type 0) (wanted : Wanted) (db : Database) (r : Result (Unit {0}) OpenFault) : Type 0 where
-  pub told : Tells r (NamesSchema db (wanted_number wanted) × Has db.schema)
-      (((n : ℤ) → SaysSchema db n → n ≡ wanted_number wanted) × (SaysSchema db (wanted_number wanted) → Has db.schema → ⊥))
+-- what the answer says of the tables of a file, where this schema is asked for. Ok: the one row of `hall` names the schema, and all tables are
+-- there, whatever else is. OtherVersion: that row names another schema. NotAHall: neither is so of a `hall` as this program makes it
+pub record IsAnswerFor (wanted : Wanted) (db : Database) (r : Result (Unit {0}) OpenFault) : Type 0 where
+  pub told : Tells r (NamesSchema db (wanted_number wanted) × HasTables wanted db.schema)
+      (((n : ℤ) → SaysSchema db n → n ≡ wanted_number wanted) × (SaysSchema db (wanted_number wanted) → HasTables wanted db.schema → ⊥))
       ((n : ℤ) × NamesSchema db n × (n ≢ wanted_number wanted))
-
--- what the answer says of the tables and indexes of a file, where this schema is asked for
-abbrev pub IsAnswerFor : Wanted → Database → Result (Unit {0}) OpenFault → Type 0
-IsAnswerFor wanted db r = IsAnswerOf (HasAll wanted) wanted db r
 
 -- what the answer says of a hall of the second schema
 abbrev pub IsRightAnswer : Database → Result (Unit {0}) OpenFault → Type 0
@@ -112,11 +99,6 @@ IsVersionOf wanted n r = Tells r (n ≡ wanted_number wanted) ⊥ (n ≢ wanted_
 -- the number was found, which is the wanted one or another
 abbrev pub IsFoundBy : (ℤ → Type 0) → Wanted → Result (Unit {0}) OpenFault → Type 0
 IsFoundBy Names wanted r = Tells r (Names (wanted_number wanted)) ⊤ ((n : ℤ) × Names n × (n ≢ wanted_number wanted))
-
--- the answer of a look at the tables, where it's known whether the indexes are there
-abbrev pub if_indexed : Bool → Result (Unit {0}) OpenFault → Result (Unit {0}) OpenFault
-if_indexed indexed (Ok done) = if indexed then Ok done else Err NotAHall
-if_indexed indexed (Err e) = Err e
 
 -- the one row of `hall`, with the number of the schema first
 abbrev pub IsSchemaRow : ℤ → List Row → Type 0

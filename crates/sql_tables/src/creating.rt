@@ -1,7 +1,7 @@
 //! A new hall is made.
-ghost use Rattle.sql_schema.specs.Words.{list_any, is_used, state, HasCleanDisk, new_hall, second, no_schema, IsHeld, Leaves};
+ghost use Rattle.sql_schema.specs.Words.{list_any, is_used, state, HasCleanDisk, new_hall, second, IsHeld, Leaves};
 ghost use Rattle.std.specs.Prelude.{◌≡◌, ◌↔◌, IfErr, IsTrue, OnOk, OnErr, Err, false, [], ◌∷◌};
-ghost use Rattle.sql_tables.specs.Creating.{IsFlat, IsMade, KeepsTables, MayLeaveBesides, is_a_name_taken};
+ghost use Rattle.sql_tables.specs.Creating.{IsBlank, IsFlat, IsMade, IsWhole, KeepsTables, MayLeaveBesides, is_a_name_taken};
 
 use crate::fault::CreateFault;
 use crate::making::make_hall;
@@ -50,22 +50,16 @@ fn is_a_name_taken(schema: &Schema) -> bool
     )
 }
 
-fn is_blank(schema: &Schema) -> bool
-    ensures { IsTrue result ↔ (schema.now ≡ no_schema) }
-{
-    schema.tables.is_empty() && schema.indexes.is_empty() && schema.views.is_empty()
-}
-
-// The tables are made in one transaction, where there are none.
+// The tables are made in one transaction.
 fn make_in<S: Alter>(
     conn: &mut Connection<S>,
     admin: Name,
     digest: Digest,
 ) -> Result<(), CreateFault>
-    requires blank { (state S.Store conn.old).now.schema ≡ no_schema }
     requires autocommit { (state S.Store conn.old).in_transaction ≡ false }
     ensures clean { HasCleanDisk (state S.Store conn.new) → HasCleanDisk (state S.Store conn.old) }
-    ensures made { HasCleanDisk (state S.Store conn.new) → IsMade (state S.Store conn.old) (state S.Store conn.new) result (new_hall second admin digest) }
+    ensures made { HasCleanDisk (state S.Store conn.new) → IsBlank (state S.Store conn.old) → IsMade (state S.Store conn.old) (state S.Store conn.new) result (new_hall second admin digest) }
+    ensures whole { HasCleanDisk (state S.Store conn.new) → IsWhole (state S.Store conn.old) (state S.Store conn.new) result }
     ensures fault { IfErr result (λ e. e ≡ CreateFault.Unavailable) }
     ensures refused { HasCleanDisk (state S.Store conn.new) → IsFlat (state S.Store conn.old) → OnErr result (KeepsTables (state S.Store conn.old) (state S.Store conn.new)) }
 {
@@ -74,25 +68,26 @@ fn make_in<S: Alter>(
     end(tx, done, CreateFault::Unavailable)
 }
 
-/// Makes the tables of a new hall in a file without tables, in one transaction, with this enabled admin and this digest of
-/// its token: all of them or none. A hall's tables have numbers in the file that go by the order in which they're made, so
-/// a file with other tables is refused as `Unavailable`, also where no name is taken.
+/// Makes the tables of a new hall in one transaction, beside what the file has, with this enabled admin and this digest of its token: all of
+/// them or none. `NotEmpty` where a table, an index or a view has the name of one of a hall's tables. A refusal leaves the tables as they
+/// were. Which hall they are is said of a file that had no table, since the definition of a hall's file has each table at its place.
 pub fn create_tables<S: Alter>(
     conn: &mut Connection<S>,
     admin: Name,
     digest: Digest,
 ) -> Result<(), CreateFault>
     ensures clean { HasCleanDisk (state S.Store conn.new) → HasCleanDisk (state S.Store conn.old) }
-    ensures made { HasCleanDisk (state S.Store conn.new) → OnOk result (IsHeld (state S.Store conn.new) (new_hall second admin digest)) }
-    ensures settled { HasCleanDisk (state S.Store conn.new) → OnOk result (Leaves (state S.Store conn.new) (new_hall second admin digest ∷ [])) }
+    ensures made { HasCleanDisk (state S.Store conn.new) → IsBlank (state S.Store conn.old) → OnOk result (IsHeld (state S.Store conn.new) (new_hall second admin digest)) }
+    ensures settled { HasCleanDisk (state S.Store conn.new) → IsBlank (state S.Store conn.old) → OnOk result (Leaves (state S.Store conn.new) (new_hall second admin digest ∷ [])) }
     ensures taken { (result ≡ Err CreateFault.NotEmpty) ↔ IsTrue (is_a_name_taken (state S.Store conn.old).now.schema) }
     ensures refused { HasCleanDisk (state S.Store conn.new) → OnErr result (KeepsTables (state S.Store conn.old) (state S.Store conn.new)) }
-    ensures crash { HasCleanDisk (state S.Store conn.new) → MayLeaveBesides (new_hall second admin digest) (state S.Store conn.old) (state S.Store conn.new) }
+    ensures crash { HasCleanDisk (state S.Store conn.new) → IsBlank (state S.Store conn.old) → MayLeaveBesides (new_hall second admin digest) (state S.Store conn.old) (state S.Store conn.new) }
+    ensures whole { HasCleanDisk (state S.Store conn.new) → IsWhole (state S.Store conn.old) (state S.Store conn.new) result }
 {
     if is_a_name_taken(conn.schema()) {
         return Err(CreateFault::NotEmpty);
     }
-    if !is_blank(conn.schema()) || !conn.is_autocommit() {
+    if !conn.is_autocommit() {
         return Err(CreateFault::Unavailable);
     }
     make_in(conn, admin, digest)

@@ -7,7 +7,7 @@ pub enum CreateFault {
     /// The file has a table, an index or a view with the name of one of a hall's tables.
     #[error("the file already has one of a hall's tables")]
     NotEmpty = 1,
-    /// Memory or the disk failed, or the file has other tables.
+    /// Memory or the disk failed.
     #[error("the file can't be written now")]
     Unavailable = 3,
 }
@@ -15,7 +15,7 @@ pub enum CreateFault {
 /// Why the hall of a file can't be opened.
 #[derive(Clone, Copy, Debug, PartialEq, Eq, Error)]
 pub enum OpenFault {
-    /// A hall's table is missing, or a column of it, an index, or the one row that names its schema.
+    /// A hall's table is missing, or a column of it, or the one row that names its schema.
     #[error("the file isn't a hall's")]
     NotAHall = 1,
     /// The tables are those of another schema.

@@ -3,6 +3,7 @@
 
 mod creating;
 mod fault;
+mod indexes;
 mod looking;
 mod making;
 mod migrating;

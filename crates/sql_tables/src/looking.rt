@@ -1,7 +1,7 @@
 //! What is asked of a file's tables, inside a transaction that writes nothing.
 ghost use Rattle.sql_schema.specs.{Words.{state, HasCleanDisk, Survives}, Steps.IsStep};
 ghost use Rattle.std.specs.Prelude.{◌≡◌, ◌≢◌, ⊤, ℤ, Err, IfOk, IfErr, map};
-ghost use Rattle.sql_tables.specs.Opening.{AreFound, HasTables, IsAnswerOf, IsFoundBy, IsOneRow, IsSchemaRow, IsVersionOf, NamesSchema, SaysSchema, wanted_number, wanted_rows};
+ghost use Rattle.sql_tables.specs.Opening.{AreFound, IsAnswerFor, IsFoundBy, IsOneRow, IsSchemaRow, IsVersionOf, NamesSchema, SaysSchema, wanted_number, wanted_rows};
 
 use crate::fault::OpenFault;
 use crate::running::ask;
@@ -129,7 +129,7 @@ fn has_version<S: Alter>(tx: &mut Transaction<'_, S>, wanted: Wanted) -> Result<
 pub(crate) fn look<S: Alter>(tx: &mut Transaction<'_, S>, wanted: Wanted) -> Result<(), OpenFault>
     ensures same_reference { tx.new.conn.ghost_name ≡ tx.old.conn.ghost_name }
     ensures step { HasCleanDisk (state S.Store tx.new.conn.now) → IsStep (state S.Store tx.old.conn.now) (state S.Store tx.new.conn.now) result (λ _. ⊤) }
-    ensures answered { HasCleanDisk (state S.Store tx.new.conn.now) → IsAnswerOf (HasTables wanted) wanted (state S.Store tx.old.conn.now).now result }
+    ensures answered { HasCleanDisk (state S.Store tx.new.conn.now) → IsAnswerFor wanted (state S.Store tx.old.conn.now).now result }
     ensures survives { Survives (state S.Store tx.old.conn.now) (state S.Store tx.new.conn.now) (λ _. ⊥) }
 {
     match has_version(tx, wanted) {

@@ -1,10 +1,11 @@
 //! The tables of a hall of the first schema are carried over to the second, in one transaction.
 ghost use Rattle.sql_schema.specs.{Words.{is_used, state, HasCleanDisk, IsLive, Survives, Hall, Machine, machine_values, IsHeld, Leaves, HallRows, Spells}, Steps.IsStep};
-ghost use Rattle.sql_tables.specs.{Opening.NamesNoSchema, Creating.{IsMade, KeepsTables, MayLeaveBesides}, Migrating.{BecomeHall, IsCarriedOver, IsFirst, IsRightMigration, carried_rows, is_erasing, with_kind_of, with_kinds_of}};
+ghost use Rattle.sql_tables.specs.{Indexes.all_indexes, Opening.NamesNoSchema, Creating.{IsMade, KeepsTables, MayLeaveBesides}, Migrating.{BecomeHall, IsCarriedOver, IsFirst, IsRightMigration, carried_rows, is_erasing, with_kind_of, with_kinds_of}};
 ghost use Rattle.std.specs.Prelude.{◌≡◌, ◌≢◌, ◌⊎◌, Err, IfErr, IfOk, IsTrue, List, Ok, OnErr, OnOk, [], ◌∷◌, codes, false, map, true};
 
 use crate::creating::is_used;
 use crate::fault::OpenFault;
+use crate::indexes::{Indexes, make_missing};
 use crate::looking::Wanted;
 use crate::opening::{look_at_tables, look_for};
 use crate::running::{ask, end, run};
@@ -66,12 +67,14 @@ fn put_kinds<S: Alter>(tx: &mut Transaction<'_, S>, rows: &Vec<Row>) -> Result<(
     Ok(())
 }
 
-// The table of kinds of erasing is made, the tables name the second schema, and each machine has its kind.
-fn carry_over<S: Alter>(tx: &mut Transaction<'_, S>) -> Result<(), Error>
+// The table of kinds of erasing is made, the tables name the second schema, and each machine has its kind. Before that, indexes are made that
+// are missing.
+fn carry_over<S: Alter>(tx: &mut Transaction<'_, S>, there: Indexes) -> Result<(), Error>
     ensures same_reference { tx.new.conn.ghost_name ≡ tx.old.conn.ghost_name }
-    ensures made { HasCleanDisk (state S.Store tx.new.conn.now) → IsStep (state S.Store tx.old.conn.now) (state S.Store tx.new.conn.now) result (λ _. (h : Hall) → IsFirst (state S.Store tx.old.conn.now).now h → Spells (state S.Store tx.new.conn.now).now (carried_rows h)) }
+    ensures made { HasCleanDisk (state S.Store tx.new.conn.now) → IsStep (state S.Store tx.old.conn.now) (state S.Store tx.new.conn.now) result (λ _. (h : Hall) → there ≡ all_indexes → IsFirst (state S.Store tx.old.conn.now).now h → Spells (state S.Store tx.new.conn.now).now (carried_rows h)) }
     ensures survives { Survives (state S.Store tx.old.conn.now) (state S.Store tx.new.conn.now) (λ _. ⊥) }
 {
+    make_missing(tx, there)?;
     run(tx, CREATE_WIPES, &[])?;
     run(tx, SET_SCHEMA, &[])?;
     let rows = ask(tx, LIST_MACHINES)?;
@@ -93,8 +96,9 @@ fn carry_first<S: Alter>(conn: &mut Connection<S>) -> Result<(), OpenFault>
     if !conn.is_autocommit() {
         return Err(OpenFault::Unavailable);
     }
+    let there = Indexes::of(conn.schema());
     let mut tx = conn.transaction();
-    let done = carry_over(&mut tx);
+    let done = carry_over(&mut tx, there);
     end(tx, done, OpenFault::Unavailable)
 }
 
@@ -120,9 +124,10 @@ fn migrate<S: Alter>(conn: &mut Connection<S>) -> Result<Migrated, OpenFault>
 }
 
 /// Carries the tables of a hall of the first schema over to the second, in one transaction: the table of kinds of erasing is made, with
-/// a row for each machine whose disks are to be erased, or were to be, all of them in full, and the tables name the second schema. No
-/// other row changes. Tables of the second schema stay as they are. A file that is neither is refused as `OtherVersion`, and one that
-/// lacks a table or an index, or has a table `wipes` beside the first schema, as `NotAHall`; a refusal leaves the tables as they were.
+/// a row for each machine whose disks are to be erased, or were to be, all of them in full, and the tables name the second schema. Indexes
+/// that are missing are made. No other row changes. Tables of the second schema stay as they are. A file that is neither is refused as
+/// `OtherVersion`, and one that lacks a table, or has a table `wipes` beside the first schema, as `NotAHall`; a refusal leaves the tables
+/// as they were.
 pub fn migrate_tables<S: Alter>(conn: &mut Connection<S>) -> Result<Migrated, OpenFault>
     ensures clean { HasCleanDisk (state S.Store conn.new) → HasCleanDisk (state S.Store conn.old) }
     ensures held { HasCleanDisk (state S.Store conn.new) → OnOk result ((h : Hall) → BecomeHall (state S.Store conn.old).now.trees h → IsHeld (state S.Store conn.new) h) }

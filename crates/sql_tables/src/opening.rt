@@ -1,44 +1,14 @@
 //! A file's tables are looked at before its hall is used.
-ghost use Rattle.sql_schema.specs.Words.{state, HasCleanDisk, IsLive, Survives, Hall, IsHeld, Leaves, SpellHall, list_all};
-ghost use Rattle.sqlite_schema.specs.Names.{index_named};
-ghost use Rattle.std.specs.Prelude.{◌≡◌, ◌⊎◌, Err, IfErr, IsTrue, OnOk, false, is_some, [], ◌∷◌};
-ghost use Rattle.sql_tables.specs.{Creating.KeepsTables, Opening.{IfSaid, IsAnswerFor, IsReady, IsRightAnswer, NamesNoSchema, has_indexes, if_indexed}};
+ghost use Rattle.sql_schema.specs.Words.{state, HasCleanDisk, IsLive, Survives, Hall, IsHeld, Leaves, SpellHall};
+ghost use Rattle.std.specs.Prelude.{◌≡◌, ◌⊎◌, Err, IfErr, IsTrue, OnOk, [], ◌∷◌};
+ghost use Rattle.sql_tables.specs.{Creating.KeepsTables, Opening.{IfSaid, IsAnswerFor, IsReady, IsRightAnswer, NamesNoSchema}};
 
 use crate::fault::OpenFault;
 use crate::looking::{Wanted, look};
 use sql_schema::is_running;
 use sqlite::{Alter, Connection};
-use sqlite_schema::schema::Schema;
 
-fn are_indexes(schema: &Schema, names: &[&str]) -> bool
-    ensures { result ≡ list_all (λ name. is_some (index_named schema.now name.now)) names.now }
-{
-    names
-        .iter()
-        .all(|name| schema.index_named(name.as_bytes()).is_some())
-}
-
-// Whether a hall's indexes are there, without which a machine that goes costs a walk over whole tables.
-fn has_indexes(schema: &Schema) -> bool
-    ensures { result ≡ has_indexes schema.now }
-{
-    are_indexes(
-        schema,
-        &["interfaces_machine", "boots_machine", "orders_machine"],
-    )
-}
-
-// A hall's tables without its indexes are no hall's.
-fn if_indexed(is_indexed: bool, found: Result<(), OpenFault>) -> Result<(), OpenFault>
-    ensures { result ≡ if_indexed is_indexed found }
-{
-    match found {
-        Ok(()) if !is_indexed => Err(OpenFault::NotAHall),
-        _ => found,
-    }
-}
-
-/// Whether the tables and indexes are those of a hall of this schema, looked at in a transaction that is undone. Unless that can't be
+/// Whether the tables are those of a hall of this schema, looked at in a transaction that is undone. Unless that can't be
 /// said, the connection is open.
 pub(crate) fn look_for<S: Alter>(conn: &mut Connection<S>, wanted: Wanted) -> Result<(), OpenFault>
     ensures live { IsLive (state S.Store conn.old) }
@@ -47,7 +17,8 @@ pub(crate) fn look_for<S: Alter>(conn: &mut Connection<S>, wanted: Wanted) -> Re
     ensures kept { HasCleanDisk (state S.Store conn.new) → KeepsTables (state S.Store conn.old) (state S.Store conn.new) }
     ensures survives { Survives (state S.Store conn.old) (state S.Store conn.new) (λ _. ⊥) }
 {
-    let is_indexed = has_indexes(conn.schema());
+    // Its contract says that the tables obey their schema (`live`).
+    let _ = conn.schema();
     if !conn.is_autocommit() {
         return Err(OpenFault::Unavailable);
     }
@@ -55,16 +26,16 @@ pub(crate) fn look_for<S: Alter>(conn: &mut Connection<S>, wanted: Wanted) -> Re
     let found = look(&mut tx, wanted);
     tx.rollback();
     if is_running(conn) {
-        if_indexed(is_indexed, found)
+        found
     } else {
         Err(OpenFault::Unavailable)
     }
 }
 
 /// Whether the tables of a file are those of a hall of the second schema. It asks for the table `hall` and its one row,
-/// then for the number of the schema, then for each other table, always with its columns, and for the three indexes. At
-/// `Ok` the connection holds the hall that the tables spell; a refusal leaves the tables as they were, and nothing is
-/// ever written.
+/// then for the number of the schema, then for each other table, always with its columns, and for nothing else: without
+/// its indexes a hall is as good, only slower. At `Ok` the connection holds the hall that the tables spell; a refusal leaves
+/// the tables as they were, and nothing is ever written.
 pub fn look_at_tables<S: Alter>(conn: &mut Connection<S>) -> Result<(), OpenFault>
     ensures clean { HasCleanDisk (state S.Store conn.new) → HasCleanDisk (state S.Store conn.old) }
     ensures held { HasCleanDisk (state S.Store conn.new) → OnOk result ((h : Hall) → SpellHall (state S.Store conn.old).now.trees h → IsHeld (state S.Store conn.new) h) }

@@ -1,6 +1,6 @@
 use Rattle.sql_schema.specs.Words.{Held, is_used, state}
-use Rattle.std.proofs.Common.{◌≡◌, IsTrue, codes, false, rules, subst, sym}
-use Rattle.sql_tables.{specs.Migrating.IsFirst, proofs.{CarriedLemmas.spells_carried, TransactionLemmas.{made, refused, whatever}}}
+use Rattle.std.proofs.Common.{◌≡◌, ◌∙◌, ap, IsTrue, codes, false, rules, subst, sym}
+use Rattle.sql_tables.{specs.{Indexes.{all_indexes, indexes_of}, Migrating.IsFirst}, proofs.{CarriedLemmas.spells_carried, MigratingLemmas.first_indexed, TransactionLemmas.{made, refused, whatever}}}
 use Rattle.sql_tables.proofs.migrating.carry_first.Goals as goal
 
 pub returns-clause-made : goal.returns-clause-made
@@ -10,7 +10,8 @@ returns-clause-made g c =
     made g.S.Store c.args.conn.now c.transaction-tx.result.conn.now c.carry_over-done.new.tx.conn.now c.end.new.tx.0 c.carry_over-done.result c.end.result _ c.transaction-tx.ensures.begun
     c.carry_over-done.ensures.made c.carry_over-done.ensures.survives c.end.ensures.ended c.end.ensures.survives clean next
     (λ spells.
-    let was = spells h (subst (λ (k : Held _). IsFirst (state g.S.Store k).now h) (sym c.transaction-tx.ensures.begun) first) in
+    let every : c.of-there.result ≡ all_indexes = c.of-there.ensures ∙ ap indexes_of c.schema-2.ensures.value ∙ ap indexes_of first.schema ∙ first_indexed in
+    let was = spells h every (subst (λ (k : Held _). IsFirst (state g.S.Store k).now h) (sym c.transaction-tx.ensures.begun) first) in
     (was.schema, spells_carried (state g.S.Store c.carry_over-done.new.tx.conn.now).now h next first.spelt.rows.kinds over was)))
 
 pub returns-clause-refused : goal.returns-clause-refused
