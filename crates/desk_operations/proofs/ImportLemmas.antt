@@ -1,6 +1,9 @@
 -- An import goes on by one row.
-use Rattle.std.{proofs.{Common.{◌≡◌, ◌≢◌, ◌+◌, ◌<◌, ◌==◌, ◌&&◌, ℕ, Bool, true, false, List, [], ◌∷◌, ◌++◌, Option, Result, Ok, Err, IfErr, IsErrAnd, if◌then◌else◌, length, drop, map, take, get_or, refl, sym, ap, subst, ◌∙◌, suc, append-nil, append_assoc, add-zero, arith}, KnownBytes.{Appends-nil, Appends-trans}, lemmas.List.{length-map, map-append, take-append-drop, take_more, Folds.list_all-append, Sums.fold-append}}, specs.{Prelude.replicate, Io.KnownBytes.Appends, List.{AllByRecursion, enumerate_from, flat_map, fold, list_all, scan}}}
-use Rattle.desk_operations.specs.{Prelude.{Site, IsSound, Hall, applied, second, reply_of, Event, BodyKind, Reply, Http, AllKeep, Ghosts, Unavailable, decision_of, ImportRow, Fault, Io, HasHistory, Item, Origin, carried_out, IsCarriedOut}, Import.{IsImported, IsRowAnswered, IsRowDone, IsRowItem, IsRowStopped, IsStopped, GoOn, after_row, after_rows, end_of, event_of, is_ok, line_of, lines_of, replies_to, reply_to, row_line}, declared.imports.Imported.{Imported, TheVariants.{All, NotAll}}}
+use Rattle.std.{proofs.{Common.{◌≡◌, ◌≢◌, ◌+◌, ◌<◌, ◌==◌, ◌&&◌, ℕ, Bool, true, false, List, [], ◌∷◌, ◌++◌, Option, Result, Ok, Err, IfErr, IfOk, IsErrAnd, if◌then◌else◌, length, drop, map, take, get_or, refl, sym, ap, subst, inl, inr, ◌∙◌, suc, append-nil, append_assoc, add-zero, arith}, KnownBytes.{Appends-nil, Appends-trans}, lemmas.List.{length-map, map-append, take-append-drop, take_more, Folds.list_all-append, Sums.fold-append}}, specs.{Prelude.replicate, Io.KnownBytes.Appends, List.{AllByRecursion, enumerate_from, flat_map, fold, list_all, scan}}}
+use Rattle.hall_types.specs.Refusal.{refusal_row}
+use Rattle.hall_events.specs.Reply.{reply_of}
+use Rattle.hall_desk.specs.{HistoryLaws.left_more, RunLaws.all_weaker}
+use Rattle.desk_operations.specs.{Prelude.{Site, IsSound, Hall, applied, second, Event, BodyKind, Reply, Http, AllKeep, Ghosts, Unavailable, decision_of, ImportRow, Fault, Io, HasHistory, IsEnd, IsLeft, IsSettled, Item, LeavesMore, OrUnreplied, Origin, came_unreplied, carried_out, IsCarriedOut}, Import.{AndCutImport, AreAccepted, AreReplied, GoOn, GoOnBy, IsCutImport, IsImported, IsRowAnswered, IsRowDone, IsRowItem, IsRowStopped, IsStopped, SettlesByAll, after_row, after_rows, end_of, event_of, is_ok, line_of, lines_of, replies_to, reply_to, row_line, unavailable}, declared.imports.Imported.{Imported, TheVariants.{All, NotAll}}}
 
 -- ---- lists with one more element
 
@@ -206,3 +209,213 @@ module _ {S : Type 0} (g : Ghosts S) (site : Site) (bearer : List ℕ) (moment :
     ((row, reply, ap (λ e. carried_out site e moment fresh reply) e_is ∙ ap (λ f. carried_out site (event_of bearer row) moment f reply) fresh_is), tt),
     history origin past was,
   )
+
+-- ---- rows in turn, and stops
+
+module _ (site : Site) (bearer : List ℕ) (moment : ℕ) where
+  abbrev Replied : List ImportRow → List Item → Type 0
+  Replied = AreReplied site bearer moment
+
+  abbrev Cut : List ImportRow → List Item → Type 0
+  Cut = IsCutImport site bearer moment
+
+  -- what came of rows is what came of them and more
+  replied_first : (xs ys : List ImportRow) (items : List Item) → Replied xs items → Replied (xs ++ ys) items
+  replied_first xs ys [] it = tt
+  replied_first [] ys (item ∷ items) it = absurd it
+  replied_first (x ∷ xs) ys (item ∷ items) (inl it) = inl (it.0, replied_first xs ys items it.1)
+  replied_first (x ∷ xs) ys (item ∷ items) (inr it) = inr (replied_first xs ys (item ∷ items) it)
+
+  cut_first : (xs ys : List ImportRow) (cut : List Item) → Cut xs cut → Cut (xs ++ ys) cut
+  cut_first xs ys [] it = tt
+  cut_first [] ys (item ∷ cut) it = absurd it
+  cut_first (x ∷ xs) ys (item ∷ cut) (inl it) = inl it
+  cut_first (x ∷ xs) ys (item ∷ cut) (inr (inl it)) = inr (inl (it.0, cut_first xs ys cut it.1))
+  cut_first (x ∷ xs) ys (item ∷ cut) (inr (inr it)) = inr (inr (cut_first xs ys (item ∷ cut) it))
+
+  -- likewise of rows before them
+  replied_later : (xs ys : List ImportRow) (items : List Item) → Replied ys items → Replied (xs ++ ys) items
+  replied_later xs ys [] it = tt
+  replied_later [] ys (item ∷ items) it = it
+  replied_later (x ∷ xs) ys (item ∷ items) it = inr (replied_later xs ys (item ∷ items) it)
+
+  cut_later : (xs ys : List ImportRow) (cut : List Item) → Cut ys cut → Cut (xs ++ ys) cut
+  cut_later xs ys [] it = tt
+  cut_later [] ys (item ∷ cut) it = it
+  cut_later (x ∷ xs) ys (item ∷ cut) it = inr (inr (cut_later xs ys (item ∷ cut) it))
+
+  -- and of rows after those that came
+  replied_then : (xs ys : List ImportRow) (items more : List Item) → Replied xs items → Replied ys more → Replied (xs ++ ys) (items ++ more)
+  replied_then xs ys [] more it after = replied_later xs ys more after
+  replied_then [] ys (item ∷ items) more it after = absurd it
+  replied_then (x ∷ xs) ys (item ∷ items) more (inl it) after = inl (it.0, replied_then xs ys items more it.1 after)
+  replied_then (x ∷ xs) ys (item ∷ items) more (inr it) after = inr (replied_then xs ys (item ∷ items) more it after)
+
+  cut_then : (xs ys : List ImportRow) (items cut : List Item) → Replied xs items → Cut ys cut → Cut (xs ++ ys) (items ++ cut)
+  cut_then xs ys [] cut it after = cut_later xs ys cut after
+  cut_then [] ys (item ∷ items) cut it after = absurd it
+  cut_then (x ∷ xs) ys (item ∷ items) cut (inl it) after = inr (inl (it.0, cut_then xs ys items cut it.1 after))
+  cut_then (x ∷ xs) ys (item ∷ items) cut (inr it) after = inr (inr (cut_then xs ys (item ∷ items) cut it after))
+
+  module _ {S : Type 0} (g : Ghosts S) where
+    abbrev Ends : Origin → List Item → List ImportRow → Hall → Type 0
+    Ends origin past rows = IsEnd origin (AndCutImport past site bearer moment rows)
+
+    -- no row came
+    pub in_turn_none : (store : S) (rows : List ImportRow) → GoOnBy g store store site bearer moment rows
+    in_turn_none store rows origin past was = ([], tt, subst (HasHistory g store origin) (sym (append-nil past)) was, λ hs left. ([], left, tt))
+
+    -- one row, which a stop may leave
+    leaves_row : (old new : S) (row : ImportRow) (e : Event) (fresh : List ℕ) → e ≡ event_of bearer row → fresh ≡ replicate 16 0 → (origin : Origin) (past : List Item)
+        → LeavesMore g old new origin (OrUnreplied past site e moment fresh) → LeavesMore g old new origin (AndCutImport past site bearer moment (row ∷ []))
+    leaves_row old new row e fresh e_is fresh_is origin past crash hs left =
+        let found = crash hs left in
+        (found.0, found.1, all_weaker (IsEnd origin (OrUnreplied past site e moment fresh)) (Ends origin past (row ∷ [])) (λ x at. (at.0, one at.0 at.1, at.2)) found.0 found.2)
+      where
+        one : (items : List Item) → OrUnreplied past site e moment fresh items → AndCutImport past site bearer moment (row ∷ []) items
+        one items (inl is) = ([], tt, is ∙ sym (append-nil past))
+        one items (inr is) = (
+          came_unreplied site e moment fresh ∷ [],
+          inl (ap (λ e. came_unreplied site e moment fresh) e_is ∙ ap (λ f. came_unreplied site (event_of bearer row) moment f) fresh_is, refl),
+          is,
+        )
+
+    pub in_turn_one : (old new : S) (row : ImportRow) (e : Event) (fresh : List ℕ) (reply : Reply) → e ≡ event_of bearer row → fresh ≡ replicate 16 0
+        → ((origin : Origin) (past : List Item) → HasHistory g old origin past → HasHistory g new origin (past ++ carried_out site e moment fresh reply ∷ []))
+        → ((origin : Origin) (past : List Item) → HasHistory g old origin past → LeavesMore g old new origin (OrUnreplied past site e moment fresh))
+        → GoOnBy g old new site bearer moment (row ∷ [])
+    in_turn_one old new row e fresh reply e_is fresh_is history crash origin past was = (
+      carried_out site e moment fresh reply ∷ [],
+      inl ((reply, ap (λ e. carried_out site e moment fresh reply) e_is ∙ ap (λ f. carried_out site (event_of bearer row) moment f reply) fresh_is), tt),
+      history origin past was,
+      leaves_row old new row e fresh e_is fresh_is origin past (crash origin past was),
+    )
+
+    -- one that the store couldn't answer
+    pub in_turn_refused : (old new : S) (row : ImportRow) (e : Event) (fresh : List ℕ) → e ≡ event_of bearer row → fresh ≡ replicate 16 0
+        → ((h : Hall) → g.holds old h → g.holds new h)
+        → ((origin : Origin) (past : List Item) → HasHistory g old origin past → LeavesMore g old new origin (OrUnreplied past site e moment fresh))
+        → GoOnBy g old new site bearer moment (row ∷ [])
+    in_turn_refused old new row e fresh e_is fresh_is same crash origin past was = (
+      [],
+      tt,
+      subst (HasHistory g new origin) (sym (append-nil past)) (record { end = was.end; held = same was.end was.held; headline = was.headline }),
+      leaves_row old new row e fresh e_is fresh_is origin past (crash origin past was),
+    )
+
+    -- rows, and then more
+    leaves_then : (a b c : S) (xs ys : List ImportRow) (origin : Origin) (past items : List Item) → Replied xs items
+        → LeavesMore g a b origin (AndCutImport past site bearer moment xs) → LeavesMore g b c origin (AndCutImport (past ++ items) site bearer moment ys)
+        → LeavesMore g a c origin (AndCutImport past site bearer moment (xs ++ ys))
+    leaves_then a b c xs ys origin past items are one two hs left =
+        let first = one hs left in
+        let next = two (first.0 ++ hs) first.1 in (
+          next.0 ++ first.0,
+          subst (g.leaves c) (sym (append_assoc next.0 first.0 hs)) next.1,
+          all_more (Ends origin past (xs ++ ys)) next.0 first.0
+              (all_weaker (Ends origin (past ++ items) ys) (Ends origin past (xs ++ ys)) (λ x at. (at.0, after at.0 at.1, at.2)) next.0 next.2)
+              (all_weaker (Ends origin past xs) (Ends origin past (xs ++ ys)) (λ x at. (at.0, (at.1.0, cut_first xs ys at.1.0 at.1.1, at.1.2), at.2)) first.0 first.2),
+        )
+      where
+        after : (all : List Item) → AndCutImport (past ++ items) site bearer moment ys all → AndCutImport past site bearer moment (xs ++ ys) all
+        after all it = (items ++ it.0, cut_then xs ys items it.0 are it.1, it.2 ∙ append_assoc past items it.0)
+
+    pub in_turn_then : (from : Site) → from ≡ site → (a b c : S) (xs ys : List ImportRow) → GoOnBy g a b site bearer moment xs → GoOnBy g b c from bearer moment ys
+        → GoOnBy g a c site bearer moment (xs ++ ys)
+    in_turn_then from same a b c xs ys one two origin past was =
+        let first = one origin past was in
+        let next = subst (λ (at : Site). GoOnBy g b c at bearer moment ys) same two origin (past ++ first.0) first.2 in (
+          first.0 ++ next.0,
+          replied_then xs ys first.0 next.0 first.1 next.1,
+          subst (HasHistory g c origin) (append_assoc past first.0 next.0) next.2,
+          leaves_then a b c xs ys origin past first.0 first.1 first.3 next.3,
+        )
+
+    -- the first rows of more
+    in_turn_first : (a b : S) (xs ys : List ImportRow) → GoOnBy g a b site bearer moment xs → GoOnBy g a b site bearer moment (xs ++ ys)
+    in_turn_first a b xs ys by = in_turn_then site refl a b b xs ys by (in_turn_none b ys)
+
+    -- one more row
+    pub in_turn_next : (from : Site) → from ≡ site → (a b c : S) (rows : List ImportRow) (place : ℕ) (row : ImportRow) → place < length rows → row ≡ get_or rows place row
+        → GoOnBy g a b site bearer moment (take place rows) → GoOnBy g b c from bearer moment (row ∷ []) → GoOnBy g a c site bearer moment (take (place + 1) rows)
+    in_turn_next from same a b c rows place row here at one two =
+        subst (GoOnBy g a c site bearer moment) (ap (λ (it : ImportRow). take place rows ++ it ∷ []) at ∙ sym (take_more rows place row here))
+        (in_turn_then from same a b c (take place rows) (row ∷ []) one two)
+
+    -- the first rows of all
+    pub in_turn_taken : (a b : S) (rows : List ImportRow) (count : ℕ) → GoOnBy g a b site bearer moment (take count rows) → GoOnBy g a b site bearer moment rows
+    in_turn_taken a b rows count by =
+        subst (GoOnBy g a b site bearer moment) (take-append-drop count rows) (in_turn_first a b (take count rows) (drop count rows) by)
+
+    -- of a store that was settled
+    pub rows_left : (old new : S) (rows : List ImportRow) → GoOnBy g old new site bearer moment rows → (origin : Origin) (past : List Item) → IsSettled g old origin past
+        → IsLeft g new origin (AndCutImport past site bearer moment rows)
+    rows_left old new rows by origin past was =
+        left_more g old new origin (AndCutImport past site bearer moment rows) (by origin past was.history).3 past was ([], tt, sym (append-nil past))
+
+-- the rows of a file are what it is read as
+pub read_rows : {F : Type 0} (stated : Result (List ImportRow) F) (its rows : List ImportRow) → stated ≡ Ok its → stated ≡ Ok rows → its ≡ rows
+read_rows stated its rows one two = cc
+
+-- ---- rows that were accepted
+
+unavailable_not_ok : is_ok unavailable ≡ false
+unfolding refusal_row reply_of
+unavailable_not_ok = refl
+
+-- the reply Unavailable hasn't the status 200
+pub refused_not_ok : {E : Type 0} (r : Result Reply E) (X : Type 0) → IfOk r (λ reply. reply ≡ unavailable) → IfOk r (λ reply. is_ok reply ≡ true → X)
+refused_not_ok (Ok reply) X is = λ ok. let no : false ≡ true = sym unavailable_not_ok ∙ ap is_ok (sym is) ∙ ok in cc
+refused_not_ok (Err error) X is = tt
+
+all_ok : (was_ok : Bool) (end next : Imported) → next ≡ (if was_ok then end else NotAll) → next ≡ All → (was_ok ≡ true) × (end ≡ All)
+all_ok true end next is all = (refl, sym is ∙ all)
+all_ok false end next is all = cc
+
+module _ (site : Site) (bearer : List ℕ) (moment : ℕ) where
+  accepted_then : (xs ys : List ImportRow) (items more : List Item) → AreAccepted site bearer moment xs items → AreAccepted site bearer moment ys more
+      → AreAccepted site bearer moment (xs ++ ys) (items ++ more)
+  accepted_then [] ys [] more it after = after
+  accepted_then [] ys (item ∷ items) more it after = cc
+  accepted_then (x ∷ xs) ys [] more it after = absurd it
+  accepted_then (x ∷ xs) ys (item ∷ items) more it after = (it.0, it.1, it.2, accepted_then xs ys items more it.3 after)
+
+  module _ {S : Type 0} (g : Ghosts S) where
+    -- no row came
+    pub settled_none : (store : S) → SettlesByAll g store store site bearer moment []
+    settled_none store origin past was = ([], refl, subst (IsSettled g store origin) (sym (append-nil past)) was)
+
+    pub settled_one : (old new : S) (row : ImportRow) (e : Event) (fresh : List ℕ) (reply : Reply) → e ≡ event_of bearer row → fresh ≡ replicate 16 0
+        → ((origin : Origin) (past : List Item) → IsSettled g old origin past → IsSettled g new origin (past ++ carried_out site e moment fresh reply ∷ []))
+        → is_ok reply ≡ true → SettlesByAll g old new site bearer moment (row ∷ [])
+    settled_one old new row e fresh reply e_is fresh_is settled ok origin past was = (
+      carried_out site e moment fresh reply ∷ [],
+      (reply, ok, ap (λ e. carried_out site e moment fresh reply) e_is ∙ ap (λ f. carried_out site (event_of bearer row) moment f reply) fresh_is, refl),
+      settled origin past was,
+    )
+
+    settled_then : (from : Site) → from ≡ site → (a b c : S) (xs ys : List ImportRow) → SettlesByAll g a b site bearer moment xs → SettlesByAll g b c from bearer moment ys
+        → SettlesByAll g a c site bearer moment (xs ++ ys)
+    settled_then from same a b c xs ys one two origin past was =
+        let first = one origin past was in
+        let next = subst (λ (at : Site). SettlesByAll g b c at bearer moment ys) same two origin (past ++ first.0) first.2 in (
+          first.0 ++ next.0,
+          accepted_then xs ys first.0 next.0 first.1 next.1,
+          subst (IsSettled g c origin) (append_assoc past first.0 next.0) next.2,
+        )
+
+    -- one more row
+    pub settled_next : (from : Site) → from ≡ site → (a b c : S) (rows : List ImportRow) (place : ℕ) (row : ImportRow) → place < length rows → row ≡ get_or rows place row
+        → (was_ok : Bool) (end next : Imported) → next ≡ (if was_ok then end else NotAll)
+        → (end ≡ All → SettlesByAll g a b site bearer moment (take place rows)) → (was_ok ≡ true → SettlesByAll g b c from bearer moment (row ∷ []))
+        → next ≡ All → SettlesByAll g a c site bearer moment (take (place + 1) rows)
+    settled_next from same a b c rows place row here at was_ok end next is one two all =
+        let ok = all_ok was_ok end next is all in
+        subst (SettlesByAll g a c site bearer moment) (ap (λ (it : ImportRow). take place rows ++ it ∷ []) at ∙ sym (take_more rows place row here))
+        (settled_then from same a b c (take place rows) (row ∷ []) (one ok.1) (two ok.0))
+
+-- the rows of a file that is read so
+pub ok_rows : {E F : Type 0} (r : Result Imported E) (stated : Result (List ImportRow) F) (its read : List ImportRow) → its ≡ read → stated ≡ Ok read
+    → (P : List ImportRow → Type 0) → IfOk r (λ end. end ≡ All → P its) → IfOk r (λ end. end ≡ All → (rows : List ImportRow) → stated ≡ Ok rows → P rows)
+ok_rows (Ok end) stated its read are is P it = λ all rows same. subst P (are ∙ read_rows stated read rows is same) (it all)
+ok_rows (Err error) stated its read are is P it = tt

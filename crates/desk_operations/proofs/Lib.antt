@@ -1,3 +1,4 @@
 pub mod FrameInputLemmas
 pub mod FrameLemmas
 pub mod ImportLemmas
+pub mod RequestLemmas

@@ -1,7 +1,7 @@
 -- What an import does to a hall, and what it writes.
-use Rattle.std.specs.{Prelude.{◌≡◌, ◌≢◌, ◌≤◌, ◌==◌, ℕ, Bool, true, false, List, [], ◌∷◌, ◌++◌, Option, Some, length, map, replicate, if◌then◌else◌}, Fmt.decimal, Io.KnownBytes.Appends, List.{AllByRecursion, enumerate_from, flat_map, fold, list_all, scan}}
+use Rattle.std.specs.{Prelude.{◌≡◌, ◌≢◌, ◌⊎◌, ◌≤◌, ◌==◌, ⊤, ℕ, Bool, true, false, List, [], ◌∷◌, ◌++◌, Option, Some, length, map, replicate, if◌then◌else◌}, Fmt.decimal, Io.KnownBytes.Appends, List.{AllByRecursion, enumerate_from, flat_map, fold, list_all, scan}}
 use Rattle.hall_types.specs.declared.refusal.Refusal.TheVariants as cause
-use Rattle.desk_operations.specs.{Prelude.{Site, IsSound, Hall, applied, second, refused, reply_of, AddMachine, Event, Command, Reply, Http, Decided, decision_of, HasHistory, Item, Origin, carried_out, ImportRow, Fault, Io, Ghosts}, declared.imports.Imported.{Imported, TheVariants.{All, NotAll}}}
+use Rattle.desk_operations.specs.{Prelude.{Site, IsSound, Hall, applied, second, refused, reply_of, AddMachine, Event, Command, Reply, Http, Decided, decision_of, HasHistory, IsSettled, Item, LeavesMore, Origin, came_unreplied, carried_out, ImportRow, Fault, Io, Ghosts}, declared.imports.Imported.{Imported, TheVariants.{All, NotAll}}}
 
 -- ---- lines
 
@@ -118,3 +118,49 @@ abbrev pub GoOn : {S : Type 0} → Ghosts S → S → S → Site → List ℕ �
 GoOn g old new site bearer moment =
     (origin : Origin) (past : List Item) → HasHistory g old origin past
     → (items : List Item) × AllByRecursion (IsRowItem site bearer moment) items × HasHistory g new origin (past ++ items)
+
+module _ (site : Site) (bearer : List ℕ) (moment : ℕ) where
+  -- a row that came, with its reply
+  abbrev pub IsReplied : ImportRow → Item → Type 0
+  IsReplied row item = (reply : Reply) × (item ≡ carried_out site (event_of bearer row) moment (replicate 16 0) reply)
+
+  -- a row that came at a desk that stopped before it gave the reply
+  abbrev pub row_unreplied : ImportRow → Item
+  row_unreplied row = came_unreplied site (event_of bearer row) moment (replicate 16 0)
+
+  -- some of the rows came in turn, each with its reply
+  abbrev pub AreReplied : List ImportRow → List Item → Type 0
+  AreReplied rows [] = ⊤
+  AreReplied [] (item ∷ items) = ⊥
+  AreReplied (row ∷ rows) (item ∷ items) = (IsReplied row item × AreReplied rows items) ⊎ AreReplied rows (item ∷ items)
+
+  -- each of the rows came in turn, with a reply of the status 200
+  abbrev pub AreAccepted : List ImportRow → List Item → Type 0
+  AreAccepted [] items = items ≡ []
+  AreAccepted (row ∷ rows) [] = ⊥
+  AreAccepted (row ∷ rows) (item ∷ items) =
+      (reply : Reply) × (is_ok reply ≡ true) × (item ≡ carried_out site (event_of bearer row) moment (replicate 16 0) reply) × AreAccepted rows items
+
+  -- what came of the rows at a desk that stopped: some in turn, each with its reply, and then perhaps one without
+  abbrev pub IsCutImport : List ImportRow → List Item → Type 0
+  IsCutImport rows [] = ⊤
+  IsCutImport [] (item ∷ items) = ⊥
+  IsCutImport (row ∷ rows) (item ∷ items) =
+      ((item ≡ row_unreplied row) × (items ≡ [])) ⊎ ((IsReplied row item × IsCutImport rows items) ⊎ IsCutImport rows (item ∷ items))
+
+-- what came before, and then what came of the rows at a desk that stopped
+abbrev pub AndCutImport : List Item → Site → List ℕ → ℕ → List ImportRow → List Item → Type 0
+AndCutImport past site bearer moment rows items = (cut : List Item) × IsCutImport site bearer moment rows cut × (items ≡ past ++ cut)
+
+-- some of the rows go on from the hall's history in turn, and whatever a stop left before, it leaves that, or a hall on the way
+abbrev pub GoOnBy : {S : Type 0} → Ghosts S → S → S → Site → List ℕ → ℕ → List ImportRow → Type 0
+GoOnBy g old new site bearer moment rows =
+    (origin : Origin) (past : List Item) → HasHistory g old origin past
+    → (items : List Item) × AreReplied site bearer moment rows items × HasHistory g new origin (past ++ items)
+    × LeavesMore g old new origin (AndCutImport past site bearer moment rows)
+
+-- a settled store is settled again with all of the rows
+abbrev pub SettlesByAll : {S : Type 0} → Ghosts S → S → S → Site → List ℕ → ℕ → List ImportRow → Type 0
+SettlesByAll g old new site bearer moment rows =
+    (origin : Origin) (past : List Item) → IsSettled g old origin past
+    → (items : List Item) × AreAccepted site bearer moment rows items × IsSettled g new origin (past ++ items)

@@ -1,7 +1,7 @@
 -- The names of libraries that the definitions and proofs of desk_operations use, but those of std.
 pub use Rattle.boot_desk.specs.{declared.frames.{Decision.{Decision, TheVariants.{Loader, ScriptUrl, Silent}}, FrameView.FrameView, Silence.TheVariants.{WrongPort, EchoTooLong, KnownUuid}}, Sound.IsSound, FrameEvent.{is_echo_long, is_port_of, is_uuid_of_other, for_address}}
 pub use Rattle.dhcp_frame.specs.{Message.{Message, IsFrame}, Reply.reply_octets, declared.{fault.FrameFault.FrameFault, reply.TheConstants.MAX_VALUE_LEN}}
-pub use Rattle.hall_desk.specs.{Headline.{HasHistory, HasSomeRequest}, History.{Item, Origin, carried_out}, Served.IsServed, declared.serving.Served.{Served, TheVariants.Answered}, Plan.IsCarriedOut, Desk.{site_of, store_of}, Stops.{IsLeft, IsSettled, OrSomeRequest}}
+pub use Rattle.hall_desk.specs.{Headline.{HasHistory, HasSomeRequest}, History.{Item, Origin, came_unreplied, carried_out}, Served.IsServed, declared.serving.Served.{Served, TheVariants.{Answered, ReadFailed, WriteFailed}}, Plan.IsCarriedOut, Desk.{site_of, store_of}, Stops.{IsEnd, IsLeft, IsSettled, LeavesMore, OrSomeRequest, OrUnreplied, SettlesBySome, StaysSettled}}
 pub use Rattle.hall_events.specs.{Reply.{refused, reply_of}, declared.{command.HallCommand.TheVariants.AddMachine, event.Event.{Event, TheVariants.Command}, reply.{Reply.{Reply, TheVariants.Http}, BodyKind.BodyKind}}}
 pub use Rattle.hall_http.specs.Noted.{failed_of, inner_of, takes_of}
 pub use Rattle.hall_laws.specs.Decision.{Decided, decision_of}

@@ -1,7 +1,7 @@
 //! The import of new machines.
-ghost use Rattle.std.specs.Prelude.{◌≡◌, ◌≢◌, ◌⊎◌, ℕ, List, [], ◌∷◌, Ok, Err, IfErr, IfOk, IsErr, OnErr, if◌then◌else◌, string_bytes};
+ghost use Rattle.std.specs.Prelude.{◌≡◌, ◌≢◌, ◌⊎◌, ℕ, List, [], ◌∷◌, true, Ok, Err, IfErr, IfOk, IsErr, OnErr, if◌then◌else◌, string_bytes};
 ghost use Rattle.hall_report.specs.declared.fault.ImportFault.TheVariants as cause;
-ghost use Rattle.desk_operations.specs.{Prelude.{Hall, IsSound, site_of, store_of, import_in, ImportRow, IsImportFault, IsStoreFault}, Import.{GoOn, IsImported, IsRowAnswered, IsRowDone, IsRowStopped, IsStopped, event_of, row_line}};
+ghost use Rattle.desk_operations.specs.{Prelude.{Hall, IsSound, site_of, store_of, import_in, ImportRow, IsImportFault, IsLeft, IsSettled, IsStoreFault, Item, Origin}, Import.{AndCutImport, GoOn, GoOnBy, IsImported, IsRowAnswered, IsRowDone, IsRowStopped, IsStopped, SettlesByAll, event_of, is_ok, row_line}};
 
 use crate::writing::write_text;
 use hall_desk::Desk;
@@ -66,6 +66,8 @@ fn answer_row<S: HallStore>(
     ensures answered { S.HallStore.is_clean (store_of desk.new) → IfOk result (λ reply. (h : Hall) → S.HallStore.holds (store_of desk.old) h → IsSound h
         → IsRowAnswered S.HallStore (store_of desk.new) (site_of desk.old) bearer moment h row.now reply) }
     ensures history { S.HallStore.is_clean (store_of desk.new) → GoOn S.HallStore (store_of desk.old) (store_of desk.new) (site_of desk.old) bearer moment }
+    ensures in_turn { S.HallStore.is_clean (store_of desk.new) → GoOnBy S.HallStore (store_of desk.old) (store_of desk.new) (site_of desk.old) bearer moment (row.now ∷ []) }
+    ensures settled { S.HallStore.is_clean (store_of desk.new) → IfOk result (λ reply. is_ok reply ≡ true → SettlesByAll S.HallStore (store_of desk.old) (store_of desk.new) (site_of desk.old) bearer moment (row.now ∷ [])) }
     ensures missed { S.HallStore.is_clean (store_of desk.new) → OnErr result ((h : Hall) → S.HallStore.holds (store_of desk.old) h → S.HallStore.holds (store_of desk.new) h) }
 {
     steps_keep_halls_sound();
@@ -97,6 +99,8 @@ fn add_row<S: HallStore, W: Write>(
     ensures stopped { S.HallStore.is_clean (store_of desk.new) → IfErr result (λ fault. (h : Hall) → S.HallStore.holds (store_of desk.old) h → IsSound h
         → IsRowStopped S.HallStore (store_of desk.new) (site_of desk.old) bearer moment h row.now fault (W.contents writer.old) (W.contents writer.new)) }
     ensures history { S.HallStore.is_clean (store_of desk.new) → GoOn S.HallStore (store_of desk.old) (store_of desk.new) (site_of desk.old) bearer moment }
+    ensures in_turn { S.HallStore.is_clean (store_of desk.new) → GoOnBy S.HallStore (store_of desk.old) (store_of desk.new) (site_of desk.old) bearer moment (row.now ∷ []) }
+    ensures settled { S.HallStore.is_clean (store_of desk.new) → IfOk result (λ was_ok. was_ok ≡ true → SettlesByAll S.HallStore (store_of desk.old) (store_of desk.new) (site_of desk.old) bearer moment (row.now ∷ [])) }
     ensures fault { IfErr result IsStoreFault }
 {
     let reply = answer_row(alloc, desk, row, bearer, moment)?;
@@ -130,6 +134,8 @@ fn add_rows<S: HallStore, W: Write>(
     ensures stopped { S.HallStore.is_clean (store_of desk.new) → IfErr result (λ fault. (h : Hall) → S.HallStore.holds (store_of desk.old) h → IsSound h
         → IsStopped S.HallStore (store_of desk.new) (site_of desk.old) bearer moment h rows.now fault (W.contents writer.old) (W.contents writer.new)) }
     ensures history { S.HallStore.is_clean (store_of desk.new) → GoOn S.HallStore (store_of desk.old) (store_of desk.new) (site_of desk.old) bearer moment }
+    ensures in_turn { S.HallStore.is_clean (store_of desk.new) → GoOnBy S.HallStore (store_of desk.old) (store_of desk.new) (site_of desk.old) bearer moment rows.now }
+    ensures settled { S.HallStore.is_clean (store_of desk.new) → IfOk result (λ end. end ≡ Imported.All → SettlesByAll S.HallStore (store_of desk.old) (store_of desk.new) (site_of desk.old) bearer moment rows.now) }
     ensures fault { IfErr result IsStoreFault }
 {
     let mut end = Imported::All;
@@ -143,8 +149,9 @@ fn add_rows<S: HallStore, W: Write>(
 
 /// Adds the machines of a file of comma-separated values, each by a command of the operator whose token has the digest, with
 /// the row's key and at the moment. A line is written for each row: its number from 1 on, the status of the answer and its
-/// body. Whatever comes of it, the rows that came go on from the hall's history. A row to which the store can't answer counts as
-/// not having come, and its line has the refusal Unavailable. All rows are read before one is applied.
+/// body. Whatever comes of it, the rows that came go on from the hall's history, in the file's order. A row to which the store can't answer
+/// counts as not having come, and its line has the refusal Unavailable. All rows are read before one is applied. A stop leaves, of a store
+/// that was settled, the hall after some of the rows, or after one more whose reply wasn't given; after `All` it is settled with all of them.
 ///
 /// # Errors
 ///
@@ -167,6 +174,13 @@ pub fn import<S: HallStore, W: Write>(
     ensures stopped { S.HallStore.is_clean (store_of desk.new) → IfErr result (λ fault. (rows : List ImportRow) → import_in octets.now ≡ Ok rows → (h : Hall) → S.HallStore.holds (store_of desk.old) h → IsSound h
         → IsStopped S.HallStore (store_of desk.new) (site_of desk.old) bearer moment h rows fault (W.contents writer.old) (W.contents writer.new)) }
     ensures history { S.HallStore.is_clean (store_of desk.new) → GoOn S.HallStore (store_of desk.old) (store_of desk.new) (site_of desk.old) bearer moment }
+    ensures in_turn { S.HallStore.is_clean (store_of desk.new) → (rows : List ImportRow) → import_in octets.now ≡ Ok rows
+        → GoOnBy S.HallStore (store_of desk.old) (store_of desk.new) (site_of desk.old) bearer moment rows }
+    ensures stop { S.HallStore.is_clean (store_of desk.new) → (rows : List ImportRow) → import_in octets.now ≡ Ok rows
+        → (origin : Origin) (past : List Item) → IsSettled S.HallStore (store_of desk.old) origin past
+        → IsLeft S.HallStore (store_of desk.new) origin (AndCutImport past (site_of desk.old) bearer moment rows) }
+    ensures settled { S.HallStore.is_clean (store_of desk.new) → IfOk result (λ end. end ≡ Imported.All → (rows : List ImportRow) → import_in octets.now ≡ Ok rows
+        → SettlesByAll S.HallStore (store_of desk.old) (store_of desk.new) (site_of desk.old) bearer moment rows) }
     ensures fault { IfErr result IsImportFault }
     ensures bad_header { result ≡ Err Fault.BadHeader → import_in octets.now ≡ Err cause.BadHeader }
     ensures bad_row { result ≡ Err Fault.BadRow → (n : ℕ) × (import_in octets.now ≡ Err (cause.BadRow n)) }

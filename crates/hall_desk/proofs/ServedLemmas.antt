@@ -1,7 +1,7 @@
 -- Known octets over several calls, and what follows once a request is decided.
-use Rattle.std.{proofs.Common.{◌≡◌, ◌⊎◌, ◌≤◌, ℕ, List, [], ◌++◌, length, Option, Some, None, sym, ◌∙◌, ap, subst, append_assoc}, specs.{Prelude.IfSome, Io.KnownBytes.{Appends, Consumes, IsAtEnd}}}
+use Rattle.std.{proofs.Common.{inl, ◌≡◌, ◌⊎◌, ◌≤◌, ℕ, List, [], ◌++◌, length, Option, Some, None, sym, ◌∙◌, ap, subst, append_assoc}, specs.{Prelude.IfSome, Io.KnownBytes.{Appends, Consumes, IsAtEnd}}}
 use Rattle.hall_http.specs.Decided.{IsDecided}
-use Rattle.hall_desk.specs.{Prelude.{Site, Ends, Ghosts}, Attempt.IsAnswered, Octets.octets_of, Served.{IsReadInTime, IsSent, IsServed, IsWritten, TakesWhole}, declared.{reading.Reading.{Reading, TheVariants.Whole}, arrival.{Answer.Answer, Input.TheVariants.Request}, serving.Served.{Served, TheVariants.{Answered, ReadFailed, WriteFailed}}}}
+use Rattle.hall_desk.specs.{Prelude.{Site, Ends, Ghosts}, Attempt.IsAnswered, Octets.octets_of, Served.{IsReadByNeed, IsReadInTime, IsSent, IsServed, IsWritten, TakesWhole}, declared.{reading.Reading.{Reading, TheVariants.Whole}, arrival.{Answer.Answer, Input.TheVariants.Request}, serving.Served.{Served, TheVariants.{Answered, ReadFailed, WriteFailed}}}}
 
 pub consumes_then : (a b c : Option (List ℕ)) (xs ys : List ℕ) → Consumes a b xs → Consumes b c ys → Consumes a c (xs ++ ys)
 consumes_then None b c xs ys f g = tt
@@ -18,6 +18,10 @@ appends_then (Some xa) (Some bs) (Some cs) xs ys f g = g ∙ ap (λ t. t ++ ys) 
 -- a last read takes its octets
 pub in_time_read : (old mid new : Option (List ℕ)) (octets more : List ℕ) → Consumes old mid octets → Consumes mid new more → length more ≤ 512 → (octets ≡ []) ⊎ ¬ (Ends octets) → IsReadInTime old new
 in_time_read old mid new octets more read taken short undone = record { front = octets; last = more; consumed = consumes_then old mid new octets more read taken; undecided = undone; short = short }
+
+-- and so it does where each call before it gave octets, too
+pub by_need_read : (old mid new : Option (List ℕ)) (octets more : List ℕ) (calls takes : ℕ) → Consumes old mid octets → Consumes mid new more → calls ≡ takes → calls ≤ 4096 → IsReadByNeed old new calls takes
+by_need_read old mid new octets more calls takes read taken same most = record { octets = octets ++ more; consumed = consumes_then old mid new octets more read taken; needed = inl same; most = most }
 
 pub reads_whole : (r : Reading) (octets : List ℕ) (old new : Option (List ℕ)) → r ≡ Whole octets → Consumes old new octets → (IsAtEnd new ⊎ IsDecided octets) → TakesWhole r old new
 reads_whole r octets old new is consumed ends = subst (λ (x : Reading). TakesWhole x old new) (sym is) (consumed, ends)

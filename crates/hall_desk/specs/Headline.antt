@@ -5,9 +5,10 @@
 -- is given only to a client that asked for its script, and is a whole script within its limits; a script that erases is given only
 -- for a machine that its owner released for erasing, and one that writes an image only for a machine that its owner deployed with
 -- it; a report counts at most once, and only for its machine's own boot; a command is accepted once for its key, and repeats get
--- the first answer; a machine stays, unless it is deleted by an accepted command; an order is queued at an entry of its machine,
--- and counts once; every refusal changes nothing. All this holds over stops of the desk: what came when it stopped came to the hall
--- or didn't, and a command that is answered by the status 200 was accepted, once, however often it was sent before.
+-- the first answer; a machine stays, unless it is deleted by an accepted command, and its version rises exactly where something else
+-- of it changes; an order is queued at an entry of its machine, and counts once; every refusal changes nothing. All this held of the
+-- steps of the first schema too. And it holds over stops of the desk: what came when it stopped came to the hall or didn't, and a
+-- command that is answered by the status 200 was accepted, once, however often it was sent before.
 use Rattle.std.specs.Prelude.{◌≡◌, ◌<◌, ◌⊎◌, ℕ, List, [], ◌∷◌, ◌++◌, take, length, Option, Some}
 use Rattle.hall_desk.specs.{Prelude.{Site, Hall, IsRun, Step, KeepsLaws, first_steps, Ghosts}, History.{AllLead, AreStepsOf, BeginsWith, Item, Origin, exchanged}, Octets.octets_of, declared.{arrival.{Answer.Answer, Arrival.Arrival, Input.TheVariants.Request}, serving.Served.{Served, TheVariants.{Answered, ReadFailed, WriteFailed}}}}
 
@@ -20,7 +21,8 @@ pub record Headline (origin : Origin) (items : List Item) (end : Hall) : Type 0 
   pub steps : List Step
   pub run : IsRun begin steps end
   pub are : AreStepsOf items steps
-  -- each law of the past, by its name, with the steps of the first schema in the past if there were any; and the last hall is sound
+  -- each law of the past, by its name, with the steps of the first schema in the past if there were any, and of those steps; and the
+  -- last hall is sound
   pub laws : KeepsLaws (first_steps origin) steps end
 
 -- a request that came

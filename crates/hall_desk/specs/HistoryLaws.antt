@@ -2,7 +2,8 @@
 use Rattle.std.{proofs.Common.{◌≡◌, ◌⊎◌, ℕ, List, [], ◌∷◌, ◌++◌, Result, Ok, Err, Option, Some, append-nil, refl, sym, subst, inl, inr}, specs.{Prelude.{IfOk, IfSome}, List.AllByRecursion}}
 use Rattle.hall_store.specs.declared.store.Unavailable.{Unavailable as Refusing}
 use Rattle.hall_laws.specs.Decision.{decision_of}
-use Rattle.hall_desk.specs.{Prelude.{Site, Hall, applied, second, RowWrite, IsSound, Content, reply_of, Event, Reply, AllKeep, Ghosts, IsTyped}, Attempt.{IsAnswered, IsKept, IsRan, IsTorn}, Headline.{HasHistory, HasServed, Headline, requested}, History.{AllLead, BeginsWith, Item, ItemLeads, Origin, came_unanswered, came_unreplied, carried_out, exchanged, exchanges}, Octets.{HasMissed, IsArrivalStep, IsGiven}, Plan.IsCarriedOut, RunLaws.{all_append, all_on, all_weaker, of_run, silent_idle}, Served.IsServed, Stops.{AndCutRun, AreGiven, HasRun, IsCutEnd, IsEnd, IsLeft, IsSettled, OrSomeRequest, OrUnanswered, OrUnreplied}, declared.{arrival.{Answer.Answer, Arrival.Arrival}, serving.Served.Served}}
+use Rattle.hall_desk.specs.{Prelude.{Site, Hall, applied, second, RowWrite, IsSound, Content, reply_of, Event, Reply, AllKeep, Ghosts, IsTyped}, Attempt.{IsAnswered, IsKept, IsRan, IsTorn}, Headline.{HasHistory, HasServed, Headline, requested}, History.{AllLead, BeginsWith, Item, ItemLeads, Origin, came_unanswered, came_unreplied, carried_out, exchanged, exchanges}, Octets.{HasMissed, IsArrivalStep, IsGiven}, Plan.IsCarriedOut, RunLaws.{all_append, all_on, all_weaker, of_run, silent_idle}, Served.IsServed, Stops.{AndCutRun, AreGiven, HasRun, IsCutEnd, IsEnd, IsLeft, IsSettled, LeavesMore, OrSomeRequest, OrUnanswered, OrUnreplied, SettlesBy, StaysSettled}, declared.{arrival.{Answer.Answer, Arrival.Arrival}, serving.Served.Served}}
+use Rattle.hall_desk.specs.declared.arrival.Answer.TheVariants as answer
 use Rattle.hall_desk.specs.declared.arrival.Input.TheVariants as input
 use Rattle.hall_desk.specs.declared.serving.Served.TheVariants as serving
 
@@ -83,6 +84,22 @@ module _ (its : AreHistoryLaws) {S : Type 0} (g : Ghosts S) (old new : S) (site 
           settled_item (exchanged site arrival a) end (inr missed.0) missed.1
           (it.still end was.history.held (silent_idle site end arrival.input arrival.moment arrival.fresh silent) (end ∷ []) was.settled)
 
+  -- a request that is answered
+  pub settles : (octets : List ℕ) (moment : ℕ) (fresh : List ℕ) (a : Answer) → IsAnswered g old new site (input.Request octets) moment fresh a
+      → SettlesBy g new origin past site moment fresh octets a
+  settles octets moment fresh answer.Unavailable it =
+      inr (refl, record { end = end; held = it.unavailable refl end was.history.held; headline = was.history.headline })
+  settles octets moment fresh (answer.Frame sent) it = inl (after_given (requested octets moment fresh) (answer.Frame sent) it (inl (λ is. cc)))
+  settles octets moment fresh (answer.Response status sent) it =
+      inl (after_given (requested octets moment fresh) (answer.Response status sent) it (inl (λ is. cc)))
+  settles octets moment fresh answer.Silence it = inl (after_given (requested octets moment fresh) answer.Silence it (inl (λ is. cc)))
+
+  pub settled_serving : (octets before : List ℕ) (moment : ℕ) (fresh : List ℕ) (served : Served) (after : Option (List ℕ)) → IsServed g old new site moment fresh octets before served after
+      → StaysSettled g new origin past site moment fresh octets before served after
+  settled_serving octets before moment fresh serving.Answered after it = (it.0, it.2, settles octets moment fresh it.0 it.1)
+  settled_serving octets before moment fresh serving.ReadFailed after it = (it.1, subst (λ store. IsSettled g store origin past) (sym it.0) was)
+  settled_serving octets before moment fresh (serving.WriteFailed count) after it = (it.0, it.2, it.3, settles octets moment fresh it.0 it.1)
+
   -- a stop while an arrival is answered
   pub after_stop : (arrival : Arrival) (a : Answer) → IsAnswered g old new site arrival.input arrival.moment arrival.fresh a
       → IsLeft g new origin (OrUnanswered past site arrival)
@@ -145,6 +162,22 @@ module _ (its : AreHistoryLaws) {S : Type 0} (g : Ghosts S) (old new : S) (site 
       ended : (x : Hall) → IsCutEnd site end arrivals answers x → IsEnd origin (AndCutRun past site arrivals answers) x
       ended x cut = (past ++ cut.0, (cut.0, cut.1, refl), goes_to its g old origin past was.history cut.0 x cut.2)
 
+pub settled_served : AreHistoryLaws → {S : Type 0} (g : Ghosts S) (old new : S) (site : Site) (moment : ℕ) (fresh : List ℕ) (served : Served) (octets before after : Option (List ℕ))
+    → IfSome octets (λ octets. IfSome before (λ before. IsServed g old new site moment fresh octets before served after))
+    → IfSome octets (λ octets. IfSome before (λ before. (origin : Origin) (past : List Item) → IsSettled g old origin past
+    → StaysSettled g new origin past site moment fresh octets before served after))
+settled_served its g old new site moment fresh served (Some octets) (Some before) after it =
+    λ origin past was. settled_serving its g old new site origin past was octets before moment fresh served after it
+settled_served its g old new site moment fresh served octets before after it = tt
+
+-- of a store that was settled
+pub left_more : {S : Type 0} (g : Ghosts S) (old new : S) (origin : Origin) (IsOne : List Item → Type 0) → LeavesMore g old new origin IsOne
+    → (past : List Item) → IsSettled g old origin past → IsOne past → IsLeft g new origin IsOne
+left_more g old new origin IsOne leaves past was is =
+    let end = was.history.end in
+    let found = leaves (end ∷ []) was.settled in
+    record { halls = found.0 ++ end ∷ []; left = found.1; each = all_append (IsEnd origin IsOne) found.0 (end ∷ []) found.2 ((past, is, was.history.headline), tt) }
+
 -- ---- events
 
 module _ (its : AreHistoryLaws) {S : Type 0} (g : Ghosts S) (old new : S) (site : Site) (e : Event) (moment : ℕ) (fresh : List ℕ) (typed : IsTyped site e fresh)
@@ -180,20 +213,27 @@ module _ (its : AreHistoryLaws) {S : Type 0} (g : Ghosts S) (old new : S) (site 
   events_given (Err error) it = tt
 
   -- a stop while an event is carried out
+  pub event_crash : (r : Result Reply Refusing) → Carries r → (origin : Origin) (past : List Item) → HasHistory g old origin past
+      → LeavesMore g old new origin (OrUnreplied past site e moment fresh)
+  event_crash r it origin past was hs left =
+      let last = was.end in
+      let next = applied (rows last) last in
+      let item = came_unreplied site e moment fresh in (
+        next ∷ [],
+        it.crash last was.held (kept origin past was) hs left,
+        (
+          (
+            past ++ item ∷ [],
+            inr refl,
+            goes_to its g old origin past was (item ∷ []) next
+                (next, (reply_of second (content last), record { reply = refl; after = refl; typed = typed }), refl),
+          ),
+          tt,
+        ),
+      )
+
+  -- of a store that was settled
   pub event_stop : (r : Result Reply Refusing) → Carries r → (origin : Origin) (past : List Item) → IsSettled g old origin past
       → IsLeft g new origin (OrUnreplied past site e moment fresh)
   event_stop r it origin past was =
-      let last = was.history.end in
-      record {
-        halls = applied (rows last) last ∷ last ∷ [];
-        left = it.crash last was.history.held (kept origin past was.history) (last ∷ []) was.settled;
-        each = (
-          (
-            past ++ came_unreplied site e moment fresh ∷ [],
-            inr refl,
-            with_item its g old new site origin past was (came_unreplied site e moment fresh) (applied (rows last) last)
-                (reply_of second (content last), record { reply = refl; after = refl; typed = typed }),
-          ),
-          (as_before its g old new site origin past was (OrUnreplied past site e moment fresh) (inl refl), tt),
-        );
-      }
+      left_more g old new origin (OrUnreplied past site e moment fresh) (event_crash r it origin past was.history) past was (inl refl)

@@ -1,5 +1,5 @@
 -- What serving one request over a reader and a writer did.
-use Rattle.std.specs.{Prelude.{◌≡◌, ◌<◌, ◌≤◌, ◌⊎◌, ℕ, List, [], ◌++◌, take, length, Option, Some, Bool, true}, Io.KnownBytes.{Consumes, IsAtEnd}}
+use Rattle.std.specs.{Prelude.{◌≡◌, ◌<◌, ◌≤◌, ◌+◌, ◌⊎◌, ℕ, List, [], ◌++◌, take, length, Option, Some, Bool, false, true}, Io.KnownBytes.{Consumes, IsAtEnd}}
 use Rattle.hall_http.specs.Decided.{IsDecided}
 use Rattle.hall_desk.specs.{Prelude.{Site, Ends, Ghosts}, Attempt.IsAnswered, Octets.octets_of, declared.{arrival.{Answer.Answer, Input.TheVariants.Request}, reading.Reading.Reading, serving.Served.{Served, TheVariants.{Answered, ReadFailed, WriteFailed}}}}
 use Rattle.hall_desk.specs.declared.reading.Reading.TheVariants as reading
@@ -36,6 +36,22 @@ pub record IsReadInTime (old new : Option (List ℕ)) : Type 0 where
   pub consumed : Consumes old new (front ++ last)
   pub undecided : (front ≡ []) ⊎ ¬ (Ends front)
   pub short : length last ≤ 512
+
+-- no read comes once the request is decided: each gave octets, but for the last one at most, before which they didn't end a request
+pub record IsReadByNeed (old new : Option (List ℕ)) (calls takes : ℕ) : Type 0 where
+  pub octets : List ℕ
+  pub consumed : Consumes old new octets
+  pub needed : (calls ≡ takes) ⊎ ((calls ≡ takes + 1) × ((octets ≡ []) ⊎ ¬ (Ends octets)))
+  pub most : calls ≤ 4096
+
+-- a request whose answer was given was read without a failure
+abbrev pub IfAnswered : Served → Bool → Type 0
+IfAnswered ReadFailed failed = Unit {0}
+IfAnswered other failed = failed ≡ false
+
+abbrev pub IfNotFailed : Reading → Bool → Type 0
+IfNotFailed reading.Failed failed = Unit {0}
+IfNotFailed other failed = failed ≡ false
 
 abbrev pub IfFailed : Reading → Bool → ℕ → Type 0
 IfFailed reading.Failed failed takes = (failed ≡ true) ⊎ (takes ≡ 4096)

@@ -1,6 +1,6 @@
 -- What a stop of a desk may leave: halls to which histories lead.
-use Rattle.std.specs.{Prelude.{◌≡◌, ◌≢◌, ◌⊎◌, ℕ, List, [], ◌∷◌, ◌++◌}, List.AllByRecursion}
-use Rattle.hall_desk.specs.{Prelude.{Site, Hall, Event, Ghosts}, Attempt.IsRan, Headline.{HasHistory, Headline, requested}, History.{AllLead, IsCutRun, Item, Origin, came_unanswered, came_unreplied}, Octets.{IsArrivalStep, IsGiven, missed_answer}, declared.arrival.{Answer.Answer, Arrival.Arrival}}
+use Rattle.std.specs.{Prelude.{◌≡◌, ◌≢◌, ◌<◌, ◌⊎◌, ℕ, List, [], ◌∷◌, ◌++◌, take, length, Option, Some}, List.AllByRecursion}
+use Rattle.hall_desk.specs.{Prelude.{Site, Hall, Event, Ghosts}, Attempt.IsRan, Headline.{HasHistory, Headline, requested}, History.{AllLead, IsCutRun, Item, Origin, came_unanswered, came_unreplied, exchanged}, Octets.{IsArrivalStep, IsGiven, missed_answer, octets_of}, declared.{arrival.{Answer.{Answer, TheVariants.Unavailable}, Arrival.Arrival}, serving.Served.{Served, TheVariants.{Answered, ReadFailed, WriteFailed}}}}
 
 -- each arrival was answered, and none by what is said where it counts as not having come
 abbrev pub AreAnswered : List Arrival → List Answer → Type 0
@@ -43,6 +43,28 @@ module _ {S : Type 0} (g : Ghosts S) (store : S) (origin : Origin) where
     pub halls : List Hall
     pub left : g.leaves store halls
     pub each : AllByRecursion (IsEnd origin IsOne) halls
+
+-- whatever a stop left before, it leaves that, or a hall to which one of these histories leads
+abbrev pub LeavesMore : {S : Type 0} → Ghosts S → S → S → Origin → (List Item → Type 0) → Type 0
+LeavesMore g old new origin IsOne =
+    (hs : List Hall) → g.leaves old hs → (more : List Hall) × g.leaves new (more ++ hs) × AllByRecursion (IsEnd origin IsOne) more
+
+-- ---- requests that were served, of a store that was settled
+
+module _ {S : Type 0} (g : Ghosts S) (store : S) (origin : Origin) (past : List Item) (site : Site) (moment : ℕ) (fresh : List ℕ) where
+  -- the store is settled with the request and this answer; or that is Unavailable, and the hall is as it was
+  abbrev pub SettlesBy : List ℕ → Answer → Type 0
+  SettlesBy octets a = IsSettled g store origin (past ++ exchanged site (requested octets moment fresh) a ∷ []) ⊎ ((a ≡ Unavailable) × HasHistory g store origin past)
+
+  -- the store settles by an answer that was written, or the first octets of it; or it is settled as it was, where the reads failed
+  abbrev pub StaysSettled : List ℕ → List ℕ → Served → Option (List ℕ) → Type 0
+  StaysSettled octets before Answered after = (a : Answer) × (after ≡ Some (before ++ octets_of a)) × SettlesBy octets a
+  StaysSettled octets before ReadFailed after = (after ≡ Some before) × IsSettled g store origin past
+  StaysSettled octets before (WriteFailed n) after = (a : Answer) × (n < length (octets_of a)) × (after ≡ Some (before ++ take n (octets_of a))) × SettlesBy octets a
+
+  -- the store is settled as it was, or it settles by an answer to some request that came at this moment, with these fresh octets
+  abbrev pub SettlesBySome : Type 0
+  SettlesBySome = IsSettled g store origin past ⊎ ((octets : List ℕ) × (a : Answer) × SettlesBy octets a)
 
 -- ---- what came by the stop
 

@@ -1,7 +1,7 @@
 //! The desk: a store, and the place that it serves.
 ghost use Rattle.std.specs.Prelude.{◌≡◌, true, false, ℕ, List, [], ◌∷◌, ◌++◌, length, IfOk, OnErr};
 ghost use Rattle.hall_laws.specs.Laws.{IsFrame};
-ghost use Rattle.hall_desk.specs.{Prelude.{reply_of, sender, Looks, decision_of, Hall, second, IsSound}, Account.{IsFound, IsReadAs}, Answering.{Answers, Gives}, Attempt.{ChangeNothing, IsOnlyRead}, Desk.{enlists_of, site_of, store_of}, Headline.HasHistory, History.{BeginsWith, Item, Origin, carried_out, exchanges}, Plan.{CarriesOut, Plans}, Sender.if_enabled, Stops.{AndCutRun, AreGiven, HasRun, IsLeft, IsSettled, OrUnreplied}};
+ghost use Rattle.hall_desk.specs.{Prelude.{reply_of, sender, Looks, decision_of, Hall, second, IsSound}, Account.{IsFound, IsReadAs}, Answering.{Answers, Gives}, Attempt.{ChangeNothing, IsOnlyRead}, Desk.{enlists_of, site_of, store_of}, Headline.HasHistory, History.{BeginsWith, Item, Origin, carried_out, exchanges}, Plan.{CarriesOut, Plans}, Sender.if_enabled, Stops.{AndCutRun, AreGiven, HasRun, IsLeft, IsSettled, LeavesMore, OrUnreplied}};
 
 use crate::account::{Account, Found};
 use crate::arrival::{Answer, Arrival, Input, Stamp};
@@ -103,7 +103,7 @@ impl<S: HallStore> Desk<S> {
     /// Carries an event out: its rows are written, and its answer is given. After `Unavailable` the hall is as it was
     /// before. All memory is taken before a row is written. With all that came to the hall since it was new, it is a history that
     /// keeps all laws. A stop at any moment leaves the hall before it or the hall after it, of a store that was settled; once it was
-    /// answered, the hall after it alone.
+    /// answered, the hall after it alone. Of any store a stop leaves what it left before, or the hall after it (`crash`).
     pub fn step(
         &mut self,
         alloc: Global,
@@ -125,6 +125,9 @@ impl<S: HallStore> Desk<S> {
         ensures stop { S.HallStore.is_clean (store_of self.new) → (origin : Origin) (past : List Item)
             → IsSettled S.HallStore (store_of self.old) origin past
             → IsLeft S.HallStore (store_of self.new) origin (OrUnreplied past (site_of self.old) event.now moment fresh) }
+        ensures crash { S.HallStore.is_clean (store_of self.new) → (origin : Origin) (past : List Item)
+            → HasHistory S.HallStore (store_of self.old) origin past
+            → LeavesMore S.HallStore (store_of self.old) (store_of self.new) origin (OrUnreplied past (site_of self.old) event.now moment fresh) }
         ensures unlisted { enlists_of self.old ≡ false → IsFrame event.now → S.HallStore.is_clean (store_of self.new) → IsOnlyRead S.HallStore (store_of self.old) (store_of self.new) }
     {
         histories_keep_the_laws();

@@ -1,7 +1,7 @@
 //! Reading one request.
 ghost use Rattle.std.specs.Prelude.{◌≡◌, ◌≤◌, ◌++◌, false, IfOk, IsTrue};
-ghost use Rattle.hall_http.specs.{Noted.{failed_of, inner_of, takes_of}, Decided.{Ends, IsDecided}};
-ghost use Rattle.hall_desk.specs.Served.{IfFailed, IsReadInTime, TakesWhole};
+ghost use Rattle.hall_http.specs.{Noted.{calls_of, failed_of, inner_of, takes_of}, Decided.{Ends, IsDecided}};
+ghost use Rattle.hall_desk.specs.Served.{IfFailed, IfNotFailed, IsReadByNeed, IsReadInTime, TakesWhole};
 ghost use Rattle.hall_desk.specs.declared.reading.Reading.TheVariants as reading;
 
 use hall_http::{Noted, is_decided};
@@ -50,7 +50,9 @@ pub(crate) fn read_request<R: Read>(alloc: Global, reader: &mut Noted<R>) -> Rea
     ensures reads { TakesWhole result (R.remaining (inner_of reader.old)) (R.remaining (inner_of reader.new)) }
     ensures fails { IfFailed result (failed_of reader.new) (takes_of reader.new) }
     ensures in_time { IsReadInTime (R.remaining (inner_of reader.old)) (R.remaining (inner_of reader.new)) }
+    ensures by_need { calls_of reader.old ≡ 0 → IsReadByNeed (R.remaining (inner_of reader.old)) (R.remaining (inner_of reader.new)) (calls_of reader.new) (takes_of reader.new) }
     ensures takes { takes_of reader.new ≤ 4096 }
+    ensures unfailed { IfNotFailed result (failed_of reader.new) }
 {
     let mut octets = Vec::new(alloc);
     let mut piece = [0; 512];

@@ -1,6 +1,6 @@
 //! Serving one request over a reader and a writer.
 ghost use Rattle.std.specs.{Prelude.{◌≡◌, ◌<◌, ◌≤◌, ◌+◌, ◌⊎◌, ℕ, List, true, false, length, take, drop, IfNone, IfSome}, Io.KnownBytes.Appends};
-ghost use Rattle.hall_desk.specs.{Prelude.{failed_of, inner_of, takes_of}, Attempt.IsAnswered, Desk.{enlists_of, site_of, store_of}, Headline.{HasHistory, HasServed, HasSomeRequest}, History.{Item, Origin}, Octets.octets_of, Served.{IfReadFailed, IfWriteFailed, IsReadInTime, IsSent, IsServed, IsWritten}, Stops.{IsLeft, IsSettled, OrSomeRequest}};
+ghost use Rattle.hall_desk.specs.{Prelude.{calls_of, failed_of, inner_of, takes_of}, Attempt.IsAnswered, Desk.{enlists_of, site_of, store_of}, Headline.{HasHistory, HasServed, HasSomeRequest}, History.{Item, Origin}, Octets.octets_of, Served.{IfAnswered, IfReadFailed, IfWriteFailed, IsReadByNeed, IsReadInTime, IsSent, IsServed, IsWritten}, Stops.{IsLeft, IsSettled, OrSomeRequest, SettlesBySome, StaysSettled}};
 ghost use Rattle.hall_desk.specs.declared.arrival.Input.TheVariants as input;
 ghost use Rattle.hall_desk.specs.declared.serving.Served.TheVariants as served;
 
@@ -89,7 +89,9 @@ impl<S: HallStore> Desk<S> {
         ensures same { IfNone result (self.new ≡ self.old) }
         ensures fails { IfNone result ((failed_of reader.new ≡ true) ⊎ (takes_of reader.new ≡ 4096)) }
         ensures in_time { IsReadInTime (R.remaining (inner_of reader.old)) (R.remaining (inner_of reader.new)) }
+        ensures by_need { calls_of reader.old ≡ 0 → IsReadByNeed (R.remaining (inner_of reader.old)) (R.remaining (inner_of reader.new)) (calls_of reader.new) (takes_of reader.new) }
         ensures takes { takes_of reader.new ≤ 4096 }
+        ensures unfailed { IfSome result (λ _. failed_of reader.new ≡ false) }
     {
         match read_request(alloc, reader) {
             Reading::Failed => None,
@@ -108,8 +110,10 @@ impl<S: HallStore> Desk<S> {
     /// Reads one request, until it is decided or the input ends, and answers it; both the reader and the writer are to be
     /// new. What the request changes is kept before the first octet is written. However the octets come cut, the answer
     /// is that to all of them. With all that came to the hall since it was new, it is a history that keeps all laws; a request whose
-    /// reads failed is no part of it. A reader and a writer that don't tell what they gave and took promise less (`goes_on`, `stop`): that some
-    /// request came, or none, also where the desk stops. At most 4,096 reads give octets, at most 512 each, and none comes after the request is whole.
+    /// reads failed is no part of it. A settled store is settled again, unless the answer is Unavailable: then the hall is as it was. A
+    /// reader and a writer that don't tell what they gave and took promise less (`goes_on`, `goes_on_settled`, `stop`): that some request
+    /// came, or none, also where the desk stops. At most 4,096 reads are made, of at most 512 octets each, and none once the request is
+    /// decided (`by_need`, `in_time`), so that a client which has sent it can wait for its answer.
     pub fn serve_one<R: Read, W: Write>(
         &mut self,
         alloc: Global,
@@ -133,10 +137,17 @@ impl<S: HallStore> Desk<S> {
             → HasSomeRequest S.HallStore (store_of self.new) origin past (site_of self.old) moment fresh }
         ensures stop { S.HallStore.is_clean (store_of self.new) → (origin : Origin) (past : List Item) → IsSettled S.HallStore (store_of self.old) origin past
             → IsLeft S.HallStore (store_of self.new) origin (OrSomeRequest past (site_of self.old) moment fresh) }
+        ensures settled { S.HallStore.is_clean (store_of self.new) → IfSome (R.remaining (inner_of reader.old)) (λ octets. IfSome (W.contents (inner_of writer.old)) (λ before.
+            (origin : Origin) (past : List Item) → IsSettled S.HallStore (store_of self.old) origin past
+            → StaysSettled S.HallStore (store_of self.new) origin past (site_of self.old) moment fresh octets before result (W.contents (inner_of writer.new)))) }
+        ensures goes_on_settled { S.HallStore.is_clean (store_of self.new) → (origin : Origin) (past : List Item) → IsSettled S.HallStore (store_of self.old) origin past
+            → SettlesBySome S.HallStore (store_of self.new) origin past (site_of self.old) moment fresh }
         ensures same { result ≡ served.ReadFailed → (self.new ≡ self.old) × (writer.new ≡ writer.old) }
         ensures read_failed { IfReadFailed result (failed_of reader.new) (takes_of reader.new) }
         ensures in_time { IsReadInTime (R.remaining (inner_of reader.old)) (R.remaining (inner_of reader.new)) }
+        ensures by_need { calls_of reader.old ≡ 0 → IsReadByNeed (R.remaining (inner_of reader.old)) (R.remaining (inner_of reader.new)) (calls_of reader.new) (takes_of reader.new) }
         ensures takes { takes_of reader.new ≤ 4096 }
+        ensures unfailed { IfAnswered result (failed_of reader.new) }
         ensures write_failed { IfWriteFailed result (failed_of writer.new) }
     {
         histories_keep_the_laws();

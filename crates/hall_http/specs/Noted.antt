@@ -11,14 +11,22 @@ module _ {T : Type 0} where
   abbrev pub failed_of : Noted T → Bool
   failed_of noted = noted.has_failed
 
+  -- how many takes there were so far, also those that failed or gave none
+  abbrev pub calls_of : Noted T → ℕ
+  calls_of noted = noted.calls
+
   -- how many takes gave an octet so far
   abbrev pub takes_of : Noted T → ℕ
   takes_of noted = noted.takes
 
--- a take that gave an octet is counted, up to 65,535
+-- counts stay at 65,535
+abbrev pub one_more : ℕ → ℕ
+one_more n = min (n + 1) 65535
+
+-- a take that gave an octet is counted
 abbrev pub counted : Option ℕ → ℕ → ℕ
 counted None takes = takes
-counted (Some n) takes = if n == 0 then takes else min (takes + 1) 65535
+counted (Some n) takes = if n == 0 then takes else one_more takes
 
 -- what a take does to the octets that are left: those in the buffer go, none only at the end, and nothing where it failed
 abbrev pub Takes : Option (List ℕ) → Option (List ℕ) → Option ℕ → List ℕ → Type 0

@@ -1,14 +1,15 @@
 //! Readers and writers whose failures are noted.
 ghost use Rattle.std.specs.Prelude.{◌≡◌, ◌<◌, ◌≤◌, ◌||◌, false, length, is_none, IfSome};
-ghost use Rattle.hall_http.specs.Noted.{inner_of, failed_of, takes_of, counted, Takes, Puts};
+ghost use Rattle.hall_http.specs.Noted.{calls_of, inner_of, failed_of, one_more, takes_of, counted, Takes, Puts};
 
 use std::io::{Read, Write};
 
-/// A reader or a writer, with whether a call failed and how many takes gave an octet.
+/// A reader or a writer, with whether a call failed, how many takes there were, and how many of them gave an octet.
 #[derive(Drop)]
 pub struct Noted<T> {
     inner: T,
     has_failed: bool,
+    calls: u16,
     takes: u16,
 }
 
@@ -17,11 +18,13 @@ impl<T> Noted<T> {
     pub fn new(inner: T) -> Noted<T>
         ensures inner { inner_of result ≡ inner }
         ensures failed { failed_of result ≡ false }
+        ensures calls { calls_of result ≡ 0 }
         ensures takes { takes_of result ≡ 0 }
     {
         Noted {
             inner,
             has_failed: false,
+            calls: 0,
             takes: 0,
         }
     }
@@ -56,8 +59,10 @@ impl<R: Read> Noted<R> {
         ensures bound { IfSome result (λ n. n ≤ length buf.new) }
         ensures octets { Takes (R.remaining (inner_of self.old)) (R.remaining (inner_of self.new)) result buf.new }
         ensures failed { failed_of self.new ≡ (failed_of self.old || is_none result) }
+        ensures calls { calls_of self.new ≡ one_more (calls_of self.old) }
         ensures takes { takes_of self.new ≡ counted result (takes_of self.old) }
     {
+        self.calls = self.calls.saturating_add(1);
         match self.inner.read(buf) {
             Ok(n) => {
                 if n != 0 {
@@ -81,6 +86,7 @@ impl<W: Write> Noted<W> {
         ensures some { IfSome result (λ n. 0 < length octets.now → 0 < n) }
         ensures octets { Puts (W.contents (inner_of self.old)) (W.contents (inner_of self.new)) result octets.now }
         ensures failed { failed_of self.new ≡ (failed_of self.old || is_none result) }
+        ensures calls { calls_of self.new ≡ calls_of self.old }
         ensures takes { takes_of self.new ≡ takes_of self.old }
     {
         let Ok(n) = self.inner.write(octets) else {

@@ -7,7 +7,7 @@ use Rattle.hall_types.specs.declared.port.Port.TheVariants as port
 use Rattle.hall_events.specs.Reply.{reply_of}
 use Rattle.hall_events.specs.declared.event.Event.TheVariants as event
 use Rattle.boot_desk.specs.Texts.{local_script}
-use Rattle.hall_laws.{specs.{Prelude.{IsDeploying, IsErasing, IsScript, spelling, Hall, second, Full, Waiting, Started, Machine, UnknownToken, Commissioning, New, Uefi64, machine_is, nothing, refused, script, some_is}, Refusing.IsRefusal, Laws.{AreTyped, CountsSome, CountsVerdict, FirstRequest, GivesText, HasStatus, IsDeployed, IsFrame, IsMachineAt, IsMade, IsWaiting, KeyedRequest, MakesBoot, MakesMachine, MakesOrder}, Past.{CountsReport, IsAccepted, IsEntry, WasAnswered}, Worked.{ada, boot, mac, order, token}, WorkedLaws.{plain_typed, the_image, typed, worked_purpose, worked_script}}, proofs.{Computing.computed, Day.{added_again, adds, boot_started, booted_locally, client, client_enlisted, commission_booted, commission_done, commission_script, commissioned, commissioning, day, deploy_booted, deploy_script, deployed, erase_booted, erase_script, erasing_begun, frame_unanswered, machine_added, new_machine, order_done, token_unknown, until_deployed}}}
+use Rattle.hall_laws.{specs.{Prelude.{IsDeploying, IsErasing, IsScript, spelling, Hall, second, next_version, Full, Waiting, Started, Machine, UnknownToken, Commissioning, New, Uefi64, machine_is, nothing, refused, script, some_is}, Refusing.IsRefusal, Laws.{AreTyped, CountsSome, CountsVerdict, FirstRequest, GivesText, HasStatus, IsDeployed, IsFrame, IsMachineAt, IsMade, IsWaiting, KeyedRequest, MakesBoot, MakesMachine, MakesOrder}, Past.{CountsReport, IsAccepted, IsEntry, WasAnswered}, Worked.{ada, boot, mac, order, token}, WorkedLaws.{plain_typed, the_image, typed, worked_purpose, worked_script}}, proofs.{Computing.computed, Day.{added_again, adds, boot_started, booted_locally, client, client_enlisted, commission_booted, commission_done, commission_script, commissioned, commissioning, day, deploy_booted, deploy_script, deployed, erase_booted, erase_script, erasing_begun, frame_unanswered, machine_added, new_machine, order_done, token_unknown, until_deployed}}}
 
 -- ---- types
 
@@ -79,6 +79,10 @@ enters = (commissioning, simp (computed), λ was is same. by was (sym is ∙ sim
 machine_stood : at commissioned.step.before.machines 1 ≡ Some new_machine
 unfolding numbers
 machine_stood = simp (computed)
+
+version_rose : (at commissioned.step.after.machines 1 ≡ Some commissioning) × (commissioning.version ≡ next_version new_machine.version)
+unfolding numbers
+version_rose = (simp (computed), refl)
 
 -- ---- request keys
 

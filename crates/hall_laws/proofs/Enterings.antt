@@ -2,23 +2,29 @@
 use Rattle.std.{proofs.Common.{◌≡◌, ◌≢◌, ◌≤◌, ◌+◌, ℕ, List, refl, sym, ap, ◌∙◌, inl, inr, arith}, specs.Prelude.{Option, Some, None}}
 use Rattle.hall_types.specs.declared.act.Act.TheVariants as does
 use Rattle.hall_events.specs.declared.command.MachineCommand.TheVariants as on
-use Rattle.life_cycle.specs.Entering.{boot_after}
+use Rattle.life_cycle.specs.{Entering.boot_after, EnteringLaws.entered-machine}
 use Rattle.boot_desk.specs.EntryLaws.{next_is}
-use Rattle.hall_laws.specs.{Prelude.{Hall, RowWrite, Machine, Numbers, Operator, Order, Status, Content, MachineCommand, Event, entered-boot, entered-id, entered-numbers, entered-order-queued, entered-status, steps_change_status, IsSound, prepared}, HallLaws.last_queued, Writes.{CauseOf, First, IsEntering, boot_first, nothing_first, order_first}}
+use Rattle.hall_laws.specs.{Prelude.{Hall, next_version, RowWrite, Machine, Numbers, Operator, Order, Status, Content, MachineCommand, Event, entered-boot, entered-id, entered-numbers, entered-order-queued, entered-status, steps_change_status, IsSound, prepared}, HallLaws.last_queued, Writes.{CauseOf, First, IsEntering, boot_first, nothing_first, order_first}}
 
--- the command sets neither the number, nor the status, nor the boot, nor what is remembered
+-- the command sets neither the number, nor the status, nor the boot, nor the version
 record SameWork (m n : Machine) : Type 0 where
   id : n.id ≡ m.id
   status : n.status ≡ m.status
   boot : n.boot ≡ m.boot
+  version : n.version ≡ m.version
 
 same_work : (m n : Machine) → n ≡ m → SameWork m n
-same_work m n is = record { id = ap (λ (x : Machine). x.id) is; status = ap (λ (x : Machine). x.status) is; boot = ap (λ (x : Machine). x.boot) is }
+same_work m n is = record {
+  id = ap (λ (x : Machine). x.id) is;
+  status = ap (λ (x : Machine). x.status) is;
+  boot = ap (λ (x : Machine). x.boot) is;
+  version = ap (λ (x : Machine). x.version) is;
+}
 
 prepared_same : (command : MachineCommand) (o : Operator) (m : Machine) → SameWork m (prepared command o m)
-prepared_same (on.Commission tests) o m = record { id = refl; status = refl; boot = refl }
-prepared_same (on.Act does.Allocate) o m = record { id = refl; status = refl; boot = refl }
-prepared_same other o m = record { id = refl; status = refl; boot = refl }
+prepared_same (on.Commission tests) o m = record { id = refl; status = refl; boot = refl; version = refl }
+prepared_same (on.Act does.Allocate) o m = record { id = refl; status = refl; boot = refl; version = refl }
+prepared_same other o m = record { id = refl; status = refl; boot = refl; version = refl }
 
 module _ (h : Hall) (e : Event) (moment : ℕ) (rows : List RowWrite) (content : Content) (x : IsEntering h e moment rows content) where
   entering_same : SameWork x.machine x.entering
@@ -27,7 +33,12 @@ module _ (h : Hall) (e : Event) (moment : ℕ) (rows : List RowWrite) (content :
       by_set : (command : MachineCommand) (o : Operator) → x.entering ≡ prepared command o x.machine → SameWork x.machine x.entering
       by_set command o is =
           let p = prepared_same command o x.machine in
-          record { id = ap (λ (m : Machine). m.id) is ∙ p.id; status = ap (λ (m : Machine). m.status) is ∙ p.status; boot = ap (λ (m : Machine). m.boot) is ∙ p.boot }
+          record {
+            id = ap (λ (m : Machine). m.id) is ∙ p.id;
+            status = ap (λ (m : Machine). m.status) is ∙ p.status;
+            boot = ap (λ (m : Machine). m.boot) is ∙ p.boot;
+            version = ap (λ (m : Machine). m.version) is ∙ p.version;
+          }
 
       by : (first : First) → CauseOf h e moment content x.machine x.entering x.signal first → SameWork x.machine x.entering
       by nothing_first (inl c) = by_set c.command c.operator c.sets
@@ -40,6 +51,10 @@ module _ (h : Hall) (e : Event) (moment : ℕ) (rows : List RowWrite) (content :
 
   pub new_status : x.new.machine.status ≡ x.step.status
   new_status = entered-status x.entering x.step moment h.last x.new x.enters
+
+  pub new_version : x.new.machine.version ≡ next_version x.machine.version
+  new_version =
+      ap (λ (m : Machine). m.version) (entered-machine x.entering x.step moment h.last x.new x.enters) ∙ ap next_version entering_same.version
 
   pub new_boot_is : x.new.machine.boot ≡ boot_after x.machine.status x.step.status x.machine.boot
   new_boot_is =

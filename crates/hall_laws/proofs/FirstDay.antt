@@ -20,11 +20,15 @@ start-pair = record {
 abbrev came_so : Deed → Arrival × Decided
 came_so d = (d.step.arrival, d.decided)
 
--- what came until the machine was released for erasing its disks, and what was decided of it
-abbrev until_released : List (Arrival × Decided)
-until_released = map came_so (
+-- what came until the owner deployed the machine, and what was decided of it
+abbrev until_deploying : List (Arrival × Decided)
+until_deploying = map came_so (
     image_added ∷ image_live ∷ power_added ∷ machine_added ∷ commissioned ∷ order_done ∷ commission_booted ∷ boot_started
-    ∷ commission_done ∷ machine_allocated ∷ deploy_begun ∷ deploy_booted ∷ deploy_done ∷ booted_locally ∷ erasing_begun ∷ [])
+    ∷ commission_done ∷ machine_allocated ∷ deploy_begun ∷ [])
+
+-- until the machine was released for erasing its disks
+abbrev until_released : List (Arrival × Decided)
+until_released = until_deploying ++ map came_so (deploy_booted ∷ deploy_done ∷ booted_locally ∷ erasing_begun ∷ [])
 
 abbrev until_erased : List (Arrival × Decided)
 until_erased = until_released ++ came_so erase_booted ∷ []
@@ -44,6 +48,9 @@ are_decided =
 
 abbrev pub first_day : List Step
 first_day = first_steps first_start until_erased
+
+abbrev pub first_deploy_booted : Step
+first_deploy_booted = first_step (first_end first_start until_deploying) deploy_booted.step.arrival deploy_booted.decided
 
 abbrev pub first_erase_booted : Step
 first_erase_booted = first_step (first_end first_start until_released) erase_booted.step.arrival erase_booted.decided

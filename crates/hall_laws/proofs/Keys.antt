@@ -117,7 +117,7 @@ accepts_once past s step sound old name key a =
 
 module _ (h : Hall) (bearer : Option (List ℕ)) (o : Operator) (key : List ℕ) (first command : HallCommand) (content : Content) (moment : ℕ) (kept : Operator) (says : is_done content ≡ true) where
   abbrev Again : Effect → Type 0
-  Again e = IsAnsweredAgain o first content command (commanded e).content × ((commanded e).rows ≡ [])
+  Again e = IsAnsweredAgain second o first content command (commanded e).content × ((commanded e).rows ≡ [])
 
   repeated_again : o.enabled ≡ true → Again (repeated (receipt_of kept key first content) command)
   repeated_again enabled = by (bytes_eq (command_text first) (command_text command)) refl
@@ -150,7 +150,7 @@ repeats_first past s step sound old name key first later =
     let there : at s.before.receipts (pair o.name key) ≡ Some (receipt_of kept.0 key first.command first.content) = ap (λ n. at s.before.receipts (pair n key)) later.named ∙ kept.2 in
     let its = decision_again s.before later.bearer o key first.command later.command first.content s.arrival.moment kept.0 kept.1 later.known there in
     let is = command_of s.arrival.site s.before later.bearer key later.command s.arrival.moment s.arrival.fresh in (
-      subst (IsAnsweredAgain o first.command first.content later.command) (ap (λ (d : Decided). d.content) (sym is) ∙ came.content_is) its.0,
+      subst (IsAnsweredAgain second o first.command first.content later.command) (ap (λ (d : Decided). d.content) (sym is) ∙ came.content_is) its.0,
       came.after ∙ ap (λ ws. applied ws s.before) (ap (λ (d : Decided). d.rows) is ∙ its.1),
     )
 

@@ -27,6 +27,7 @@ mod WrongDays
 pub mod Erased
 mod FirstDay
 mod FirstDayLaws
+pub mod FirstLaws
 pub mod FirstRuns
 pub mod FirstSteps
 pub mod Forgetting
@@ -37,3 +38,4 @@ pub mod PlainScripts
 pub mod PlainSteps
 pub mod Sparing
 pub mod Twins
+pub mod Versions

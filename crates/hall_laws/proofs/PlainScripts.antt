@@ -3,7 +3,7 @@ use Rattle.std.{proofs.{Common.{◌≡◌, ℕ, suc, ◌+◌, ◌≤◌, true, L
 use Rattle.ipxe_script.specs.declared.command.Command.{Command}
 use Rattle.ipxe_script.specs.declared.command.Command.TheVariants as line
 use Rattle.hall_types.specs.Kinds.{erase_text}
-use Rattle.hall_laws.{specs.{Prelude.{HasKernelWord, IsArgument, IsErasing, IsKernelWith, Any-cases, Any-here, Any-nil, Any-there, HasKernelWord-spelling, IsArgument-hall, IsLine, IsScript, spelling, IsWord, MAX_COMMANDS, MAX_WORDS, Erase, ErasesBy}, FirstSchema.{names_kind, plain, plain_command}}, proofs.Plain.is_other}
+use Rattle.hall_laws.{specs.{Prelude.{HasKernelWord, IsArgument, IsDeploying, IsErasing, IsKernelWith, Any-cases, Any-here, Any-nil, Any-there, HasKernelWord-spelling, IsArgument-hall, IsLine, IsScript, spelling, IsWord, MAX_COMMANDS, MAX_WORDS, Erase, ErasesBy}, FirstSchema.{names_kind, plain, plain_command}}, proofs.Plain.is_other}
 
 -- ---- it is a script
 
@@ -56,6 +56,9 @@ word_before word commands argument is h =
 
 pub erasing_before : (commands : List Command) → IsScript commands → IsErasing (spelling (plain commands)) → IsErasing (spelling commands)
 erasing_before commands is h = (word_before (codes "hall.purpose=erase") commands (IsArgument-hall (codes "purpose=erase")) is h).0
+
+pub deploying_before : (commands : List Command) → IsScript commands → IsDeploying (spelling (plain commands)) → IsDeploying (spelling commands)
+deploying_before commands is h = (word_before (codes "hall.purpose=deploy") commands (IsArgument-hall (codes "purpose=deploy")) is h).0
 
 pub names_no_kind : (commands : List Command) → IsScript commands → (kind : Erase) → ErasesBy kind (plain commands) → ⊥
 names_no_kind commands is kind h =

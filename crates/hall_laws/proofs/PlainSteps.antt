@@ -2,14 +2,14 @@
 use Rattle.std.{proofs.{Common.{◌≡◌, ◌≢◌, ℕ, List, true, refl, sym, ap, subst, ◌∙◌, inl, inr}, lemmas.Option.none-some}, specs.Prelude.{Option, Some, None, option_map}}
 use Rattle.ipxe_script.specs.declared.command.Command.{Command}
 use Rattle.hall_types.specs.Rows.{at, numbers}
-use Rattle.hall_laws.{specs.{Prelude.{Hall, applied, first, Rows, same_rows, Boot, RowWrite, Erase, Full, Quick, Progress, Machine, BootImage, Content, counted, done, machine_gone, machine_is, script, HallCommand, OnMachine, MachineCommand, Deploy, Release, Event, IsSound, some_is, sender}, Decision.{Decided, decision_of}, Migration.IsMigrated, Step.{Arrival, IsStep, Step}, Writes.{WritesAll, is_command, is_done, with_receipt, without_receipt}, WritesLaws.decision_writes, Laws.{CountsAny, CountsSome, CountsVerdict, GivesText, IsByOwner, IsDeploy, IsMachineAt, IsReleaseErasing, MakesBoot, MakesMachine, MakesOrder, Withdraws}, Past.{CountsReport, IsAccepted, IsEntry, IsIssue, IsOtherEntry, IsRescueEntry, IssuesFor, WasAnswered}, FirstSchema.{AllKeepFull, IsForgotten, IsPlain, NeverAsksQuick, first_content, plain, without_kind}}, proofs.{AnswerLemmas.was_accepted, Forgetting.{carried_again, carried_only}, Scripts.same_script}}
+use Rattle.hall_laws.{specs.{Prelude.{Hall, applied, first, Rows, same_rows, Boot, RowWrite, Erase, Full, Quick, Progress, Machine, Refusal, BootImage, Content, counted, done, machine_gone, machine_is, nothing, refused, script, HallCommand, OnMachine, MachineCommand, Deploy, Release, Event, IsSound, some_is, sender}, Decision.{Decided, decision_of}, Migration.IsMigrated, Step.{Arrival, IsStep, Step}, Writes.{WritesAll, is_command, is_done, with_receipt, without_receipt}, WritesLaws.decision_writes, Laws.{CountsAny, CountsSome, CountsVerdict, GivesText, IsByOwner, IsDeploy, IsMachineAt, IsReleaseErasing, MakesBoot, MakesMachine, MakesOrder, Withdraws}, Past.{CountsReport, IsAccepted, IsEntry, IsIssue, IsOtherEntry, IsRescueEntry, IssuesFor, WasAnswered}, FirstSchema.{AllKeepFull, IsForgotten, IsPlain, NeverAsksQuick, first_content, plain, without_kind}}, proofs.{AnswerLemmas.was_accepted, Forgetting.{carried_again, carried_only}, Scripts.same_script}}
 
 -- ---- halls
 
-record IsRowOf (row : Option Machine) (m : Machine) : Type 0 where
-  machine : Machine
-  is : row ≡ Some machine
-  its : m ≡ without_kind machine
+pub record IsRowOf (row : Option Machine) (m : Machine) : Type 0 where
+  pub machine : Machine
+  pub is : row ≡ Some machine
+  pub its : m ≡ without_kind machine
 
 row_of : (row : Option Machine) (m : Machine) → option_map without_kind row ≡ Some m → IsRowOf row m
 row_of None m is = absurd (none-some m is)
@@ -19,29 +19,44 @@ no_row : (row : Option Machine) → option_map without_kind row ≡ None → row
 no_row None is = refl
 no_row (Some k) is = cc
 
+-- the machine that an address is recorded with, before its kind was forgotten
+pub record IsMachineBefore (x : Hall) (mac : List ℕ) (m : Machine) : Type 0 where
+  pub machine : Machine
+  pub asks : IsMachineAt x mac machine
+  pub its : m ≡ without_kind machine
+
 module _ (x h : Hall) (forgotten : IsForgotten x h) where
-  whole_row : (id : ℕ) (m : Machine) → at h.machines id ≡ Some m → IsRowOf (at x.machines id) m
+  pub whole_row : (id : ℕ) (m : Machine) → at h.machines id ≡ Some m → IsRowOf (at x.machines id) m
   whole_row id m is = row_of (at x.machines id) m (sym (forgotten.machines id) ∙ is)
 
-  plain_row : (id : ℕ) (m : Machine) → at x.machines id ≡ Some m → at h.machines id ≡ Some (without_kind m)
+  pub plain_row : (id : ℕ) (m : Machine) → at x.machines id ≡ Some m → at h.machines id ≡ Some (without_kind m)
   plain_row id m is = forgotten.machines id ∙ ap (option_map without_kind) is
 
-  none_row : (id : ℕ) → at h.machines id ≡ None → at x.machines id ≡ None
+  pub none_row : (id : ℕ) → at h.machines id ≡ None → at x.machines id ≡ None
   none_row id is = no_row (at x.machines id) (sym (forgotten.machines id) ∙ is)
 
   -- all other tables are the same
-  same_boots : (number : ℕ) → at h.boots number ≡ at x.boots number
+  pub same_boots : (number : ℕ) → at h.boots number ≡ at x.boots number
   same_boots number = ap (λ (g : Hall). at g.boots number) forgotten.others
 
-  same_orders : (number : ℕ) → at h.orders number ≡ at x.orders number
+  pub same_orders : (number : ℕ) → at h.orders number ≡ at x.orders number
   same_orders number = ap (λ (g : Hall). at g.orders number) forgotten.others
 
   same_images : (name : List ℕ) → at h.images name ≡ at x.images name
   same_images name = ap (λ (g : Hall). at g.images name) forgotten.others
 
-  same_sender : (bearer : Option (List ℕ)) → sender h bearer ≡ sender x bearer
+  pub same_sender : (bearer : Option (List ℕ)) → sender h bearer ≡ sender x bearer
   same_sender None = refl
   same_sender (Some digest) = ap (λ (g : Hall). sender g (Some digest)) forgotten.others
+
+  pub machine_before : (mac : List ℕ) (m : Machine) → IsMachineAt h mac m → IsMachineBefore x mac m
+  machine_before mac m is =
+      let row = whole_row is.interface.machine m is.found in
+      record {
+        machine = row.machine;
+        asks = record { interface = is.interface; recorded = sym (ap (λ (g : Hall). at g.interfaces mac) forgotten.others) ∙ is.recorded; found = row.is };
+        its = row.its;
+      }
 
   pub machine_at : (mac : List ℕ) (m : Machine) → IsMachineAt x mac m → IsMachineAt h mac (without_kind m)
   machine_at mac m is = record {
@@ -51,7 +66,7 @@ module _ (x h : Hall) (forgotten : IsForgotten x h) where
   }
 
 -- a hall forgets its kinds in one way
-forgotten_only : (x h g : Hall) → IsForgotten x h → IsForgotten x g → g ≡ h
+pub forgotten_only : (x h g : Hall) → IsForgotten x h → IsForgotten x g → g ≡ h
 forgotten_only x h g one other =
     let same : g.machines ≡ h.machines = same_rows g.machines h.machines (λ id. other.machines id ∙ sym (one.machines id)) in
     other.others ∙ (ap (λ (rows : Rows numbers Machine). record x { schema = first; machines = rows }) same ∙ sym one.others)
@@ -59,27 +74,35 @@ forgotten_only x h g one other =
 -- ---- answers
 
 -- this was answered, before the kinds were forgotten
-record IsAnswerOf (answer : Option Content) (c : Content) : Type 0 where
-  content : Content
-  is : answer ≡ Some content
-  its : first_content content ≡ c
+pub record IsAnswerOf (answer : Option Content) (c : Content) : Type 0 where
+  pub content : Content
+  pub is : answer ≡ Some content
+  pub its : first_content content ≡ c
 
-answer_of : (answer : Option Content) (c : Content) → option_map first_content answer ≡ Some c → IsAnswerOf answer c
+pub answer_of : (answer : Option Content) (c : Content) → option_map first_content answer ≡ Some c → IsAnswerOf answer c
 answer_of None c is = absurd (none-some c is)
 answer_of (Some content) c is = record { content = content; is = refl; its = some_is (first_content content) c is }
 
-record IsScriptOf (c : Content) (commands : List Command) : Type 0 where
-  whole : List Command
-  is : c ≡ script whole
-  its : commands ≡ plain whole
+pub record IsScriptOf (c : Content) (commands : List Command) : Type 0 where
+  pub whole : List Command
+  pub is : c ≡ script whole
+  pub its : commands ≡ plain whole
 
-script_of : (c : Content) (commands : List Command) → first_content c ≡ script commands → IsScriptOf c commands
+pub script_of : (c : Content) (commands : List Command) → first_content c ≡ script commands → IsScriptOf c commands
 script_of (script whole) commands is = record { whole = whole; is = refl; its = sym (same_script (plain whole) commands is) }
 script_of other commands is = cc
 
 counted_before : (c : Content) → first_content c ≡ counted → c ≡ counted
 counted_before counted is = refl
 counted_before other is = cc
+
+pub refused_before : (c : Content) (why : Refusal) → first_content c ≡ refused why → c ≡ refused why
+refused_before (refused other) why is = is
+refused_before other why is = cc
+
+pub nothing_before : (c : Content) → first_content c ≡ nothing → c ≡ nothing
+nothing_before nothing is = refl
+nothing_before other is = cc
 
 -- what says that a command is carried out names no kind
 done_stays : (c : Content) → is_done c ≡ true → first_content c ≡ c
@@ -89,7 +112,7 @@ done_stays done is = refl
 done_stays other is = cc
 
 -- an accepted command is carried out
-accepted_is_done : (w : Step) → IsStep w → IsSound w.before → (operator key : List ℕ) (command : HallCommand) (c : Content) → IsAccepted operator key command c w → is_done c ≡ true
+pub accepted_is_done : (w : Step) → IsStep w → IsSound w.before → (operator key : List ℕ) (command : HallCommand) (c : Content) → IsAccepted operator key command c w → is_done c ≡ true
 accepted_is_done w (inr missed) sound operator key command c is = absurd (none-some c (sym missed.answer ∙ is.answered.answer))
 accepted_is_done w (inl came) sound operator key command c is =
     by (decision_of w.arrival.site w.before w.arrival.event w.arrival.moment w.arrival.fresh) came.answer came.after
@@ -135,10 +158,10 @@ release_full w asks id Full is = refl
 release_full w asks id Quick is = absurd (asks (is.accepted.bearer, is.key, id, is.version, is.accepted.answered.event))
 
 module _ (w s : Step) (t : IsTwin w s) where
-  event_back : (e : Event) → s.arrival.event ≡ e → w.arrival.event ≡ e
+  pub event_back : (e : Event) → s.arrival.event ≡ e → w.arrival.event ≡ e
   event_back e is = ap (λ (a : Arrival). a.event) (sym t.plain.same) ∙ is
 
-  event_to : (e : Event) → w.arrival.event ≡ e → s.arrival.event ≡ e
+  pub event_to : (e : Event) → w.arrival.event ≡ e → s.arrival.event ≡ e
   event_to e is = ap (λ (a : Arrival). a.event) t.plain.same ∙ is
 
   -- ---- entries
@@ -201,12 +224,12 @@ module _ (w s : Step) (t : IsTwin w s) where
 
   -- ---- counting
 
-  answered_back : (e : Event) → WasAnswered s e counted → WasAnswered w e counted
+  pub answered_back : (e : Event) → WasAnswered s e counted → WasAnswered w e counted
   answered_back e is =
       let a = answer_of w.answer counted (sym t.plain.answer ∙ is.answer) in
       record { event = event_back e is.event; answer = a.is ∙ ap (λ (c : Content). Some c) (counted_before a.content a.its) }
 
-  report_back : (number : ℕ) (progress : Progress) → CountsReport number progress s → CountsReport number progress w
+  pub report_back : (number : ℕ) (progress : Progress) → CountsReport number progress s → CountsReport number progress w
   report_back number progress is = (is.0, answered_back _ is.1)
 
   pub any_back : (number : ℕ) → CountsAny number s → CountsAny number w
@@ -237,8 +260,11 @@ module _ (w s : Step) (t : IsTwin w s) where
       moves (carried_only s.before w.before w.after (carried_again w.before s.before t.before t.plain.before)
       (subst (λ (g : Hall). IsMigrated g w.after) same (carried_again w.after s.after t.after t.plain.after)))
 
+  pub stays_to : w.after ≡ w.before → s.after ≡ s.before
+  stays_to same = forgotten_only w.before s.before s.after t.plain.before (subst (λ (g : Hall). IsForgotten g s.after) same t.plain.after)
+
   changes_back : s.after ≢ s.before → w.after ≢ w.before
-  changes_back moves same = moves (forgotten_only w.before s.before s.after t.plain.before (subst (λ (g : Hall). IsForgotten g s.after) same t.plain.after))
+  changes_back moves same = moves (stays_to same)
 
   pub accepted_to : (operator key : List ℕ) (command : HallCommand) (c : Content) → IsAccepted operator key command c w → IsAccepted operator key command c s
   accepted_to operator key command c is = record {

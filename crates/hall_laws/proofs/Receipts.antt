@@ -133,7 +133,7 @@ answers_accepted past s step sound old operator key its ok = by (step_does s ste
     model : decision_of s.arrival.site s.before (event.Command its.bearer key its.command) s.arrival.moment s.arrival.fresh ≡ commanded (command_decision s.before its.bearer key its.command s.arrival.moment)
     model = command_of s.arrival.site s.before its.bearer key its.command s.arrival.moment s.arrival.fresh
 
-    now : s.after ≢ s.before → WasAccepted operator key past s its
+    now : s.after ≢ s.before → WasAccepted second operator key past s its
     now changes = record {
       first = record {
         command = its.command;
@@ -144,7 +144,7 @@ answers_accepted past s step sound old operator key its ok = by (step_does s ste
       answer = refl;
     }
 
-    before : IsAgain s.before its.by.name key its.command (commanded (command_decision s.before its.bearer key its.command s.arrival.moment)) → WasAccepted operator key past s its
+    before : IsAgain s.before its.by.name key its.command (commanded (command_decision s.before its.bearer key its.command s.arrival.moment)) → WasAccepted second operator key past s its
     before again =
         let (left, accepted) = old (pair its.by.name key) again.receipt again.there in
         let at_is = left.at_is in
@@ -164,7 +164,7 @@ answers_accepted past s step sound old operator key its ok = by (step_does s ste
               ∙ (ap (λ (r : Receipt). reply_of second (stored r.status r.body)) left.is ∙ stored_same left.content left.says);
         }
 
-    by_writes : s.answer ≡ Some (decided s).content → s.after ≡ applied (decided s).rows s.before → WritesAll s.before s.arrival.event s.arrival.moment s.arrival.fresh (decided s) → WasAccepted operator key past s its
+    by_writes : s.answer ≡ Some (decided s).content → s.after ≡ applied (decided s).rows s.before → WritesAll s.before s.arrival.event s.arrival.moment s.arrival.fresh (decided s) → WasAccepted second operator key past s its
     by_writes answer after (without_receipt none w) =
         let event_is = its.answered.event in
         let rows : (commanded (command_decision s.before its.bearer key its.command s.arrival.moment)).rows ≡ [] =
@@ -176,6 +176,6 @@ answers_accepted past s step sound old operator key its ok = by (step_does s ste
     by_writes answer after (with_receipt own w x) =
         now (moved s (pair x.operator.name x.key) (receipt_of x.operator x.key x.command (decided s).content) x.new (receipt_put s (decided s) after own w x))
 
-    by : StepDoes s → WasAccepted operator key past s its
+    by : StepDoes s → WasAccepted second operator key past s its
     by (missed answer same) = absurd (none-some its.content (sym answer ∙ its.answered.answer))
     by (did answer after writes effect) = by_writes answer after writes

@@ -1,6 +1,6 @@
 -- What a wrong hall would do: the day up to some step, and then one step that the model doesn't make. Each breaks a law.
-use Rattle.std.{proofs.{Common.{◌≡◌, ◌≢◌, ◌⊎◌, ◌∙◌, ℕ, List, [], ◌∷◌, ◌++◌, Some, None, refl, sym, ap, subst, inl, inr, arith}, lemmas.Option.none-some}, specs.{Prelude.codes, List.AllByRecursion}}
-use Rattle.hall_laws.{specs.{Prelude.{Uefi64, Hall, second, at-put-same, at-gone-same, Boot, MachineGone, PutMachine, PutOrder, PutPool, Waiting, Done, Started, Interface, Machine, Pool, KeyReused, UnknownToken, Commissioning, Deployed, Deploying, DiskErasing, New, Ready, blank_machine, Content, counted, done, machine_is, nothing, refused, script, stored, Signal, some_is, sender}, Refusing.IsRefusal, Step.Step, Laws.{AcceptsOnce, AcceptsWithOk, AlwaysWaitsForOne, AnswersAccepted, BootsLocally, CountsAnswerOnce, CountsOwnBoot, CountsStartedFirst, CountsVerdictOnce, DeploysRightly, EntersByTable, ErasesRightly, HasStatus, IsDeleted, IsMachineAt, IsSignalled, KeepsMachines, NumbersOnce, QueuesAtEntries, RefusesWithoutChange, RepeatsFirst, ScriptIsAsked, WaitsNoMore, by_answer, by_command, by_deadline, by_fourth_boot, by_report}, Past.{AtEachStep, IsAccepted}, Worked.{ada, boot, came, command, mac, order, start, token}}, proofs.{Computing.computed, Day.{adds, boot_started, booted, booted_locally, commission_booted, commission_done, commissioned, deploy_script, deployed, erase_script, image_added, image_live, machine_added, made, new_machine, order_done, pow, power_added, ready, until_deployed}, DayLaws.{accepts, gives_deploying, gives_erasing, makes_machine}, FirstSteps.whole_step as step}}
+use Rattle.std.{proofs.{Common.{◌≡◌, ◌≢◌, ◌⊎◌, ◌∙◌, ℕ, List, [], ◌∷◌, ◌++◌, true, false, Some, None, refl, sym, ap, subst, inl, inr, arith}, lemmas.Option.none-some}, specs.{Prelude.codes, List.AllByRecursion}}
+use Rattle.hall_laws.{specs.{Prelude.{Uefi64, Hall, second, at-put-same, at-gone-same, Boot, MachineGone, PutInterface, PutMachine, PutOrder, PutPool, Waiting, Done, Started, Interface, Machine, Pool, KeyReused, UnknownToken, Commissioning, Deployed, Deploying, DiskErasing, New, Ready, blank_machine, Content, counted, done, machine_is, nothing, refused, script, stored, Signal, some_is, sender}, Refusing.IsRefusal, Step.Step, Laws.{AcceptsOnce, AcceptsWithOk, AlwaysWaitsForOne, AnswersAccepted, BootsLocally, CountsAnswerOnce, CountsOwnBoot, CountsStartedFirst, CountsVerdictOnce, DeploysRightly, EntersByTable, ErasesRightly, HasStatus, IsDeleted, IsMachineAt, IsSignalled, IsVersioned, KeepsMachines, NumbersOnce, QueuesAtEntries, RaisesVersions, RefusesWithoutChange, RepeatsFirst, SameInterfaces, ScriptIsAsked, WaitsNoMore, by_answer, by_command, by_deadline, by_fourth_boot, by_report, rises, stays}, Past.{AtEachStep, IsAccepted}, Worked.{ada, boot, came, command, mac, order, start, token}}, proofs.{Computing.computed, Day.{adds, boot_started, booted, booted_locally, commission_booted, commission_done, commissioned, deploy_script, deployed, erase_script, image_added, image_live, machine_added, made, new_machine, order_done, pow, power_added, ready, until_deployed}, DayLaws.{accepts, gives_deploying, gives_erasing, makes_machine}, FirstSteps.whole_step as step}}
 use Rattle.hall_types.specs.{Rows.{at, numbers, texts}, declared.kinds.{OrderStage.TheVariants.Done as Ended, Outcome.TheVariants.Done as Turned}}
 use Rattle.hall_types.specs.declared.kinds.Purpose.TheVariants as purpose
 use Rattle.hall_types.specs.declared.kinds.Stage.TheVariants as stage
@@ -292,7 +292,7 @@ answer_twice law =
     (law (until_commissioned ++ (order_done.step ∷ [])) answered_twice [] refl 1 (Turned, (Some pow.digest, record { event = refl; answer = refl }))).0.1.1.1.1.1.0
     (Turned, (Some pow.digest, record { event = refl; answer = refl }))
 
--- ---- machines and refusals
+-- ---- machines
 
 was_ready : at gone.before.machines 1 ≡ Some ready
 unfolding numbers
@@ -304,6 +304,62 @@ machine_vanishes law = elim (last KeepsMachines until_ready gone law 1 ready was
   where
     not_quiet : IsDeleted 1 gone → ⊥
     not_quiet deleted = let e = deleted.accepted.answered.event in cc
+
+-- ---- versions
+
+was_same : (s : Step) → s.after.interfaces ≡ s.before.interfaces → SameInterfaces 1 s.before s.after
+was_same s is mac i its = (λ there. ap (λ rows. at rows mac) is ∙ there, λ there. ap (λ rows. at rows mac) (sym is) ∙ there)
+
+-- a version rises at a quiet moment, and nothing else changes
+abbrev ready_again : Machine
+ready_again = record ready { version = 6 }
+
+abbrev rises_idly : Step
+rises_idly = step commission_done.step.after (came event.Quiet) (made nothing (PutMachine ready_again (Some 5) ∷ []))
+
+version_rises_idly : AtEachStep RaisesVersions (until_ready ++ (rises_idly ∷ [])) → ⊥
+version_rises_idly law =
+    by (last RaisesVersions until_ready rises_idly law 1 ready ready_again was_ready (at-put-same rises_idly.before.machines 1 ready_again))
+  where
+    by : IsVersioned 1 rises_idly.before rises_idly.after ready ready_again → ⊥
+    by (stays row interfaces) = let e = ap (λ (m : Machine). m.version) row in cc
+    by (rises version differ) = differ refl (was_same rises_idly refl)
+
+-- a machine is locked, and its version stays
+abbrev ready_locked : Machine
+ready_locked = record ready { locked = true }
+
+abbrev locks : Step
+locks = step commission_done.step.after (came event.Quiet) (made nothing (PutMachine ready_locked (Some 5) ∷ []))
+
+row_changes_unseen : AtEachStep RaisesVersions (until_ready ++ (locks ∷ [])) → ⊥
+row_changes_unseen law =
+    by (last RaisesVersions until_ready locks law 1 ready ready_locked was_ready (at-put-same locks.before.machines 1 ready_locked))
+  where
+    by : IsVersioned 1 locks.before locks.after ready ready_locked → ⊥
+    by (stays row interfaces) = let e : true ≡ false = ap (λ (m : Machine). m.locked) row in cc
+    by (rises version differ) = cc
+
+-- a machine is given an interface, and its version stays
+abbrev second_interface : Interface
+second_interface = record { mac = 7 ∷ []; machine = 1 }
+
+abbrev gives_interface : Step
+gives_interface = step commission_done.step.after (came event.Quiet) (made nothing (PutInterface second_interface ∷ []))
+
+no_second_interface : at gives_interface.before.interfaces second_interface.mac ≡ None
+unfolding texts
+no_second_interface = simp (computed)
+
+interfaces_change_unseen : AtEachStep RaisesVersions (until_ready ++ (gives_interface ∷ [])) → ⊥
+interfaces_change_unseen law = by (last RaisesVersions until_ready gives_interface law 1 ready ready was_ready was_ready)
+  where
+    by : IsVersioned 1 gives_interface.before gives_interface.after ready ready → ⊥
+    by (stays row interfaces) =
+        none-some second_interface (sym no_second_interface ∙ (interfaces second_interface.mac second_interface refl).1 (at-put-same gives_interface.before.interfaces second_interface.mac second_interface))
+    by (rises version differ) = cc
+
+-- ---- refusals
 
 -- a refused request makes a pool
 abbrev lab : Pool

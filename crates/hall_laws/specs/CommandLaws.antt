@@ -1,6 +1,6 @@
 -- What operators' commands write, and that a command which is carried out is answered so.
-use Rattle.std.{specs.{Prelude.{◌≡◌, ◌||◌, not, ℕ, Bool, true, false, List, [], ◌∷◌, Option, Some, None, Ok, Err, is_some, option_map, if◌then◌else◌}, Str.bytes_eq}, proofs.{Common.{refl, sym, ap, inl, inr, ◌∙◌}, lemmas.{Bool.{both_ways, or_parts}, Slice.Eq.bytes_eq-Decides}}}
-use Rattle.hall_laws.specs.{Prelude.{Arch, Hall, pair, BootImage, is_image_used, operator_with_digest, none_listed, next_number, RowWrite, Role, Interface, Machine, Numbers, Operator, Refusal, blank_machine, Content, done, HallCommand, AddOperator, DisableOperator, AddPool, Grant, AddImage, DeleteImage, SetLive, AddMachine, OnMachine, MachineCommand, entered, Action, By, IfOk, step_cases, entry_rows, IsSound, some_is, row_at, IsAllowed, first_none, none_is, none_mapped, unless_none, when_none, action_of, first_of, forbidden, when, sender, command_cases, machine_cases, sender_is, about, acted, added, edited, entry_effect, live_image, machine_effect, machine_effect_if, moved_to_pool, prepared, raised, step_effect, by_mac, has_member, has_pool, image_arch, CommandView}, Decision.commanded as answered, Writes.{Writes, WritesAll, edits_machine, enters_status, is_done, machine_goes, makes_machine, nothing_first, with_receipt as and_receipt, without_receipt, writes_aside, writes_nothing}}
+use Rattle.std.{specs.{Prelude.{◌≡◌, ◌≢◌, ◌||◌, not, ℕ, Bool, true, false, List, [], ◌∷◌, Option, Some, None, Ok, Err, is_some, option_map, if◌then◌else◌}, Str.bytes_eq}, proofs.{Common.{refl, sym, ap, inl, inr, ◌∙◌}, lemmas.{Bool.{both_ways, eqb-true, or_parts}, Slice.Eq.bytes_eq-Decides}}}
+use Rattle.hall_laws.specs.{Prelude.{Arch, Hall, pair, BootImage, is_image_used, operator_with_digest, none_listed, next_number, RowWrite, Role, Interface, Machine, Numbers, Operator, Refusal, blank_machine, Content, done, HallCommand, AddOperator, DisableOperator, AddPool, Grant, AddImage, DeleteImage, SetLive, AddMachine, OnMachine, MachineCommand, entered, Action, By, IfOk, step_cases, entry_rows, IsSound, some_is, row_at, IsAllowed, first_none, none_is, none_mapped, unless_none, when_none, action_of, first_of, forbidden, when, sender, command_cases, machine_cases, sender_is, about, acted, added, edited, entry_effect, live_image, machine_effect, machine_effect_if, moved_to_pool, prepared, raised, step_effect, by_mac, is_number, has_member, has_pool, image_arch, CommandView}, Decision.commanded as answered, Writes.{Writes, WritesAll, edits_machine, enters_status, is_done, machine_goes, makes_machine, nothing_first, with_receipt as and_receipt, without_receipt, writes_aside, writes_nothing}}
 use Rattle.hall_types.specs.Rows.{at}
 use Rattle.hall_types.specs.declared.change.RowWrite.TheVariants as write
 use Rattle.hall_types.specs.declared.refusal.Refusal.TheVariants as cause
@@ -59,6 +59,15 @@ effect_says v o other moment = refl
 
 -- ---- writes
 
+-- the interface that is found is the machine's
+has_interface : (o : Option Interface) (id : ℕ) → is_number (option_map (λ (i : Interface). i.machine) o) id ≡ true → (i : Interface) × (o ≡ Some i) × (i.machine ≡ id)
+has_interface None id is = cc
+has_interface (Some i) id is = (i, refl, eqb-true i.machine id is)
+
+not_itself : (b : Bool) → b ≢ not b
+not_itself true is = cc
+not_itself false is = cc
+
 module _ (h : Hall) (s : IsSound h) (bearer : Option (List ℕ)) (key : List ℕ) (moment : ℕ) (fresh : List ℕ) where
   -- what the effect of a command writes
   abbrev Does : HallCommand → Effect → Type 0
@@ -102,11 +111,35 @@ module _ (h : Hall) (s : IsSound h) (bearer : Option (List ℕ)) (key : List ℕ
         }))
 
     pool_writes : (pool : List ℕ) → On (on.SetPool pool) (moved_to_pool m pool)
-    pool_writes pool = by (bytes_eq m.pool pool)
+    pool_writes pool = by (bytes_eq m.pool pool) refl
       where
-        by : (b : Bool) → On (on.SetPool pool) (if b then Ok ([], about m) else edited m (record (raised m) { pool = pool }) [])
-        by true = writes_nothing (λ e. cc) refl
-        by false = edits_machine refl (record { machine = m; after = record (raised m) { pool = pool }; interfaces = []; found = was; same = refl; edits = tt; rows_are = refl })
+        by : (b : Bool) → bytes_eq m.pool pool ≡ b → On (on.SetPool pool) (if b then Ok ([], about m) else edited m (record (raised m) { pool = pool }) [])
+        by true same = writes_nothing (λ e. cc) refl
+        by false other = edits_machine refl (record {
+          machine = m;
+          after = record (raised m) { pool = pool };
+          interfaces = [];
+          found = was;
+          same = refl;
+          edits = tt;
+          version = refl;
+          changes = λ none is. both_ways (bytes_eq m.pool pool) other ((bytes_eq-Decides m.pool pool).1 (ap (λ (x : Machine). x.pool) (sym is)));
+          rows_are = refl;
+        })
+
+    -- the machine is locked, or it is unlocked
+    locking_writes : (b : Bool) (command : MachineCommand) → m.locked ≡ not b → On command (edited m (record (raised m) { locked = b }) [])
+    locking_writes b command was_not = edits_machine refl (record {
+      machine = m;
+      after = record (raised m) { locked = b };
+      interfaces = [];
+      found = was;
+      same = refl;
+      edits = tt;
+      version = refl;
+      changes = λ none is. not_itself b (ap (λ (x : Machine). x.locked) is ∙ was_not);
+      rows_are = refl;
+    })
 
     machine_writes : (command : MachineCommand) → IsAllowed (machine_view h o m command) m command → forbidden o m (machine_view h o m command).is_member (action_of command) ≡ None
         → On command (machine_effect (machine_view h o m command) o m command moment)
@@ -119,10 +152,22 @@ module _ (h : Hall) (s : IsSound h) (bearer : Option (List ℕ)) (key : List ℕ
           found = was;
           same = refl;
           edits = (none_mapped (λ (i : Interface). i.machine) (at h.interfaces mac) free, refl);
+          version = refl;
+          changes = λ none is. cc;
           rows_are = refl;
         })
     machine_writes (on.RemoveInterface mac) a may =
-        edits_machine refl (record { machine = m; after = raised m; interfaces = write.InterfaceGone mac ∷ []; found = was; same = refl; edits = tt; rows_are = refl })
+        edits_machine refl (record {
+          machine = m;
+          after = raised m;
+          interfaces = write.InterfaceGone mac ∷ [];
+          found = was;
+          same = refl;
+          edits = has_interface (at h.interfaces mac) m.id (unless_none (is_number (by_mac h mac) m.id) cause.NoInterface a.found);
+          version = refl;
+          changes = λ none is. cc;
+          rows_are = refl;
+        })
     machine_writes (on.SetPool pool) a may = pool_writes pool
     machine_writes (on.Commission tests) a may = acted_writes (machine_view h o m (on.Commission tests)) (on.Commission tests) act.Commission refl refl refl may
     machine_writes on.Delete a may =
@@ -131,10 +176,9 @@ module _ (h : Hall) (s : IsSound h) (bearer : Option (List ℕ)) (key : List ℕ
     machine_writes (on.Release None) a may = acted_writes (machine_view h o m (on.Release None)) (on.Release None) act.Release refl refl refl may
     machine_writes (on.Release (Some erase)) a may =
         acted_writes (machine_view h o m (on.Release (Some erase))) (on.Release (Some erase)) act.ReleaseErasing refl refl refl may
-    machine_writes (on.Act does.Lock) a may =
-        edits_machine refl (record { machine = m; after = record (raised m) { locked = true }; interfaces = []; found = was; same = refl; edits = tt; rows_are = refl })
+    machine_writes (on.Act does.Lock) a may = locking_writes true (on.Act does.Lock) a.unlocked
     machine_writes (on.Act does.Unlock) a may =
-        edits_machine refl (record { machine = m; after = record (raised m) { locked = false }; interfaces = []; found = was; same = refl; edits = tt; rows_are = refl })
+        locking_writes false (on.Act does.Unlock) (unless_none m.locked cause.WrongStatus (first_none (when (not m.locked) cause.WrongStatus) [] a.own).0)
     machine_writes (on.Act one) a may = acted_writes (machine_view h o m (on.Act one)) (on.Act one) (act.Act one) refl refl refl may
 
   -- ---- all commands

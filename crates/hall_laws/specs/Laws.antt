@@ -1,5 +1,5 @@
 -- The laws of the past, each for a step with the steps before it.
-use Rattle.std.specs.{Prelude.{◌≡◌, ◌≢◌, ◌⊎◌, ℕ, false, true, List, [], ◌∷◌, ◌++◌, Option, Some, None}, List.AllByRecursion}
+use Rattle.std.specs.{Prelude.{◌≡◌, ◌≢◌, ◌⊎◌, ◌↔◌, ℕ, false, true, List, [], ◌∷◌, ◌++◌, Option, Some, None}, List.AllByRecursion}
 use Rattle.hall_types.specs.Rows.{at}
 use Rattle.ipxe_script.specs.declared.command.Command.{Command}
 use Rattle.hall_types.specs.declared.kinds.Progress.TheVariants as report
@@ -9,7 +9,7 @@ use Rattle.hall_events.specs.declared.command.MachineCommand.TheVariants as on
 use Rattle.hall_events.specs.declared.event.Event.TheVariants as event
 use Rattle.life_cycle.specs.{Table.step_of, declared.{signal.Signal.TheVariants.Report, step.Step.Step as TableStep}}
 use Rattle.boot_desk.specs.Texts.{hold_script, local_script, work_script}
-use Rattle.hall_laws.specs.{Prelude.{Client, Port, Boot, Erase, Waiting, Withdrawn, Outcome, Progress, Interface, Machine, Operator, Order, KeyReused, UnknownToken, Deployed, Deploying, DiskErasing, Hall, new_hall, second, BootImage, IsDeploying, IsErasing, IsScript, spelling, command_text, Content, counted, nothing, refused, script, HallCommand, OnMachine, MachineCommand, Event, Reply, Http, Action, Signal, Answer, By, Expired, FourthBoot, is_due, is_fourth, offered_boot, ErasesBy, IsSound, row_at, action_of, sender}, Refusing.IsRefusal, Step.{IsRun, IsTypedStep, Step}, Writes.AsksForMachine, Past.{AtEachStep, CountsAnswer, CountsReport, IsAccepted, IsEntry, IsOwnBoot, Last, NoneOf, SomeOf, WasAnswered}}
+use Rattle.hall_laws.specs.{Prelude.{Client, Port, Boot, Erase, Waiting, Withdrawn, Outcome, Progress, Interface, Machine, Operator, Order, KeyReused, UnknownToken, Deployed, Deploying, DiskErasing, Hall, Schema, new_hall, second, next_version, BootImage, IsDeploying, IsErasing, IsScript, spelling, command_text, Content, counted, nothing, refused, script, HallCommand, OnMachine, MachineCommand, Event, Reply, Http, Action, Signal, Answer, By, Expired, FourthBoot, is_due, is_fourth, offered_boot, ErasesBy, IsSound, row_at, action_of, sender}, Refusing.IsRefusal, Step.{IsRun, IsTypedStep, Step}, Writes.AsksForMachine, Past.{AtEachStep, CountsAnswer, CountsReport, IsAccepted, IsEntry, IsOwnBoot, Last, NoneOf, SomeOf, WasAnswered}}
 
 -- ---- scripts
 
@@ -233,16 +233,20 @@ abbrev pub HasStatus : ℕ → Reply → Type 0
 HasStatus wanted (Http status kind body) = status ≡ wanted
 HasStatus wanted other = ⊥
 
--- an accepted command is answered by the status 200
+-- an accepted command is answered by the status 200, as this schema answers
+abbrev pub AcceptsWithOkIn : Schema → List Step → Step → Type 0
+AcceptsWithOkIn schema past s = (operator key : List ℕ) (command : HallCommand) (content : Content) → IsAccepted operator key command content s → HasStatus 200 (reply_of schema content)
+
+-- so the second schema does
 abbrev pub AcceptsWithOk : List Step → Step → Type 0
-AcceptsWithOk past s = (operator key : List ℕ) (command : HallCommand) (content : Content) → IsAccepted operator key command content s → HasStatus 200 (reply_of second content)
+AcceptsWithOk = AcceptsWithOkIn second
 
 -- what a later request of the operator with the key is answered, where the first command was answered so: the first
 -- answer, octet for octet, to the same command, KeyReused to another, UnknownToken once the operator is disabled
-pub data IsAnsweredAgain (o : Operator) (first : HallCommand) (content : Content) (command : HallCommand) (again : Content) : Type 0 where
-  disabled : o.enabled ≡ false → again ≡ refused UnknownToken → IsAnsweredAgain o first content command again
-  first_again : o.enabled ≡ true → command_text command ≡ command_text first → reply_of second again ≡ reply_of second content → IsAnsweredAgain o first content command again
-  reused : o.enabled ≡ true → command_text command ≢ command_text first → again ≡ refused KeyReused → IsAnsweredAgain o first content command again
+pub data IsAnsweredAgain (schema : Schema) (o : Operator) (first : HallCommand) (content : Content) (command : HallCommand) (again : Content) : Type 0 where
+  disabled : o.enabled ≡ false → again ≡ refused UnknownToken → IsAnsweredAgain schema o first content command again
+  first_again : o.enabled ≡ true → command_text command ≡ command_text first → reply_of schema again ≡ reply_of schema content → IsAnsweredAgain schema o first content command again
+  reused : o.enabled ≡ true → command_text command ≢ command_text first → again ≡ refused KeyReused → IsAnsweredAgain schema o first content command again
 
 -- the first request of an operator with a key: its command was accepted
 pub record FirstRequest (operator key : List ℕ) (past : List Step) : Type 0 where
@@ -261,20 +265,29 @@ pub record KeyedRequest (operator key : List ℕ) (s : Step) : Type 0 where
   pub answered : WasAnswered s (event.Command bearer key command) content
 
 -- a later request is answered so, and changes nothing
-abbrev pub RepeatsFirst : List Step → Step → Type 0
-RepeatsFirst past s =
+abbrev pub RepeatsFirstIn : Schema → List Step → Step → Type 0
+RepeatsFirstIn schema past s =
     (operator key : List ℕ) (first : FirstRequest operator key past) (later : KeyedRequest operator key s)
-    → IsAnsweredAgain later.by first.command first.content later.command later.content × (s.after ≡ s.before)
+    → IsAnsweredAgain schema later.by first.command first.content later.command later.content × (s.after ≡ s.before)
+
+-- so the second schema does
+abbrev pub RepeatsFirst : List Step → Step → Type 0
+RepeatsFirst = RepeatsFirstIn second
 
 -- what is answered by the status 200 was accepted, by this step or one before, and is answered as it was then
-pub record WasAccepted (operator key : List ℕ) (past : List Step) (s : Step) (its : KeyedRequest operator key s) : Type 0 where
+pub record WasAccepted (schema : Schema) (operator key : List ℕ) (past : List Step) (s : Step) (its : KeyedRequest operator key s) : Type 0 where
   pub first : FirstRequest operator key (past ++ s ∷ [])
   pub command : command_text its.command ≡ command_text first.command
-  pub answer : reply_of second its.content ≡ reply_of second first.content
+  pub answer : reply_of schema its.content ≡ reply_of schema first.content
 
+-- each request that is answered so was accepted
+abbrev pub AnswersAcceptedIn : Schema → List Step → Step → Type 0
+AnswersAcceptedIn schema past s =
+    (operator key : List ℕ) (its : KeyedRequest operator key s) → HasStatus 200 (reply_of schema its.content) → WasAccepted schema operator key past s its
+
+-- so the second schema does
 abbrev pub AnswersAccepted : List Step → Step → Type 0
-AnswersAccepted past s =
-    (operator key : List ℕ) (its : KeyedRequest operator key s) → HasStatus 200 (reply_of second its.content) → WasAccepted operator key past s its
+AnswersAccepted = AnswersAcceptedIn second
 
 -- ---- orders
 
@@ -330,6 +343,29 @@ pub record IsDeleted (id : ℕ) (s : Step) : Type 0 where
 -- a machine stays, unless it is deleted
 abbrev pub KeepsMachines : List Step → Step → Type 0
 KeepsMachines past s = (id : ℕ) (m : Machine) → at s.before.machines id ≡ Some m → ((k : Machine) × (at s.after.machines id ≡ Some k)) ⊎ IsDeleted id s
+
+-- ---- versions
+
+-- the machine has the same interfaces in both halls
+abbrev pub SameInterfaces : ℕ → Hall → Hall → Type 0
+SameInterfaces id before after =
+    (mac : List ℕ) (i : Interface) → i.machine ≡ id → (at before.interfaces mac ≡ Some i) ↔ (at after.interfaces mac ≡ Some i)
+
+-- but for its version the row is the same
+abbrev pub SameButVersion : Machine → Machine → Type 0
+SameButVersion m k = record k { version = m.version } ≡ m
+
+-- what becomes of the version of a machine whose row was m and is k
+pub data IsVersioned (id : ℕ) (before after : Hall) (m k : Machine) : Type 0 where
+  -- its row and its set of interfaces stay
+  stays : k ≡ m → SameInterfaces id before after → IsVersioned id before after m k
+  -- another column of its row, or its set of interfaces, changes: the version is the next one, and the last one stays
+  rises : k.version ≡ next_version m.version → (SameButVersion m k → SameInterfaces id before after → ⊥) → IsVersioned id before after m k
+
+-- the version of each machine that stays rises exactly where another column of its row, or its set of interfaces, changes
+abbrev pub RaisesVersions : List Step → Step → Type 0
+RaisesVersions past s =
+    (id : ℕ) (m k : Machine) → at s.before.machines id ≡ Some m → at s.after.machines id ≡ Some k → IsVersioned id s.before s.after m k
 
 -- ---- refusals
 

@@ -14,5 +14,6 @@ pub mod Worked
 pub mod WorkedLaws
 pub mod FirstErasing
 pub mod FirstSchema
+pub mod FirstLaws
 pub mod Later
 pub mod Origin

@@ -6,7 +6,7 @@ use Rattle.hall_events.specs.declared.command.MachineCommand.TheVariants as on
 use Rattle.hall_events.specs.declared.event.Event.TheVariants as event
 use Rattle.life_cycle.specs.{Table.step_of, declared.{signal.Signal.TheVariants.Report, step.Step.Step}}
 use Rattle.boot_desk.specs.{Fetch.booted, Texts.hold_script}
-use Rattle.hall_laws.specs.{Prelude.{Arch, edit_of, Client, Hall, pair, stage_after, next_number, Boot, RowWrite, Waiting, Outcome, Progress, Purpose, Interface, Machine, Operator, Order, Port, blank_machine, IsFree, Keeps, Content, counted, done, machine_gone, machine_is, script, HallCommand, AddImage, AddMachine, OnMachine, MachineCommand, Event, entered, permission_for, who_acts, Action, Entered, Signal, Answer, By, Expired, FourthBoot, Work, class_of, is_due, is_fourth, new_boot, offered_boot, entry_rows, machine_row, idle, stage_for, Takes, row_at, action_of, receipt_of, sender, prepared}, Decision.Decided}
+use Rattle.hall_laws.specs.{Prelude.{Arch, edit_of, Client, Hall, pair, stage_after, next_number, next_version, Boot, RowWrite, Waiting, Outcome, Progress, Purpose, Interface, Machine, Operator, Order, Port, blank_machine, IsFree, Keeps, Content, counted, done, machine_gone, machine_is, script, HallCommand, AddImage, AddMachine, OnMachine, MachineCommand, Event, entered, permission_for, who_acts, Action, Entered, Signal, Answer, By, Expired, FourthBoot, Work, class_of, is_due, is_fourth, new_boot, offered_boot, entry_rows, machine_row, idle, stage_for, Takes, row_at, action_of, receipt_of, sender, prepared}, Decision.Decided}
 
 -- ---- why a machine takes a step of the table
 
@@ -167,14 +167,18 @@ pub record IsIdled (h : Hall) (e : Event) (rows : List RowWrite) (content : Cont
   pub stays : step_of machine (Answer outcome) ≡ None
   pub rows_are : rows ≡ write.PutOrder (record order { stage = stage_for outcome }) ∷ machine_row machine (idle machine) ∷ []
 
--- no interface, a new one of the machine, or one that goes
+-- an interface of the machine is recorded with the address
+abbrev pub HasInterface : Hall → Machine → List ℕ → Type 0
+HasInterface h m mac = (i : Interface) × (at h.interfaces mac ≡ Some i) × (i.machine ≡ m.id)
+
+-- no interface, a new one of the machine, or one of it that goes
 abbrev pub EditsInterfaces : Hall → Machine → List RowWrite → Type 0
 EditsInterfaces h m [] = ⊤
 EditsInterfaces h m (write.PutInterface i ∷ []) = IsFree h.interfaces i.mac × (i.machine ≡ m.id)
-EditsInterfaces h m (write.InterfaceGone mac ∷ []) = ⊤
+EditsInterfaces h m (write.InterfaceGone mac ∷ []) = HasInterface h m mac
 EditsInterfaces h m other = ⊥
 
--- a machine changes as an edit does, or its interfaces do
+-- a machine changes as an edit does, or its interfaces do, and its version is the next one
 pub record IsEditing (h : Hall) (rows : List RowWrite) : Type 0 where
   pub machine : Machine
   pub after : Machine
@@ -182,6 +186,9 @@ pub record IsEditing (h : Hall) (rows : List RowWrite) : Type 0 where
   pub found : at h.machines machine.id ≡ Some machine
   pub same : after ≡ edit_of machine after
   pub edits : EditsInterfaces h machine interfaces
+  pub version : after.version ≡ next_version machine.version
+  -- where no interface changes, another column does
+  pub changes : interfaces ≡ [] → record after { version = machine.version } ≢ machine
   pub rows_are : rows ≡ machine_row machine after ∷ interfaces
 
 -- a row of an operator, a pool, a member, an image or a live image; an operator keeps its digest, and an image is new by the

@@ -1,11 +1,11 @@
 //! Laws of halls of the first schema, and of their runs.
 ghost use Rattle.std.specs.{Prelude.{◌≡◌, ℕ, false, List, ◌++◌, Option, Some, None}, List.AllByRecursion};
-ghost use Rattle.hall_laws.specs.{Prelude.{Hall, first, new_hall, second, BootImage, has_hall_word, Boot, Erase, Purpose, Content, ListedMachine, machine_list, one_machine, reply_of, IsSound, work_script}, Migration.IsMigrated, Step.{Arrival, IsRun, Step}, Laws.AreTyped, Past.AtEachStep, FirstErasing.ErasesFully, FirstSchema.{AllKeepFull, ArePlain, AsksQuick, IsFirstRun, IsFirstStep, IsForgotten, KeepsNoKind, NoneAsksQuick, StepKeepsFull, StepKeepsNoKind, first_content, plain}, Later.KeepsLaws, Origin.{BeginsWith, Origin, first_steps}};
+ghost use Rattle.hall_laws.specs.{Prelude.{Hall, first, new_hall, second, BootImage, has_hall_word, Boot, Erase, Purpose, Content, ListedMachine, machine_list, one_machine, reply_of, IsSound, work_script}, Migration.IsMigrated, Step.{Arrival, IsRun, Step}, Laws.{AreTyped, WaitsForOne}, FirstLaws.KeepsFirstLaws, Past.AtEachStep, FirstErasing.ErasesFully, FirstSchema.{AllKeepFull, ArePlain, AsksQuick, IsFirstRun, IsFirstStep, IsForgotten, KeepsNoKind, NoneAsksQuick, StepKeepsFull, StepKeepsNoKind, first_content, plain}, Later.KeepsLaws, Origin.{BeginsWith, Origin, first_steps}};
 
 use crate::past::{
     deploying_is_commanded, entries_by_table, erasing_is_released, local_boots, machines_stay,
     numbers_once, orders_and_answers, own_boots, refusals_leave_the_hall, reports_count_once,
-    request_keys, scripts_are_asked, texts_are_scripts,
+    request_keys, scripts_are_asked, texts_are_scripts, versions_rise_by_changes,
 };
 use crate::steps::steps_keep_halls_sound;
 use boot_desk::new_halls_are_sound;
@@ -82,8 +82,35 @@ pub fn first_erasing_is_released()
     erasing_is_released();
 }
 
+/// Each step of a run from a new hall of the first schema keeps each law of the past, with what that schema answers: so a hall that was
+/// carried over has no silence in its past. At most one order waits for a machine in the last hall too.
+pub fn first_laws_hold()
+    ensures laws { (admin digest : List ℕ) (h : Hall) (steps : List Step)
+        → IsFirstRun (new_hall first admin digest) steps h → KeepsFirstLaws steps }
+    ensures waits_for_one { (admin digest : List ℕ) (h : Hall) (steps : List Step)
+        → IsFirstRun (new_hall first admin digest) steps h → WaitsForOne h }
+{
+    new_halls_are_sound();
+    steps_keep_halls_sound();
+    first_erasing_is_released();
+    local_boots();
+    numbers_once();
+    scripts_are_asked();
+    texts_are_scripts();
+    deploying_is_commanded();
+    own_boots();
+    reports_count_once();
+    entries_by_table();
+    request_keys();
+    orders_and_answers();
+    machines_stay();
+    versions_rise_by_changes();
+    refusals_leave_the_hall();
+}
+
 /// Whatever comes to a hall of the second schema, new or carried over from the first, keeps each law of the past, where its past has the
-/// steps of the first schema as they were, and then those of the second. What arrivals bring is of its type.
+/// steps of the first schema as they were, and then those of the second; and so did those of the first, with what that schema answers.
+/// What arrivals bring is of its type.
 pub fn laws_hold_from_origins()
     ensures { (origin : Origin) (begin end : Hall) (steps : List Step)
         → BeginsWith origin begin → AreTyped steps → IsRun begin steps end → KeepsLaws (first_steps origin) steps end }
@@ -102,6 +129,8 @@ pub fn laws_hold_from_origins()
     request_keys();
     orders_and_answers();
     machines_stay();
+    versions_rise_by_changes();
+    first_laws_hold();
     refusals_leave_the_hall();
 }
 

@@ -1,6 +1,6 @@
 //! The laws of the past.
 ghost use Rattle.std.specs.Prelude.{◌≡◌, ℕ, List};
-ghost use Rattle.hall_laws.specs.{Prelude.{Hall, new_hall, second, IsSound}, Step.{IsRun, Step}, Laws.{AcceptsOnce, AcceptsWithOk, Always, AlwaysFromNew, AlwaysWaitsForOne, AnswersAccepted, BootsLocally, CountsAnswerOnce, CountsOwnBoot, CountsStartedFirst, CountsVerdictOnce, DeploysRightly, EntersByTable, ErasesRightly, GivesScripts, KeepsMachines, NumbersOnce, QueuesAtEntries, RefusesWithoutChange, RepeatsFirst, ScriptIsAsked, WaitsForOne, WaitsNoMore}, Past.AtEachStep};
+ghost use Rattle.hall_laws.specs.{Prelude.{Hall, new_hall, second, IsSound}, Step.{IsRun, Step}, Laws.{AcceptsOnce, AcceptsWithOk, Always, AlwaysFromNew, AlwaysWaitsForOne, AnswersAccepted, BootsLocally, CountsAnswerOnce, CountsOwnBoot, CountsStartedFirst, CountsVerdictOnce, DeploysRightly, EntersByTable, ErasesRightly, GivesScripts, KeepsMachines, NumbersOnce, QueuesAtEntries, RaisesVersions, RefusesWithoutChange, RepeatsFirst, ScriptIsAsked, WaitsForOne, WaitsNoMore}, Past.AtEachStep};
 
 use crate::model::refusals_change_nothing;
 use crate::steps::steps_keep_halls_sound;
@@ -123,6 +123,14 @@ pub fn machines_stay()
 {
     steps_keep_halls_sound();
     refusals_change_nothing();
+}
+
+/// A machine's version is one more afterwards exactly if another column of its row, or its set of interfaces, is different. The last
+/// version stays.
+pub fn versions_rise_by_changes()
+    ensures { Always RaisesVersions }
+{
+    steps_keep_halls_sound();
 }
 
 /// What is refused changes nothing, nor does a client's frame that isn't answered.

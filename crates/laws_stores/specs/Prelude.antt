@@ -7,6 +7,7 @@ pub use Rattle.hall_store.specs.declared.store.HallStore.{Ghosts}
 pub use Rattle.hall_types.specs.{Hall.{Hall, first, new_hall, second}, Rows.at, declared.{kinds.Erase.TheVariants.Full, machine.Machine.Machine, status.Status.{Status, TheVariants.New}}}
 pub use Rattle.pxe_vendor.specs.Place.{Site}
 pub use Rattle.sql_schema.specs.Spelling.{SpellHall}
+pub use Rattle.sql_tables.specs.Creating.{IsBlank}
 pub use Rattle.sql_tables.specs.Migrating.{BecomeHall, IsCarriedOver, SpellFirst, is_erasing, with_full}
 pub use Rattle.sqlite.specs.{Tree.Trees, Held.state, State.HasCleanDisk}
 pub use Rattle.sqlite_rules.specs.Lists.{Has}

@@ -1,6 +1,6 @@
 //! New halls, and all that came to them in one run.
 ghost use Rattle.std.specs.Prelude.{◌≡◌, ℕ, List, length, IfOk};
-ghost use Rattle.laws_stores.specs.Prelude.{state, HasCleanDisk, Hall, new_hall, second, created, Headline, exchanges};
+ghost use Rattle.laws_stores.specs.Prelude.{state, HasCleanDisk, Hall, IsBlank, new_hall, second, created, Headline, exchanges};
 
 use hall_desk::{Answer, Arrival, Desk};
 use hall_sql::SqlStore;
@@ -48,8 +48,8 @@ pub fn memory_keeps_the_headline(
     Ok(answers)
 }
 
-/// Answers all that comes to a new hall over a connection, which is handed back, one answer each: the headline holds if its disk gave
-/// back all along what was written to it.
+/// Answers all that comes to a new hall over a connection to a file without a table, which is handed back, one answer each: the headline
+/// holds if its disk gave back all along what was written to it.
 pub fn sqlite_keeps_the_headline<S: Alter + Drop>(
     alloc: Global,
     conn: Connection<S>,
@@ -59,7 +59,7 @@ pub fn sqlite_keeps_the_headline<S: Alter + Drop>(
     arrivals: &[Arrival],
 ) -> Result<(Vec<Answer>, Connection<S>), Unavailable>
     ensures one_each { IfOk result (λ done. length done.0.items ≡ length arrivals.now) }
-    ensures headline { IfOk result (λ done. HasCleanDisk (state S.Store done.1) → (end : Hall) × Headline (created admin digest) (exchanges place arrivals.now done.0.items) end) }
+    ensures headline { IfOk result (λ done. HasCleanDisk (state S.Store done.1) → IsBlank (state S.Store conn) → (end : Hall) × Headline (created admin digest) (exchanges place arrivals.now done.0.items) end) }
 {
     let Ok(store) = SqlStore::create(alloc, conn, admin, digest) else {
         return Err(Unavailable);

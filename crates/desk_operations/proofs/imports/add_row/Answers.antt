@@ -1,5 +1,5 @@
-use Rattle.std.proofs.{Common.{◌≡◌, string_bytes}, KnownBytes.Appends-nil}
-use Rattle.desk_operations.{specs.{Prelude.{site_of, store_of}, Import.row_line}, proofs.ImportLemmas.{if_err_of, row_done, row_refused, row_stopped}}
+use Rattle.std.proofs.{Common.{◌≡◌, ◌∙◌, ap, string_bytes}, KnownBytes.Appends-nil}
+use Rattle.desk_operations.{specs.{Prelude.{site_of, store_of}, Import.{is_ok, row_line}}, proofs.ImportLemmas.{if_err_of, row_done, row_refused, row_stopped}}
 use Rattle.desk_operations.proofs.imports.add_row.Goals as goal
 
 pub returns-in_err-reply-clause-stopped : goal.returns-in_err-reply-clause-stopped
@@ -37,3 +37,6 @@ returns-clause-done g c = λ clean h held sound.
     (store_of c.answer_row.new.desk) c.args.row.now _ c.in-Http.status c.in-Http.kind c.in-Http.body c.in-Http.is
     c.args.number (g.W.Write.contents c.args.writer.now) (g.W.Write.contents c.write_text.new.writer) c.as_str-2.result.now said c.in_ok-write_text.ensures.written
     h (c.in_ok-reply.ensures.answered clean h held sound)
+
+pub returns-clause-settled : goal.returns-clause-settled
+returns-clause-settled g c = λ clean ok. c.in_ok-reply.ensures.settled clean (ap is_ok c.in-Http.is ∙ ok)

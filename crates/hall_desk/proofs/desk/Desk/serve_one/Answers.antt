@@ -1,5 +1,5 @@
 use Rattle.std.proofs.Common.{inl, inr, refl, sym, subst}
-use Rattle.hall_desk.{specs.{Desk.{site_of, store_of}, Headline.{HasHistory, requested}, HistoryLaws.{after_answer, after_served, nothing_came, request_stop}, Stops.{IsLeft, OrSomeRequest}}, proofs.ServedLemmas.served_from}
+use Rattle.hall_desk.{specs.{Desk.{site_of, store_of}, Headline.{HasHistory, requested}, HistoryLaws.{after_answer, after_served, nothing_came, request_stop, settled_served, settles}, Stops.{IsLeft, IsSettled, OrSomeRequest}}, proofs.ServedLemmas.served_from}
 use Rattle.hall_desk.proofs.desk.Desk.serve_one.Goals as goal
 
 pub returns-in-Some-clause-served : goal.returns-in-Some-clause-served
@@ -36,3 +36,21 @@ returns-in-Some-clause-stop g c = λ clean origin past was.
     let it = c.in-Some.ensures.some clean in
     request_stop (record { laws = c.histories_keep_the_laws.ensures }) g.S.HallStore (store_of c.args.self.now) (store_of c.take_request.new.self)
     (site_of c.args.self.now) origin past was it.0 c.args.moment c.args.fresh c.in-Some.answer it.1
+
+pub returns-in-Some-clause-settled : goal.returns-in-Some-clause-settled
+returns-in-Some-clause-settled g c = λ clean.
+    settled_served (record { laws = c.histories_keep_the_laws.ensures }) g.S.HallStore
+    (store_of c.args.self.now) (store_of c.take_request.new.self) (site_of c.args.self.now) _ _ _ _ _ _ (returns-in-Some-clause-served g c clean)
+
+pub returns-in-None-clause-goes_on_settled : goal.returns-in-None-clause-goes_on_settled
+returns-in-None-clause-goes_on_settled g c = λ clean origin past was.
+    inl (subst (λ desk. IsSettled g.S.HallStore (store_of desk) origin past) (sym c.in-None.ensures.same) was)
+
+pub returns-in-Some-clause-goes_on_settled : goal.returns-in-Some-clause-goes_on_settled
+returns-in-Some-clause-goes_on_settled g c = λ clean origin past was.
+    let it = c.in-Some.ensures.some clean in inr (
+      it.0,
+      c.in-Some.answer,
+      settles (record { laws = c.histories_keep_the_laws.ensures }) g.S.HallStore (store_of c.args.self.now) (store_of c.take_request.new.self)
+          (site_of c.args.self.now) origin past was it.0 c.args.moment c.args.fresh c.in-Some.answer it.1,
+    )
