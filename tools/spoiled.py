@@ -45,6 +45,6 @@ def end(tool, checks, failed, whole=""):
 
 
 def end_without_compiler(tool):
-    """Ends a tool that has nothing to check where no C compiler is found."""
+    """Ends a tool that can check nothing where no C compiler is found: it has failed."""
     if compiler() is None:
-        end(tool, 0, 0, "left out: no C compiler")
+        end(tool, 1, 1, "there is no C compiler")

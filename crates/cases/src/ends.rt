@@ -35,23 +35,38 @@ impl<'a> Read for Slow<'a> {
     }
 }
 
-/// A writer that takes so many octets and then fails.
+/// A writer that takes so many octets, and then fails or takes none. It can't be flushed.
 #[derive(Drop)]
 pub struct Short {
     pub taken: Vec<u8>,
     room: usize,
+    takes_none: bool,
 }
 
 impl Short {
+    /// One that fails then.
     pub fn new(taken: Vec<u8>, room: usize) -> Short {
-        Short { taken, room }
+        Short {
+            taken,
+            room,
+            takes_none: false,
+        }
+    }
+
+    /// One that takes none then.
+    pub fn full(taken: Vec<u8>, room: usize) -> Short {
+        Short {
+            taken,
+            room,
+            takes_none: true,
+        }
     }
 }
 
 impl Write for Short {
     fn write(&mut self, octets: &[u8]) -> IoResult<usize> {
         let count = octets.len().min(self.room);
-        if count == 0 && !octets.is_empty() {
+        if count == 0 && !octets.is_empty() && !self.takes_none {
             return Err(Error::from(ErrorKind::Other));
         }
         self.taken.extend_from_slice(octets.split_at(count).0)?;
@@ -60,6 +75,6 @@ impl Write for Short {
     }
 
     fn flush(&mut self) -> IoResult<()> {
-        Ok(())
+        Err(Error::from(ErrorKind::Other))
     }
 }

@@ -15,6 +15,7 @@ mod requests;
 mod runs;
 mod scripts;
 mod sockets;
+mod texts;
 mod values;
 
 use cases::{CaseFault, CaseFile, Comparison, Out, Played, Player, first, play_cases};
@@ -49,6 +50,7 @@ fn play_lower(kind: &str, rest: &str, out: &mut Out) -> Played {
         "life" => life::life(rest, out),
         "decide" => decisions::decide(rest, out),
         "enlist" => decisions::enlisted(rest, out),
+        "text" => texts::text(rest, out),
         _ => Err(CaseFault::Act),
     }
 }

@@ -84,8 +84,8 @@ fn word_fault(fault: WordFault) -> CaseFault {
     }
 }
 
-// The image live64 with these arguments.
-fn image_of(alloc: Global, args: &str) -> Result<Result<Image, ImageFault>, CaseFault> {
+/// The image live64 with these arguments.
+pub(crate) fn image_of(alloc: Global, args: &str) -> Result<Result<Image, ImageFault>, CaseFault> {
     let mut words = Vec::new(alloc);
     for word in args.split_ascii_whitespace() {
         words.push(Word::new(alloc, word).map_err(word_fault)?)?;

@@ -4,7 +4,7 @@ use hall_sql::SqlStore;
 use hall_store::HallStore;
 use hall_types::{Digest, Name};
 use play_log::{ADA, admin, is_arrival};
-use play_store::{Asked, Fresh, Hall, Looked, Tables, Way};
+use play_store::{Asked, Fresh, Hall, Looked, Tables, Way, is_refused};
 use std::alloc::Global;
 use store_memory::MemoryStore;
 
@@ -12,11 +12,18 @@ use store_memory::MemoryStore;
 pub trait Begun: HallStore + Drop {
     /// A new hall with this administrator.
     fn begin(alloc: Global, name: Name, digest: Digest) -> Result<Self, CaseFault>;
+
+    /// The store opened again over what it has.
+    fn again(self, alloc: Global) -> Result<Self, CaseFault>;
 }
 
 impl Begun for MemoryStore {
     fn begin(alloc: Global, name: Name, digest: Digest) -> Result<MemoryStore, CaseFault> {
         MemoryStore::create(alloc, name, digest).map_err(|_| CaseFault::Memory)
+    }
+
+    fn again(self, _alloc: Global) -> Result<MemoryStore, CaseFault> {
+        Ok(self)
     }
 }
 
@@ -24,6 +31,11 @@ impl<A: Fresh> Begun for SqlStore<A> {
     fn begin(alloc: Global, name: Name, digest: Digest) -> Result<SqlStore<A>, CaseFault> {
         let conn = A::fresh(alloc)?;
         SqlStore::create(alloc, conn, name, digest).map_err(|_| CaseFault::Memory)
+    }
+
+    fn again(self, alloc: Global) -> Result<SqlStore<A>, CaseFault> {
+        let conn = self.into_connection().into_store().again(alloc)?;
+        SqlStore::open(alloc, conn).map_err(|_| CaseFault::Memory)
     }
 }
 
@@ -37,6 +49,18 @@ pub fn begin_hall<S: Begun>(
     let (name, digest) = admin(words)?;
     let store = S::begin(alloc, name, digest)?;
     Ok(Hall::new(store, way, asked, Looked::nothing(alloc)))
+}
+
+// What is compared with the answers to arrivals where a run has no memory for them.
+const NO_RUN: &str = "out of memory";
+
+// How many arrivals there are up to the first that was refused.
+fn count_to_refused(acts: &[&str], answers: &[String]) -> usize {
+    let mut answered = acts.iter().zip(answers);
+    match answered.position(|(act, answer)| is_refused(act, answer.as_str())) {
+        Some(at) => at.saturating_add(1),
+        None => acts.len(),
+    }
 }
 
 /// Halls over stores of one kind, one after the other.
@@ -67,22 +91,61 @@ impl<S: Begun> Halls<S> {
         Ok(())
     }
 
-    // Answers the arrivals at these places by one run, and compares the answers.
+    // Opens the store again that a fault has shut, before anything else comes, as a service does. Whether it was shut.
+    fn open_again(&mut self, alloc: Global) -> Result<bool, CaseFault> {
+        let Some(hall) = &mut self.hall else {
+            return Ok(false);
+        };
+        let Some(store) = hall.take_shut() else {
+            return Ok(false);
+        };
+        hall.put_opened(store.again(alloc)?);
+        Ok(true)
+    }
+
+    // Answers arrivals by one run, and compares the answers. How many came: all; or, where a fault has shut the store, those up to the first
+    // that was refused.
+    fn run_some(
+        &mut self,
+        file: &CaseFile<'_>,
+        places: &[usize],
+        comparison: &mut Comparison,
+    ) -> Result<usize, CaseFault> {
+        let alloc = comparison.alloc();
+        let acts = places.iter().map(|at| file.act(*at).unwrap_or(""));
+        let acts: Vec<&str> = acts.collect(alloc)?;
+        let hall = self.hall.as_mut().ok_or(CaseFault::Form)?;
+        let Some(answers) = hall.run(alloc, acts.as_slice())? else {
+            for at in places {
+                comparison.compare(file, *at, NO_RUN);
+            }
+            return Ok(places.len());
+        };
+        let came = if self.open_again(alloc)? {
+            count_to_refused(acts.as_slice(), answers.as_slice())
+        } else {
+            places.len()
+        };
+        for (at, answer) in places.iter().zip(answers.as_slice()).take(came) {
+            comparison.compare(file, *at, answer.as_str());
+        }
+        Ok(came)
+    }
+
+    // Answers the arrivals at these places by one run. Where a fault shuts the store, those after the one that was refused come by another run.
     fn run(
         &mut self,
         file: &CaseFile<'_>,
         places: &[usize],
         comparison: &mut Comparison,
     ) -> Played {
-        let acts = places.iter().map(|at| file.act(*at).unwrap_or(""));
-        let acts: Vec<&str> = acts.collect(comparison.alloc())?;
-        if let Some(hall) = &mut self.hall
-            && !acts.is_empty()
-        {
-            let answers = hall.run(comparison.alloc(), acts.as_slice())?;
-            for (at, answer) in places.iter().zip(answers.as_slice()) {
-                comparison.compare(file, *at, answer.as_str());
+        let mut left = places;
+        for _ in 0..places.len() {
+            if left.is_empty() {
+                break;
             }
+            let came = self.run_some(file, left, comparison)?;
+            left = left.get(came..).unwrap_or(&[]);
         }
         Ok(())
     }
@@ -92,7 +155,11 @@ impl<S: Begun> Player for Halls<S> {
     fn play(&mut self, act: &str, out: &mut Out) -> Played {
         match (first(act), &mut self.hall) {
             (("new", words), _) => self.begin(out.alloc(), words),
-            (_, Some(hall)) => hall.play(act, out),
+            (_, Some(hall)) => {
+                hall.play(act, out)?;
+                self.open_again(out.alloc())?;
+                Ok(())
+            }
             (_, None) => Err(CaseFault::Form),
         }
     }

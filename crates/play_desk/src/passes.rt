@@ -14,6 +14,8 @@ enum Kind {
     Halls,
     /// Halls, each arrival by itself only.
     Once,
+    /// Halls, arrivals by runs only.
+    Runs,
     Tables,
     Stops,
 }
@@ -27,6 +29,9 @@ fn kind_of(name: &str) -> Kind {
     }
     if name.ends_with(".once.cases") {
         return Kind::Once;
+    }
+    if name.ends_with(".runs.cases") {
+        return Kind::Runs;
     }
     Kind::Halls
 }
@@ -78,6 +83,7 @@ impl<'a> Pass<'a> {
                 "{store}, by runs: {counts}, {arrivals} arrivals in {runs} runs\n"
             )),
             Way::Served => out.show(format_args!("{store}, served: {counts}\n")),
+            Way::Stepped => out.show(format_args!("{store}, by steps: {counts}\n")),
             Way::Failing => out.show(format_args!(
                 "{store}, each call failing: {counts}, {failed} calls failed\n"
             )),
@@ -95,12 +101,22 @@ fn play_way<S: Begun>(rt: &HostRuntime, names: &[String], store: &str, way: Way)
     if way == Way::Alone {
         pass.play(Kind::Once, &mut halls)?;
     }
+    if way == Way::Together {
+        pass.play(Kind::Runs, &mut halls)?;
+    }
     pass.print_halls(store, way, halls.asked())
 }
 
 // Plays halls over stores of one kind in each way.
 fn play_halls<S: Begun>(rt: &HostRuntime, names: &[String], store: &str) -> Played {
-    for way in [Way::Alone, Way::Together, Way::Served, Way::Failing] {
+    let ways = [
+        Way::Alone,
+        Way::Together,
+        Way::Served,
+        Way::Stepped,
+        Way::Failing,
+    ];
+    for way in ways {
         play_way::<S>(rt, names, store, way)?;
     }
     Ok(())

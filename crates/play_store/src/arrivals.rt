@@ -3,6 +3,8 @@ use crate::hall::Hall;
 use cases::{CaseFault, Out, Played};
 use desk_lines::{arrival_members, arrival_text, is_of_note};
 use hall_desk::{Answer, Arrival, Desk, Input};
+use hall_events::{Event, Reply};
+use hall_http::{bytes_of, event_of, is_response};
 use hall_store::HallStore;
 use play_log::{arrival, push_answer};
 use pxe_vendor::Octets;
@@ -54,7 +56,53 @@ fn push_fronts<S: HallStore>(desk: &mut Desk<S>, arrival: &Arrival, out: &mut Ou
     Ok(())
 }
 
+// The event of what came, if it is that of a request or of a quiet moment.
+fn event_in(alloc: Global, input: &Input) -> Option<Event> {
+    match input {
+        Input::Datagram { .. } => None,
+        Input::Request(octets) => event_of(alloc, octets.as_slice()).ok(),
+        Input::Quiet => Some(Event::Quiet),
+    }
+}
+
+// The answer that a reply is.
+fn answer_of(alloc: Global, reply: &Reply) -> Result<Answer, CaseFault> {
+    match reply {
+        Reply::Http { status, .. } if is_response(reply) => Ok(Answer::Response {
+            status: *status,
+            octets: Octets::from(bytes_of(alloc, reply)?),
+        }),
+        Reply::Nothing => Ok(Answer::Silence),
+        _ => Err(CaseFault::Form),
+    }
+}
+
+// Carries an event out by one step of a desk.
+fn step_of<S: HallStore>(
+    desk: &mut Desk<S>,
+    alloc: Global,
+    event: &Event,
+    arrival: &Arrival,
+) -> Result<Answer, CaseFault> {
+    match desk.step(alloc, event, arrival.moment, arrival.fresh) {
+        Ok(reply) => answer_of(alloc, &reply),
+        Err(_) => Err(CaseFault::Unavailable),
+    }
+}
+
 impl<S: HallStore + Drop> Hall<S> {
+    /// Carries the event of an arrival out by one step of a desk, if it is that of a request or of a quiet moment; all else is answered.
+    pub(crate) fn step(&mut self, words: &str, out: &mut Out) -> Played {
+        let arrival = arrival(out.alloc(), words)?;
+        let mut desk = self.take_desk(out.alloc())?;
+        let answer = match event_in(out.alloc(), &arrival.input) {
+            Some(event) => step_of(&mut desk, out.alloc(), &event, &arrival),
+            None => Ok(desk.answer(out.alloc(), &arrival)),
+        };
+        self.put_back(desk.into_store());
+        push_answer(out, &arrival.input, &answer?)
+    }
+
     /// Answers an arrival.
     pub(crate) fn arrive(&mut self, words: &str, out: &mut Out) -> Played {
         let arrival = arrival(out.alloc(), words)?;
@@ -96,18 +144,19 @@ impl<S: HallStore + Drop> Hall<S> {
         pushed
     }
 
-    /// Answers arrivals by one run of a desk over the store: the answers.
-    pub fn run(&mut self, alloc: Global, acts: &[&str]) -> Result<Vec<String>, CaseFault> {
+    /// Answers arrivals by one run of a desk over the store: the answers, or none where the run had no memory for them.
+    pub fn run(&mut self, alloc: Global, acts: &[&str]) -> Result<Option<Vec<String>>, CaseFault> {
         let arrivals = acts.iter().map(|act| arrival(alloc, act));
         let arrivals: Vec<Arrival> = arrivals.try_collect(alloc)?;
         let mut desk = self.take_desk(alloc)?;
         let answers = desk.run(alloc, arrivals.as_slice());
         self.put_back(desk.into_store());
         self.asked.note_run(acts.len());
-        let answers = answers?;
+        let Ok(answers) = answers else {
+            return Ok(None);
+        };
         let answered = arrivals.iter().zip(answers.as_slice());
-        answered
-            .map(|(arrival, answer)| text_of(alloc, &arrival.input, answer))
-            .try_collect(alloc)
+        let texts = answered.map(|(arrival, answer)| text_of(alloc, &arrival.input, answer));
+        Ok(Some(texts.try_collect(alloc)?))
     }
 }

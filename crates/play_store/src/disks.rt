@@ -99,6 +99,9 @@ impl Made for Fuse<Memory> {
 pub trait Fresh: Alter + Drop {
     /// A connection over no tables.
     fn fresh(alloc: Global) -> Result<Connection<Self>, CaseFault>;
+
+    /// A connection over the tables of a store that a fault has shut, whose files are closed.
+    fn again(self, alloc: Global) -> Result<Connection<Self>, CaseFault>;
 }
 
 impl<D: Made> Fresh for FileStore<D> {
@@ -106,6 +109,10 @@ impl<D: Made> Fresh for FileStore<D> {
         let log = D::made(alloc)?;
         let db = D::made(alloc)?;
         connect(alloc, Files { log, db }).map_err(|_| CaseFault::Memory)
+    }
+
+    fn again(self, alloc: Global) -> Result<Connection<FileStore<D>>, CaseFault> {
+        connect(alloc, self.close()).map_err(|_| CaseFault::Memory)
     }
 }
 

@@ -30,12 +30,17 @@ fn request_of(words: &str, out: &Out) -> Result<Arrival, CaseFault> {
     }
 }
 
+// A writer that takes all.
+fn roomy(out: &Out) -> Short {
+    Short::new(Vec::new(out.alloc()), usize::MAX)
+}
+
 impl<S: HallStore + Drop> Hall<S> {
-    // Serves a request, by a writer that fails after so many octets.
-    fn served(&mut self, arrival: &Arrival, reads: Reads, room: usize, out: &Out) -> Ended {
+    // Serves a request to a writer.
+    fn served(&mut self, arrival: &Arrival, reads: Reads, writer: Short, out: &Out) -> Ended {
         let (step, fails_at) = reads;
         let mut reader = Noted::new(Slow::new(octets_of(&arrival.input), step, fails_at));
-        let mut writer = Noted::new(Short::new(Vec::new(out.alloc()), room));
+        let mut writer = Noted::new(writer);
         let mut desk = self.take_desk(out.alloc())?;
         let (alloc, moment, fresh) = (out.alloc(), arrival.moment, arrival.fresh);
         let end = request(alloc, &mut desk, &mut reader, &mut writer, moment, fresh);
@@ -44,9 +49,9 @@ impl<S: HallStore + Drop> Hall<S> {
     }
 
     // Serves a request, and prints its response, or the fault's name.
-    fn serve_with(&mut self, words: &str, reads: Reads, room: usize, out: &mut Out) -> Played {
+    fn serve_with(&mut self, words: &str, reads: Reads, writer: Short, out: &mut Out) -> Played {
         let arrival = request_of(words, out)?;
-        let (end, octets) = self.served(&arrival, reads, room, out)?;
+        let (end, octets) = self.served(&arrival, reads, writer, out)?;
         if end.is_ok() {
             push_response(out, octets.as_slice())?;
         }
@@ -55,7 +60,7 @@ impl<S: HallStore + Drop> Hall<S> {
 
     /// Serves a request.
     pub(crate) fn serve(&mut self, words: &str, out: &mut Out) -> Played {
-        self.serve_with(words, ALL, usize::MAX, out)
+        self.serve_with(words, ALL, roomy(out), out)
     }
 
     /// An import or a request, `ROOM ACT`, by a writer that takes so many octets and then fails.
@@ -64,8 +69,15 @@ impl<S: HallStore + Drop> Hall<S> {
         let room = number(octets)? as usize;
         match act.strip_prefix("import ") {
             Some(words) => self.import(room, words, out),
-            None => self.serve_with(act, ALL, room, out),
+            None => self.serve_with(act, ALL, Short::new(Vec::new(out.alloc()), room), out),
         }
+    }
+
+    /// A request, `ROOM REQUEST`, by a writer that takes so many octets and then none.
+    pub(crate) fn full(&mut self, words: &str, out: &mut Out) -> Played {
+        let (octets, act) = first(words);
+        let room = number(octets)? as usize;
+        self.serve_with(act, ALL, Short::full(Vec::new(out.alloc()), room), out)
     }
 
     /// A request, `STEP CALL REQUEST`, by a reader that gives so many octets a read at most, and fails at that read, or at none where CALL is
@@ -74,7 +86,7 @@ impl<S: HallStore + Drop> Hall<S> {
         let (step, words) = first(words);
         let (call, act) = first(words);
         let reads = (number(step)? as usize, call.parse::<u64>().ok());
-        self.serve_with(act, reads, usize::MAX, out)
+        self.serve_with(act, reads, roomy(out), out)
     }
 
     /// Serves a request from a reader of one octet a read that fails at its first read, at its second and so on, up to that of the last
@@ -83,7 +95,7 @@ impl<S: HallStore + Drop> Hall<S> {
         let arrival = request_of(words, out)?;
         let mut failed = 0u64;
         for read in 1..=octets_of(&arrival.input).len() as u64 {
-            let (end, octets) = self.served(&arrival, (1, Some(read)), usize::MAX, out)?;
+            let (end, octets) = self.served(&arrival, (1, Some(read)), roomy(out), out)?;
             if end == Err(Fault::Io) && octets.is_empty() {
                 failed = failed.saturating_add(1);
             } else {
@@ -100,7 +112,8 @@ impl<S: HallStore + Drop> Hall<S> {
         let arrival = request_of(words, out)?;
         let mut front = Vec::new(out.alloc());
         for room in 0..MAX_PLACES {
-            let (end, octets) = self.served(&arrival, ALL, room, out)?;
+            let writer = Short::new(Vec::new(out.alloc()), room);
+            let (end, octets) = self.served(&arrival, ALL, writer, out)?;
             if !octets.starts_with(front.as_slice()) {
                 out.show(format_args!("other octets before {room}, "));
             }

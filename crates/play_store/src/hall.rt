@@ -19,6 +19,8 @@ pub enum Way {
     Together,
     /// Each by itself, a request from a reader to a writer.
     Served,
+    /// Each by itself, the event of a request or of a quiet moment by one step of a desk.
+    Stepped,
     /// Each by itself, over the store that fails at its first call, then at its second and so on, until it isn't refused.
     Failing,
 }
@@ -52,8 +54,8 @@ pub struct Hall<S> {
     pub(crate) looked: Looked,
 }
 
-// Whether an act was answered as one that counts as not having come.
-fn is_refused(act: &str, answer: &str) -> bool {
+/// Whether an act was answered as one that counts as not having come.
+pub fn is_refused(act: &str, answer: &str) -> bool {
     answer.starts_with("503 ")
         || answer == "unavailable"
         || (answer == "silence" && act.starts_with("frame "))
@@ -75,6 +77,16 @@ impl<S: HallStore + Drop> Hall<S> {
     /// The store, if nothing has it now, and what was looked at.
     pub fn into_parts(self) -> (Option<S>, Looked) {
         (self.store, self.looked)
+    }
+
+    /// The store that a fault has shut, so that it can't be read any more. It has to be opened again and put back.
+    pub fn take_shut(&mut self) -> Option<S> {
+        self.store.take_if(|store| store.numbers().is_err())
+    }
+
+    /// Puts a store back that was opened again.
+    pub fn put_opened(&mut self, store: S) {
+        self.store = Some(store);
     }
 
     /// The store, which may fail at a call. It has to be put back.
@@ -108,12 +120,14 @@ impl<S: HallStore + Drop> Hall<S> {
             "adopt" => self.adopt(words, out),
             "serve" => self.serve(words, out),
             "short" => self.short(words, out),
+            "full" => self.full(words, out),
             "slow" => self.slow(words, out),
             "cuts" => self.cuts(words, out),
             "reads_fail" => self.fail_reads(words, out),
             "writes_fail" => self.fail_writes(words, out),
-            "frame" | "quiet" => self.arrive(act, out),
             _ if !is_arrival(kind) => self.report(kind, words, out),
+            _ if self.way == Way::Stepped => self.step(act, out),
+            "frame" | "quiet" => self.arrive(act, out),
             _ if self.way == Way::Served => self.serve(act, out),
             _ => self.arrive(act, out),
         }

@@ -13,7 +13,7 @@
 //! - `adopt MOMENT OWNER POWER ADMIN IMAGE MACHINE ..` adopts running servers, by three digests of tokens, `-` for no admin's, and prints
 //!   what is printed for them;
 //! - `serve REQUEST` answers a request from a reader to a writer; `short ROOM ACT` an import or a request with a writer that takes so many
-//!   octets and then fails; `slow STEP CALL REQUEST` a request from a reader that gives so many octets a read at most, and fails at that
+//!   octets and then fails; `full ROOM REQUEST` a request with one that takes so many and then none; `slow STEP CALL REQUEST` a request from a reader that gives so many octets a read at most, and fails at that
 //!   read, the first being 1, or at none where CALL is `-`. The fault's name is printed where one of them failed;
 //! - `reads_fail REQUEST` answers a request from a reader of one octet a read that fails at its first read, at its second and so on, up to that
 //!   of the last octet, and prints how many failed; `writes_fail REQUEST` to a writer that fails before the first octet, after it and so
@@ -52,6 +52,6 @@ pub use asked::Asked;
 pub use budgets::play_in_budgets;
 pub use changes::change;
 pub use disks::{Fresh, Image, Made, Which};
-pub use hall::{Hall, Looked, Way};
+pub use hall::{Hall, Looked, Way, is_refused};
 pub use stops::{Run, Seen, Stopped};
 pub use tables::Tables;
