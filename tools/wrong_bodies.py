@@ -1,11 +1,11 @@
 #!/usr/bin/env python3
-"""Plays stored runs with wrong bodies. Each file below tools/wrong_bodies/CRATE is like a must-fail edit of that crate (CONTRIBUTING.md), but that it
-begins with the case that shows it, `shown: PROGRAM FILE CASE`: with the body that the edit makes, what comes of this case must differ. Nothing is
-proved; each takes a minute or two of a processor, four where its program is over SQLite.
+"""Plays stored runs with wrong bodies. A must-fail edit (CONTRIBUTING.md) that begins with `shown: PROGRAM FILE CASE` names a case that shows it: with
+the body that the edit makes, what comes of this case must differ. Nothing is proved here: the gate has the prover refuse each edit. Each takes a minute
+or two of a processor, four where its program is over SQLite.
 
-Usage: wrong_bodies.py [NAME..]          all, or those of these crates, or these edits; three at a time, or as PLAYS_AT_ONCE says
-       wrong_bodies.py --check           that each edit can be made, and that its case is there: plays nothing
-       wrong_bodies.py --prove [NAME..]  has the prover refuse them, in place of playing: proves all crates below theirs first"""
+Usage: wrong_bodies.py [NAME..]   plays all, or those of these crates, or these edits; three at a time, or as PLAYS_AT_ONCE says
+       wrong_bodies.py --check    looks at every edit of every crate, whether it can be made, its case is there, and docs/PROVED.md has a row for
+                                  it: plays nothing. A look is no check: counted are those that fail"""
 import concurrent.futures
 import glob
 import os
@@ -16,7 +16,7 @@ import sys
 import tempfile
 
 TOP = os.path.dirname(os.path.dirname(os.path.abspath(__file__)))
-BODIES = f"{TOP}/tools/wrong_bodies"
+EDITS = f"{TOP}/crates/*/must-fail/*.edit"
 PARTS = ("src", "specs", "proofs", "data", "stdin", "stdout", "args")
 
 
@@ -36,24 +36,16 @@ def copy_to(folder):
         shutil.copytree(part, to) if os.path.isdir(part) else shutil.copyfile(part, to)
 
 
-def prove(bodies):
-    """The status of a run in which the prover must refuse each."""
-    with tempfile.TemporaryDirectory(prefix="wrong-bodies-") as folder:
-        copy_to(folder)
-        for body in bodies:
-            os.makedirs(f"{folder}/crates/{body.crate}/must-fail", exist_ok=True)
-            shutil.copy(body.edit, f"{folder}/crates/{body.crate}/must-fail")
-        return subprocess.run(["rt", "must-fail", *sorted({it.crate for it in bodies})], cwd=folder).returncode
-
-
 class WrongBody:
-    """An edit of a crate's body, and the case that shows it."""
+    """An edit of a crate's body, and the case that shows it, if it names one."""
 
     def __init__(self, file):
-        self.crate, self.name = os.path.relpath(file, BODIES).removesuffix(".edit").split("/")
+        _, self.crate, _, name = os.path.relpath(file, TOP).split("/")
+        self.name = name.removesuffix(".edit")
         lines = [line.partition(": ")[::2] for line in text_of(file).splitlines()]
-        self.program, self.file, self.case = next(said for word, said in lines if word == "shown").split(" ", 2)
-        self.edit, self.edits, at = file, [], None
+        shown = next((said for word, said in lines if word == "shown"), None)
+        self.program, self.file, self.case = shown.split(" ", 2) if shown else (None, None, None)
+        self.edits, at = [], None
         for word, said in lines:
             if word == "file":
                 at = said
@@ -65,6 +57,8 @@ class WrongBody:
     def texts(self):
         """The files that the edit changes, with the texts that it makes of them."""
         made = {}
+        if not self.edits:
+            raise ValueError("it changes nothing")
         for file, old, new in self.edits:
             text = made.get(file) or text_of(f"{TOP}/{file}")
             if text.count(old) != 1:
@@ -95,28 +89,41 @@ class WrongBody:
         return False
 
 
-def tried(body, only_looks):
-    """Says what came of one, and returns whether it is shown."""
+def looked_at(body, rows):
+    """Says why an edit can't be made, or that its case or its row isn't there, and returns whether all is well."""
     try:
-        body.texts(), body.played()
-        is_shown = only_looks or body.differs()
-        why = "not shown by"
+        body.texts()
+        if body.case:
+            body.played()
+        if f"| {body.crate}: `{body.name}` |" not in rows:
+            raise ValueError("docs/PROVED.md has no row for it")
+    except (OSError, ValueError) as fault:
+        print(f"{body.crate}/{body.name}: {fault}")
+        return False
+    return True
+
+
+def tried(body):
+    """Says what came of one, and returns whether its case shows it."""
+    try:
+        is_shown, why = body.differs(), "not shown by"
     except (OSError, ValueError) as fault:
         is_shown, why = False, f"{fault}; it is to be shown by"
-    if not is_shown or not only_looks:
-        print(f"{body.crate}/{body.name}: {'shown by' if is_shown else why} {body.program}, {body.case}", flush=True)
+    print(f"{body.crate}/{body.name}: {'shown by' if is_shown else why} {body.program}, {body.case}", flush=True)
     return is_shown
 
 
 def main(names):
-    only_looks, proves = "--check" in names, "--prove" in names
-    names = {*names} - {"--check", "--prove"}
-    bodies = [WrongBody(file) for file in sorted(glob.glob(f"{BODIES}/*/*.edit"))]
-    bodies = [it for it in bodies if not names or {it.crate, it.name, f"{it.crate}/{it.name}"} & names]
-    if proves:
-        return prove(bodies)
+    bodies = [WrongBody(file) for file in sorted(glob.glob(EDITS))]
+    if names == ["--check"]:
+        rows = text_of(f"{TOP}/docs/PROVED.md")
+        failed = [looked_at(body, rows) for body in bodies].count(False) + (not bodies)
+        print(f"wrong_bodies: {failed} checks, {failed} failed ({len(bodies)} edits looked at)")
+        return 1 if failed else 0
+    wanted = {*names}
+    bodies = [it for it in bodies if it.case and (not wanted or {it.crate, it.name, f"{it.crate}/{it.name}"} & wanted)]
     with concurrent.futures.ThreadPoolExecutor(int(os.environ.get("PLAYS_AT_ONCE", "3"))) as at_once:
-        shown = list(at_once.map(lambda body: tried(body, only_looks), bodies))
+        shown = list(at_once.map(tried, bodies))
     failed = shown.count(False) + (not bodies)
     print(f"wrong_bodies: {max(len(shown), 1)} checks, {failed} failed ({len({it.crate for it in bodies})} crates)")
     return 1 if failed else 0
