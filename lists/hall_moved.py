@@ -227,13 +227,18 @@ def lines_of(path):
 
 
 def first_moment(path):
-    """The first moment of a log's file, by which files are put in order."""
+    """The first moment of a log's file."""
     one = Log()
     for line in lines_of(path):
         one.line(line)
         if one.first is not None:
             return one.first
     return 0
+
+
+def place(path):
+    """By what files are put in order: two that begin in one second, by when they were last written."""
+    return first_moment(path), os.stat(path).st_mtime_ns
 
 
 # ---- A hall: of the copy, and as the log has it
@@ -252,6 +257,7 @@ class Machine:
     deadline: int | None = None
     waiting: int | None = None
     changed: int | None = None
+    is_cut_off: bool = False    # the last move of the log ended work, and its live image hasn't said so
     is_doubtful: bool = False
 
 
@@ -393,6 +399,7 @@ def enter(machine, it):
     elif it.after not in RESCUE:
         machine.back = None
     machine.status, machine.locked = it.after, False
+    machine.is_cut_off = it.before in WORK and it.boot is None
     if machine.owner and machine.image:
         machine.is_doubtful = False
 
@@ -562,6 +569,8 @@ OWNED["Failed disk erasing"] = OWNED["Failed releasing"]
 def mend_resting(one, old, start, now):
     """Nothing runs on it: it is brought to where the log has it, or as near as nothing has to run for it."""
     owner = now.owner if now.status in OWNED else None
+    if now.is_cut_off:
+        one.looks.append("Its live image may still be at work: look that it is off.")
     if now.status in OWNED and not owner:
         one.looks.append("Whose it is isn't in the log: find that out, and mend it by hand.")
         return
@@ -829,7 +838,7 @@ def read_log(words, base):
     if words.journal:
         log.journal(words.journalctl, (words.since or base.stamp or base.mtime) - A_WEEK)
     else:
-        for path in sorted(dict.fromkeys(map(os.path.realpath, words.log)), key=first_moment):
+        for path in sorted(dict.fromkeys(map(os.path.realpath, words.log)), key=place):
             log.file(path)
     if log.first is None:
         raise Refused("there is no line of a desk's log" + (f" in {' '.join(words.log)}" if words.log else " in the journal of hallboot"))

@@ -22,17 +22,18 @@ tools=(
     power_trial.sh
     moved_trial.sh
     mending_trial.sh
+    'world.py --sample'
     openapi_trial.sh
     'view_peer.sh pages clients halls'
     stop_everywhere.sh
     refuse_memory.sh
-    'old_file.sh 2'
+    old_file.sh
 )
 checks=0 failed=0
 for line in "${tools[@]}"; do
     read -ra words <<< "$line"
     status=0
-    timeout --kill-after=10 900 "$here/${words[0]}" "${words[@]:1}" > "$work/said" || status=$?
+    timeout --kill-after=10 1800 "$here/${words[0]}" "${words[@]:1}" > "$work/said" || status=$?
     cat "$work/said"
     read -r its_checks its_failed < <(sed -nE 's/^[a-z_]+: ([0-9]+) checks, ([0-9]+) failed.*/\1 \2/p' "$work/said" | tail -n 1)
     if [ $status != 0 ] && [ "${its_failed:-0}" = 0 ]; then

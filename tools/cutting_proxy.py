@@ -27,7 +27,7 @@ def read_request(client):
 
 
 def answer_to(request):
-    with socket.create_connection(("127.0.0.1", desk), timeout=10) as server:
+    with socket.create_connection(("127.0.0.1", desk), timeout=120) as server:
         server.sendall(request)
         octets = b""
         while piece := server.recv(65536):

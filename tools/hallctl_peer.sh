@@ -103,37 +103,50 @@ life() {
     ada machines --json
 }
 
-# A line that must end with this status, within these milliseconds, and say this, against the server of this way.
+# A line that must end with this status, and say this, against the server of this way.
 ends() {
-    way=$1 status=$2 limit=$3 says=$4; shift 4
-    begin=$(date +%s%3N) got=0
-    "$HALLCTL" --desk "http://127.0.0.1:$(port_of "$way")" --token-file ada "$@" > said 2> errors || got=$?
-    took=$(($(date +%s%3N) - begin))
+    way=$1 status=$2 says=$3 got=0; shift 3
+    timeout 800 "$HALLCTL" --desk "http://127.0.0.1:$(port_of "$way")" --token-file ada "$@" > said 2> errors || got=$?
     [ $got = $status ] || wrong "$way: hallctl $*: status $got and not $status"
-    [ $took -le $limit ] || wrong "$way: hallctl $*: $took ms and not $limit at most"
     grep -qF -- "$says" said errors || wrong "$way: hallctl $*: doesn't say: $says"
+    good
+}
+# How often the server of this way was asked is this much; the line before said it.
+asked() {
+    local often; often=$(grep -c "^asked $1\$" ways) || true
+    [ "$often" = "$2" ] || wrong "$1: asked $often times and not $2"
     good
 }
 port_of() { sed -n "s/^$1 //p" ways; }
 python3 "$here/strange_desk.py" > ways & started+=($!)
 comes 'servers that are no desk' grep -q '^list' ways
-ends error 3 5000 "this isn't the desk: http://127.0.0.1:$(port_of error)/commands answered 200, but not as the desk does" add-pool q
-ends error 3 5000 "this isn't the desk: http://127.0.0.1:$(port_of error)/machines answered 200" machines --json
+ends error 3 "this isn't the desk: http://127.0.0.1:$(port_of error)/commands answered 200, but not as the desk does" add-pool q
+asked error 1
+ends error 3 "this isn't the desk: http://127.0.0.1:$(port_of error)/machines answered 200" machines --json
+asked error 2
 [ -s said ] && wrong 'what is no answer of the desk is printed'
-ends refusal 3 5000 "it isn't known whether this was done" disable-operator eve
-ends refusal 3 5000 'the token waits in eve.token.new' add-operator eve --role user --new-token eve.token
+ends refusal 3 "it isn't known whether this was done" disable-operator eve
+ends refusal 3 'the token waits in eve.token.new' add-operator eve --role user --new-token eve.token
 [ ! -e eve.token ] && [ -s eve.token.new ] || wrong 'the token of an operator that was not added'
-ends gateway 0 7000 'operator eve added' add-operator eve --role user --new-token eve.token
+ends gateway 0 'operator eve added' add-operator eve --role user --new-token eve.token
+asked gateway 3
 [ -s eve.token ] && [ ! -e eve.token.new ] || wrong 'the token of an operator that was added'
-ends gateway 2 5000 'eve.token: there is a file already' add-operator eve --role user --new-token eve.token
-ends mute 3 4000 'no answer' --timeout 1 commission 1
-ends mute 3 4000 'no answer' --timeout 1 machines
-ends mute 3 4000 'no answer, after 1 seconds' wait 1 --for Ready --timeout 1
-ends mute 3 4000 'no answer, after 1 seconds' --timeout 1 wait 1 --for Ready
-ends refused 3 7000 'pool lab: not done (connection refused): say it again with --key' --timeout 4 add-pool lab
-ends slow 0 100000 '{"machines":[' --timeout 5 machines --json
+ends gateway 2 'eve.token: there is a file already' add-operator eve --role user --new-token eve.token
+# one that waits for long began before these, and still waits when they have ended: the time of each is its own
+"$HALLCTL" --desk "http://127.0.0.1:$(port_of mute)" --token-file ada --timeout 500 machines > long 2>&1 & long=$!
+started+=($long)
+comes 'the first question of the one that waits' grep -q '^asked mute' ways
+ends mute 3 'no answer' --timeout 1 commission 1
+ends mute 3 'no answer' --timeout 1 machines
+ends mute 3 'no answer, after 1 seconds' wait 1 --for Ready --timeout 1
+ends mute 3 'no answer, after 1 seconds' --timeout 1 wait 1 --for Ready
+ends refused 3 'pool lab: not done (connection refused): say it again with --key' --timeout 4 add-pool lab
+kill -0 $long 2> /dev/null || wrong "the one that waits for long has ended: $(head -c 300 long)"
+good
+kill $long; wait $long || true
+ends slow 0 '{"machines":[' --timeout 10 machines --json
 [ "$(($(wc -c < said) - 1))" = "$(port_of list)" ] || wrong 'a slow list is whole'
-ends many 0 120000 'machine 2000: deleted' delete --yes --keys night.keys $(seq 2000)
+ends many 0 'machine 2000: deleted' delete --yes --keys night.keys $(seq 2000)
 [ "$(wc -l < night.keys)" = 4000 ] && [ "$(stat -c %a night.keys)" = 600 ] || wrong 'the file of keys'
 grep -q '^machine 2000: delete, key [0-9a-f-]*, version 1: done$' night.keys || wrong 'the last key'
 

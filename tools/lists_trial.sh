@@ -11,4 +11,4 @@ umask 077
 work=$(mktemp -d)
 trap 'rm -rf "$work"' EXIT
 cd "$work"
-timeout --foreground --kill-after=10 300 python3 -B "$here/lists_trial.py" "$HALLBOOT" "$here/../lists/hall_lists.py"
+timeout --foreground --kill-after=10 1700 python3 -B "$here/lists_trial.py" "$HALLBOOT" "$here/../lists/hall_lists.py"

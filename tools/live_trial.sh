@@ -20,6 +20,6 @@ work=$(mktemp -d) ram=
 trap 'rm -rf "$work" "$ram"' EXIT
 ram=$(mktemp -d /dev/shm/live_trial.XXXXXX)
 status=0
-timeout --foreground --kill-after=10 600 python3 -B "$here/live_trial.py" "$script" "$ram" "$work" || status=$?
+timeout --foreground --kill-after=10 1700 python3 -B "$here/live_trial.py" "$script" "$ram" "$work" || status=$?
 [ $status -le 1 ] || echo "live_trial: ended with status $status" >&2
 exit $status

@@ -6,7 +6,7 @@
 set -euo pipefail
 here=$(cd "$(dirname "$0")" && pwd)
 top=$(dirname "$here")
-[ $# = 1 ] || { sed -n '2,5p' "$0" >&2; exit 2; }
+[[ $# = 1 && $1 != -* ]] || { sed -n '2,5p' "$0" >&2; exit 2; }
 for word in dpkg-deb strip gzip python3; do
     command -v "$word" > /dev/null || { echo "make_deb: $word is missing" >&2; exit 1; }
 done

@@ -1,7 +1,7 @@
 """Copies of a hall, for mending_trial.py: their moments, those of `serve --backup`, which are kept or refused, and what takes a copy; `serve --loopback`."""
 import datetime, os, re, shutil, sqlite3, subprocess, time
 from mending_reader import PATIENCE, Guide, Reader, comes, octets_of, text_in
-from moved_trial import URIS, Log
+from moved_trial import URIS, Log, next_second
 from served_hall import address, digest
 
 LONG_AGO = 1577836800    # 2020-01-01T00:00:00Z
@@ -52,7 +52,17 @@ def looks_at_moments(trial, hall, reader):
     trial.wants("hall-moved goes by it", f"the backup's moment is {text_of(moment)}, by the moment in the file" in said, said[:300])
     said = hall.run("restore", "--from", "cp.db")
     trial.wants("a restored hall has it", moment_in(hall.file) == moment, moment_in(hall.file))
-    trial.wants("restore prints when the file was last changed", f" of {text_of(LONG_AGO)}: " in said, said)
+    trial.wants("restore prints the moment in the copy", f" of {text_of(moment)}: " in said, said)
+    copied("early.db", "none.db")
+    with open("none.db", "r+b") as file:
+        file.seek(60)
+        file.write(bytes(4))
+    os.utime("none.db", (LONG_AGO, LONG_AGO))
+    next_second()
+    said = hall.run("restore", "--from", "none.db")
+    trial.wants("of a copy without a moment restore prints when it was last changed", f" of {text_of(LONG_AGO)}: " in said, said)
+    next_second()
+    hall.run("restore", "--from", "cp.db")
 
 
 def busy(hall, is_so):
@@ -96,9 +106,9 @@ def looks_at_refused(trial, hall):
     trial.wants("a copy with later numbers stays as it is", octets_of("behind/hall.db") == octets_of("later.db") and os.listdir("behind") == ["hall.db"], os.listdir("behind"))
     trial.wants("no copy is made meanwhile", not A_COPY.search(text_in("behind.log")), text_in("behind.log")[-300:])
     os.rename("behind/hall.db", "later.kept")
-    hall.stop()
-    hall.serve()
-    comes("a copy, once that one is moved away and the desk is started anew", lambda: busy(hall, lambda: A_COPY.search(text_in("behind.log"))), 60)
+    comes("a copy, once that one is moved away", lambda: busy(hall, lambda: A_COPY.search(text_in("behind.log"))), 60)
+    trial.wants("no copy is refused any more", (comes("another one", lambda: busy(hall, lambda: len(A_COPY.findall(text_in("behind.log"))) >= 2), 60),
+                REFUSED not in text_in("behind.log")[A_COPY.search(text_in("behind.log")).start():])[1], text_in("behind.log")[-300:])
     hall.stop()
 
 

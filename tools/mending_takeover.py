@@ -37,9 +37,9 @@ def looks_at_server(trial, hallboot, folder, macs):
     trial.wants("servers that start change nothing", not re.search(r"; machine \d+:", said), said[:500])
 
 
-# When an adoption is killed: after so many seconds, or where the hall's file or its log would have so many octets more. The kernel does that at the
-# octet, however fast the machine is
-KILLS = [0.005, 0.02, 0.08, 20_000, 60_000, 150_000, 300_000, 600_000]
+# When an adoption is killed: where the hall's file or its log would have so many octets more, or after so many seconds. The kernel does the first at the
+# octet, however fast the machine is; so these come first, and leave servers for the others
+KILLS = [20_000, 60_000, 150_000, 0.005, 0.02, 0.08, 300_000, 600_000]
 
 
 def size_of(path):
@@ -65,7 +65,7 @@ def killed(trial, reader, line, folder):
     midst = 0
     for limit in KILLS:
         if not is_killed(line, reader, folder, limit):
-            break
+            continue
         its = {state[1] for state in numbers_and_states(exported(reader, f"{folder}/hall.db"))}
         midst += its not in ({"New"}, {"Deployed"})
     it = subprocess.run(["bash", "--norc", "-c", line], cwd=folder, env=reader.its, stdin=subprocess.DEVNULL, capture_output=True, text=True, timeout=PATIENCE)

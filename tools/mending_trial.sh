@@ -16,4 +16,4 @@ work=$(mktemp -d)
 trap 'rm -rf "$work"' EXIT
 cd "$work"
 export FOLLOWED=$work/followed
-timeout --foreground --kill-after=10 600 python3 -B "$here/mending_trial.py" "$HALLBOOT" "$HALLCTL" "$@"
+timeout --foreground --kill-after=10 1700 python3 -B "$here/mending_trial.py" "$HALLBOOT" "$HALLCTL" "$@"

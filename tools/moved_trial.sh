@@ -12,4 +12,4 @@ umask 077
 work=$(mktemp -d)
 trap 'rm -rf "$work"' EXIT
 cd "$work"
-timeout --foreground --kill-after=10 800 python3 -B "$here/moved_trial.py" "$HALLBOOT" "$here/../lists/hall_moved.py" "${HALLCTL:-}"
+timeout --foreground --kill-after=10 1700 python3 -B "$here/moved_trial.py" "$HALLBOOT" "$here/../lists/hall_moved.py" "${HALLCTL:-}"

@@ -17,4 +17,4 @@ umask 077
 work=$(mktemp -d)
 trap 'rm -rf "$work"' EXIT
 cd "$work"
-timeout --foreground --kill-after=10 300 python3 -B "$here/power_trial.py" "$HALLBOOT" "$here/../power/hall_power.py"
+timeout --foreground --kill-after=10 1700 python3 -B "$here/power_trial.py" "$HALLBOOT" "$here/../power/hall_power.py"

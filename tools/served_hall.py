@@ -75,7 +75,7 @@ class Hall:
             tables.execute("UPDATE hall SET machine = ?", (count,))
         tables.close()
 
-    def ask(self, target, token=None, body=None, patience=10.0, source="127.0.0.1"):
+    def ask(self, target, token=None, body=None, patience=120.0, source="127.0.0.1"):
         """The answer to one request: its status and its body, if it came whole; else OSError."""
         head = f"{'GET' if body is None else 'POST'} {target} HTTP/1.1\r\nHost: desk\r\n"
         if token is not None:

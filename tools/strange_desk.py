@@ -1,7 +1,8 @@
 #!/usr/bin/env python3
-"""Answers like no desk, or like a desk at the end of a bad way, on a port for each way. Usage: strange_desk.py     Prints a line `WAY PORT` for each way:
-error and refusal: every request has status 200 and an object that no desk answers; gateway: the first two tries of a command have 502 and 504, then it is
-done; mute: nothing is answered; slow: the list of machines, 740 kB at 40 kB a second; refused: nobody listens; many: any machine is listed and deleted."""
+"""Answers like no desk, or like a desk at the end of a bad way, on a port for each way. Usage: strange_desk.py     Prints a line `WAY PORT` for each way,
+and `asked WAY` for each request: error and refusal: every request has status 200 and an object that no desk answers; gateway: the first two tries of a
+command have 502 and 504, then it is done; mute: nothing is answered, for ten minutes; slow: the list of machines, 740 kB at 40 kB a second; refused: nobody
+listens; many: any machine is listed and deleted."""
 import itertools, json, re, socket, threading, time
 
 
@@ -56,8 +57,9 @@ def read_request(client):
 def answered(client, way):
     with client:
         request = read_request(client)
+        print(f"asked {way}\n", end="", flush=True)
         if way == "mute":
-            time.sleep(60)
+            time.sleep(600)
         elif way == "slow":
             octets = response(200, LIST)
             for at in range(0, len(octets), 8000):

@@ -1,18 +1,19 @@
-"""Clients of hallview that are from elsewhere, wrong, idle or slow: for view_peer.py."""
+"""Clients of hallview that are from elsewhere, wrong, idle or slow: for view_peer.py. What is wanted is an order of events, since a machine may be busy:
+a page comes while the others are there, and they are cut off in what they do. How long a page takes is measured by view_figures.py."""
 import json
 import time
 
 from view_hall import NAME
-from view_served import LOOPBACK
+from view_served import LOOPBACK, PATIENCE
 
-SOON = 1.0            # seconds in which a page must come though others are slow
+TRIES = 20            # crowds of clients beside which a page is asked for, where a busy machine was late
 MANY = 300            # idle connections, more than are kept
 LONG_HEAD = 9_000     # octets, more than a head may have
 
 
-def status_of(view, octets, patience=5.0):
+def status_of(view, octets):
     """The status of what answers these octets; 0 where the connection is closed without one."""
-    with view.connect(patience) as s:
+    with view.connect() as s:
         came = b""
         try:
             s.sendall(octets)
@@ -27,8 +28,7 @@ class Many:
     """So many connections that wait. `with` closes them."""
 
     def __init__(self, view, count):
-        self.view, self.before = view, view.descriptors()
-        self.all = [view.connect() for _ in range(count)]
+        self.view, self.all = view, [view.connect() for _ in range(count)]
 
     def __enter__(self):
         return self
@@ -45,23 +45,39 @@ class Many:
             except ConnectionError:
                 pass
 
-    def are_closed(self, seconds):
-        """Whether hallview comes to have closed its end of each: no more is open there than before, but for an exchange with the desk."""
-        end = time.monotonic() + seconds
-        while self.view.descriptors() > self.before + 1 and time.monotonic() < end:
+    def are_there(self):
+        """Whether hallview has one of them open, beside an exchange with the desk and the connection of a page."""
+        return self.view.descriptors() > self.view.alone + 2
+
+    def are_closed(self):
+        """Whether hallview comes to have closed its end of each."""
+        end = time.monotonic() + PATIENCE
+        while self.are_there() and time.monotonic() < end:
             time.sleep(0.1)
-        return self.view.descriptors() <= self.before + 1
+        return not self.are_there()
 
 
-def soon(checks, view, what):
-    """Wants a page soon, whatever other clients do."""
-    began = time.monotonic()
+def page(view):
+    """The status of a page, or what was wrong."""
     try:
-        status = view.ask("/", patience=10).status
+        return view.ask("/").status
     except OSError as fault:
-        status = fault
-    took = time.monotonic() - began
-    checks.wants(f"a page comes soon beside {what}", status == 200 and took < SOON, f"{status} after {took:.2f} s")
+        return fault
+
+
+def beside(checks, view, crowd, count, octets, are_closed):
+    """Wants a page that comes before the last of a crowd's connections is closed, on which these octets were sent, and then all of these closed.
+    A busy machine may come too late to both: then there is another crowd. One that serves others only once a crowd is gone is always late."""
+    for _ in range(TRIES):
+        with Many(view, count) as many:
+            many.send(octets)
+            status = page(view)
+            is_beside = status == 200 and many.are_there()
+            is_cut_off = many.are_closed()
+        if is_beside or status != 200:
+            break
+    checks.wants(f"a page comes beside {crowd}", is_beside, status)
+    checks.wants(are_closed, is_cut_off, view.descriptors())
 
 
 def strangers(checks, view):
@@ -103,56 +119,68 @@ def spoiled(checks, view):
     for what, (wanted, octets) in wrong.items():
         status = status_of(view, octets)
         checks.wants(f"{what} is refused", status == wanted, f"{status} and not {wanted}")
-    soon(checks, view, "spoiled requests")
+    checks.wants("a page comes after spoiled requests", (status := page(view)) == 200, status)
 
 
 def idle(checks, view):
     """More connections than are kept, which ask for nothing."""
-    with Many(view, MANY) as many:
-        soon(checks, view, f"{MANY} idle connections")
-        checks.wants("idle connections are closed", many.are_closed(5), view.descriptors())
+    beside(checks, view, f"{MANY} idle connections", MANY, b"", "idle connections are closed")
 
 
 def slow_asker(checks, view):
     """Connections on which a request comes an octet at a time."""
-    request = f"GET / HTTP/1.1\r\nHost: {LOOPBACK}\r\n\r\n".encode()
+    request = f"GET / HTTP/1.1\r\nHost: {LOOPBACK}\r\nX: ".encode() + b"a" * 1000
+    beside(checks, view, "clients that ask slowly", 20, request[:9], "who asks for half is cut off")
     with Many(view, 20) as many:
-        for at in range(12):
-            many.send(request[at:at + 1])
-            if at % 4 == 0:
-                soon(checks, view, "clients that ask slowly")
-            time.sleep(0.3)
-        checks.wants("who asks slowly is cut off", many.are_closed(1), view.descriptors())
+        for octet in request:
+            many.send(bytes([octet]))
+            time.sleep(0.1)
+            if not many.are_there():
+                break
+        checks.wants("who asks slowly is cut off while it asks", not many.are_there(), view.descriptors())
 
 
 def slow_reader(checks, view):
     """Connections on which more answers are asked for than the system keeps, and none is taken."""
-    request = f"GET / HTTP/1.1\r\nHost: {LOOPBACK}\r\n\r\n".encode()
-    with Many(view, 5) as many:
-        many.send(request * 100)
-        for _ in range(3):
-            soon(checks, view, "clients that take nothing")
-            time.sleep(1)
-        checks.wants("who takes nothing is cut off", many.are_closed(60), view.descriptors())
-        soon(checks, view, "clients that took nothing")
+    requests = f"GET / HTTP/1.1\r\nHost: {LOOPBACK}\r\n\r\n".encode() * 100
+    beside(checks, view, "clients that take nothing", 5, requests, "who takes nothing is cut off")
+    checks.wants("a page comes after clients that took nothing", (status := page(view)) == 200, status)
+
+
+def answers_on_one(view, pieces):
+    """What comes on one connection on which these pieces of requests are sent, until it has three answers or is closed."""
+    came = b""
+    try:
+        with view.connect() as s:
+            for piece in pieces:
+                s.sendall(piece)
+                time.sleep(0.1)
+            while came.count(b"\r\n\r\nok\n") < 3 and (piece := s.recv(4096)):
+                came += piece
+    except OSError:
+        pass
+    return came
 
 
 def kept_alive(checks, view):
-    """Several requests on one connection, of which one comes in pieces."""
-    with view.connect() as s:
-        head = f"GET /healthz HTTP/1.1\r\nHost: {LOOPBACK}\r\n\r\n".encode()
-        came = b""
-        for piece in [head[:9], head[9:], head + head[:20], head[20:]]:
-            s.sendall(piece)
-            time.sleep(0.1)
-        end = time.monotonic() + 5
-        while came.count(b"\r\n\r\nok\n") < 3 and time.monotonic() < end:
-            came += s.recv(4096)
+    """Several requests on one connection, of which one comes in pieces; on another one, where a busy machine was so late that it was cut off."""
+    head = f"GET /healthz HTTP/1.1\r\nHost: {LOOPBACK}\r\n\r\n".encode()
+    for _ in range(TRIES):
+        came = answers_on_one(view, [head[:9], head[9:], head + head[:20], head[20:]])
+        if came.count(b"\r\n\r\nok\n") == 3:
+            break
     checks.wants("a connection is kept for more requests", came.count(b"\r\n\r\nok\n") == 3, came)
+
+
+def alone(view):
+    """How many files and sockets are open a little later."""
+    time.sleep(0.05)
+    return view.descriptors()
 
 
 def trial(checks, _hall, view):
     before = json.dumps(view.hall(NAME)["machines"])
+    view.alone = min(alone(view) for _ in range(40))
     strangers(checks, view)
     spoiled(checks, view)
     kept_alive(checks, view)

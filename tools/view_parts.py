@@ -198,7 +198,7 @@ def put_counts(page, view, hall):
     if not hall["machines"]:
         if hall["listed"] is not None:
             line = hallctl(state, hall, "add-machine --mac 52:54:00:12:34:56 --arch uefi64 --pool default")
-            page.put("group_do", "%s has no machine. One that starts over the network enlists itself; or add it:" % hall["name"])
+            page.put("group_do", "%s has no machine. Add one, or start one over the network where the desk enlists:" % hall["name"])
             page.put("group_code", line)
             page.put("group_do_end")
         return

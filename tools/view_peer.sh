@@ -21,4 +21,4 @@ if [ -n "${KEEP:-}" ]; then
     export KEEP
 fi
 cd "$work"
-timeout --foreground --kill-after=10 1800 python3 -B "$here/view_peer.py" "$@"
+timeout --foreground --kill-after=10 1700 python3 -B "$here/view_peer.py" "$@"

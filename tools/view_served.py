@@ -9,6 +9,7 @@ import tempfile
 import time
 
 LOOPBACK = "127.0.0.1"
+PATIENCE = 120.0    # seconds for what takes a few, however busy the machine is
 
 
 class Checks:
@@ -79,10 +80,10 @@ class View:
     def base(self):
         return f"http://{LOOPBACK}:{self.port}"
 
-    def connect(self, patience=10.0):
+    def connect(self, patience=PATIENCE):
         return socket.create_connection((LOOPBACK, self.port), patience)
 
-    def ask(self, target="/", method="GET", patience=30.0, **fields):
+    def ask(self, target="/", method="GET", patience=PATIENCE, **fields):
         """The answer to one request, on a connection of its own."""
         connection = http.client.HTTPConnection(LOOPBACK, self.port, timeout=patience)
         try:
@@ -99,7 +100,7 @@ class View:
         """What is known of a hall."""
         return next(hall for hall in self.state()["halls"] if hall["name"] == name)
 
-    def wait_for(self, is_so, seconds=30.0):
+    def wait_for(self, is_so, seconds=PATIENCE):
         """Waits until a state is so, and returns it; None if none becomes so."""
         end = time.time() + seconds
         while time.time() < end:
@@ -134,13 +135,15 @@ def first_difference(wanted, came):
 
 
 def is_written(view, target, written, **fields):
-    """Whether an answer is what is written of the state at its moment, the answer, and the first difference."""
+    """Whether an answer is what is written of the state at its moment, the answer, and the first difference. Where the state before it isn't that after
+    it, it may be of one between them: then another answer is looked at."""
     for _ in range(50):
         before, answer, after = view.state(), view.ask(target, **fields), view.state()
+        moments = range(before["now"], after["now"] + 1)
+        texts = [written({**state, "now": now}) for state in (before, after) for now in moments]
+        if answer.text() in texts:
+            return True, answer, ""
         if {**before, "now": 0} == {**after, "now": 0}:
-            texts = [written({**before, "now": now}) for now in range(before["now"], after["now"] + 1)]
-            if answer.text() in texts:
-                return True, answer, ""
             return False, answer, first_difference(texts[0], answer.text())
     raise SystemExit("view_served: the state is another one at each look")
 

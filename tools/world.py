@@ -1,9 +1,11 @@
 #!/usr/bin/env python3
-"""Whole halls in pretended worlds: hallboot serve, killed and started again over a slow disk and a clock that leaps; machines that run live/hall-live;
-power/hall_power.py over controllers that are slow, fail and are late; operators who say anything at any moment; and networks between them that lose,
-delay, repeat and cut. All choices come from a seed. world_watch.py says what may not happen, whatever is lost. It wants python3 (3.11), curl and cc.
+"""Whole halls in pretended worlds: hallboot serve, killed and started again over a slow disk and a clock that leaps; its hall lost, and restored from an
+old copy by docs/TROUBLE.md with lists/hall_moved.py; machines that run live/hall-live; power/hall_power.py over controllers that are slow, fail and are
+late; operators who say anything at any moment; and networks between them that lose, delay, repeat and cut. All choices come from a seed; what comes of
+them depends on the host's pace too. world_watch.py says what may not happen, whatever is lost. It wants python3 (3.11), curl and cc.
 
-Usage: tools/world.py [--worlds N] [--seed S] [--jobs J] [--plant NAME]     HALLBOOT=PROGRAM names a program that is built already."""
+Usage: tools/world.py [--worlds N] [--seed S] [--jobs J] [--plant NAME | --plants | --sample]
+HALLBOOT=PROGRAM names a program that is built already, and so does HALLCTL=PROGRAM: without it the guide's lines are sent by HTTP."""
 import argparse, asyncio, collections, json, os, shutil, signal, subprocess, sys, tempfile, time
 from concurrent.futures import ThreadPoolExecutor, as_completed
 import world_plants
@@ -22,22 +24,26 @@ def compiled(folder):
 
 def one(given):
     """Plays one world, in a process of its own, and prints what was found and its history as an object."""
-    programs = {name: f"{given.made}/{name}" for name in ("slow", "clock", "teller")} | {"hallboot": given.hallboot}
+    signal.signal(signal.SIGINT, signal.default_int_handler)    # a desk is ended by Ctrl-C, also where this runs in the background
+    programs = {name: f"{given.made}/{name}" for name in ("slow", "clock", "teller")} | {"hallboot": given.hallboot, "hallctl": os.environ.get("HALLCTL")}
     programs |= world_plants.texts(given.plant, open(given.live).read(), open(given.power).read())
     world = World(given.one, given.folder, given, programs)
     world_plants.plant(given.plant, world)
     asyncio.run(world.lived())
-    print(json.dumps({"findings": world.watch.findings, "races": world.watch.races, "counts": world.watch.counts, "history": world.history}))
+    print(json.dumps({"findings": world.watch.findings, "races": world.watch.races, "counts": world.watch.counts, "history": world.history,
+                      "latest": world.latest}))
 
 
 class Worlds:
     """Plays worlds side by side, and sums them up."""
 
     def __init__(self, given, folder):
-        self.given, self.folder, self.running = given, folder, set()
-        self.races, self.counts = collections.Counter(), collections.Counter()
+        self.given, self.folder, self.running, self.is_over = given, folder, set(), False
+        self.races, self.counts, self.latest = collections.Counter(), collections.Counter(), 0.0
 
     def play(self, seed, plant):
+        if self.is_over:
+            raise SystemExit("world: ended by SIGTERM")
         folder = tempfile.mkdtemp(dir=self.folder)
         words = [sys.executable, "-B", __file__, "--one", seed, "--folder", folder, "--made", self.folder, "--hallboot", self.given.hallboot,
                  "--seconds", str(self.given.seconds), "--live", self.given.live, "--power", self.given.power, *(["--plant", plant] if plant else [])]
@@ -51,59 +57,81 @@ class Worlds:
             self.running.discard(running)
         if not self.given.keep:
             shutil.rmtree(folder, ignore_errors=True)
-        return seed, json.loads(text) if text else {"findings": [f"the world itself broke: {faults[-2000:]}"], "races": {}, "counts": {}, "history": []}
+        broken = {"findings": [f"the world itself broke: {faults[-2000:]}"], "races": {}, "counts": {"broken": 1}, "history": [], "latest": 0.0}
+        return seed, plant, json.loads(text) if text else broken
 
     def ended(self, *_):
-        """Ends all worlds where it is ended itself."""
+        """Ends all worlds where it is ended itself, and begins none."""
+        self.is_over = True
         for running in list(self.running):
             running.terminate()
         sys.exit(1)
 
-    def several(self, seeds, plant, until_found=False):
-        """How many worlds were played, and in which there was a finding, in their order."""
+    def several(self, chosen, until_found=False):
+        """Plays worlds, each of a seed and with a planted mistake or none: how many were played, and those in which there was a finding, in their order."""
         played, bad = 0, []
         with ThreadPoolExecutor(self.given.jobs) as workers:
-            works = [workers.submit(self.play, seed, plant) for seed in seeds]
+            works = [workers.submit(self.play, seed, plant) for seed, plant in chosen]
             for work in as_completed(works):
                 if work.cancelled():
                     continue
-                seed, found = work.result()
+                seed, plant, found = work.result()
                 played += 1
                 self.races.update(found["races"])
                 self.counts.update(found["counts"])
-                if found["findings"]:
-                    bad.append((seed, found))
+                self.latest = max(self.latest, found["latest"])
+                if found["findings"] and (found["history"] or not until_found):
+                    bad.append((seed, plant, found))
                     for other in works if until_found else ():
                         other.cancel()
-        return played, sorted(bad, key=lambda one: seeds.index(one[0]))
+        return played, sorted(bad, key=lambda one: chosen.index(one[:2]))
 
 
-def show(seed, found, whole):
-    for text in found["findings"]:
-        print(f"BAD: world {seed}: {text}")
-    for line in found["history"] if whole else []:
-        print(f"    {line}")
+def show(bad):
+    for seed, _, found in bad:
+        for text in found["findings"]:
+            print(f"BAD: world {seed}: {text}")
+        for line in found["history"]:
+            print(f"    {line}")
+
+
+def said(counts):
+    return ", ".join(f"{name} {count}" for name, count in sorted(counts.items())) or "none"
 
 
 def several(worlds, given):
-    played, bad = worlds.several([f"{given.seed}.{number}" for number in range(given.worlds)], given.plant)
-    for seed, found in bad:
-        show(seed, found, True)
-    print("in all:", ", ".join(f"{name} {count}" for name, count in sorted(worlds.counts.items())))
-    races = ", ".join(f"{name} {count}" for name, count in sorted(worlds.races.items())) or "none"
-    print(f"world: {played} checks, {len(bad)} failed (worlds of seed {given.seed}; races that no protocol prevents: {races})")
+    played, bad = worlds.several([(f"{given.seed}.{number}", given.plant) for number in range(given.worlds)])
+    show(bad)
+    print(f"in all: {said(worlds.counts)}; this host was {worlds.latest:.1f} seconds late at most")
+    print(f"world: {played} checks, {len(bad)} failed (worlds of seed {given.seed}; what nobody can prevent: {said(worlds.races)})")
     return 1 if bad else 0
+
+
+def sample(worlds, given):
+    """Six worlds, and one with a mistake that has to be found: a sample that sees nothing fails."""
+    played, bad = worlds.several([("sample.planted", world_plants.SAMPLE), *((f"sample.{number}", None) for number in range(6))])
+    seen = [one for one in bad if one[1]]
+    wrong = [one for one in bad if not one[1]]
+    show(wrong)
+    if not seen:
+        print(f"BAD: the planted mistake {world_plants.SAMPLE} isn't found")
+    print(f"world: {played} checks, {len(wrong) + (not seen)} failed (six worlds, and one of {len(world_plants.PLANTS)} planted mistakes; "
+          f"{worlds.counts['works']} works, {worlds.counts['restores']} restored halls)")
+    return 1 if wrong or not seen else 0
 
 
 def plants(worlds, given):
     missed = 0
     for name in sorted(world_plants.PLANTS):
         began = time.monotonic()
-        played, bad = worlds.several([f"{given.seed}.{number}" for number in range(given.worlds)], name, until_found=True)
+        played, bad = worlds.several([(f"{given.seed}.{number}", name) for number in range(given.worlds)], until_found=True)
         missed += not bad
-        what = f"not found in {played} worlds"
+        what = f"not found in {played} worlds, {worlds.counts.pop('broken', 0)} of which broke"
         if bad:
-            what = f"found in world {bad[0][0]}, {len(bad)} of {played} that were played, {time.monotonic() - began:.0f} s: {bad[0][1]['findings'][0]}"
+            what = f"found in world {bad[0][0]}, {len(bad)} of {played} that were played, {time.monotonic() - began:.0f} s: {bad[0][2]['findings'][0]}"
+            if given.keep:
+                with open(f"{worlds.folder}/{name}.history", "w") as file:
+                    file.write("\n".join(bad[0][2]["findings"] + bad[0][2]["history"]) + "\n")
         print(f"{name}: {what}", flush=True)
     print(f"world: {len(world_plants.PLANTS)} checks, {missed} failed (planted mistakes)")
     return 1 if missed else 0
@@ -117,7 +145,7 @@ def read_words():
     parser.add_argument("--seconds", type=float, default=SECONDS, metavar="SECONDS", help="how long a world lasts (%(default)s)")
     parser.add_argument("--plant", choices=sorted(world_plants.PLANTS), help="plays with a planted mistake")
     parser.add_argument("--plants", action="store_true", help="plays all planted mistakes, each until it is found")
-    parser.add_argument("--sample", action="store_true", help="six worlds of a fixed seed")
+    parser.add_argument("--sample", action="store_true", help="six worlds of a fixed seed, and one with a planted mistake, for tools/after_gate.sh")
     parser.add_argument("--keep", action="store_true", help="keeps the worlds' folders")
     parser.add_argument("--live", default=os.path.join(HERE, "../live/hall-live"), help="the live image's script")
     parser.add_argument("--power", default=os.path.join(HERE, "../power/hall_power.py"), help="the power program")
@@ -125,7 +153,7 @@ def read_words():
         parser.add_argument(f"--{name}", help=argparse.SUPPRESS)
     given = parser.parse_args()
     if given.sample:
-        given.worlds, given.seed, given.jobs = 6, "sample", 3
+        given.jobs = 4
     given.worlds = given.worlds or (100 if given.plants else 20)
     if min(given.worlds, given.jobs) < 1 or given.seconds <= 0:
         parser.error("--worlds, --jobs and --seconds are 1 at least")
@@ -147,7 +175,7 @@ def main():
     signal.signal(signal.SIGTERM, worlds.ended)
     try:
         compiled(folder)
-        return (plants if given.plants else several)(worlds, given)
+        return (plants if given.plants else sample if given.sample else several)(worlds, given)
     finally:
         if not given.keep:
             shutil.rmtree(folder, ignore_errors=True)

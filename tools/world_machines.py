@@ -3,6 +3,7 @@ is given work runs a copy of live/hall-live, in which only paths of the system a
 (tell_world.c), which ask the world what comes of them."""
 import asyncio, os, re, shutil, signal, subprocess
 from pretend_machine import HELD, OWN_DISK, WORK
+from world_watch import key_of
 
 PATHS = {"/proc/cmdline": "cmdline", "/etc/hall-live-image": "image", "/run": "run", "/usr/local/bin": "programs"}
 TIMEOUT = shutil.which("timeout")
@@ -32,7 +33,7 @@ class Machine:
         self.world, self.number = world, number
         self.mac = f"52:54:00:00:00:{number:02x}"
         self.disk, self.choice = Disk(), world.stream(f"machine {number}")
-        self.is_on, self.life, self.since, self.runs, self.boot = False, 0, 0.0, "nothing", None
+        self.is_on, self.life, self.since, self.runs, self.boot, self.key = False, 0, 0.0, "nothing", None, None
         self.task = self.agent = None
         self.folder = f"{world.folder}/m{number}"
         for name in ("bin", "programs"):
@@ -68,11 +69,11 @@ class Machine:
             self.begin()
 
     def begin(self):
-        self.is_on, self.life, self.since, self.runs, self.boot = True, self.life + 1, self.world.now(), "firmware", None
+        self.is_on, self.life, self.since, self.runs, self.boot, self.key = True, self.life + 1, self.world.now(), "firmware", None, None
         self.task = asyncio.get_running_loop().create_task(self.live())
 
     def end(self):
-        self.is_on, self.life, self.runs, self.boot = False, self.life + 1, "nothing", None
+        self.is_on, self.life, self.runs, self.boot, self.key = False, self.life + 1, "nothing", None, None
         if self.task and self.task is not asyncio.current_task():
             self.task.cancel()
         if self.agent and self.agent.poll() is None:
@@ -120,7 +121,7 @@ class Machine:
 
     def work(self, kernel, line):
         words = dict(word[5:].split("=", 1) for word in line.split() if word.startswith("hall."))
-        self.runs, self.boot = f"{words['purpose']} of boot {words['boot']}", int(words["boot"])
+        self.runs, self.boot, self.key = f"{words['purpose']} of boot {words['boot']}", words["boot"], key_of(words["boot"], words["token"])
         self.image = self.world.image_of(kernel)
         shutil.rmtree(f"{self.folder}/run", ignore_errors=True)
         with open(f"{self.folder}/cmdline", "w") as file:
@@ -130,7 +131,7 @@ class Machine:
                         "WORLD_LIFE": f"{self.number}.{self.life}"}
         with open(f"{self.folder}/said", "a") as said:
             self.agent = subprocess.Popen([TIMEOUT, "-s", "KILL", "120", "/bin/sh", f"{self.folder}/hall-live"], cwd=self.folder, env=surroundings,
-                                          stdout=said, stderr=said, stdin=subprocess.DEVNULL, start_new_session=True)
+                                          stdout=said, stderr=said, stdin=subprocess.DEVNULL, process_group=0)
 
     # ---- what the programs of the live image do
     async def called(self, name, words):
@@ -143,7 +144,7 @@ class Machine:
                 return 1, "poweroff: failed\n"
             self.soon(self.switch_off, "by its image")
         elif name == "reboot":
-            self.world.watch.restarts(self, self.boot)
+            self.world.watch.restarts(self, self.key)
             self.soon(self.restart, "by its image")
         elif name.startswith("hall-"):
             return await self.write(name[5:]), ""
@@ -151,13 +152,15 @@ class Machine:
 
     async def write(self, purpose):
         """The work, which takes a while and may fail; a machine that is switched off meanwhile is left with a part of it."""
-        life, boot, what = self.life, self.boot, f"{purpose} of boot {self.boot}"
+        life, what = self.life, f"{purpose} of boot {self.boot}"
         self.note(f"begins {what}")
-        self.world.watch.begins(self, boot, purpose)
+        self.world.watch.begins(self, self.key, purpose)
         if purpose in ("erase", "deploy"):
             self.disk.content = f"a part of {what}"
         is_good = self.choice.random() < 0.9
-        for _ in range(self.choice.randrange(1, 6)):
+        left, is_long = self.choice.randrange(1, 6), self.choice.random() < 0.8
+        while left > 0:
+            left -= self.world.is_restored or not is_long     # some take longer than the restoring of a hall
             await asyncio.sleep(self.choice.uniform(0.05, 0.3))
             if self.life != life:
                 return 1
@@ -174,7 +177,12 @@ class Controllers:
     def __init__(self, world):
         self.world, self.choice = world, world.stream("controllers")
         self.wired = {f"bmc{number}": machine for number, machine in world.machines.items()}
-        self.unplugged, self.is_rough = set(), False
+        self.unplugged, self.is_rough, self.until = set(), False, {}
+
+    def stall(self, machine, seconds):
+        """The machine's controller answers nothing for a while."""
+        name = next(name for name, wired in self.wired.items() if wired is machine)
+        self.until[name] = self.world.now() + seconds
 
     async def called(self, words, since):
         """What `ipmitool`, called at a moment, answers: its status, and what it prints."""
@@ -186,6 +194,7 @@ class Controllers:
         self.world.note(f"controller {name} of machine {machine.number} is told: {what}")
         if what.startswith("power o"):
             self.world.watch.told(name, machine, what[6:], since)
+        await asyncio.sleep(self.until.get(name, 0) - self.world.now())
         mood = self.choice.random() if self.is_rough else 0.5 + self.choice.random() / 2
         if mood < 0.08:
             return 1, "Error: Unable to establish IPMI v2 / RMCP+ session\n"

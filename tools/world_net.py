@@ -116,7 +116,7 @@ class Network:
         await writer.drain()
 
     async def half(self, request):
-        reader, writer = await self.world.desk.connection()
+        reader, writer = await self.world.desk.connection(self.name)
         writer.write(request[:self.choice.randrange(len(request))])
         await writer.drain()
         writer.close()
@@ -139,7 +139,7 @@ class Network:
         exchange.fate = way
         self.world.watch.sent(exchange)
         try:
-            reader, writer = await self.world.desk.connection()
+            reader, writer = await self.world.desk.connection(self.name)
             try:
                 writer.write(request)
                 await writer.drain()

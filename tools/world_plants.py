@@ -49,7 +49,11 @@ OLD_POWER = {
 # Times to wait, which are shorter in a world
 SHORTER = [("PAUSES = 2, 30", "PAUSES = 0.3, 2"), ("time.sleep(min(2, ", "time.sleep(min(0.4, "), ("UNTIL_OFF = 30 ", "UNTIL_OFF = 5 "),
            ("time.sleep(2)", "time.sleep(0.4)"), ("time.sleep(5)", "time.sleep(0.7)")]
-PLANTS = [*LIVE, *POWER, "desk-from-an-old-copy"]
+# What the operator leaves out of docs/TROUBLE.md, "Restore a backup": the power program goes on, and reaches the hall while it is mended; old orders aren't
+# answered; servers that run aren't adopted; nobody looks at machines that were in the midst of work
+GUIDE = {"guide-power-goes-on": "stop", "guide-orders-are-left": "orders", "guide-no-adoption": "adopt", "guide-nobody-looks": "looks"}
+SAMPLE = "live-begins-before-started"     # which a sample plays: it is found at each work
+PLANTS = [*LIVE, *POWER, *GUIDE, "desk-from-an-old-copy"]
 
 
 def edited(text, edits, name):
@@ -72,8 +76,11 @@ def texts(name, live, power):
 
 def plant(name, world):
     """What happens in a world, beside mistakes of programs."""
+    if name in GUIDE:
+        world.skips.add(GUIDE[name])
     if name == "desk-from-an-old-copy":
         world.desk.serve = old_copies(world, world.desk.serve)
+        world.copies.all = list
 
 
 def old_copies(world, serve):

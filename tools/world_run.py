@@ -1,22 +1,24 @@
-"""One pretended world, for world.py: a desk that is killed and started again over a slow disk and a clock that leaps, machines, operators, the power
-program and its controllers, and what happens to them, all of it chosen from one seed."""
+"""One pretended world, for world.py: a desk that is killed and started again over a slow disk and a clock that leaps, or restored (world_restore.py),
+machines, operators, the power program and its controllers, and what happens to them, all of it chosen from one seed."""
 import asyncio, hashlib, json, mmap, os, random, re, signal, struct, subprocess, sys, time, uuid
 from served_hall import digest, ports
 from world_machines import Controllers, Machine
 from world_net import Network
+from world_restore import Copies, Restoring
 from world_watch import Watch
 
 SECRETS = {name: f"{name}s-secret-1" for name in ("ada", "olga", "otto", "pow")}
 MACHINES = 4
 SECONDS = 15      # that a world lasts, after it is made
+RESTORED = 3      # times that its hall may be lost
 IMAGES = {"http://files.example/live/k": "live64", "http://files.example/jammy/k": "jammy", "http://files.example/noble/k": "noble"}
 # What operators say to a machine of each status, with how often; each may be said by its owner or by an admin alone, so many are refused.
 WISHES = {
     "New": {"commission": 9, "set_pool": 1}, "Commissioning": {"abort": 1, "wait": 12}, "Failed commissioning": {"commission": 1},
     "Testing": {"abort": 1, "wait": 10}, "Failed testing": {"override": 6, "test": 2, "commission": 1, "break": 1},
     "Ready": {"allocate": 20, "test": 1, "commission": 1, "break": 1}, "Allocated": {"deploy": 16, "release": 2, "break": 1},
-    "Deploying": {"abort": 1, "wait": 12}, "Failed deployment": {"deploy": 6, "release": 3, "break": 1},
-    "Deployed": {"wait": 9, "release": 4, "rescue": 2, "lock": 1}, "Disk erasing": {"abort": 1, "wait": 10},
+    "Deploying": {"abort": 1, "wait": 25}, "Failed deployment": {"deploy": 6, "release": 3, "break": 1},
+    "Deployed": {"wait": 30, "release": 4, "rescue": 1, "lock": 1}, "Disk erasing": {"abort": 1, "wait": 10},
     "Failed disk erasing": {"release": 8, "break": 1}, "Releasing": {"wait": 1}, "Failed releasing": {"release": 6, "break": 1},
     "Entering rescue mode": {"wait": 5, "abort": 1}, "Failed to enter rescue mode": {"rescue": 1, "exit_rescue": 3},
     "Rescue mode": {"exit_rescue": 4, "wait": 2}, "Exiting rescue mode": {"wait": 1}, "Failed to exit rescue mode": {"exit_rescue": 1},
@@ -31,8 +33,9 @@ class Desk:
 
     def __init__(self, world, hallboot, slow, clock):
         self.world, self.hallboot, self.libraries = world, hallboot, f"{slow} {clock}"
-        self.file, self.log, self.running, self.port = f"{world.folder}/hall.db", f"{world.folder}/desk.log", None, None
+        self.file, self.log, self.running, self.port, self.leak = f"{world.folder}/hall.db", f"{world.folder}/desk.log", None, None, None
         self.choice, self.is_up = world.stream("desk"), asyncio.Event()
+        self.log_words = world.stream("log").choice([[], ["--log-time", "utc"], ["--log-format", "json"]])
         with open(f"{world.folder}/clock", "wb") as file:
             file.write(bytes(8))
         with open(f"{world.folder}/clock", "r+b") as file:
@@ -43,21 +46,39 @@ class Desk:
         """Lets time pass on the desk's clock alone."""
         struct.pack_into("q", self.page, 0, struct.unpack_from("q", self.page)[0] + seconds)
 
+    def moment(self):
+        """Seconds, by the desk's clock."""
+        return int(time.time()) + struct.unpack_from("q", self.page)[0]
+
+    def surroundings(self, delay=None):
+        """Those of a program on the desk's host, which has its clock, and its disk where it serves."""
+        slow = {} if delay is None else {"SLOW_DISK": str(delay)}
+        return {"LD_PRELOAD": self.libraries, "OFFSET_CLOCK": f"{self.world.folder}/clock", "PATH": "/usr/bin:/bin", **slow}
+
+    async def start(self, delay, *words):
+        """Starts to serve, and returns what is printed until it is ready, or has ended."""
+        with open(f"{self.world.folder}/desk.err", "ab") as faults:
+            self.running = await asyncio.create_subprocess_exec(
+                self.hallboot, "serve", "--db", self.file, "--turns", "1000000000000", "--log-connections", "no", *self.log_words, *words,
+                cwd=self.world.folder, stdout=subprocess.PIPE, stderr=faults, env=self.surroundings(delay))
+        said = ""
+        while line := (await self.running.stdout.readline()).decode():
+            said += line
+            if line == "hall desk ready\n":
+                return said
+        await self.running.wait()
+        return ""
+
     async def serve(self):
         delay = self.choice.choice([0, 0, 2000, 20000, 60000])
         for _ in range(20):
             discover, boot, http = ports()
-            words = ["--db", self.file, "--discover", f"127.0.0.1:{discover}", "--boot", f"127.0.0.1:{boot}", "--http", f"127.0.0.1:{http}",
-                     "--turns", "1000000000000", "--server", "127.0.0.1", "--next", "127.0.0.1", "--host", f"127.0.0.1:{self.world.networks['machines'].port}",
-                     "--log", self.log, "--log-connections", "no", "--enlist", self.world.enlist]
-            surroundings = {"LD_PRELOAD": self.libraries, "SLOW_DISK": str(delay), "OFFSET_CLOCK": f"{self.world.folder}/clock", "PATH": "/usr/bin:/bin"}
-            with open(f"{self.world.folder}/desk.err", "ab") as faults:
-                self.running = await asyncio.create_subprocess_exec(self.hallboot, "serve", *words, stdout=subprocess.PIPE, stderr=faults, env=surroundings)
-            if await self.running.stdout.readline() == b"hall desk ready\n":
+            if await self.start(delay, "--discover", f"127.0.0.1:{discover}", "--boot", f"127.0.0.1:{boot}", "--http", f"127.0.0.1:{http}",
+                                "--server", "127.0.0.1", "--next", "127.0.0.1", "--host", f"127.0.0.1:{self.world.networks['machines'].port}",
+                                "--log", self.log, "--enlist", self.world.enlist, *self.world.copies.words()):
                 self.port = http
                 self.is_up.set()
                 return self.world.note(f"the desk serves, its disk takes {delay / 1000:.0f} ms longer")
-            await self.running.wait()
         raise SystemExit("world: the desk isn't ready")
 
     async def kill(self):
@@ -66,17 +87,19 @@ class Desk:
             self.running.kill()
             await self.running.wait()
 
-    async def connection(self):
-        if not self.is_up.is_set():
+    async def connection(self, name):
+        """A connection of a network, which a desk on loopback has none of, unless a mistake is played."""
+        port = self.port if self.is_up.is_set() else self.leak if name == "power" else None
+        if port is None:
             raise ConnectionRefusedError
-        return await asyncio.open_connection("127.0.0.1", self.port)
+        return await asyncio.open_connection("127.0.0.1", port)
 
 
 class Power:
     """power/hall_power.py, or a copy with a planted mistake, which is killed and started again."""
 
     def __init__(self, world, text):
-        self.world, self.running, self.folder = world, None, f"{world.folder}/power"
+        self.world, self.running, self.folder, self.is_stopped, self.since, self.ends = world, None, f"{world.folder}/power", False, 0.0, 0
         os.makedirs(f"{self.folder}/bin")
         os.symlink(world.teller, f"{self.folder}/bin/ipmitool")
         self.write("hall_power.py", text)
@@ -96,18 +119,42 @@ class Power:
         self.write("table", "".join(f"{machine.number} ipmi {name}\n" for name, machine in wired))
 
     def start(self):
+        if self.running:
+            return
+        self.is_stopped, self.since = False, self.world.now()
         surroundings = {"PATH": f"{self.folder}/bin", "WORLD_SOCKET": self.world.socket}
         with open(f"{self.folder}/said", "a") as said:
-            self.running = subprocess.Popen([sys.executable, "-B", "hall_power.py", "--config", "hall-power.toml", "--every", "0.5", *self.world.programs["power_words"]],
-                                            cwd=self.folder, env=surroundings, stderr=said, stdout=said, start_new_session=True)
+            words = [sys.executable, "-B", "hall_power.py", "--config", "hall-power.toml", "--every", "0.5", *self.world.programs["power_words"]]
+            self.running = subprocess.Popen(words, cwd=self.folder, env=surroundings, stderr=said, stdout=said, process_group=0)
 
-    def ended(self):
-        """Its status, if it has ended by itself."""
-        return self.running.poll() if self.running else None
-
-    def last_words(self):
+    def tended(self):
+        """Starts it again after a moment where it has ended by itself, as its unit does. Returns what is a fault of its: to end for another reason than that
+        the one before it isn't wholly gone, or for the third time in a row."""
+        status = self.running.poll() if self.running else None
+        if status is None:
+            self.ends = 0 if self.running and self.world.now() - self.since > 3 else self.ends
+            return None
         with open(f"{self.folder}/said", errors="replace") as said:
-            return said.read()[-300:].strip()
+            words = (said.read().splitlines() or [""])[-1]
+        self.running, self.ends = None, self.ends + 1
+        self.world.note(f"the power program has ended, status {status}: {words[:200]}")
+        asyncio.get_running_loop().call_later(0.7, self.again)
+        return None if status == 2 and "another hall-power acts by this file" in words and self.ends < 3 else f"status {status}: {words[-300:]}"
+
+    def again(self):
+        if not self.is_stopped:
+            self.start()
+
+    async def stop(self):
+        """As `systemctl stop` does it, until it is started again."""
+        self.is_stopped = True
+        if self.running and self.running.poll() is None:
+            os.killpg(self.running.pid, signal.SIGTERM)
+            for _ in range(50):
+                await asyncio.sleep(0.1)
+                if self.running is None or self.running.poll() is not None:
+                    break
+        self.kill()
 
     def kill(self):
         if self.running:
@@ -167,9 +214,9 @@ class Operator:
 class World:
     def __init__(self, seed, folder, given, programs):
         self.seed, self.folder, self.given, self.programs = seed, folder, given, programs
-        self.begun, self.history, self.lateness, self.swapped, self.last = time.monotonic(), [], 0.0, -1e9, 0.0
-        self.socket, self.teller = f"{folder}/s", programs["teller"]
-        self.choice, self.enlist = self.stream("world"), None
+        self.begun, self.history, self.lateness, self.latest, self.swapped = time.monotonic(), [], 0.0, 0.0, -1e9
+        self.socket, self.teller, self.secrets = f"{folder}/s", programs["teller"], SECRETS
+        self.choice, self.skips, self.restored, self.is_restored = self.stream("world"), set(), 0, True
         self.enlist = self.choice.choice(["yes", "no"])
         self.watch = Watch(self)
         self.networks = {"machines": Network(self, "machines", ("foreign 200", "foreign 404")), "power": Network(self, "power"),
@@ -178,6 +225,7 @@ class World:
         self.controllers = Controllers(self)
         self.operators = {name: Operator(self, name) for name in ("ada", "olga", "otto")}
         self.desk = Desk(self, programs["hallboot"], programs["slow"], programs["clock"])
+        self.copies = Copies(self)
 
     def stream(self, name):
         """The choices of one part of the world, which those of others don't shift."""
@@ -232,7 +280,8 @@ class World:
         await self.done("set_live", image="live64")
         for machine in self.machines.values():
             await self.done("add_machine", mac=machine.mac, arch="uefi64", pool="default")
-            await self.advanced(machine, self.choice.choice(["New", "Ready", "Allocated", "Deployed", "Deployed"]))
+            await self.advanced(machine, self.choice.choice(["New", "Ready", "Allocated", "Deployed", "Deployed", "Deployed"]))
+        self.copies.forget()
 
     async def advanced(self, machine, status):
         """Brings a machine to a status before the world begins."""
@@ -280,6 +329,7 @@ class World:
             began = self.now()
             await asyncio.sleep(0.15)
             self.lateness = max(self.now() - began - 0.15, self.lateness * 0.98)
+            self.latest = max(self.latest, self.lateness)
             sent = self.now()
             self.are_alive()
             try:
@@ -291,18 +341,22 @@ class World:
                 pass
 
     def are_alive(self):
-        for name, status in (("the desk", self.desk.is_up.is_set() and self.desk.running.returncode), ("the power program", self.power.ended())):
-            if status not in (None, False):
-                self.watch.find(0, f"{name} ended by itself, status {status}: {self.power.last_words() if name != 'the desk' else ''}")
+        if self.desk.is_up.is_set() and self.desk.running.returncode is not None:
+            self.watch.find(0, f"the desk ended by itself, status {self.desk.running.returncode}")
+        if fault := self.power.tended():
+            self.watch.find(0, f"the power program ended by itself, {fault}")
 
     def stir(self, what, machine):
         """Something that wants to be disturbed has happened: now and then it is, within a second."""
         row = self.watch.status.get(machine.number) or {}
         owner = self.operators.get(row.get("owner") or "ada")
-        mood, later = self.choice.random(), self.choice.uniform(0, 1.2)
-        act = {"counted": [(0.15, lambda: owner.command(machine.number, "abort")), (0.25, lambda: self.restarted(machine)), (0.3, self.desk_dies)],
-               "deploy": [(0.4, lambda: self.pressed(machine)), (0.5, lambda: self.restarted(machine))],
-               "deployed": [(0.2, lambda: self.restarted(machine)), (0.35, self.leap)]}[what]
+        mood, later = self.choice.random(), self.choice.uniform(0, 1.2 if what != "script" else 0.4)
+        counted = [(0.08, lambda: owner.command(machine.number, "abort")), (0.14, lambda: self.restarted(machine)), (0.18, self.desk_dies)]
+        act = {"script": [(0.04, lambda: owner.command(machine.number, "abort")), (0.07, lambda: self.restarted(machine)), (0.09, self.leap)],
+               "counted": [*counted, (0.25, self.restore)], "erasing": [*counted, (0.6, self.restore)],
+               "order": [(0.3, lambda: self.stalled(machine)), (0.45, lambda: self.pressed(machine)), (0.5, lambda: self.restarted(machine)),
+                         (0.6, self.desk_dies)],
+               "deployed": [(0.2, lambda: self.restarted(machine)), (0.3, self.leap), (0.55, self.restore)]}[what]
         chosen = next((deed for chance, deed in act if mood < chance), None)
         if chosen:
             asyncio.get_running_loop().call_later(later, lambda: self.spawn(chosen()))
@@ -314,8 +368,14 @@ class World:
     async def pressed(self, machine):
         machine.switch_on("by hand")
 
+    async def stalled(self, machine):
+        """The machine's controller answers late, and somebody switches the machine on by hand meanwhile, so that its order may be withdrawn."""
+        self.controllers.stall(machine, self.choice.uniform(2, 9))
+        await asyncio.sleep(self.choice.uniform(0, 0.6))
+        machine.switch_on("by hand, while its controller stalls")
+
     async def leap(self):
-        seconds = self.choice.choice([300, 650, 1900, 2500, 7300])
+        seconds = self.choice.choice([300, 300, 650, 650, 650, 1900, 2500, 7300])
         self.desk.ahead(seconds)
         self.note(f"the desk's clock leaps by {seconds} seconds")
 
@@ -324,20 +384,25 @@ class World:
             return
         self.note("the desk is killed")
         await self.desk.kill()
+        if self.choice.random() < 0.5:
+            await self.copies.take()
         await asyncio.sleep(self.choice.uniform(0, 1.5))
         await self.desk.serve()
 
     async def power_dies(self):
+        if self.power.is_stopped or not self.power.running:
+            return
         self.note("the power program is killed")
         self.power.kill()
         await asyncio.sleep(self.choice.uniform(0, 1))
-        self.power.start()
+        self.power.again()
 
     async def weather(self):
         for network in self.networks.values():
             network.is_rough = self.choice.random() < 0.4
         self.controllers.is_rough = self.choice.random() < 0.5
-        self.note("weather: " + ", ".join(f"{name} {'rough' if it.is_rough else 'calm'}" for name, it in [*self.networks.items(), ("controllers", self.controllers)]))
+        its = {**self.networks, "controllers": self.controllers}
+        self.note("weather: " + ", ".join(f"{name} {'rough' if it.is_rough else 'calm'}" for name, it in its.items()))
 
     async def swap(self):
         """Two controllers are unplugged, plugged in the other way round, and the table says so."""
@@ -354,12 +419,17 @@ class World:
         self.note(f"{one} and {other} are swapped")
 
     async def restore(self):
-        """Where restoring by the guide will be played."""
+        """The hall is lost, and restored by the guide from any of its copies."""
+        if self.desk.is_up.is_set() and self.copies.all() and self.restored < RESTORED:
+            await self.desk.kill()
+            self.restored, self.is_restored = self.restored + 1, False
+            await Restoring(self).run()
+            self.is_restored, self.left = True, max(self.left, 6)
 
     async def happen(self):
         """Events at any moments."""
-        events = [(self.desk_dies, 2), (self.leap, 1.5), (self.weather, 3), (self.power_dies, 1), (self.swap, 2), (self.restore, 1),
-                  (lambda: self.restarted(self.choice.choice(list(self.machines.values()))), 3),
+        events = [(self.desk_dies, 2), (self.leap, 1), (self.weather, 3), (self.power_dies, 1), (self.swap, 2), (self.restore, 1),
+                  (lambda: self.restarted(self.choice.choice(list(self.machines.values()))), 2),
                   (lambda: self.pressed(self.choice.choice(list(self.machines.values()))), 3)]
         await self.weather()
         while True:
@@ -398,10 +468,11 @@ class World:
             self.power.start()
             for work in (self.look(), self.happen(), *(operator.live() for operator in self.operators.values())):
                 self.spawn(work)
-            left, latest = self.given.seconds, self.now() + 2.5 * self.given.seconds     # longer where this host is slow
-            while left > 0 and self.now() < latest and not self.broken and len(self.watch.findings) < 5:
+            self.left, latest = self.given.seconds, self.now() + 2.5 * self.given.seconds     # longer where this host is slow, or the hall is restored
+            while (not self.is_restored or self.left > 0 and self.now() < latest) and not self.broken and len(self.watch.findings) < 5:
+                before = self.now()
                 await asyncio.sleep(0.2)
-                left -= 0.2
+                self.left, latest = (self.left - 0.2, latest) if self.is_restored else (self.left, latest + self.now() - before)
         finally:
             await self.close(answers)
         if self.broken:

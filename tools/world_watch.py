@@ -5,25 +5,39 @@ machines, their disks and their power, and keeps what it found. It knows nothing
    this start of the machine; and never begun after an abort of it was answered.
 2. The disk of a machine that is Deployed isn't touched. It is Deployed from when the desk said so until its owner or an admin sends a command of
    LEAVING that isn't refused and wasn't done before.
-3. A machine that is Deployed and on isn't told to switch off by its controller.
+3. A machine that is Deployed and on isn't told to switch off by its controller, and no script of the desk says so, or gives it work.
 4. No machine gets from Releasing to Ready by an order that was answered done while it was on and no controller had said that it is off.
 5. An erasing that was counted done and led to Ready left nothing on the disk, and a deployment that is counted done has its image there.
 6. A live image whose boot the desk refused doesn't restart its machine.
+7. A hall that was restored by the guide has each machine that was Deployed as Deployed for its owner, no order waits, no line of the guide fails, and
+   hall-moved says of each machine what the lost hall had (world_restore.py).
 Number 0 is all else: a program that ended by itself, a script of no known form.
 
 Races that no protocol can prevent are counted apart:
 - leave: a machine's work begins though an abort was answered meanwhile, where the request whose answer is its leave was sent before that abort
   was answered: the leave was on its way.
 - order: a controller is told to switch off a machine that is Deployed by then, where a list of orders that had an order for this machine was
-  asked for within the last second (LIST_AGE): the order was withdrawn between the list and the act.
+  asked for within the last second (LIST_AGE), and before it was Deployed: the order was withdrawn between the list and the act.
 - swap: a controller is told something within the last second (LIST_AGE) after it was wired to another machine.
+What a restored hall can't know is counted apart too:
+- key: a command is done a second time with its key, which was answered by the hall that was lost.
+- unlogged: the desk was killed between a change and its line in the log, so hall-moved can't say it: who looks finds it.
+- owner: a machine was at work for one owner, and the restored hall has it for another. hall-moved warns, and has no line that mends it: what the work
+  came to isn't known.
 A controller that acts later than it said is no race: what counts is the moment at which it was told."""
 import collections, json, re
+from pretend_machine import OWN_DISK
 
 LIST_AGE = 1.0      # seconds that a list of orders may be old at an act
-SLACK = 1.5         # seconds that this host may take from a program's wish to its sight, beside what the watch sees of its lateness
+SLACK = 0.3         # seconds that a program may take from its look at the clock to its act, beside twice what the world sees of its host's lateness
+ASKING = {"commission": {"commission"}, "test": {"commission", "test"}, "deploy": {"deploy"}, "erase": {"release"}}     # the commands that lead to a work
 LEAVING = {"release", "rescue", "exit_rescue"}      # what the owner of a Deployed machine, or an admin, may say to have it switched
 WORK = re.compile(r"kernel (\S+)(.*)")
+
+
+def key_of(boot, token):
+    """What a script of work is known by: a number comes twice where a hall is restored, with another token."""
+    return f"{boot} {token}"
 
 
 class Boot:
@@ -46,7 +60,10 @@ class Watch:
         self.boots, self.orders, self.keys = {}, {}, {}
         self.commands = collections.defaultdict(list)       # of each machine, the exchanges of its commands
         self.deployed = {}      # of each machine, the last moments at which the desk was asked and said Deployed
+        self.spells = {}        # of each machine, when the desk had first said Deployed, without a command of LEAVING since
         self.status = {}        # of each machine, what the desk said last
+        self.lost_keys = {}     # those of commands that a lost hall had done
+        self.lost_at = -1.0     # when a hall was lost last
         self.told_off = {}      # of each machine, when its controller said last that it is off
         self.unseen = {}        # machines whose `off` was answered done while they were on and no controller had said that they are off
         self.erased = {}        # machines whose erasing ended done, and its boot
@@ -54,6 +71,15 @@ class Watch:
     def find(self, number, text):
         self.findings.append(f"{number}: {text}")
         self.world.note(f"FINDING {number}: {text}")
+
+    def lost(self):
+        """The hall is lost, and a copy of it restored: numbers, versions and keys go on from there, and so does a boot that hadn't started in the copy.
+        What was Deployed stays so, and what was aborted."""
+        for boot in self.boots.values():
+            boot.begun = None
+        self.lost_keys |= self.keys
+        self.lost_at = self.world.now()
+        self.orders, self.keys, self.status, self.unseen, self.erased = {}, {}, {}, {}, {}
 
     # ---- the wire
     def sent(self, exchange):
@@ -65,8 +91,8 @@ class Watch:
 
     def came(self, request, opened):
         """A machine's request, whatever becomes of it."""
-        found = re.match(rb'POST /report/(\d+)/(?s:.*)"started"', request)
-        boot = found and self.boots.get(int(found[1]))
+        found = re.match(rb'POST /report/(\d+)/(\w+) (?s:.*)"started"', request)
+        boot = found and self.boots.get(key_of(found[1].decode(), found[2].decode()))
         if boot:
             boot.asked = max(boot.asked or 0, opened)
 
@@ -93,17 +119,25 @@ class Watch:
         machine = self.world.by_mac(exchange.path[6:])
         words = dict(word[5:].split("=", 1) for word in found[2].split() if word.startswith("hall.")) if found else {}
         if machine and words:
-            self.boots.setdefault(int(words["boot"]), Boot(machine, words, found[1], exchange.sent))
+            self.boots.setdefault(key_of(words["boot"], words["token"]), Boot(machine, words, found[1], exchange.sent))
             self.counts["scripts of work"] += 1
+            self.world.stir("script", machine)
+        is_kept = machine and self.is_kept(machine.number, exchange.ended) and self.spells[machine.number] < exchange.sent
+        if is_kept and exchange.body.decode() not in OWN_DISK:
+            self.find(3, f"machine {machine.number} is Deployed, and its script is {'work' if words else 'that of a machine that is held'}")
+
+    def boot_of(self, exchange):
+        found = re.match(r"/report/(\d+)/(\w+)$", exchange.path)
+        return found and self.boots.get(key_of(*found.groups()))
 
     def report(self, exchange):
-        boot, stage = self.boots.get(int(exchange.path.split("/")[2])), exchange.members.get("stage")
+        boot, stage = self.boot_of(exchange), exchange.members.get("stage")
         if boot is None or exchange.body != b'{"result":"counted"}':
             return
         self.counts[f"{boot.purpose} {stage}"] += 1
         if stage == "started":
             boot.counted = exchange.ended
-            self.world.stir("counted", boot.machine)
+            self.world.stir("erasing" if boot.purpose == "erase" else "counted", boot.machine)
         elif stage == "done" and boot.purpose == "deploy":
             self.is_deployed(boot.machine.number, exchange.sent, exchange.ended)
             disk = boot.machine.disk
@@ -115,7 +149,10 @@ class Watch:
 
     def listed(self, exchange):
         for members in read_list(exchange.body, "orders"):
-            order = self.orders.setdefault(members["number"], Order(members, exchange.opened))
+            if members["number"] not in self.orders:
+                self.orders[members["number"]] = Order(members, exchange.opened)
+                self.world.stir("order", self.world.machines[members["machine"]])
+            order = self.orders[members["number"]]
             order.last = max(order.last, exchange.opened)
 
     def order_answered(self, exchange):
@@ -131,18 +168,17 @@ class Watch:
     def commanded(self, exchange):
         """A command that was done: now, or before, where its key was answered before or its version is none after that which was seen."""
         key, version = exchange.members.get("key"), json.loads(exchange.body).get("version")
+        if key in self.lost_keys and key not in self.keys:
+            self.races["key"] += 1
         if key in self.keys or version is not None and version <= exchange.version:
             exchange.is_repeat = True
             return
         self.keys[key] = exchange
         self.counts[exchange.members.get("command")] += 1
-        if exchange.members.get("command") == "deploy":
-            self.world.stir("deploy", self.world.machines[exchange.members["machine"]])
 
     def delivered(self, exchange, at):
         """An answer of the desk that is passed on whole."""
-        found = re.match(r"/report/(\d+)/", exchange.path)
-        boot = found and self.boots.get(int(found[1]))
+        boot = self.boot_of(exchange)
         if boot is None or exchange.members.get("stage") != "started":
             return
         if exchange.status == 200 and exchange.body == b'{"result":"counted"}':
@@ -169,6 +205,8 @@ class Watch:
                 self.unseen.pop(number, None)
 
     def is_deployed(self, number, sent, ended):
+        if not self.is_kept(number, sent):
+            self.spells[number] = ended
         self.deployed[number] = sent, ended
 
     def is_ready(self, number):
@@ -192,9 +230,9 @@ class Watch:
         return True
 
     # ---- disks and power
-    def begins(self, machine, number, purpose):
+    def begins(self, machine, key, purpose):
         """A program begins that writes the machine's disk."""
-        boot, now = self.boots.get(number), self.world.now()
+        boot, now, number = self.boots.get(key), self.world.now(), key.split()[0]
         self.counts["works"] += 1
         where = f"machine {machine.number}: {purpose} of boot {number} begins"
         if boot is None or boot.machine is not machine or boot.purpose != purpose:
@@ -207,12 +245,18 @@ class Watch:
             self.find(1, f"{where}, and the desk's counted didn't come on a connection of its own")
         for exchange in self.commands[machine.number]:
             is_done = exchange.status == 200 and not exchange.is_repeat and exchange.ended <= now
-            if exchange.members["command"] == "abort" and is_done and boot.given <= exchange.sent:
+            if exchange.members["command"] == "abort" and is_done and boot.given <= exchange.sent and not self.is_asked_again(machine, purpose, exchange):
                 if leave is None or exchange.ended < leave:
                     self.find(1, f"{where} after its abort was answered")
                 else:
                     self.races["leave"] += 1
         self.touches(machine, f"{purpose} of boot {number}")
+
+    def is_asked_again(self, machine, purpose, abort):
+        """Whether its owner asked for the work again after an abort, and then the hall was lost: a copy from before the abort has the machine at that
+        work, as the lost hall had it, with the boot of then."""
+        return any(it.members["command"] in ASKING[purpose] and it.status == 200 and not it.is_repeat and abort.ended <= it.ended <= self.lost_at
+                   for it in self.commands[machine.number])
 
     def touches(self, machine, what):
         if self.is_kept(machine.number, self.world.now()):
@@ -222,23 +266,24 @@ class Watch:
         """A controller is told to switch off its machine, by a program that was called at a moment."""
         if word != "off" or not machine.is_on or not self.is_kept(machine.number, self.world.now()):
             return
-        youngest = max((order.last for order in self.orders.values() if order.machine == machine.number), default=None)
+        spell = self.spells[machine.number]
+        youngest = max((order.last for order in self.orders.values() if order.machine == machine.number and order.last <= spell), default=None)
         allowed = LIST_AGE + SLACK + 2 * self.world.lateness
-        if youngest is not None and since - youngest <= allowed:
+        if youngest is not None and (since <= spell or since - youngest <= allowed):
             self.races["order"] += 1
-            self.world.note(f"race: order: machine {machine.number}")
+            self.world.note(f"race: order: machine {machine.number}, listed {since - youngest:.1f} s before")
         elif since - self.world.swapped <= allowed:
             self.races["swap"] += 1
             self.world.note(f"race: swap: machine {machine.number}")
         else:
-            age = "none was listed" if youngest is None else f"listed {since - youngest:.1f} s before"
+            age = "none was listed before" if youngest is None else f"listed {since - youngest:.1f} s before"
             self.find(3, f"machine {machine.number} is Deployed and on, and {controller} is told to switch it off; an order for it: {age}")
 
-    def restarts(self, machine, number):
+    def restarts(self, machine, key):
         """The live image restarts its machine by itself."""
-        boot = self.boots.get(number)
+        boot = self.boots.get(key)
         if boot and boot.begun is None and boot.refused and boot.refused >= machine.since and boot.refused >= (boot.asked or 0):
-            self.find(6, f"machine {machine.number}: boot {number} was refused, and the machine restarts in place of switching off")
+            self.find(6, f"machine {machine.number}: boot {key.split()[0]} was refused, and the machine restarts in place of switching off")
 
 
 def read_list(body, name):

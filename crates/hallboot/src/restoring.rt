@@ -3,8 +3,8 @@ use crate::over_file::{Copying, Doing, Found, Joined, over_file};
 use desk_operations::{Exit, write_text};
 use hall_report::Fault;
 use hallboot_files::{
-    FileIdentity, LOG, changed_at, hold, now_text, put_aside, put_in_place, remove_with_beside,
-    with_end, write_copy,
+    FileIdentity, LOG, changed_at, copied_at, hold, now_text, put_aside, put_in_place,
+    remove_with_beside, with_end, write_copy,
 };
 use hallboot_tasks::{HallSum, sum_text};
 use hallboot_words::{Failure, HallCopy, because, refused};
@@ -180,6 +180,14 @@ fn replaced(rt: &HostRuntime, path: &str, new: &str, aside: &str) -> Result<bool
     Ok(was_there)
 }
 
+// Of which moment a hall is that was just restored: as the copy says, or when that was last changed.
+fn moment_of(rt: &HostRuntime, path: &str, from: &str) -> io::Result<String> {
+    match copied_at(rt, path)? {
+        Some(moment) => Ok(moment),
+        None => changed_at(rt, from),
+    }
+}
+
 // The texts of what was restored, and of what was there.
 fn restored_text(
     rt: &HostRuntime,
@@ -190,7 +198,7 @@ fn restored_text(
 ) -> Result<String, AllocError> {
     let alloc = rt.alloc();
     let sum = sum_text(alloc, sum)?;
-    let moment = match changed_at(rt, from) {
+    let moment = match moment_of(rt, path, from) {
         Ok(moment) => moment,
         Err(_) => String::from_str(alloc, "an unknown moment")?,
     };

@@ -19,7 +19,7 @@ pub use copies::{Joining, copy, put_in_place, write_copy};
 pub use holding::{Held, hold};
 pub use identity::FileIdentity;
 pub use kept::Keeping;
-pub use moment::{changed_at, now_seconds, now_text};
+pub use moment::{changed_at, copied_at, now_seconds, now_text};
 pub use places::{BESIDE, LOG, new_file, remove_with_beside, sync_folder, with_end};
 pub use rights::first_open_to_others;
 pub use served_file::ServedFile;

@@ -1,9 +1,9 @@
 //! Moments as names and texts have them.
 use jiff::Timestamp;
 use std::alloc::Global;
-use std::io::ErrorKind;
+use std::fs::{self, File};
+use std::io::{self, ErrorKind, Read};
 use std::time::{SystemTime, UNIX_EPOCH};
-use std::{fs, io};
 
 fn time_of(moment: SystemTime) -> Option<Timestamp> {
     let since = moment.duration_since(UNIX_EPOCH).ok()?;
@@ -20,6 +20,22 @@ fn text_of(alloc: Global, moment: SystemTime) -> io::Result<String> {
 /// When a file was last written, in UTC.
 pub fn changed_at(rt: &HostRuntime, path: &str) -> io::Result<String> {
     text_of(rt.alloc(), fs::metadata(rt, path)?.modified()?)
+}
+
+// The octets of a file of SQLite up to the end of its user version (the file format of SQLite, section 1.3).
+const UP_TO_USER_VERSION: usize = 64;
+
+/// Of which moment a copy of a hall is, in UTC, by what was written in it: None where nothing was, as in a hall that was never restored.
+pub fn copied_at(rt: &HostRuntime, path: &str) -> io::Result<Option<String>> {
+    let mut start = [0; UP_TO_USER_VERSION];
+    File::open(rt, path)?.read_exact(&mut start)?;
+    let seconds = u32::from_be_bytes([start[60], start[61], start[62], start[63]]);
+    if seconds == 0 {
+        return Ok(None);
+    }
+    let time = Timestamp::from_second(i64::from(seconds));
+    let time = time.map_err(|_| io::Error::from(ErrorKind::InvalidData))?;
+    Ok(Some(time.to_string(rt.alloc())?))
 }
 
 /// When a file was last written, as the end of a name, as `.2026-09-21T14-13-20Z`.

@@ -2,6 +2,7 @@
 use desk_lines::Backup;
 use hallboot_files::{Joining, Keeping, copy};
 use hallboot_words::BackupPlan;
+use std::fs;
 use std::time::Instant;
 
 /// How many seconds a service is served at most before its first copy, so that one that is started often has one.
@@ -12,6 +13,9 @@ const FIRST: u64 = 60;
 pub(crate) struct LastBackup {
     pub(crate) at: Instant,
     pub(crate) is_first: bool,
+    /// Whether the copy that was there before the service has later numbers than the hall, so that it is of another hall, or of a later
+    /// one. No copy is made while it is there.
+    pub(crate) is_behind: bool,
 }
 
 /// The copies of a service.
@@ -20,8 +24,6 @@ pub(crate) struct Backups<'a, J> {
     pub(crate) plan: Option<&'a BackupPlan>,
     pub(crate) joining: &'a J,
     pub(crate) last: LastBackup,
-    /// Whether the copy that was there before the service has later numbers than the hall, so that it is of another hall, or of a later one.
-    pub(crate) is_behind: bool,
 }
 
 impl<'a, J: Joining> Backups<'a, J> {
@@ -45,14 +47,17 @@ impl<'a, J: Joining> Backups<'a, J> {
             before: self.last.is_first,
             dated: plan.kept,
         };
+        let path = plan.path.as_str();
+        let is_behind = self.last.is_behind && fs::exists(rt, path).unwrap_or(true);
         self.last = LastBackup {
             at: begun,
             is_first: false,
+            is_behind,
         };
-        if self.is_behind {
+        if is_behind {
             return Some(Backup::Refused);
         }
-        let copied = copy(rt, self.joining, db, plan.path.as_str(), keeping);
+        let copied = copy(rt, self.joining, db, path, keeping);
         let milliseconds = match begun.elapsed(rt) {
             Ok(passed) => u64::try_from(passed.as_millis()).unwrap_or(u64::MAX),
             Err(_) => 0,

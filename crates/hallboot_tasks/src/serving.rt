@@ -39,8 +39,6 @@ struct Part<'a> {
     serving: &'a Serving,
     file: ServedFile,
     turns: u64,
-    // Whether the copy that was there before the service has later numbers than the hall.
-    is_behind: bool,
 }
 
 // Says what became of a copy: in the log, or at standard error where there is none and it failed.
@@ -117,7 +115,6 @@ fn serve_over<S: HallStore, J: Joining>(
         plan: part.serving.backup.as_ref(),
         joining,
         last,
-        is_behind: part.is_behind,
     };
     let store = Group::new(rt.alloc(), store);
     let desk = desk_over(store, place, part.serving.enlists);
@@ -217,16 +214,19 @@ pub(crate) fn serve<S: HallStore, J: Joining>(
     suspended: &mut Suspended,
     joining: &J,
 ) -> (Result<(), Fault>, S) {
-    let (file, place, bound) = match prepared(rt, serving, suspended) {
+    let (file, place, mut bound) = match prepared(rt, serving, suspended) {
         Ok(prepared) => prepared,
         Err(fault) => return (Err(fault), store),
     };
-    let is_behind = sum_of(&mut store).is_ok_and(|sum| suspended.is_behind(&sum));
+    if let Ok(sum) = sum_of(&mut store)
+        && suspended.is_behind(&sum)
+    {
+        bound.backed_up.is_behind = true;
+    }
     let mut part = Part {
         serving,
         file,
         turns: suspended.left(),
-        is_behind,
     };
     let ((ended, left), store, bound) = serve_over(rt, store, place, bound, &mut part, joining);
     let outcome = told(rt, serving, ended, &bound);

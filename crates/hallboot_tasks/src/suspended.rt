@@ -126,6 +126,7 @@ impl Bound {
             backed_up: LastBackup {
                 at: start,
                 is_first: true,
+                is_behind: false,
             },
         })
     }
@@ -139,7 +140,7 @@ pub struct Suspended {
     file: Option<ServedFile>,
     left: u64,
     is_shut: bool,
-    // What the copy amounts to that was there before the service, if there was one.
+    // What the copy amounts to that was there before the service, if there was one, until the hall was held against it.
     copy_before: Option<HallSum>,
     // How many turns were left at the last wait, and how many there were in a row after which nothing was served for long.
     left_before: u64,
@@ -178,9 +179,12 @@ impl Suspended {
         }
     }
 
-    /// Whether a hall is behind the copy that was there before the service.
-    pub(crate) fn is_behind(&self, sum: &HallSum) -> bool {
-        self.copy_before.is_some_and(|copy| sum.is_behind(&copy))
+    /// Whether a hall is behind the copy that was there before the service, which is found once.
+    pub(crate) fn is_behind(&mut self, sum: &HallSum) -> bool {
+        match self.copy_before.take() {
+            Some(copy) => sum.is_behind(&copy),
+            None => false,
+        }
     }
 
     /// Whether another file than this one was served before.

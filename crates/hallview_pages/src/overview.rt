@@ -133,7 +133,7 @@ fn put_table(page: &mut Page, view: &View<'_>) {
 // What is said of a hall without machines.
 fn put_no_machines(page: &mut Page, hall: &Hall) {
     page.put(
-        "<p><span>{} has no machine. One that starts over the network enlists itself; or add it:</span>",
+        "<p><span>{} has no machine. Add one, or start one over the network where the desk enlists:</span>",
         &[Value::Text(hall.name.text())],
     );
     put_line(
