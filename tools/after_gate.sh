@@ -14,6 +14,7 @@ tools=(
     case_words.sh
     'price_of_change.py --check'
     'wrong_bodies.py --check'
+    lazy_calls.py
     program_rows.sh
     hallctl_peer.sh
     token_trial.sh

@@ -138,6 +138,8 @@ started+=($long)
 comes 'the first question of the one that waits' grep -q '^asked mute' ways
 ends mute 3 'no answer' --timeout 1 commission 1
 ends mute 3 'no answer' --timeout 1 machines
+printf 'key,mac,arch,uuid,pool\n00000000-0000-4000-8000-0000000000aa,52:54:00:00:00:77,uefi64,,default\n' > rows
+ends mute 3 'of 1 rows 0 are done, 0 refused and 1 left' --timeout 1 import - < rows
 ends mute 3 'no answer, after 1 seconds' wait 1 --for Ready --timeout 1
 ends mute 3 'no answer, after 1 seconds' --timeout 1 wait 1 --for Ready
 ends refused 3 'pool lab: not done (connection refused): say it again with --key' --timeout 4 add-pool lab
