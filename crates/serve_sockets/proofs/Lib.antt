@@ -1,7 +1,9 @@
 pub mod ConnectionLemmas
 pub mod GatheringLemmas
+pub mod GivenLemmas
 pub mod ListingLemmas
 pub mod ListsLemmas
+pub mod OwnLemmas
 pub mod ServingLemmas
 pub mod TableLemmas
 pub mod TurnLemmas

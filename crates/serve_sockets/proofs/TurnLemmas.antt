@@ -1,6 +1,7 @@
 -- What turns do with the desk, and when one is a quiet moment.
-use Rattle.std.proofs.{Common.{◌≡◌, ◌≢◌, ◌<◌, ◌+◌, ◌%◌, ◌∙◌, ℕ, Bool, true, false, ◌&&◌, ◌||◌, List, Option, ap, arith, refl, subst, sym}, lemmas.Bool.false≢true}
-use Rattle.serve_sockets.specs.{Prelude.{site_of, store_of, Answer, Request, Desk, Ghosts}, Service.{IsPaced, is_opening_of, turns_of}, Serving.{IsOnlyMoved, IsRequest, IsStep, IsTurnOf}, Turn.{Did, HandsNothing, IsOfDatagram, IsTurn, KeepsDesk, is_unavailable, said_of}, declared.{service.Service.Service, serving.Step.Step, turn.{Handover.Handover, Kind.Kind, Said.Said, Stamp.Stamp, Turn.Turn}}}
+use Rattle.std.proofs.{Common.{◌≡◌, ◌≢◌, ◌<◌, ◌+◌, ◌%◌, ◌∙◌, ℕ, Bool, true, false, ◌&&◌, ◌||◌, List, Option, ap, arith, inl, inr, refl, subst, sym}, lemmas.Bool.false≢true}
+use Rattle.serve_sockets.specs.{Prelude.{TcpStream, site_of, store_of, Answer, Request, Desk, Ghosts}, Connection.number_of, Own.{IsInAfter, IsOut, NoAnswers}, Service.{IsPaced, is_opening_of, turns_of}, Serving.{HoldsOn, IsOnlyMoved, IsRequest, IsStep, IsTurnOf}, Turn.{HandsNothing, IsHanded, IsOfDatagram, IsTurn, KeepsDesk, is_unavailable, said_of}, declared.{connection.Connection.Connection, service.Service.Service, serving.Step.Step, turn.{Handover.Handover, Kind.Kind, Said.Said, Stamp.Stamp, Turn.Turn}}}
+use Rattle.serve_sockets.proofs.OwnLemmas.{answers_then, put_answered, put_kept}
 
 -- ---- what is done with the desk
 
@@ -16,19 +17,36 @@ module _ {S : Type 0} (g : Ghosts S) where
     closed = λ clean closed. then.closed clean (first.closed (then.clean clean) closed);
   }
 
-  -- a turn that hands nothing over
-  pub nothing_handed : (desk : Desk S) (stamp : Stamp) (t : Turn) → HandsNothing t → IsTurn g desk desk stamp t
-  nothing_handed desk stamp (Turn.Handed handover) nothing = absurd nothing
-  nothing_handed desk stamp (Turn.Unsent handover) nothing = absurd nothing
-  nothing_handed desk stamp (Turn.PutOff from) nothing = absurd nothing
-  nothing_handed desk stamp t nothing = record { kept = keeps_same desk; did = refl; unlisted = λ off frame. absurd frame }
+  handed_after : (old new : Desk S) (slots mid slots' : List (Option (Connection TcpStream))) (stamp : Stamp) (handover : Handover) → NoAnswers slots mid
+      → IsHanded g (store_of old) (store_of new) (site_of old) mid slots' stamp.moment stamp.fresh handover
+      → IsHanded g (store_of old) (store_of new) (site_of old) slots slots' stamp.moment stamp.fresh handover
+  handed_after old new slots mid slots' stamp handover none it = record {
+    what = it.what;
+    said = it.said;
+    tells = it.tells;
+    answered = it.answered;
+    own = λ number octets a has. elim (it.own number octets a has) [ inl before ↦ inl (none number octets a before) | inr is ↦ inr is ];
+  }
 
-  -- a turn that handed nothing over left the desk as it was
-  pub did_nothing : (old new : Desk S) (stamp : Stamp) (t : Turn) → HandsNothing t → Did g old new stamp t → new ≡ old
-  did_nothing old new stamp (Turn.Handed handover) nothing did = absurd nothing
-  did_nothing old new stamp (Turn.Unsent handover) nothing did = absurd nothing
-  did_nothing old new stamp (Turn.PutOff from) nothing did = absurd nothing
-  did_nothing old new stamp t nothing did = did
+  -- a turn that hands nothing over
+  pub nothing_handed : (desk : Desk S) (slots slots' : List (Option (Connection TcpStream))) (stamp : Stamp) (t : Turn) → HandsNothing t → NoAnswers slots slots'
+      → IsTurn g desk desk slots slots' stamp t
+  nothing_handed desk slots slots' stamp (Turn.Handed handover) nothing none = absurd nothing
+  nothing_handed desk slots slots' stamp (Turn.Unsent handover) nothing none = absurd nothing
+  nothing_handed desk slots slots' stamp (Turn.PutOff from) nothing none = absurd nothing
+  nothing_handed desk slots slots' stamp t nothing none = record { kept = keeps_same desk; did = (refl, none); unlisted = λ off frame. absurd frame }
+
+  -- a turn before which connections were closed or accepted
+  pub turn_after : (old new : Desk S) (slots mid slots' : List (Option (Connection TcpStream))) (stamp : Stamp) (t : Turn) → NoAnswers slots mid → IsTurn g old new mid slots' stamp t
+      → IsTurn g old new slots slots' stamp t
+  turn_after old new slots mid slots' stamp (Turn.Handed handover) none it =
+      record { kept = it.kept; did = λ clean. handed_after old new slots mid slots' stamp handover none (it.did clean); unlisted = it.unlisted }
+  turn_after old new slots mid slots' stamp (Turn.Unsent handover) none it =
+      record { kept = it.kept; did = λ clean. handed_after old new slots mid slots' stamp handover none (it.did clean); unlisted = it.unlisted }
+  turn_after old new slots mid slots' stamp (Turn.PutOff from) none it =
+      record { kept = it.kept; did = (it.did.0, answers_then slots mid slots' none it.did.1); unlisted = it.unlisted }
+  turn_after old new slots mid slots' stamp t none it =
+      record { kept = it.kept; did = (it.did.0, answers_then slots mid slots' none it.did.1); unlisted = it.unlisted }
 
   -- a step that hands nothing over
   pub only_moved : (desk : Desk S) (P : Handover → Type 0) (s : Step) → IsOnlyMoved s → IsStep g desk desk P s
@@ -38,19 +56,30 @@ module _ {S : Type 0} (g : Ghosts S) where
   only_moved desk P s moved = record { kept = keeps_same desk; did = refl }
 
   -- what the step did is what the turn did
-  pub step_turn : (old new : Desk S) (stamp : Stamp) (read : List ℕ) (rest : Option (List ℕ)) (left : List ℕ) (s : Step) (t : Turn) → IsTurnOf s t
-      → IsStep g old new (IsRequest g (store_of old) (store_of new) (site_of old) stamp.moment stamp.fresh read rest left) s → IsTurn g old new stamp t
-  step_turn old new stamp read rest left (Step.Handed handover) t same it = subst (λ (made : Turn). IsTurn g old new stamp made) (sym same) (record {
-    kept = it.kept;
-    did = λ clean.
-        let asked = it.did clean in
-        record { what = Request asked.octets; said = asked.said; tells = asked.tells; answered = asked.answered };
-    unlisted = λ off frame clean. absurd (subst IsOfDatagram (it.did clean).tells.kind frame);
-  })
-  step_turn old new stamp read rest left Step.PutOff (Turn.PutOff from) off it = record { kept = it.kept; did = it.did; unlisted = λ off frame. absurd frame }
-  step_turn old new stamp read rest left Step.PutOff t off it = absurd off
-  step_turn old new stamp read rest left s t nothing it =
-      subst (λ (desk : Desk S). IsTurn g old desk stamp t) (sym it.did) (nothing_handed old stamp t nothing)
+  pub step_turn : (old new : Desk S) (stamp : Stamp) (read : List ℕ) (rest : Option (List ℕ)) (s : Step) (t : Turn)
+      (slots mid slots' : List (Option (Connection TcpStream))) (slot : ℕ) (was connection : Connection TcpStream) → IsOut slots mid slot was → number_of connection ≡ number_of was
+      → HoldsOn s was connection → IsInAfter mid slots' s slot connection → IsTurnOf s t
+      → IsStep g old new (IsRequest g (store_of old) (store_of new) (site_of old) stamp.moment stamp.fresh read rest connection) s → IsTurn g old new slots slots' stamp t
+  step_turn old new stamp read rest (Step.Handed handover) t slots mid slots' slot was connection out numbered own put same it =
+      subst (λ (made : Turn). IsTurn g old new slots slots' stamp made) (sym same) (record {
+        kept = it.kept;
+        did = λ clean.
+            let asked = it.did clean in
+            record {
+              what = Request asked.octets;
+              said = asked.said;
+              tells = asked.tells;
+              answered = asked.answered;
+              own = put_answered slots mid slots' slot was connection out asked.octets asked.said asked.waits put;
+            };
+        unlisted = λ off frame clean. absurd (subst IsOfDatagram (it.did clean).tells.kind frame);
+      })
+  step_turn old new stamp read rest Step.PutOff (Turn.PutOff from) slots mid slots' slot was connection out numbered own put off it =
+      record { kept = it.kept; did = (it.did, put_kept slots mid slots' slot was connection out numbered own put); unlisted = λ off frame. absurd frame }
+  step_turn old new stamp read rest Step.PutOff t slots mid slots' slot was connection out numbered own put off it = absurd off
+  step_turn old new stamp read rest s t slots mid slots' slot was connection out numbered own put nothing it =
+      subst (λ (desk : Desk S). IsTurn g old desk slots slots' stamp t) (sym it.did)
+      (nothing_handed old slots slots' stamp t nothing (put_kept slots mid slots' slot was connection out numbered own put))
 
 -- ---- when a turn is a quiet moment
 

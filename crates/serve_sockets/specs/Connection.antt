@@ -1,6 +1,6 @@
 -- What a connection sent, and what of its answer it has taken.
-use Rattle.std.specs.{Prelude.{◌≡◌, ◌⊎◌, ℕ, ◌-◌, List, [], ◌++◌, Bool, true, false, Option, None, Some, drop, is_some, nat_lt, not, ◌&&◌, if◌then◌else◌}, Io.KnownBytes.{Consumes, IsAtEnd, Keeps}}
-use Rattle.serve_sockets.specs.{Prelude.{IsDecided, octets_of}, Bucket.bucket_of, declared.{connection.{Connection.Connection, Sending.Sending, Wait.Wait}, reading.Taken.Taken, writing.Put.Put}}
+use Rattle.std.specs.{Prelude.{◌≡◌, ◌⊎◌, ℕ, ◌-◌, List, [], ◌++◌, Bool, true, false, Option, None, Some, drop, is_some, nat_lt, not, option_map, ◌&&◌, if◌then◌else◌}, Io.KnownBytes.{Consumes, IsAtEnd, Keeps}}
+use Rattle.serve_sockets.specs.{Prelude.{Answer, IsDecided, octets_of}, Bucket.bucket_of, declared.{connection.{Connection.Connection, Sending.Sending, Wait.Wait}, reading.Taken.Taken, writing.Put.Put}}
 
 -- the octets of an answer that are to be written yet
 abbrev pub unwritten : Sending → List ℕ
@@ -40,6 +40,10 @@ module _ {T : Type 0} where
   -- what of its request was read
   abbrev pub input_of : Connection T → List ℕ
   input_of connection = connection.input.items
+
+  -- the answer that waits until the client has taken it
+  abbrev pub answer_of : Connection T → Option Answer
+  answer_of connection = option_map (λ sending. sending.answer) connection.sending
 
   -- whether it has an answer
   abbrev pub is_answered : Connection T → Bool
@@ -96,3 +100,22 @@ IsTaken Taken.Waits old new before after = Keeps old new × (after ≡ before)
 IsTaken Taken.More old new before after = Moves old new before after
 IsTaken Taken.Whole old new before after = Moves old new before after × (IsAtEnd new ⊎ IsDecided after)
 IsTaken other old new before after = Unit {0}
+
+module _ {T : Type 0} where
+  -- It has this answer to a request of these octets, and all of the answer is to be written yet.
+  pub record Waits (connection : Connection T) (octets : List ℕ) (a : Answer) : Type 0 where
+    pub asked : input_of connection ≡ octets
+    pub answered : answer_of connection ≡ Some a
+    pub left : left_of connection ≡ octets_of a
+
+  -- it is the same client's
+  abbrev pub IsSameClient : Connection T → Connection T → Type 0
+  IsSameClient old new = (number_of new ≡ number_of old) × (stream_of new ≡ stream_of old)
+
+  -- the client was given this answer to what it sent
+  abbrev pub IsAnsweredBy : Connection T → Connection T → Answer → Type 0
+  IsAnsweredBy old new a = IsSameClient old new × Waits new (input_of old) a
+
+  -- an answer that it has is the one that it had, to the same request
+  abbrev pub KeepsAnswer : Connection T → Connection T → Type 0
+  KeepsAnswer old new = (a : Answer) → answer_of new ≡ Some a → (answer_of old ≡ Some a) × (input_of new ≡ input_of old)

@@ -4,6 +4,7 @@ pub mod Gathering
 pub mod Bucket
 pub mod Listing
 pub mod Lists
+pub mod Own
 pub mod Replying
 pub mod Ring
 pub mod ServedTime

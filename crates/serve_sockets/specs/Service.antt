@@ -1,6 +1,6 @@
 -- What a service is made of.
-use Rattle.std.specs.Prelude.{◌≡◌, ◌+◌, ◌%◌, ℕ, Bool, true, false}
-use Rattle.serve_sockets.specs.{Prelude.Desk, Turn.{IsQuiet, IsUnavailable}, declared.{service.Service.Service, sockets.Sockets.Sockets, turn.Turn.Turn}}
+use Rattle.std.specs.Prelude.{◌≡◌, ◌+◌, ◌%◌, ℕ, Bool, true, false, List, Option}
+use Rattle.serve_sockets.specs.{Prelude.{TcpStream, Desk}, Sockets.slots_in, Turn.{IsQuiet, IsUnavailable}, declared.{connection.Connection.Connection, service.Service.Service, sockets.Sockets.Sockets, turn.Turn.Turn}}
 
 module _ {S : Type 0} where
   -- the desk to which what comes is handed
@@ -10,6 +10,10 @@ module _ {S : Type 0} where
   -- the sockets at which it is reached
   abbrev pub sockets_of : Service S → Sockets
   sockets_of service = service.sockets
+
+  -- what each place for a connection holds
+  abbrev pub connections_of : Service S → List (Option (Connection TcpStream))
+  connections_of service = slots_in service.sockets
 
   -- how many turns there were since the last eighth one
   abbrev pub turns_of : Service S → ℕ

@@ -1,7 +1,7 @@
 -- What a turn did, and what a log says of it.
-use Rattle.std.specs.Prelude.{◌≡◌, ◌⊎◌, ◌≤◌, ℕ, Bool, true, false, List, [], ◌++◌, length, Option, None}
+use Rattle.std.specs.Prelude.{◌≡◌, ◌⊎◌, ◌≤◌, ℕ, Bool, true, false, List, [], ◌++◌, length, Option, None, Some, slice_get}
 use Rattle.hall_desk.specs.History.{Origin}
-use Rattle.serve_sockets.specs.{Prelude.{Site, Hall, IsSound, IsAnswered, IsOnlyRead, enlists_of, site_of, store_of, HasHistory, Item, exchanges, AndCutRun, AreGiven, HasRun, IsLeft, IsSettled, Answer, Arrival, Input, Desk, Ghosts}, Stamps.AreStamped, declared.turn.{Handover.Handover, Kind.Kind, Said.Said, Stamp.Stamp, Turn.Turn}}
+use Rattle.serve_sockets.specs.{Prelude.{Site, Hall, IsSound, IsAnswered, IsOnlyRead, TcpStream, enlists_of, site_of, store_of, HasHistory, Item, exchanges, AndCutRun, AreGiven, HasRun, IsLeft, IsSettled, Answer, Arrival, Input, Request, Desk, Ghosts}, Connection.input_of, Own.{AreOwn, IsAnswerTo, IsGiven, NoAnswers}, Stamps.AreStamped, declared.{connection.Connection.Connection, gathering.Client.Client, turn.{Handover.Handover, Kind.Kind, Said.Said, Stamp.Stamp, Turn.Turn}}}
 
 -- ---- handovers
 
@@ -75,17 +75,29 @@ HandsDatagram (Turn.Handed handover) = IsOfDatagram handover.kind
 HandsDatagram (Turn.Unsent handover) = IsOfDatagram handover.kind
 HandsDatagram turn = ⊥
 
-module _ {S : Type 0} (g : Ghosts S) (old new : S) (site : Site) where
-  -- an arrival was handed to the desk at a moment, with fresh octets, and answered
+-- what the connections are, before and after
+module _ {S : Type 0} (g : Ghosts S) (old new : S) (site : Site) (slots slots' : List (Option (Connection TcpStream))) where
+  -- An arrival was handed to the desk at a moment, with fresh octets, and answered. No connection has an answer that it hadn't before, but
+  -- for one that has this answer to the request that was read from its client.
   pub record IsHanded (moment : ℕ) (fresh : List ℕ) (handover : Handover) : Type 0 where
     pub what : Input
     pub said : Answer
     pub tells : Tells handover what said
     pub answered : IsAnswered g old new site what moment fresh said
+    pub own : IsAnswerTo slots slots' what said
 
--- a request was handed to the desk with this stamp, or nothing was
-abbrev pub IsHandedAlone : {S : Type 0} → Ghosts S → S → S → Site → Stamp → Type 0
-IsHandedAlone g old new site stamp = (new ≡ old) ⊎ ((handover : Handover) × IsHanded g old new site stamp.moment stamp.fresh handover)
+  -- A client's request was handed to the desk with this stamp, and the client is given its own answer, in its own connection.
+  pub record IsLone (stamp : Stamp) : Type 0 where
+    pub client : Client
+    pub was : slice_get slots client.slot ≡ Some (Some client.connection)
+    pub said : Answer
+    pub answered : IsAnswered g old new site (Request (input_of client.connection)) stamp.moment stamp.fresh said
+    pub given : IsGiven slots' client.slot client.connection said
+    pub own : IsAnswerTo slots slots' (Request (input_of client.connection)) said
+
+  -- that, or nothing was handed over
+  abbrev pub IsHandedAlone : Stamp → Type 0
+  IsHandedAlone stamp = ((new ≡ old) × NoAnswers slots slots') ⊎ IsLone stamp
 
 -- A desk serves the same place and enlists as before; and if its store took no wrong answer of a disk for a right one, it took none before.
 pub record KeepsDesk {S : Type 0} (g : Ghosts S) (old new : Desk S) : Type 0 where
@@ -95,34 +107,38 @@ pub record KeepsDesk {S : Type 0} (g : Ghosts S) (old new : Desk S) : Type 0 whe
   -- where no group of changes is open, none is afterwards
   pub closed : g.is_clean (store_of new) → g.over (store_of old) None → g.over (store_of new) None
 
--- what was handed to the desk, at a stamp's moment and with its fresh octets; where a request was put off, the hall was only read
-abbrev pub Did : {S : Type 0} → Ghosts S → Desk S → Desk S → Stamp → Turn → Type 0
-Did g old new stamp (Turn.Handed handover) = g.is_clean (store_of new) → IsHanded g (store_of old) (store_of new) (site_of old) stamp.moment stamp.fresh handover
-Did g old new stamp (Turn.Unsent handover) = g.is_clean (store_of new) → IsHanded g (store_of old) (store_of new) (site_of old) stamp.moment stamp.fresh handover
-Did g old new stamp (Turn.PutOff from) = g.is_clean (store_of new) → IsOnlyRead g (store_of old) (store_of new)
-Did g old new stamp turn = new ≡ old
+module _ {S : Type 0} (g : Ghosts S) (old new : Desk S) (slots slots' : List (Option (Connection TcpStream))) where
+  -- what was handed to the desk, at a stamp's moment and with its fresh octets; where a request was put off, the hall was only read
+  abbrev pub Did : Stamp → Turn → Type 0
+  Did stamp (Turn.Handed handover) = g.is_clean (store_of new) → IsHanded g (store_of old) (store_of new) (site_of old) slots slots' stamp.moment stamp.fresh handover
+  Did stamp (Turn.Unsent handover) = g.is_clean (store_of new) → IsHanded g (store_of old) (store_of new) (site_of old) slots slots' stamp.moment stamp.fresh handover
+  Did stamp (Turn.PutOff from) = (g.is_clean (store_of new) → IsOnlyRead g (store_of old) (store_of new)) × NoAnswers slots slots'
+  Did stamp turn = (new ≡ old) × NoAnswers slots slots'
 
--- What a turn did with the desk. At most one arrival was handed to it; the hall was only read where the desk enlists none and a datagram came.
-pub record IsTurn {S : Type 0} (g : Ghosts S) (old new : Desk S) (stamp : Stamp) (turn : Turn) : Type 0 where
-  pub kept : KeepsDesk g old new
-  pub did : Did g old new stamp turn
-  pub unlisted : enlists_of old ≡ false → HandsDatagram turn → g.is_clean (store_of new) → IsOnlyRead g (store_of old) (store_of new)
+  -- What a turn did with the desk. At most one arrival was handed to it; the hall was only read where the desk enlists none and a datagram came.
+  pub record IsTurn (stamp : Stamp) (turn : Turn) : Type 0 where
+    pub kept : KeepsDesk g old new
+    pub did : Did stamp turn
+    pub unlisted : enlists_of old ≡ false → HandsDatagram turn → g.is_clean (store_of new) → IsOnlyRead g (store_of old) (store_of new)
 
 -- Turns were served: so many arrivals at most were handed to the desk, alone or together, each with the moment and the fresh octets of a
--- stamp of its own that the source gave.
+-- stamp of its own that the source gave. An answer that a connection has now, and hadn't before, is the one to the request that was read from
+-- its client.
 pub record AreServed {S C : Type 0} (g : Ghosts S) (gives : C → Option Stamp → C → Type 0)
-    (old new : S) (source source' : C) (site : Site) (most : ℕ) : Type 0 where
+    (old new : S) (source source' : C) (site : Site) (most : ℕ) (slots slots' : List (Option (Connection TcpStream))) : Type 0 where
   pub arrivals : List Arrival
   pub answers : List Answer
   pub few : length arrivals ≤ most
+  pub paired : length answers ≡ length arrivals
   pub stamped : AreStamped gives source arrivals source'
   pub run : (h : Hall) → g.holds old h → IsSound h → HasRun g old new site h arrivals answers
+  pub own : AreOwn slots slots' arrivals answers
 
 -- That is what came to the hall since it was new. Of a store that was settled a stop leaves the hall after some of the arrivals, or
 -- after some more whose answers weren't given; and the hall at their end alone, if each was given its answer.
 pub record WentOn {S C : Type 0} (g : Ghosts S) (gives : C → Option Stamp → C → Type 0)
-    (old new : S) (source source' : C) (site : Site) (most : ℕ) : Type 0 where
-  pub served : AreServed g gives old new source source' site most
+    (old new : S) (source source' : C) (site : Site) (most : ℕ) (slots slots' : List (Option (Connection TcpStream))) : Type 0 where
+  pub served : AreServed g gives old new source source' site most slots slots'
   pub history : (origin : Origin) (past : List Item) → HasHistory g old origin past
       → HasHistory g new origin (past ++ exchanges site served.arrivals served.answers)
   pub settled : (origin : Origin) (past : List Item) → (was : IsSettled g old origin past) → AreGiven site was.history.end served.arrivals served.answers

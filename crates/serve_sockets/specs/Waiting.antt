@@ -14,6 +14,10 @@ since_of waiting = waiting.since
 abbrev pub handed_of : Waiting → Option ℕ
 handed_of waiting = waiting.handed
 
+-- how many of them are answered alone, one after the other, before others are answered together
+abbrev pub alone_of : Waiting → ℕ
+alone_of waiting = waiting.alone
+
 -- how long the first one waits while something else may be there, in milliseconds
 abbrev pub patience_of : Waiting → ℕ
 patience_of waiting = waiting.patience

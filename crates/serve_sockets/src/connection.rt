@@ -7,10 +7,8 @@ use crate::reading::{Taken, read};
 use crate::writing::{Put, write};
 use hall_desk::Answer;
 use hall_http::is_decided;
-use pxe_vendor::Octets;
 use std::alloc::{AllocError, Global};
 use std::io::{Read, Write};
-use std::mem;
 use std::net::SocketAddr;
 
 /// How long, in milliseconds of served time, a connection may be undecided, and its answer stand still.
@@ -54,7 +52,7 @@ pub(crate) struct Connection<T> {
 }
 
 impl<T> Connection<T> {
-    ghost use Rattle.serve_sockets.specs.Connection.{input_of, is_answered, is_called, is_put_off, is_slow, is_waiting, is_whole, left_of, number_of, undecided_bucket, since_of, stream_of};
+    ghost use Rattle.serve_sockets.specs.Connection.{input_of, is_answered, is_called, is_put_off, is_slow, is_waiting, is_whole, IsAnsweredBy, number_of, undecided_bucket, since_of, stream_of};
 
     /// The connection that was accepted as the so-manieth, at a served time.
     pub(crate) fn new(
@@ -184,24 +182,11 @@ impl<T> Connection<T> {
         }
     }
 
-    /// The request. The connection has no input then.
-    pub(crate) fn request(&mut self, alloc: Global) -> Octets
-        ensures request { result ≡ input_of self.old }
-        ensures stream { stream_of self.new ≡ stream_of self.old }
-        ensures number { number_of self.new ≡ number_of self.old }
-        ensures since { since_of self.new ≡ since_of self.old }
-    {
-        Octets::from(mem::replace(&mut self.input, Vec::new(alloc)))
-    }
-
-    /// Has an answer wait until the client takes it.
+    /// Has an answer to its request wait until the client takes it.
     pub(crate) fn answer(&mut self, answer: Answer, now: u64)
-        ensures left { left_of self.new ≡ octets_of answer }
-        ensures answered { IsTrue (is_answered self.new) }
+        ensures answered { IsAnsweredBy self.old self.new answer }
         ensures waits { is_waiting self.new ≡ false }
         ensures since { since_of self.new ≡ now }
-        ensures stream { stream_of self.new ≡ stream_of self.old }
-        ensures number { number_of self.new ≡ number_of self.old }
     {
         self.sending = Some(Sending { answer, written: 0 });
         self.waits = None;
@@ -210,7 +195,7 @@ impl<T> Connection<T> {
 }
 
 impl<T: Read> Connection<T> {
-    ghost use Rattle.serve_sockets.specs.Connection.{IsTaken, input_of, number_of, since_of, stream_of};
+    ghost use Rattle.serve_sockets.specs.Connection.{IsTaken, answer_of, input_of, number_of, since_of, stream_of};
 
     /// Reads once. A request that has waited is looked at first, so that nothing is read if it's decided. The time that the connection
     /// has isn't prolonged.
@@ -218,6 +203,7 @@ impl<T: Read> Connection<T> {
         ensures taken { IsTaken result (T.remaining (stream_of self.old)) (T.remaining (stream_of self.new)) (input_of self.old) (input_of self.new) }
         ensures since { since_of self.new ≡ since_of self.old }
         ensures number { number_of self.new ≡ number_of self.old }
+        ensures answer { answer_of self.new ≡ answer_of self.old }
     {
         if self.called.is_some() {
             match is_decided(alloc, self.input.as_slice()) {
@@ -231,12 +217,14 @@ impl<T: Read> Connection<T> {
 }
 
 impl<T: Write> Connection<T> {
-    ghost use Rattle.serve_sockets.specs.Connection.{IsPut, left_of, number_of, since_of, stream_of};
+    ghost use Rattle.serve_sockets.specs.Connection.{IsPut, answer_of, input_of, left_of, number_of, since_of, stream_of};
 
     /// Writes once. What the client takes of the answer prolongs the connection's time.
     pub(crate) fn put(&mut self, now: u64) -> Put
         ensures octets { Keeps (append_known (T.contents (stream_of self.old)) (left_of self.old)) (append_known (T.contents (stream_of self.new)) (left_of self.new)) }
         ensures put { IsPut now result (since_of self.old) (since_of self.new) (left_of self.new) }
+        ensures answer { answer_of self.new ≡ answer_of self.old }
+        ensures input { input_of self.new ≡ input_of self.old }
         ensures number { number_of self.new ≡ number_of self.old }
     {
         match &mut self.sending {

@@ -56,29 +56,39 @@ impl Gathered {
 }
 
 impl Sockets {
-    ghost use Rattle.std.specs.Prelude.{◌+◌, ℕ, IfSome, OnErr};
-    ghost use Rattle.serve_sockets.specs.{Gathering.IsGathered, Sockets.places_of, Turn.HandsNothing};
+    ghost use Rattle.std.specs.Prelude.{◌+◌, ℕ, List, Option, IfNone, IfSome, OnErr};
+    ghost use Rattle.serve_sockets.specs.{Gathering.IsGathered, Own.{IsFreed, IsInOrClosed, IsOut, IsPart}, Prelude.TcpStream, Sockets.{alone_in, places_of, slots_in}, Turn.HandsNothing, declared.connection.Connection.Connection};
 
     /// Whether the requests that wait are to be handed over now.
     pub(crate) fn is_group_due(&self) -> bool {
         self.waiting.is_due(self.time.now(), self.ring.is_idle())
     }
 
-    /// Whether one request waits alone.
+    /// Whether the first of the requests that wait is handed over alone.
     pub(crate) fn has_lone(&self) -> bool {
-        self.waiting.count() == 1
+        self.waiting.has_lone()
     }
 
     /// Some of the requests that wait are handed over.
     pub(crate) fn hand(&mut self)
-        ensures { places_of self.new ≡ places_of self.old }
+        ensures { slots_in self.new ≡ slots_in self.old }
     {
         self.waiting.hand(self.time.now());
     }
 
+    /// So many of the first requests that wait are handed over alone, one after the other.
+    pub(crate) fn separate(&mut self, count: usize)
+        ensures slots { slots_in self.new ≡ slots_in self.old }
+        ensures alone { alone_in self.new ≡ count }
+    {
+        self.waiting.separate(count);
+    }
+
     /// The client whose request waits longest, taken out of its slot; none if that has another one by now.
     pub(crate) fn next_whole(&mut self) -> Option<Client>
+        ensures out { IfSome result (λ client. IsOut (slots_in self.old) (slots_in self.new) client.slot client.connection) }
         ensures within { IfSome result (λ client. client.slot < places_of self.new) }
+        ensures none { IfNone result (IsFreed (slots_in self.old) (slots_in self.new)) }
         ensures places { places_of self.new ≡ places_of self.old }
     {
         let slot = self.waiting.next()?;
@@ -89,29 +99,51 @@ impl Sockets {
         Some(Client { slot, connection })
     }
 
-    /// Has a request wait after the others that do. Without memory for that its connection is closed.
-    pub(crate) fn put_back(&mut self, client: Client) -> Turn
+    // Keeps a client whose request waits. Where there was no memory for that, its connection is closed.
+    fn keep_waiting(&mut self, client: Client, is_added: bool) -> Turn
         requires { client.slot < places_of self.old }
         ensures turn { HandsNothing result }
-        ensures places { places_of self.new ≡ places_of self.old }
+        ensures put { IsInOrClosed (slots_in self.old) (slots_in self.new) client.slot client.connection }
+        ensures alone { alone_in self.new ≡ alone_in self.old }
     {
         let Client { slot, connection } = client;
-        let from = connection.from();
-        if self.waiting.add(slot, self.time.now()).is_err() {
+        if !is_added {
             return self.close(slot, connection, Close::Failed);
         }
+        let from = connection.from();
         self.keep(slot, connection);
         self.rest(Origin::Connection(slot));
         Turn::Decided(from)
+    }
+
+    /// Has a request wait after the others that do. Without memory for that its connection is closed.
+    pub(crate) fn wait_last(&mut self, client: Client) -> Turn
+        requires { client.slot < places_of self.old }
+        ensures turn { HandsNothing result }
+        ensures put { IsInOrClosed (slots_in self.old) (slots_in self.new) client.slot client.connection }
+    {
+        let is_added = self.waiting.add(client.slot, self.time.now()).is_ok();
+        self.keep_waiting(client, is_added)
+    }
+
+    /// Has a request that had waited wait again, before the others. Without memory for that its connection is closed.
+    pub(crate) fn put_back(&mut self, client: Client) -> Turn
+        requires { client.slot < places_of self.old }
+        ensures turn { HandsNothing result }
+        ensures put { IsInOrClosed (slots_in self.old) (slots_in self.new) client.slot client.connection }
+    {
+        let is_added = self.waiting.put_back(client.slot, self.time.now()).is_ok();
+        self.keep_waiting(client, is_added)
     }
 
     // Gathers the next of the requests that wait, with a stamp of its own. It waits on where there is no stamp, or no memory for it.
     fn gather_next<C: Source>(&mut self, alloc: Global, source: &mut C, gathered: &mut Gathered)
         requires room { vec_len gathered.old.arrivals < vec_capacity gathered.old.arrivals }
         requires seats { deque_len gathered.old.clients < deque_capacity gathered.old.clients }
-        ensures gathered { (from : C) (most : ℕ) → IsGathered C.Source.may_give from source.old (places_of self.old) most gathered.old
-            → IsGathered C.Source.may_give from source.new (places_of self.new) (most + 1) gathered.new }
-        ensures places { places_of self.new ≡ places_of self.old }
+        ensures gathered { (from : C) (most : ℕ) (slots : List (Option (Connection TcpStream))) → IsPart slots (slots_in self.old)
+            → IsGathered C.Source.may_give from source.old slots (slots_in self.old) most gathered.old
+            → IsGathered C.Source.may_give from source.new slots (slots_in self.new) (most + 1) gathered.new }
+        ensures part { IsPart (slots_in self.old) (slots_in self.new) }
         ensures room { vec_capacity gathered.new.arrivals ≡ vec_capacity gathered.old.arrivals }
         ensures seats { deque_capacity gathered.new.clients ≡ deque_capacity gathered.old.clients }
     {
@@ -140,9 +172,9 @@ impl Sockets {
         alloc: Global,
         source: &mut C,
     ) -> Result<Gathered, AllocError>
-        ensures gathered { IfOk result (IsGathered C.Source.may_give source.old source.new (places_of self.new) 64) }
+        ensures gathered { IfOk result (IsGathered C.Source.may_give source.old source.new (slots_in self.old) (slots_in self.new) 64) }
+        ensures part { IsPart (slots_in self.old) (slots_in self.new) }
         ensures same { OnErr result (source.new ≡ source.old) }
-        ensures places { places_of self.new ≡ places_of self.old }
     {
         let few = self.waiting.count().min(MAX_GROUP);
         let mut gathered = Gathered::new(alloc, few)?;

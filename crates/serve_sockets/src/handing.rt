@@ -1,5 +1,5 @@
 //! Handing what came to the desk.
-ghost use Rattle.std.specs.Prelude.{◌≡◌, ◌<◌, false, IfErr, IfOk, length, take};
+ghost use Rattle.std.specs.Prelude.{◌≡◌, ◌<◌, ◌≤◌, false, IfErr, IfOk, length, take};
 ghost use Rattle.hall_desk.specs.{Answering.Answers, Attempt.{GivesAnswer, IsOnlyRead}, Desk.{enlists_of, site_of, store_of}, Grouping.first_of, GroupingLaws.missed_answers};
 ghost use Rattle.serve_sockets.specs.{Gathering.{AreRequests, IsHandedAs}, Turn.{KeepsDesk, arrival_of}};
 
@@ -71,6 +71,9 @@ impl<S: GroupStore> Server<S> {
         requires some { 0 < length arrivals.now }
         requires requests { AreRequests arrivals.now }
         ensures kept { KeepsDesk S.HallStore self.old.desk self.new.desk }
+        ensures few { IfOk result (λ answered. length answered.answers.items ≤ length arrivals.now) }
+        ensures some { IfOk result (λ answered. 0 < length answered.answers.items) }
+        ensures count { IfErr result (λ count. count ≤ length arrivals.now) }
         ensures answered { S.HallStore.is_clean (store_of self.new.desk) → IfOk result (λ answered.
             IsHandedAs S.HallStore (store_of self.old.desk) (store_of self.new.desk) (site_of self.old.desk) (first_of arrivals.now answered.answers.items) answered.answers.items) }
         ensures refused { S.HallStore.is_clean (store_of self.new.desk) → IfErr result (λ count.

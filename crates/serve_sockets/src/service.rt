@@ -10,7 +10,7 @@ use crate::ring::Origin;
 use crate::serving::{Now, Step, advance, give, hand_request};
 use crate::sockets::{SHORT_PAUSE, Sockets};
 use crate::turn::{Handover, Kind, Said, Source, Stamp, Turn, TurnLog};
-use hall_desk::{Answer, Answered, Desk, Input, histories_keep_the_laws};
+use hall_desk::{Account, Answer, Answered, Arrival, Desk, Input, histories_keep_the_laws};
 use hall_store::{GroupStore, HallStore};
 use hall_types::{Moment, Port};
 use std::alloc::{AllocError, Global};
@@ -27,6 +27,9 @@ pub struct Service<S> {
     is_opening: bool,
     // The last quiet moment, if there was one, changed a machine's status, so that more may be overdue.
     may_be_due: bool,
+    // Something that was handed over counts as not having come, and no quiet moment came since: it is looked whether the store is shut
+    // before any other client is told so.
+    is_in_doubt: bool,
     // The log was told that there are no stamps, and none came since.
     is_unstamped: bool,
     ghost few: { turns < 8 },
@@ -39,10 +42,24 @@ fn is_still_opening(is_opening: bool, moved: bool, answer: &Answer) -> bool
     is_opening && (moved || is_unavailable(answer))
 }
 
+// Tells the log of an arrival, if there is one: its moment, or else this one.
+fn tell<L: TurnLog>(
+    log: &mut L,
+    told: Option<(&Arrival, &Account)>,
+    answer: &Answer,
+    moment: Moment,
+) -> Moment {
+    let Some((arrival, account)) = told else {
+        return moment;
+    };
+    log.arrived(arrival, answer, account);
+    arrival.moment
+}
+
 impl<S: HallStore> Service<S> {
-    ghost use Rattle.std.specs.Prelude.{◌≡◌, ◌≢◌, ◌<◌, true, false};
+    ghost use Rattle.std.specs.Prelude.{◌≡◌, ◌≢◌, ◌<◌, ◌≤◌, length, true, false};
     ghost use Rattle.hall_desk.specs.Desk.{site_of, store_of};
-    ghost use Rattle.serve_sockets.specs.{Gathering.AreWithin, Service.{IsPaced, desk_of, is_opening_of, sockets_of, turns_of}, Sockets.places_of, Stamps.IsPassed, Turn.{IsHandedAlone, IsTurn, KeepsDesk}};
+    ghost use Rattle.serve_sockets.specs.{Gathering.{AreApart, AreBack, AreGiven, AreOut, OthersStay}, Own.IsGivenIn, Service.{IsPaced, connections_of, desk_of, is_opening_of, sockets_of, turns_of}, Sockets.places_of, Stamps.IsPassed, Turn.{IsHandedAlone, IsTurn, KeepsDesk}};
 
     /// The service of a desk. It begins by quiet moments.
     pub fn new(alloc: Global, desk: Desk<S>, sockets: Sockets) -> Service<S>
@@ -56,6 +73,7 @@ impl<S: HallStore> Service<S> {
             turns: 0,
             is_opening: true,
             may_be_due: true,
+            is_in_doubt: false,
             is_unstamped: false,
         }
     }
@@ -78,6 +96,7 @@ impl<S: HallStore> Service<S> {
     fn wait<C: Source>(&mut self, source: &mut C)
         ensures desk { desk_of self.new ≡ desk_of self.old }
         ensures source { IsPassed C.Source.may_give source.old source.new }
+        ensures connections { connections_of self.new ≡ connections_of self.old }
         ensures turns { turns_of self.new ≡ turns_of self.old }
         ensures opening { is_opening_of self.new ≡ is_opening_of self.old }
     {
@@ -100,7 +119,7 @@ impl<S: HallStore> Service<S> {
     // that asks for a list; its answer waits until the client takes it. A datagram leaves the hall of a
     // desk that enlists none as it is, and what a stop may leave. The log is told of the arrival; the turn isn't noted.
     fn turn<L: TurnLog>(&mut self, stamp: Stamp, log: &mut L) -> Turn
-        ensures desk { IsTurn S.HallStore (desk_of self.old) (desk_of self.new) stamp result }
+        ensures desk { IsTurn S.HallStore (desk_of self.old) (desk_of self.new) (connections_of self.old) (connections_of self.new) stamp result }
         ensures pace { IsPaced self.old self.new result }
     {
         self.sockets.pass(stamp.millis);
@@ -124,12 +143,12 @@ impl<S: HallStore> Service<S> {
         ensures opening { result ≡ false → is_opening_of self.now ≡ false }
         ensures eighth { result ≡ false → turns_of self.now ≢ 0 }
     {
-        self.is_opening || self.turns == 0
+        self.is_opening || self.is_in_doubt || self.turns == 0
     }
 
     // Nothing came.
     fn quiet<L: TurnLog>(&mut self, stamp: Stamp, log: &mut L) -> Handover
-        ensures desk { IsTurn S.HallStore (desk_of self.old) (desk_of self.new) stamp (Turn.Handed result) }
+        ensures desk { IsTurn S.HallStore (desk_of self.old) (desk_of self.new) (connections_of self.old) (connections_of self.new) stamp (Turn.Handed result) }
         ensures kind { result.kind ≡ Kind.Quiet }
         ensures turns { turns_of self.new ≡ turns_of self.old }
         ensures opened { is_opening_of self.old ≡ false → is_opening_of self.new ≡ false }
@@ -137,6 +156,7 @@ impl<S: HallStore> Service<S> {
     {
         self.sockets.retry();
         let (answer, moved) = self.server.hand(log, stamp, Input::Quiet);
+        self.is_in_doubt = false;
         self.may_be_due = moved;
         self.is_opening = is_still_opening(self.is_opening, moved, &answer);
         handover(Kind::Quiet, None, 0, &answer)
@@ -144,7 +164,7 @@ impl<S: HallStore> Service<S> {
 
     // Receives a datagram, and sends its answer to where it came from.
     fn datagram<L: TurnLog>(&mut self, port: Port, stamp: Stamp, log: &mut L) -> Turn
-        ensures desk { IsTurn S.HallStore (desk_of self.old) (desk_of self.new) stamp result }
+        ensures desk { IsTurn S.HallStore (desk_of self.old) (desk_of self.new) (connections_of self.old) (connections_of self.new) stamp result }
         ensures turns { turns_of self.new ≡ turns_of self.old }
         ensures opening { is_opening_of self.new ≡ is_opening_of self.old }
     {
@@ -168,7 +188,7 @@ impl<S: HallStore> Service<S> {
     // Has a connection go on by one step.
     fn connection<L: TurnLog>(&mut self, slot: usize, stamp: Stamp, log: &mut L) -> Turn
         requires { slot < places_of (sockets_of self.old) }
-        ensures desk { IsTurn S.HallStore (desk_of self.old) (desk_of self.new) stamp result }
+        ensures desk { IsTurn S.HallStore (desk_of self.old) (desk_of self.new) (connections_of self.old) (connections_of self.new) stamp result }
         ensures turns { turns_of self.new ≡ turns_of self.old }
         ensures opening { is_opening_of self.new ≡ is_opening_of self.old }
     {
@@ -188,6 +208,7 @@ impl<S: HallStore> Service<S> {
     // There is no stamp: nothing is done for a while. The log is told when that begins.
     fn miss<L: TurnLog>(&mut self, log: &mut L)
         ensures desk { desk_of self.new ≡ desk_of self.old }
+        ensures connections { connections_of self.new ≡ connections_of self.old }
         ensures turns { turns_of self.new ≡ turns_of self.old }
         ensures opening { is_opening_of self.new ≡ is_opening_of self.old }
     {
@@ -202,7 +223,7 @@ impl<S: HallStore> Service<S> {
     fn hand_alone<L: TurnLog>(&mut self, stamp: Stamp, log: &mut L)
         ensures kept { KeepsDesk S.HallStore (desk_of self.old) (desk_of self.new) }
         ensures handed { S.HallStore.is_clean (store_of (desk_of self.new))
-            → IsHandedAlone S.HallStore (store_of (desk_of self.old)) (store_of (desk_of self.new)) (site_of (desk_of self.old)) stamp }
+            → IsHandedAlone S.HallStore (store_of (desk_of self.old)) (store_of (desk_of self.new)) (site_of (desk_of self.old)) (connections_of self.old) (connections_of self.new) stamp }
     {
         let Some(client) = self.sockets.next_whole() else {
             return;
@@ -216,6 +237,7 @@ impl<S: HallStore> Service<S> {
         let turn = self
             .sockets
             .settle(slot, connection, Step::Handed(handover));
+        self.is_in_doubt |= turn.is_refused();
         log.note(moment, &turn);
     }
 
@@ -229,69 +251,62 @@ impl<S: HallStore> Service<S> {
     )
         requires { client.slot < places_of (sockets_of self.old) }
         ensures desk { desk_of self.new ≡ desk_of self.old }
-        ensures places { places_of (sockets_of self.new) ≡ places_of (sockets_of self.old) }
+        ensures given { IsGivenIn (connections_of self.old) (connections_of self.new) client.slot client.connection answer }
     {
         let slot = client.slot;
         let mut connection = client.connection;
         let served = self.sockets.now();
-        let handover = give(&mut connection, self.server.alloc, answer, served);
+        let handover = give(&mut connection, answer, served);
         let turn = self
             .sockets
             .settle(slot, connection, Step::Handed(handover));
         log.note(moment, &turn);
     }
 
-    // Has the requests of clients wait on.
+    // Has the requests of clients wait on, in their order and before the others.
     fn put_all_back(&mut self, clients: VecDeque<Client>)
-        requires { AreWithin (places_of (sockets_of self.old)) clients.items }
-        ensures { desk_of self.new ≡ desk_of self.old }
+        requires out { AreOut (connections_of self.old) clients.items }
+        requires apart { AreApart clients.items }
+        ensures desk { desk_of self.new ≡ desk_of self.old }
+        ensures back { AreBack (connections_of self.new) clients.items }
+        ensures others { OthersStay clients.items (connections_of self.old) (connections_of self.new) }
     {
         let mut clients = clients;
-        'clients: for _ in 0..clients.len() {
-            if let Some(client) = clients.pop_front() {
-                self.sockets.put_back(client);
-            }
+        'clients: for index in 0..clients.len() {
+            let Some(client) = clients.pop_back() else {
+                unreachable!();
+            };
+            self.sockets.put_back(client);
         }
     }
 
     // Gives the first clients their answers, and has the others wait on.
-    fn give_first<L: TurnLog>(&mut self, gathered: Gathered, answered: Answered, log: &mut L)
-        requires { AreWithin (places_of (sockets_of self.old)) gathered.clients.items }
-        ensures { desk_of self.new ≡ desk_of self.old }
+    fn give_first<L: TurnLog>(
+        &mut self,
+        mut moment: Moment,
+        gathered: Gathered,
+        answered: Answered,
+        log: &mut L,
+    )
+        requires out { AreOut (connections_of self.old) gathered.clients.items }
+        requires apart { AreApart gathered.clients.items }
+        requires few { length answered.answers.items ≤ length gathered.clients.items }
+        ensures desk { desk_of self.new ≡ desk_of self.old }
+        ensures given { AreGiven (connections_of self.new) gathered.clients.items answered.answers.items }
+        ensures others { OthersStay gathered.clients.items (connections_of self.old) (connections_of self.new) }
     {
         let Gathered {
             arrivals,
             mut clients,
         } = gathered;
         let Answered { answers, accounts } = answered;
-        'answers: for ((arrival, answer), account) in arrivals
-            .iter()
-            .zip(answers)
-            .zip(accounts.iter())
-        {
+        let mut told = arrivals.iter().zip(accounts.iter());
+        'answers: for answer in answers {
+            moment = tell(log, told.next(), &answer, moment);
             let Some(client) = clients.pop_front() else {
-                break;
+                unreachable!();
             };
-            log.arrived(arrival, &answer, account);
-            self.answer_client(arrival.moment, client, answer, log);
-        }
-        self.put_all_back(clients);
-    }
-
-    // Refuses the requests of so many of the first clients, and has the others wait on.
-    fn refuse_first<L: TurnLog>(&mut self, gathered: Gathered, count: usize, log: &mut L)
-        requires { AreWithin (places_of (sockets_of self.old)) gathered.clients.items }
-        ensures { desk_of self.new ≡ desk_of self.old }
-    {
-        let Gathered {
-            arrivals,
-            mut clients,
-        } = gathered;
-        'arrivals: for arrival in arrivals.iter().take(count) {
-            let Some(client) = clients.pop_front() else {
-                break;
-            };
-            self.answer_client(arrival.moment, client, Answer::Unavailable, log);
+            self.answer_client(moment, client, answer, log);
         }
         self.put_all_back(clients);
     }
@@ -300,33 +315,40 @@ impl<S: HallStore> Service<S> {
 impl<S: GroupStore> Service<S> {
     ghost use Rattle.std.specs.Prelude.{◌≡◌, ◌<◌, ◌-◌, ◌*◌, IfSome, Some, length, unwrap_or};
     ghost use Rattle.hall_desk.specs.Desk.{site_of, store_of};
-    ghost use Rattle.serve_sockets.specs.{Gathering.{AreHanded, AreRequests, AreWithin}, Service.{desk_of, sockets_of}, Sockets.places_of, Turn.{AreServed, KeepsDesk, WentOn}};
+    ghost use Rattle.serve_sockets.specs.{Gathering.{AreApart, AreHanded, AreOf, AreOut}, Service.{connections_of, desk_of, sockets_of}, Sockets.alone_in, Turn.{AreServed, KeepsDesk, WentOn}};
 
-    // Hands over gathered requests, and gives each client that is answered its answer.
-    fn hand_gathered<L: TurnLog>(&mut self, gathered: Gathered, log: &mut L)
+    // Hands over gathered requests, and gives each client that is answered its answer. Where none could be answered together, each is handed
+    // over alone next.
+    fn hand_gathered<L: TurnLog>(&mut self, moment: Moment, gathered: Gathered, log: &mut L)
         requires some { 0 < length gathered.arrivals.items }
-        requires requests { AreRequests gathered.arrivals.items }
-        requires within { AreWithin (places_of (sockets_of self.old)) gathered.clients.items }
+        requires paired { AreOf gathered.clients.items gathered.arrivals.items }
+        requires out { AreOut (connections_of self.old) gathered.clients.items }
+        requires apart { AreApart gathered.clients.items }
         ensures kept { KeepsDesk S.HallStore (desk_of self.old) (desk_of self.new) }
         ensures handed { S.HallStore.is_clean (store_of (desk_of self.new))
-            → AreHanded S.HallStore (store_of (desk_of self.old)) (store_of (desk_of self.new)) (site_of (desk_of self.old)) gathered.arrivals.items }
+            → AreHanded S.HallStore (store_of (desk_of self.old)) (store_of (desk_of self.new)) (site_of (desk_of self.old)) gathered (connections_of self.old) (connections_of self.new) (alone_in (sockets_of self.new)) }
     {
         match self.server.hand_group(gathered.arrivals.as_slice()) {
-            Ok(answered) => self.give_first(gathered, answered, log),
-            Err(count) => self.refuse_first(gathered, count, log),
+            Ok(answered) => self.give_first(moment, gathered, answered, log),
+            Err(_) => {
+                let count = gathered.clients.len();
+                self.put_all_back(gathered.clients);
+                self.sockets.separate(count);
+                self.is_in_doubt = true;
+            }
         }
     }
 
     // Whether the requests that wait are to be handed over now.
     fn is_group_due(&self) -> bool {
-        !self.is_opening && self.sockets.is_group_due()
+        !self.is_opening && !self.is_in_doubt && self.sockets.is_group_due()
     }
 
     // Hands over the requests that wait: one with this stamp, or several, each with a stamp of its own, if there is memory for them.
     fn hand_waiting<C: Source, L: TurnLog>(&mut self, stamp: Stamp, source: &mut C, log: &mut L)
         ensures kept { KeepsDesk S.HallStore (desk_of self.old) (desk_of self.new) }
         ensures served { (from : C) → C.Source.may_give from (Some stamp) source.old → S.HallStore.is_clean (store_of (desk_of self.new))
-            → AreServed S.HallStore C.Source.may_give (store_of (desk_of self.old)) (store_of (desk_of self.new)) from source.new (site_of (desk_of self.old)) 64 }
+            → AreServed S.HallStore C.Source.may_give (store_of (desk_of self.old)) (store_of (desk_of self.new)) from source.new (site_of (desk_of self.old)) 64 (connections_of self.old) (connections_of self.new) }
     {
         self.sockets.hand();
         if self.sockets.has_lone() {
@@ -334,7 +356,7 @@ impl<S: GroupStore> Service<S> {
         }
         match self.sockets.gather(self.server.alloc, source) {
             Ok(gathered) if gathered.arrivals.is_empty() => self.hand_alone(stamp, log),
-            Ok(gathered) => self.hand_gathered(gathered, log),
+            Ok(gathered) => self.hand_gathered(stamp.moment, gathered, log),
             Err(AllocError) => self.hand_alone(stamp, log),
         }
     }
@@ -344,7 +366,7 @@ impl<S: GroupStore> Service<S> {
     fn serve_turn<C: Source, L: TurnLog>(&mut self, source: &mut C, log: &mut L) -> bool
         ensures kept { KeepsDesk S.HallStore (desk_of self.old) (desk_of self.new) }
         ensures served { S.HallStore.is_clean (store_of (desk_of self.new)) → AreServed S.HallStore C.Source.may_give
-            (store_of (desk_of self.old)) (store_of (desk_of self.new)) source.old source.new (site_of (desk_of self.old)) 64 }
+            (store_of (desk_of self.old)) (store_of (desk_of self.new)) source.old source.new (site_of (desk_of self.old)) 64 (connections_of self.old) (connections_of self.new) }
     {
         self.wait(source);
         let Some(stamp) = source.stamp() else {
@@ -369,10 +391,11 @@ impl<S: GroupStore> Service<S> {
     ) -> bool
         ensures kept { KeepsDesk S.HallStore (desk_of self.old) (desk_of self.new) }
         ensures served { (from : C) → C.Source.may_give from (Some stamp) source.old → S.HallStore.is_clean (store_of (desk_of self.new))
-            → AreServed S.HallStore C.Source.may_give (store_of (desk_of self.old)) (store_of (desk_of self.new)) from source.new (site_of (desk_of self.old)) 64 }
+            → AreServed S.HallStore C.Source.may_give (store_of (desk_of self.old)) (store_of (desk_of self.new)) from source.new (site_of (desk_of self.old)) 64 (connections_of self.old) (connections_of self.new) }
     {
         let (moment, own) = (stamp.moment, stamp);
         let turn = self.turn(stamp, log);
+        self.is_in_doubt |= turn.is_refused();
         if turn.is_decided() && self.is_group_due() {
             self.hand_waiting(own, source, log);
             return false;
@@ -403,7 +426,7 @@ impl<S: GroupStore> Service<S> {
         ensures left { IfSome result (λ left. left < turns) }
         ensures kept { KeepsDesk S.HallStore (desk_of self.old) (desk_of self.new) }
         ensures went_on { S.HallStore.is_clean (store_of (desk_of self.new)) → WentOn S.HallStore C.Source.may_give
-            (store_of (desk_of self.old)) (store_of (desk_of self.new)) source.old source.new (site_of (desk_of self.old)) (64 * (turns - unwrap_or result 0)) }
+            (store_of (desk_of self.old)) (store_of (desk_of self.new)) source.old source.new (site_of (desk_of self.old)) (64 * (turns - unwrap_or result 0)) (connections_of self.old) (connections_of self.new) }
     {
         histories_keep_the_laws();
         for served in 0..turns {

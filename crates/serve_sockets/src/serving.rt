@@ -1,7 +1,7 @@
 //! Serving a connection by steps.
-ghost use Rattle.std.specs.Prelude.{◌≡◌, ◌≢◌};
-ghost use Rattle.hall_desk.specs.{Attempt.IsOnlyRead, Desk.{site_of, store_of}, Octets.octets_of, declared.arrival.Input.TheVariants.Request};
-ghost use Rattle.serve_sockets.specs.{Connection.{input_of, left_of, stream_of}, Serving.{IsOnlyMoved, IsRequest, IsStep, IsWaiting, IsWhole}, Turn.{KeepsDesk, Tells}};
+ghost use Rattle.std.specs.Prelude.{◌≡◌, ◌≢◌, false};
+ghost use Rattle.hall_desk.specs.{Attempt.IsOnlyRead, Desk.{site_of, store_of}, declared.arrival.Input.TheVariants.Request};
+ghost use Rattle.serve_sockets.specs.{Connection.{IsAnsweredBy, IsSameClient, input_of, is_answered, number_of, stream_of}, Serving.{HoldsOn, IsOnlyMoved, IsRequest, IsStep, IsWaiting, IsWhole}, Turn.{KeepsDesk, Tells}};
 
 use crate::connection::{Connection, Wait};
 use crate::handing::Server;
@@ -13,7 +13,7 @@ use crate::writing::Put;
 use hall_desk::{Answer, Desk, Input};
 use hall_store::HallStore;
 use hall_types::Digest;
-use std::alloc::Global;
+use pxe_vendor::Octets;
 use std::io::{Read, Write};
 
 /// The stamp of a turn, and the served time at it.
@@ -40,7 +40,19 @@ pub(crate) enum Step {
     Failed,
 }
 
-/// Hands the request over. Its answer waits then.
+/// Answers a request. Its answer waits.
+pub(crate) fn give<T>(connection: &mut Connection<T>, answer: Answer, now: u64) -> Handover
+    ensures tells { Tells result (Request (input_of connection.old)) answer }
+    ensures answered { IsAnsweredBy connection.old connection.new answer }
+{
+    let from = connection.from();
+    let len = connection.input().len();
+    let handover = handover(Kind::Request, Some(from), len, &answer);
+    connection.answer(answer, now);
+    handover
+}
+
+/// Hands the request over. Its answer waits then. Without memory for the request's octets it counts as not having come.
 pub(crate) fn hand_request<T, S: HallStore, L: TurnLog>(
     connection: &mut Connection<T>,
     server: &mut Server<S>,
@@ -49,33 +61,15 @@ pub(crate) fn hand_request<T, S: HallStore, L: TurnLog>(
 ) -> Handover
     ensures kept { KeepsDesk S.HallStore server.old.desk server.new.desk }
     ensures waits { S.HallStore.is_clean (store_of server.new.desk) → IsWaiting S.HallStore (store_of server.old.desk) (store_of server.new.desk) (site_of server.old.desk)
-        now.stamp.moment now.stamp.fresh (input_of connection.old) (left_of connection.new) result }
+        now.stamp.moment now.stamp.fresh (input_of connection.old) connection.new result }
+    ensures same { IsSameClient connection.old connection.new }
 {
-    let from = connection.from();
-    let octets = connection.request(server.alloc);
-    let len = octets.as_slice().len();
-    let (answer, _) = server.hand(log, now.stamp, Input::Request(octets));
-    let handover = handover(Kind::Request, Some(from), len, &answer);
-    connection.answer(answer, now.served);
-    handover
-}
-
-/// Answers a request, which is forgotten then. Its answer waits.
-pub(crate) fn give<T>(
-    connection: &mut Connection<T>,
-    alloc: Global,
-    answer: Answer,
-    now: u64,
-) -> Handover
-    ensures tells { Tells result (Request (input_of connection.old)) answer }
-    ensures waits { left_of connection.new ≡ octets_of answer }
-{
-    let from = connection.from();
-    let octets = connection.request(alloc);
-    let len = octets.as_slice().len();
-    let handover = handover(Kind::Request, Some(from), len, &answer);
-    connection.answer(answer, now);
-    handover
+    let Ok(octets) = Vec::from_slice(server.alloc, connection.input()) else {
+        return give(connection, Answer::Unavailable, now.served);
+    };
+    let request = Input::Request(Octets::from(octets));
+    let (answer, _) = server.hand(log, now.stamp, request);
+    give(connection, answer, now.served)
 }
 
 // Whether an operator who is enabled has a token of this digest. The hall is only read.
@@ -98,8 +92,10 @@ fn decide_list<T, S: HallStore, L: TurnLog>(
     digest: Digest,
 ) -> Step
     ensures step { IsStep S.HallStore server.old.desk server.new.desk (IsWaiting S.HallStore (store_of server.old.desk) (store_of server.new.desk) (site_of server.old.desk)
-        now.stamp.moment now.stamp.fresh (input_of connection.old) (left_of connection.new)) result }
+        now.stamp.moment now.stamp.fresh (input_of connection.old) connection.new) result }
     ensures alone { result ≢ Step.Decided }
+    ensures number { number_of connection.new ≡ number_of connection.old }
+    ensures own { HoldsOn result connection.old connection.new }
 {
     if is_known(&mut server.desk, digest) {
         connection.wait(Wait::Call);
@@ -118,8 +114,10 @@ fn decide<T: Read, S: HallStore, L: TurnLog>(
 ) -> Step
     requires { IsWhole (T.remaining (stream_of connection.old)) (input_of connection.old) }
     ensures step { IsStep S.HallStore server.old.desk server.new.desk (IsWaiting S.HallStore (store_of server.old.desk) (store_of server.new.desk) (site_of server.old.desk)
-        now.stamp.moment now.stamp.fresh (input_of connection.old) (left_of connection.new)) result }
+        now.stamp.moment now.stamp.fresh (input_of connection.old) connection.new) result }
     ensures whole { result ≡ Step.Decided → IsWhole (T.remaining (stream_of connection.new)) (input_of connection.new) }
+    ensures number { number_of connection.new ≡ number_of connection.old }
+    ensures own { HoldsOn result connection.old connection.new }
 {
     if connection.is_called() {
         return Step::Handed(hand_request(connection, server, log, now));
@@ -142,24 +140,25 @@ fn take<T: Read, S: HallStore, L: TurnLog>(
     buffer: &mut [u8],
 ) -> Step
     ensures step { IsStep S.HallStore server.old.desk server.new.desk (IsRequest S.HallStore (store_of server.old.desk) (store_of server.new.desk) (site_of server.old.desk)
-        now.stamp.moment now.stamp.fresh (input_of connection.old) (T.remaining (stream_of connection.old)) (left_of connection.new)) result }
+        now.stamp.moment now.stamp.fresh (input_of connection.old) (T.remaining (stream_of connection.old)) connection.new) result }
     ensures whole { result ≡ Step.Decided → IsWhole (T.remaining (stream_of connection.new)) (input_of connection.new) }
+    ensures number { number_of connection.new ≡ number_of connection.old }
+    ensures own { is_answered connection.old ≡ false → HoldsOn result connection.old connection.new }
 {
     match connection.take(server.alloc, buffer) {
         Taken::Waits => Step::Waits,
         Taken::More => Step::Moved,
         Taken::Whole => decide(connection, server, log, now),
-        Taken::NoMemory => {
-            let refusal = Answer::Unavailable;
-            Step::Handed(give(connection, server.alloc, refusal, now.served))
-        }
+        Taken::NoMemory => { Step::Handed(give(connection, Answer::Unavailable, now.served)) }
         Taken::Failed => Step::Failed,
     }
 }
 
 // Writes once.
 fn put<T: Write>(connection: &mut Connection<T>, now: u64) -> Step
-    ensures { IsOnlyMoved result }
+    ensures moved { IsOnlyMoved result }
+    ensures number { number_of connection.new ≡ number_of connection.old }
+    ensures own { HoldsOn result connection.old connection.new }
 {
     match connection.put(now) {
         Put::Waits => Step::Waits,
@@ -179,8 +178,10 @@ pub(crate) fn advance<T: Read + Write, S: HallStore, L: TurnLog>(
     buffer: &mut [u8],
 ) -> Step
     ensures step { IsStep S.HallStore server.old.desk server.new.desk (IsRequest S.HallStore (store_of server.old.desk) (store_of server.new.desk) (site_of server.old.desk)
-        now.stamp.moment now.stamp.fresh (input_of connection.old) (T.remaining (stream_of connection.old)) (left_of connection.new)) result }
+        now.stamp.moment now.stamp.fresh (input_of connection.old) (T.remaining (stream_of connection.old)) connection.new) result }
     ensures whole { result ≡ Step.Decided → IsWhole (T.remaining (stream_of connection.new)) (input_of connection.new) }
+    ensures number { number_of connection.new ≡ number_of connection.old }
+    ensures own { HoldsOn result connection.old connection.new }
 {
     if connection.is_answered() {
         put(connection, now.served)

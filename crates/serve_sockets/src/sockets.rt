@@ -1,5 +1,5 @@
 //! The sockets of a service, and its open connections.
-ghost use Rattle.std.specs.Prelude.{◌≡◌, ◌<◌, ◌≤◌, ◌+◌, IfErr, IfOk, IfSome, length, vec_len};
+ghost use Rattle.std.specs.Prelude.{◌≡◌, ◌<◌, ◌≤◌, ◌+◌, IfErr, IfOk, IfSome, None, Some, length, slice_get, slice_set, vec_len};
 ghost use Rattle.serve_sockets.specs.{Ring.{IsPlace, ready_of}, ServedTime.served_of, Serving.IsTurnOf, Stamps.IsPassed, Table.slots_of, Turn.HandsNothing};
 
 use crate::connection::Connection;
@@ -67,7 +67,7 @@ pub struct Sockets {
 }
 
 impl Sockets {
-    ghost use Rattle.serve_sockets.specs.Sockets.{places_of};
+    ghost use Rattle.serve_sockets.specs.{Own.{IsIn, IsInAfter, NoAnswers}, Sockets.{alone_in, places_of, slots_in}};
 
     /// Binds the three sockets. Port 0 is one that the system picks. There are so many places for connections, 1 at least and 1,024
     /// at most.
@@ -153,7 +153,8 @@ impl Sockets {
     /// Marks where something is. Waits for something to come if nothing is known to be there: for the source's pause at most, less
     /// while a connection is open, so that a late one is closed in time. Between two late ones nothing is waited for.
     pub(crate) fn wait<C: Source>(&mut self, source: &mut C)
-        ensures { IsPassed C.Source.may_give source.old source.new }
+        ensures source { IsPassed C.Source.may_give source.old source.new }
+        ensures slots { slots_in self.new ≡ slots_in self.old }
     {
         if self.is_idle() {
             let millis = self.pause(source);
@@ -164,7 +165,9 @@ impl Sockets {
     }
 
     /// Marks where something is, or comes within so many milliseconds.
-    pub(crate) fn look(&mut self, millis: u64) {
+    pub(crate) fn look(&mut self, millis: u64)
+        ensures { slots_in self.new ≡ slots_in self.old }
+    {
         let time = Duration::from_millis(millis);
         if self.poll.poll(&mut self.events, Some(time)).is_ok() {
             mark(&mut self.ring, &self.events);
@@ -172,19 +175,25 @@ impl Sockets {
     }
 
     /// Waits so many milliseconds, whatever comes.
-    pub fn stand_still(&mut self, millis: u64) {
+    pub fn stand_still(&mut self, millis: u64)
+        ensures { slots_in self.new ≡ slots_in self.old }
+    {
         let time = Duration::from_millis(millis);
         let _ = self.still.poll(&mut self.events, Some(time));
     }
 
     /// There is a stamp of so many milliseconds.
-    pub(crate) fn begin(&mut self, millis: u64) {
+    pub(crate) fn begin(&mut self, millis: u64)
+        ensures { slots_in self.new ≡ slots_in self.old }
+    {
         self.time.pass(millis);
         self.waiting.begin(self.time.now());
     }
 
     /// A turn has a stamp of so many milliseconds.
-    pub(crate) fn pass(&mut self, millis: u64) {
+    pub(crate) fn pass(&mut self, millis: u64)
+        ensures { slots_in self.new ≡ slots_in self.old }
+    {
         self.time.pass(millis);
         self.turns = self.turns.saturating_add(1).min(LIST_TURNS);
     }
@@ -199,7 +208,7 @@ impl Sockets {
     // After a request that was handed over, the next socket for datagrams that may have something.
     fn pick_port(&mut self) -> Option<Origin>
         ensures place { IfSome result (IsPlace (places_of self.new)) }
-        ensures places { places_of self.new ≡ places_of self.old }
+        ensures slots { slots_in self.new ≡ slots_in self.old }
     {
         if !self.has_handed {
             return None;
@@ -214,6 +223,7 @@ impl Sockets {
     fn pick_list(&mut self) -> Option<Origin>
         ensures place { IfSome result (IsPlace (places_of self.new)) }
         ensures places { places_of self.new ≡ places_of self.old }
+        ensures answers { NoAnswers (slots_in self.old) (slots_in self.new) }
     {
         let is_time = self.turns >= LIST_TURNS || self.ring.is_idle();
         if !is_time || !self.may_call() {
@@ -233,7 +243,8 @@ impl Sockets {
     /// The next seat that may have something: a socket for datagrams after a request that was handed over, a connection whose request
     /// for a list is called, or the next one of all seats.
     pub(crate) fn pick(&mut self) -> Option<Origin>
-        ensures { IfSome result (IsPlace (places_of self.new)) }
+        ensures place { IfSome result (IsPlace (places_of self.new)) }
+        ensures answers { NoAnswers (slots_in self.old) (slots_in self.new) }
     {
         if let Some(port) = self.pick_port() {
             return Some(port);
@@ -248,13 +259,16 @@ impl Sockets {
     /// A seat has nothing more now.
     pub(crate) fn rest(&mut self, origin: Origin)
         requires { IsPlace (places_of self.old) origin }
-        ensures { places_of self.new ≡ places_of self.old }
+        ensures slots { slots_in self.new ≡ slots_in self.old }
+        ensures alone { alone_in self.new ≡ alone_in self.old }
     {
         self.ring.clear(origin.seat());
     }
 
     /// Has the sockets of which a call failed asked again.
-    pub(crate) fn retry(&mut self) {
+    pub(crate) fn retry(&mut self)
+        ensures { slots_in self.new ≡ slots_in self.old }
+    {
         if self.is_lame {
             self.is_lame = false;
             self.ring.mark(Origin::Port(Port::Discover).seat());
@@ -266,7 +280,8 @@ impl Sockets {
     // A seat gave nothing.
     fn missed(&mut self, origin: Origin, error: &io::Error) -> Turn
         requires { IsPlace (places_of self.old) origin }
-        ensures { HandsNothing result }
+        ensures none { HandsNothing result }
+        ensures slots { slots_in self.new ≡ slots_in self.old }
     {
         self.rest(origin);
         if error.kind() == ErrorKind::WouldBlock {
@@ -280,6 +295,7 @@ impl Sockets {
     pub(crate) fn receive(&mut self, port: Port) -> Result<(usize, SocketAddr), Turn>
         ensures within { IfOk result (λ received. received.0 ≤ vec_len self.new.buffer) }
         ensures none { IfErr result HandsNothing }
+        ensures slots { slots_in self.new ≡ slots_in self.old }
     {
         match self.ports.receive(port, self.buffer.as_mut_slice()) {
             Ok(received) => Ok(received),
@@ -289,7 +305,8 @@ impl Sockets {
 
     /// Accepts a connection.
     pub(crate) fn accept(&mut self, alloc: Global) -> Turn
-        ensures { HandsNothing result }
+        ensures none { HandsNothing result }
+        ensures answers { NoAnswers (slots_in self.old) (slots_in self.new) }
     {
         match self.ports.listener.accept() {
             Ok((stream, from)) => self.admit(alloc, stream, from),
@@ -299,7 +316,8 @@ impl Sockets {
     }
 
     fn admit(&mut self, alloc: Global, mut stream: TcpStream, from: SocketAddr) -> Turn
-        ensures { HandsNothing result }
+        ensures none { HandsNothing result }
+        ensures answers { NoAnswers (slots_in self.old) (slots_in self.new) }
     {
         let slot = self.table.slot_for_new();
         let seat = Origin::Connection(slot).seat();
@@ -317,7 +335,8 @@ impl Sockets {
 
     // Closes the connection that goes where there is no descriptor for another one, which is tried again at the next turn.
     fn make_room(&mut self, error: &io::Error) -> Turn
-        ensures { HandsNothing result }
+        ensures none { HandsNothing result }
+        ensures answers { NoAnswers (slots_in self.old) (slots_in self.new) }
     {
         let slot = self.table.yielding();
         match self.table.take(slot) {
@@ -329,7 +348,8 @@ impl Sockets {
     /// Closes the next connection that is late, if there is one. One whose seat is marked is asked before. All are looked at once
     /// in 100 milliseconds of served time.
     pub(crate) fn close_late(&mut self) -> Option<Turn>
-        ensures { IfSome result HandsNothing }
+        ensures none { IfSome result HandsNothing }
+        ensures answers { NoAnswers (slots_in self.old) (slots_in self.new) }
     {
         let now = self.time.now();
         if now < self.look_at {
@@ -354,7 +374,8 @@ impl Sockets {
     // Closes the first accepted connection whose list was called longer than a minute ago, where as many lists are open as may be and
     // others wait.
     fn close_slow(&mut self, now: u64) -> Option<Turn>
-        ensures { IfSome result HandsNothing }
+        ensures none { IfSome result HandsNothing }
+        ensures answers { NoAnswers (slots_in self.old) (slots_in self.new) }
     {
         if self.may_call() || self.table.first_of(Wanted::PutOff).is_none() {
             return None;
@@ -367,7 +388,9 @@ impl Sockets {
     /// The connection of a slot, which is free then.
     pub(crate) fn take(&mut self, slot: usize) -> Option<Connection<TcpStream>>
         requires { slot < places_of self.old }
-        ensures { places_of self.new ≡ places_of self.old }
+        ensures taken { slice_get (slots_in self.old) slot ≡ Some result }
+        ensures free { slots_in self.new ≡ slice_set (slots_in self.old) slot None }
+        ensures places { places_of self.new ≡ places_of self.old }
     {
         self.table.take(slot)
     }
@@ -381,7 +404,8 @@ impl Sockets {
     ) -> Turn
         requires { slot < places_of self.old }
         ensures turn { HandsNothing result }
-        ensures places { places_of self.new ≡ places_of self.old }
+        ensures slots { slots_in self.new ≡ slots_in self.old }
+        ensures alone { alone_in self.new ≡ alone_in self.old }
     {
         self.rest(Origin::Connection(slot));
         Turn::Closed {
@@ -400,6 +424,7 @@ impl Sockets {
     ) -> Turn
         requires { slot < places_of self.old }
         ensures turn { IsTurnOf step result }
+        ensures put { IsInAfter (slots_in self.old) (slots_in self.new) step slot connection }
         ensures places { places_of self.new ≡ places_of self.old }
     {
         match step {
@@ -416,7 +441,7 @@ impl Sockets {
                 self.has_put_off = true;
                 Turn::PutOff(from)
             }
-            Step::Decided => self.put_back(Client { slot, connection }),
+            Step::Decided => self.wait_last(Client { slot, connection }),
             Step::Moved => {
                 let from = connection.from();
                 self.keep(slot, connection);
@@ -441,7 +466,9 @@ impl Sockets {
     /// Puts a connection back into its slot.
     pub(crate) fn keep(&mut self, slot: usize, connection: Connection<TcpStream>)
         requires { slot < places_of self.old }
-        ensures { places_of self.new ≡ places_of self.old }
+        ensures put { IsIn (slots_in self.old) (slots_in self.new) slot connection }
+        ensures places { places_of self.new ≡ places_of self.old }
+        ensures alone { alone_in self.new ≡ alone_in self.old }
     {
         let _ = self.table.open(slot, connection);
     }

@@ -115,6 +115,14 @@ impl Turn {
         matches!(self, Turn::Decided(_))
     }
 
+    /// Whether it handed something over that counts as not having come.
+    pub(crate) fn is_refused(&self) -> bool {
+        match self {
+            Turn::Handed(handover) | Turn::Unsent(handover) => handover.said == Said::Unavailable,
+            _ => false,
+        }
+    }
+
     /// Whether it was a quiet moment for which the store was unavailable, as it is for each after a fault has shut it.
     pub(crate) fn finds_shut(&self) -> bool {
         match self {

@@ -1,5 +1,5 @@
 //! The requests that wait to be answered together, by the slots of their connections.
-ghost use Rattle.std.specs.Prelude.{◌≡◌, ◌++◌, ◌∷◌, [], IfErr, IfNone, IfSome, IfOk, None, Some, drop, length, OnOk, OnErr};
+ghost use Rattle.std.specs.Prelude.{◌≡◌, ◌-◌, ◌++◌, ◌∷◌, [], IfErr, IfNone, IfSome, IfOk, None, Some, drop, length, OnOk, OnErr};
 
 use std::alloc::{AllocError, Global};
 use std::collections::VecDeque;
@@ -20,10 +20,12 @@ pub(crate) struct Waiting {
     handed: Option<u64>,
     // How long the first one waits while something else may be there: as long as the last commit took.
     patience: u64,
+    // How many of the first are answered alone, one after the other, before others are answered together.
+    alone: usize,
 }
 
 impl Waiting {
-    ghost use Rattle.serve_sockets.specs.Waiting.{handed_of, is_due, patience_after, patience_of, since_of, waiting_of};
+    ghost use Rattle.serve_sockets.specs.Waiting.{alone_of, handed_of, is_due, patience_after, patience_of, since_of, waiting_of};
 
     /// No request waits.
     pub(crate) fn new(alloc: Global) -> Waiting
@@ -36,6 +38,7 @@ impl Waiting {
             since: 0,
             handed: None,
             patience: 0,
+            alone: 0,
         }
     }
 
@@ -79,12 +82,40 @@ impl Waiting {
         Ok(())
     }
 
+    /// One that had waited waits again, before all others. The error is want of memory.
+    pub(crate) fn put_back(&mut self, slot: usize, now: u64) -> Result<(), AllocError>
+        ensures added { OnOk result (waiting_of self.new ≡ slot ∷ waiting_of self.old) }
+        ensures same { OnErr result (waiting_of self.new ≡ waiting_of self.old) }
+        ensures patience { patience_of self.new ≡ patience_of self.old }
+        ensures alone { alone_of self.new ≡ alone_of self.old }
+    {
+        if self.slots.is_empty() {
+            self.since = now;
+        }
+        self.slots.push_front(slot)?;
+        Ok(())
+    }
+
+    /// So many of the first are answered alone, one after the other, before others are answered together.
+    pub(crate) fn separate(&mut self, count: usize)
+        ensures { self.new ≡ record self.old { alone = count } }
+    {
+        self.alone = count;
+    }
+
+    /// Whether the first one is answered alone: no other waits, or it was put back so.
+    pub(crate) fn has_lone(&self) -> bool {
+        self.slots.len() == 1 || self.alone > 0
+    }
+
     /// The one that waits longest. It waits no more.
     pub(crate) fn next(&mut self) -> Option<usize>
         ensures next { IfSome result (λ slot. waiting_of self.old ≡ slot ∷ waiting_of self.new) }
         ensures none { IfNone result (waiting_of self.old ≡ []) }
         ensures patience { patience_of self.new ≡ patience_of self.old }
+        ensures alone { alone_of self.new ≡ alone_of self.old - 1 }
     {
+        self.alone = self.alone.saturating_sub(1);
         self.slots.pop_front()
     }
 

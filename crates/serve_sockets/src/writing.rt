@@ -1,5 +1,5 @@
 //! Writing what waits for a connection's client.
-ghost use Rattle.std.specs.Io.KnownBytes.{Keeps, append_known};
+ghost use Rattle.std.specs.{Prelude.{◌≡◌}, Io.KnownBytes.{Keeps, append_known}};
 ghost use Rattle.serve_sockets.specs.Connection.{IsPut, unwritten};
 
 use crate::connection::Sending;
@@ -26,6 +26,7 @@ pub(crate) fn write<T: Write>(
 ) -> Put
     ensures octets { Keeps (append_known (T.contents stream.old) (unwritten sending.old)) (append_known (T.contents stream.new) (unwritten sending.new)) }
     ensures put { IsPut now result since.old since.new (unwritten sending.new) }
+    ensures answer { sending.new.answer ≡ sending.old.answer }
 {
     let octets = sending.answer.octets();
     let len = octets.len();

@@ -13,7 +13,7 @@ returns-in-Whole-clause-step g c = whole_step g.S.HallStore _ _ _ _ c.decide.res
 pub returns-in-NoMemory-clause-step : goal.returns-in-NoMemory-clause-step
 returns-in-NoMemory-clause-step g c = record {
   kept = keeps_same g.S.HallStore _;
-  did = λ clean. refused_request _ g.S.HallStore.wider _ _ _ _ _ _ _ _ _ c.give.ensures.tells c.give.ensures.waits;
+  did = λ clean. refused_request _ g.S.HallStore.wider _ _ _ _ _ _ _ _ _ c.give.ensures.tells c.give.ensures.answered.1;
 }
 
 pub returns-in-Failed-clause-step : goal.returns-in-Failed-clause-step

@@ -1,5 +1,5 @@
 use Rattle.std.proofs.Common.{None, ◌∙◌, ◌&&◌, ◌||◌, Bool, ap, subst, sym}
-use Rattle.serve_sockets.{specs.{Prelude.Input, Turn.{IsOfDatagram, is_unavailable}}, proofs.TurnLemmas.{still_opening, told_unavailable}}
+use Rattle.serve_sockets.{specs.{Prelude.Input, Turn.{IsOfDatagram, is_unavailable}}, proofs.{OwnLemmas.{none_new, same_answers}, TurnLemmas.{still_opening, told_unavailable}}}
 use Rattle.serve_sockets.proofs.service.Service.quiet.Goals as goal
 
 pub returns-clause-desk : goal.returns-clause-desk
@@ -12,6 +12,7 @@ returns-clause-desk g c =
         said = c.hand-answer.result.0;
         tells = record { kind = c.handover.ensures.kind; size = c.handover.ensures.len; said = c.handover.ensures.said };
         answered = (it.given clean).1;
+        own = none_new _ _ _ (same_answers _ _ c.retry.ensures);
       };
       unlisted = λ off frame. absurd (subst IsOfDatagram c.handover.ensures.kind frame);
     }

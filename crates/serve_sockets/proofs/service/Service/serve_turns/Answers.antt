@@ -5,7 +5,7 @@ use Rattle.serve_sockets.proofs.service.Service.serve_turns.Goals as goal
 pub loop-served-init : goal.loop-served-init
 loop-served-init g c = record {
   kept = keeps_same g.S.HallStore _;
-  served = λ clean. served_none g.S.HallStore g.C.Source.may_give _ _ _ _;
+  served = λ clean. served_none g.S.HallStore g.C.Source.may_give _ _ _ _ _;
 }
 
 pub loop-served-preserved : goal.loop-served-preserved
@@ -14,8 +14,8 @@ loop-served-preserved g c =
     record {
       kept = keeps_then g.S.HallStore _ _ _ before.kept c.serve_turn.ensures.kept;
       served = λ clean.
-          served_within g.S.HallStore g.C.Source.may_give _ _ _ _ _ _ _ (omega arith)
-          (served_then g.S.HallStore g.C.Source.may_give _ _ _ _ _ _ _ _ _ _ before.kept.site (before.served (c.serve_turn.ensures.kept.clean clean))
+          served_within g.S.HallStore g.C.Source.may_give _ _ _ _ _ _ _ _ _ (omega arith)
+          (served_then g.S.HallStore g.C.Source.may_give _ _ _ _ _ _ _ _ _ _ _ _ _ before.kept.site (before.served (c.serve_turn.ensures.kept.clean clean))
           (c.serve_turn.ensures.served clean));
     }
 
@@ -25,9 +25,9 @@ returns-then-serve_turn-clause-kept g c = keeps_then g.S.HallStore _ _ _ c.loop-
 pub returns-then-serve_turn-clause-went_on : goal.returns-then-serve_turn-clause-went_on
 returns-then-serve_turn-clause-went_on g c = λ clean.
     let before = c.loop-served.invariant in
-    went_on (record { laws = c.histories_keep_the_laws.ensures }) g.S.HallStore g.C.Source.may_give _ _ _ _ _ _
-    (served_within g.S.HallStore g.C.Source.may_give _ _ _ _ _ _ _ (omega arith)
-    (served_then g.S.HallStore g.C.Source.may_give _ _ _ _ _ _ _ _ _ _ before.kept.site (before.served (c.serve_turn.ensures.kept.clean clean))
+    went_on (record { laws = c.histories_keep_the_laws.ensures }) g.S.HallStore g.C.Source.may_give _ _ _ _ _ _ _ _
+    (served_within g.S.HallStore g.C.Source.may_give _ _ _ _ _ _ _ _ _ (omega arith)
+    (served_then g.S.HallStore g.C.Source.may_give _ _ _ _ _ _ _ _ _ _ _ _ _ before.kept.site (before.served (c.serve_turn.ensures.kept.clean clean))
     (c.serve_turn.ensures.served clean)))
 
 pub returns-clause-kept : goal.returns-clause-kept
@@ -35,5 +35,5 @@ returns-clause-kept g c = c.loop-served.invariant.kept
 
 pub returns-clause-went_on : goal.returns-clause-went_on
 returns-clause-went_on g c = λ clean.
-    went_on (record { laws = c.histories_keep_the_laws.ensures }) g.S.HallStore g.C.Source.may_give _ _ _ _ _ _
-    (served_within g.S.HallStore g.C.Source.may_give _ _ _ _ _ _ _ (omega arith) (c.loop-served.invariant.served clean))
+    went_on (record { laws = c.histories_keep_the_laws.ensures }) g.S.HallStore g.C.Source.may_give _ _ _ _ _ _ _ _
+    (served_within g.S.HallStore g.C.Source.may_give _ _ _ _ _ _ _ _ _ (omega arith) (c.loop-served.invariant.served clean))
