@@ -1,1 +1,2 @@
 pub mod RandomBlock
+pub mod Served

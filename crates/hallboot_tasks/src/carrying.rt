@@ -1,10 +1,12 @@
 //! The tasks over an open store, which they give back. The store's type stays open here, so that no proof looks into a file.
+ghost use Rattle.hallboot_tasks.specs.Served.{WasServed};
+
 use crate::random_block::RandomBlock;
 use crate::serving::serve;
 use crate::suspended::Suspended;
 use desk_adoption::{Adopted, Adopters, Server};
 use desk_operations::{Exit, Imported};
-use hall_desk::Desk;
+use hall_desk::{Desk, histories_keep_the_laws};
 use hall_http::Noted;
 use hall_report::Fault;
 use hall_store::{Cached, HallStore};
@@ -118,14 +120,20 @@ pub fn carried_out<S: HallStore>(rt: &HostRuntime, store: S, task: Task) -> Carr
 }
 
 /// Serves the turns that are left of a service over a store, or until a fault shuts it, or its file goes. Addresses and lists are kept in
-/// memory meanwhile.
+/// memory meanwhile, and several requests are answered by one commit.
+///
+/// With all that came to the hall since it was new, it is a history that keeps all laws. A stop leaves, of a store that was settled, the
+/// hall after some of the arrivals, or after some more whose answers weren't given.
 pub fn served<S: HallStore, J: Joining>(
     rt: &HostRuntime,
     store: S,
     serving: &Serving,
     suspended: &mut Suspended,
     joining: &J,
-) -> Carried<S> {
+) -> Carried<S>
+    ensures { S.HallStore.is_clean result.1 → WasServed S.HallStore store result.1 }
+{
+    histories_keep_the_laws();
     match Cached::new(rt.alloc(), store) {
         Ok(cached) => {
             let (task, cached) = serve(rt, cached, serving, suspended, joining);

@@ -1,6 +1,8 @@
 //! The service over an open store.
 ghost use Rattle.std.specs.Prelude.{◌≡◌};
-ghost use Rattle.hall_desk.specs.Desk.{enlists_of, store_of};
+ghost use Rattle.hall_desk.specs.{Desk.{enlists_of, site_of, store_of}, Prelude.{Site}};
+ghost use Rattle.serve_sockets.specs.{Service.{desk_of}, Turn.{KeepsDesk}};
+ghost use Rattle.hallboot_tasks.specs.Served.{GoesOn};
 
 use crate::backups::Backups;
 use crate::lines::Lines;
@@ -60,7 +62,7 @@ fn tell_of_backup(rt: &HostRuntime, lines: &mut Lines, serving: &Serving, backup
     tell(rt, serving.has_json_errors(), words);
 }
 
-// Serves a part's turns, and says how that ended and how many turns are left.
+// Serves a part's turns, and says how that ended and how many turns are left. The desk's hall goes on by what came meanwhile.
 fn serve_part<S: GroupStore, C: Source, J: Joining>(
     rt: &HostRuntime,
     service: &mut Service<S>,
@@ -68,7 +70,11 @@ fn serve_part<S: GroupStore, C: Source, J: Joining>(
     lines: &mut Lines,
     part: &mut Part<'_>,
     backups: &mut Backups<'_, J>,
-) -> (Ended, u64) {
+) -> (Ended, u64)
+    ensures kept { KeepsDesk S.HallStore (desk_of service.old) (desk_of service.new) }
+    ensures goes { S.HallStore.is_clean (store_of (desk_of service.new))
+        → GoesOn S.HallStore (store_of (desk_of service.old)) (store_of (desk_of service.new)) (site_of (desk_of service.old)) }
+{
     let serving = part.serving;
     let path = serving.path.as_str();
     let mut left = part.turns;
@@ -91,6 +97,7 @@ fn serve_part<S: GroupStore, C: Source, J: Joining>(
 // The desk of a store's hall, which enlists unknown clients or none.
 fn desk_over<S: HallStore>(store: S, place: Place, enlists: bool) -> Desk<S>
     ensures store { store_of result ≡ store }
+    ensures site { site_of result ≡ place }
     ensures enlists { enlists_of result ≡ enlists }
 {
     let desk = Desk::new(store, place);
@@ -101,7 +108,8 @@ fn desk_over<S: HallStore>(store: S, place: Place, enlists: bool) -> Desk<S>
     }
 }
 
-// Serves a part over a store, and says how that ended and how many turns are left.
+// Serves a part over a store, and says how that ended and how many turns are left. No group of changes is open when it begins, nor at its
+// end: the store's hall goes on by what came meanwhile.
 fn serve_over<S: HallStore, J: Joining>(
     rt: &HostRuntime,
     store: S,
@@ -109,7 +117,10 @@ fn serve_over<S: HallStore, J: Joining>(
     bound: Bound,
     part: &mut Part<'_>,
     joining: &J,
-) -> ((Ended, u64), S, Bound) {
+) -> ((Ended, u64), S, Bound)
+    ensures clean { S.HallStore.is_clean result.1 → S.HallStore.is_clean store }
+    ensures goes { S.HallStore.is_clean result.1 → GoesOn S.HallStore store result.1 place }
+{
     let (start, last) = (bound.start, bound.backed_up);
     let mut copies = Backups {
         plan: part.serving.backup.as_ref(),
@@ -206,14 +217,16 @@ fn prepared(
     Ok((file, place, bound))
 }
 
-/// Serves the turns that are left over a store, or until a fault shuts it, or its file goes.
+/// Serves the turns that are left over a store, or until a fault shuts it, or its file goes. The store's hall goes on by what came meanwhile.
 pub(crate) fn serve<S: HallStore, J: Joining>(
     rt: &HostRuntime,
     mut store: S,
     serving: &Serving,
     suspended: &mut Suspended,
     joining: &J,
-) -> (Result<(), Fault>, S) {
+) -> (Result<(), Fault>, S)
+    ensures { S.HallStore.is_clean result.1 → S.HallStore.is_clean store × ((site : Site) × GoesOn S.HallStore store result.1 site) }
+{
     let (file, place, mut bound) = match prepared(rt, serving, suspended) {
         Ok(prepared) => prepared,
         Err(fault) => return (Err(fault), store),

@@ -1,4 +1,6 @@
 //! What a hall amounts to, for a line about a copy.
+ghost use Rattle.hall_desk.specs.Attempt.{IsOnlyRead};
+
 use hall_report::Fault;
 use hall_store::HallStore;
 use hall_types::Numbers;
@@ -21,8 +23,10 @@ impl HallSum {
     }
 }
 
-/// That of a store's hall.
-pub fn sum_of<S: HallStore>(store: &mut S) -> Result<HallSum, Fault> {
+/// That of a store's hall, which is only read.
+pub fn sum_of<S: HallStore>(store: &mut S) -> Result<HallSum, Fault>
+    ensures { S.HallStore.is_clean store.new → S.HallStore.is_clean store.old × IsOnlyRead S.HallStore store.old store.new }
+{
     Ok(HallSum {
         machines: store.machine_count().map_err(|_| Fault::Unavailable)?,
         last: store.numbers().map_err(|_| Fault::Unavailable)?,
