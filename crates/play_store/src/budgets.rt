@@ -1,5 +1,6 @@
 //! Acts over a hall in memory, while memory ends ever later: an act that is refused as unavailable leaves the hall as it was. An act
 //! whose answer can't be kept for want of memory leaves it so too, or was carried out. Of acts that stand together one is refused.
+use crate::acts::acts_of;
 use crate::stops::Seen;
 use cases::{CaseFault, Out, Player, hold_within};
 use std::alloc::Global;
@@ -18,7 +19,8 @@ enum CameTo {
 fn came_to(act: &str, answer: &str) -> CameTo {
     let is_fault = answer == "unavailable" || answer.ends_with(" Unavailable");
     let is_silent = answer == "silence" && act.starts_with("frame ");
-    if is_fault || is_silent || answer == "refused" || answer.starts_with("503 ") {
+    let is_waiting = answer.starts_with("waits");
+    if is_fault || is_silent || is_waiting || answer == "refused" || answer.starts_with("503 ") {
         return CameTo::Refused;
     }
     CameTo::Answered
@@ -90,7 +92,7 @@ pub fn play_in_budgets<P: Player>(
     step: usize,
 ) -> Result<Seen, CaseFault> {
     let mut was_refused = false;
-    for act in acts.split(" && ") {
+    for act in acts_of(alloc, acts)? {
         let (seen, is_refused) = play_with_more(alloc, player, look, act, step)?;
         if seen != Seen::Right {
             return Ok(seen);

@@ -8,7 +8,7 @@ use play_log::{is_arrival, place};
 use std::alloc::Global;
 
 // An act asks less of its store.
-const MAX_CALLS: u64 = 1_000;
+pub(crate) const MAX_CALLS: u64 = 1_000;
 
 /// How arrivals are answered.
 #[derive(Clone, Copy, PartialEq, Eq)]
@@ -100,6 +100,20 @@ impl<S: HallStore + Drop> Hall<S> {
         self.store = Some(probe.into_inner());
     }
 
+    pub(crate) fn way(&self) -> Way {
+        self.way
+    }
+
+    /// Has the store fail at a call, the first being 1, or at none.
+    pub(crate) fn fail_at(&mut self, call: Option<u64>) {
+        self.fails_at = call;
+    }
+
+    /// How many calls there were of the store at the last act.
+    pub(crate) fn calls(&self) -> u64 {
+        self.calls
+    }
+
     /// A desk over the store, which has to be put back.
     pub(crate) fn take_desk(&mut self, alloc: Global) -> Result<Desk<Probe<S>>, CaseFault> {
         let place = place(alloc)?;
@@ -118,6 +132,8 @@ impl<S: HallStore + Drop> Hall<S> {
             "rows" => rows(words, out),
             "import" => self.import(usize::MAX, words, out),
             "adopt" => self.adopt(words, out),
+            "group" => self.group(words, out),
+            "together" => self.together(words, out),
             "serve" => self.serve(words, out),
             "short" => self.short(words, out),
             "full" => self.full(words, out),

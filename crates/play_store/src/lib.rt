@@ -18,6 +18,9 @@
 //! - `reads_fail REQUEST` answers a request from a reader of one octet a read that fails at its first read, at its second and so on, up to that
 //!   of the last octet, and prints how many failed; `writes_fail REQUEST` to a writer that fails before the first octet, after it and so
 //!   on, until it takes all: how many failed, and then the answer;
+//! - `group ARRIVAL && ARRIVAL ..` answers arrivals by one commit of the store, those that wait by another one and so on, and prints each
+//!   answer; `together ARRIVAL && ARRIVAL ..` by one commit alone, and prints `waits` for each that isn't answered by it. Where arrivals
+//!   aren't played alone, they are answered by the cache that a service has over its store;
 //! - `cuts ARRIVAL` answers the first octets of an arrival, none, one, two and so on, but never all: prints each answer that isn't that before
 //!   it, after the number of octets;
 //! - `failing CALL ACT` plays an act over the store that fails at one of its calls, the first being 1; `each ACT` over the store that fails at its
@@ -33,6 +36,7 @@
 //! Files stand on disks in memory, which may stop; memory may end.
 #![tactic(auto)]
 
+mod acts;
 mod adoptions;
 mod arrivals;
 mod asked;
@@ -40,6 +44,7 @@ mod budgets;
 mod changes;
 mod disks;
 mod ends;
+mod groups;
 mod hall;
 mod looking;
 mod reads;

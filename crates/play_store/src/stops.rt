@@ -1,6 +1,7 @@
 //! Acts over a hall's files, of which one stops. After it the files are opened again: they have the hall before the act that
 //! wasn't answered or the hall after it, all acts before it are kept, and that act, played again, is answered as it was without
 //! a stop, or as its repeat.
+use crate::acts::acts_of;
 use crate::disks::{Disks, Image, Which, close, connect, crash};
 use crate::tables::Tables;
 use cases::{CaseFault, Out, Played, Player};
@@ -162,7 +163,7 @@ impl<'a> Run<'a> {
             halls: Vec::new(alloc),
         };
         let mut then = image.copy(alloc)?;
-        for act in acts.split(" && ") {
+        for act in acts_of(alloc, acts)? {
             then = run.push(&then, act)?;
         }
         Ok((run, then))
