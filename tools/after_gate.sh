@@ -15,6 +15,7 @@ tools=(
     'price_of_change.py --check'
     'wrong_bodies.py --check'
     lazy_calls.py
+    walks.py
     program_rows.sh
     hallctl_peer.sh
     token_trial.sh

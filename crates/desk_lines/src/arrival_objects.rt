@@ -5,7 +5,7 @@ use crate::command_texts::command_text;
 use crate::frame_texts::{file_text, kind_word, port_word, silence_words};
 use crate::members::{Members, Text};
 use crate::request_texts::{MAX_BODY, body_of, method_word, path_text};
-use hall_desk::{Account, Answer, Arrival, Came, Input, Moved};
+use hall_desk::{Account, Answer, Came, Moved, What};
 use hall_events::Event;
 use pxe_vendor::Client;
 use std::alloc::Global;
@@ -61,7 +61,7 @@ fn push_came(members: &mut Members, came: &Came) {
         Came::Malformed(fault) => members.push_made("event.reason", fault.to_string(alloc)),
         Came::NotServed(cause) => members.push_made("event.reason", cause.to_string(alloc)),
         Came::Client(client) => push_client(members, client),
-        Came::Asked(event) => push_event(members, event),
+        Came::Asked(asked) => push_event(members, asked.event()),
         Came::Refused(fault) => {
             members.push_text("event.action", "request");
             members.push_made("event.reason", fault.to_string(alloc));
@@ -133,15 +133,15 @@ fn push_exchange(members: &mut Members, answer: &Answer, account: &Account) {
     push_answer(members, answer);
 }
 
-fn push_arrival(members: &mut Members, input: &Input, answer: &Answer, account: &Account) {
-    match input {
-        Input::Datagram { port, .. } => {
-            members.push_text("event.action", port_word(*port));
+fn push_arrival(members: &mut Members, what: What<'_>, answer: &Answer, account: &Account) {
+    match what {
+        What::Datagram(port) => {
+            members.push_text("event.action", port_word(port));
             push_came(members, &account.came);
             push_frame_answer(members, answer, account);
         }
-        Input::Request(_) => push_exchange(members, answer, account),
-        Input::Quiet => {
+        What::Request(_) => push_exchange(members, answer, account),
+        What::Quiet => {
             members.push_text("event.action", "quiet");
             push_answer(members, answer);
         }
@@ -149,15 +149,10 @@ fn push_arrival(members: &mut Members, input: &Input, answer: &Answer, account: 
 }
 
 /// The same facts as those of [`arrival_text`](crate::arrival_text), by name, and then that text as `message`.
-pub fn arrival_members(
-    alloc: Global,
-    arrival: &Arrival,
-    answer: &Answer,
-    account: &Account,
-) -> Text {
+pub fn arrival_members(alloc: Global, what: What<'_>, answer: &Answer, account: &Account) -> Text {
     let mut members = Members::new(alloc);
-    push_arrival(&mut members, &arrival.input, answer, account);
+    push_arrival(&mut members, what, answer, account);
     push_machine(&mut members, account);
-    members.push_made("message", arrival_text(alloc, arrival, answer, account));
+    members.push_made("message", arrival_text(alloc, what, answer, account));
     members.into_text()
 }

@@ -2,24 +2,24 @@
 use crate::frame_texts::datagram_text;
 use crate::members::Text;
 use crate::request_texts::exchange_text;
-use hall_desk::{Account, Answer, Arrival, Input, Moved};
+use hall_desk::{Account, Answer, Moved, What};
 use std::alloc::Global;
 
-fn answered_text(alloc: Global, input: &Input, answer: &Answer, account: &Account) -> Text {
-    match (input, answer) {
-        (Input::Datagram { port, .. }, _) => datagram_text(alloc, *port, answer, account),
-        (Input::Request(octets), _) => exchange_text(alloc, octets.as_slice(), answer, account),
-        (Input::Quiet, Answer::Unavailable) => String::from_str(alloc, "quiet: unavailable"),
-        (Input::Quiet, _) => String::from_str(alloc, "quiet: silence"),
+fn answered_text(alloc: Global, what: What<'_>, answer: &Answer, account: &Account) -> Text {
+    match (what, answer) {
+        (What::Datagram(port), _) => datagram_text(alloc, port, answer, account),
+        (What::Request(request), _) => exchange_text(alloc, request.octets(), answer, account),
+        (What::Quiet, Answer::Unavailable) => String::from_str(alloc, "quiet: unavailable"),
+        (What::Quiet, _) => String::from_str(alloc, "quiet: silence"),
     }
 }
 
 /// Whether an arrival has a line in a log. A quiet moment has one where the hall couldn't be read or written, or a machine was
 /// moved.
-pub fn is_of_note(arrival: &Arrival, answer: &Answer, account: &Account) -> bool {
-    match (&arrival.input, answer) {
-        (Input::Quiet, Answer::Unavailable) => true,
-        (Input::Quiet, _) => account.notes.moved.is_some(),
+pub fn is_of_note(what: What<'_>, answer: &Answer, account: &Account) -> bool {
+    match (what, answer) {
+        (What::Quiet, Answer::Unavailable) => true,
+        (What::Quiet, _) => account.notes.moved.is_some(),
         _ => true,
     }
 }
@@ -41,8 +41,8 @@ fn move_text(alloc: Global, moved: &Moved) -> Text {
 /// `boot REQUEST 52:54:00:12:34:56 uefi64: silence, the hall is full`, or
 /// `POST /commands allocate of machine 1 by ada: 200 {..}; machine 1: Ready to Allocated`. The answer and the account are the desk's
 /// for this arrival.
-pub fn arrival_text(alloc: Global, arrival: &Arrival, answer: &Answer, account: &Account) -> Text {
-    let text = answered_text(alloc, &arrival.input, answer, account)?;
+pub fn arrival_text(alloc: Global, what: What<'_>, answer: &Answer, account: &Account) -> Text {
+    let text = answered_text(alloc, what, answer, account)?;
     match &account.notes.moved {
         Some(moved) => {
             let moved = move_text(alloc, moved)?;

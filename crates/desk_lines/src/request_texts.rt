@@ -66,7 +66,7 @@ fn event_text(alloc: Global, event: &Event) -> Text {
 
 fn request_text(alloc: Global, octets: &[u8], came: &Came) -> Text {
     match came {
-        Came::Asked(event) => event_text(alloc, event),
+        Came::Asked(asked) => event_text(alloc, asked.event()),
         Came::Refused(fault) => refused_text(alloc, octets, *fault),
         Came::Malformed(_) | Came::NotServed(_) | Came::Client(_) | Came::Quiet => {
             Ok(String::new(alloc))

@@ -1,7 +1,7 @@
 -- Arrivals that are answered by one commit.
-use Rattle.std.{proofs.{Common.{◌≡◌, ◌≤◌, ◌<◌, ◌∙◌, ◌+◌, ℕ, List, [], ◌∷◌, ◌++◌, length, take, Option, None, Some, Result, Ok, Err, ap, append-nil, refl, sym, subst, inl, inr}, lemmas.List.{take_all, take_more}}, specs.{Prelude.{◌≢◌, ◌⊎◌, OnOk, OnErr}, List.AllByRecursion}}
+use Rattle.std.{proofs.{Common.{◌≡◌, List, [], ◌∷◌, ◌++◌, take, None, Some, Result, Ok, Err, append-nil, refl, sym, subst, inl, inr}}, specs.{Prelude.{◌≢◌, ◌⊎◌, OnOk, OnErr}, List.AllByRecursion}}
 use Rattle.hall_store.specs.{Grouped.{IsBegun, IsCommitted, IsRolledBack}, Store.Base}
-use Rattle.hall_desk.specs.{Prelude.{Site, Hall, IsSound, Ghosts}, Account.{IsDatagram, IsReadAs}, Attempt.{IsAnswered, IsKept, IsRan}, Grouping.{AreAvailable, AreReadAs, HasGroupRun, HasNoRun, IsTogetherEnd, IsUnavailable, OrTogether, first_of}, Headline.{HasHistory, Headline}, History.{AllLead, AreUnanswered, Item, ItemLeads, Origin, came_unanswered, exchanges}, HistoryLaws.{AreHistoryLaws, goes_to}, Octets.{HasMissed, IsArrivalRun, IsArrivalStep, missed_answer}, RunLaws.{of_run, run_then}, Stops.{IsEnd, IsLeft, IsSettled}, declared.{account.Account.Account, arrival.{Answer.Answer, Arrival.Arrival, Input.Input}}}
+use Rattle.hall_desk.specs.{Prelude.{Site, Hall, IsSound, Ghosts}, Account.{IsDatagram, IsReadAs}, Attempt.{IsAnswered, IsKept, IsRan}, Grouping.{AreAvailable, AreReadAs, HasGroupRun, HasNoRun, IsTogetherEnd, IsUnavailable, OrTogether, first_of}, Headline.{HasHistory}, History.{AllLead, AreUnanswered, Item, Origin, came_unanswered, exchanges}, HistoryLaws.{AreHistoryLaws, goes_to}, Octets.{HasMissed, IsArrivalRun, IsArrivalStep, missed_answer}, RunLaws.{of_run, run_then}, Stops.{IsEnd, IsLeft, IsSettled}, declared.{account.Account.Account, arrival.{Answer.Answer, Arrival.Arrival, Input.Input}}}
 use Rattle.hall_desk.specs.declared.arrival.Input.TheVariants as input
 
 -- ---- one arrival more

@@ -1,4 +1,5 @@
 pub mod AccountLemmas
+pub mod AnsweringLemmas
 pub mod AttemptLemmas
 pub mod FrameLemmas
 pub mod GroupLemmas

@@ -1,6 +1,6 @@
 -- What an answer of a desk promises, over any store.
-use Rattle.std.specs.Prelude.{◌≡◌, ℕ, false, List, [], ◌∷◌, ◌++◌}
-use Rattle.hall_desk.specs.{Prelude.{Hall, Ghosts}, Account.{IsDatagram, IsFound, IsReadAs}, Attempt.{GivesAnswer, IsOnlyRead}, Desk.{enlists_of, site_of, store_of}, Headline.HasHistory, History.{Item, Origin, exchanged}, Octets.IsGiven, Stops.{IsLeft, IsSettled, OrUnanswered}, declared.{account.Account.Account, arrival.{Answer.Answer, Arrival.Arrival, Input.Input}, desk.Desk.Desk}}
+use Rattle.std.specs.Prelude.{◌≡◌, false, List, [], ◌∷◌, ◌++◌}
+use Rattle.hall_desk.specs.{Prelude.{Hall, Ghosts}, Account.{IsDatagram, IsFound, IsReadAs}, Attempt.{GivesAnswer, IsOnlyRead}, Desk.{enlists_of, site_of, store_of}, Headline.HasHistory, History.{Item, Origin, exchanged}, Octets.IsGiven, Stops.{IsLeft, IsSettled, OrUnanswered}, declared.{account.Account.Account, arrival.{Answer.Answer, Arrival.Arrival}, desk.Desk.Desk}}
 
 -- An arrival is answered so, and the desk stays where it is. Each promise but these two is made where the store is clean afterwards.
 pub record Answers {S : Type 0} (g : Ghosts S) (old new : Desk S) (arrival : Arrival) (answer : Answer) : Type 0 where
@@ -22,11 +22,10 @@ pub record Answers {S : Type 0} (g : Ghosts S) (old new : Desk S) (arrival : Arr
   pub unlisted : enlists_of old ≡ false → IsDatagram arrival.input → g.is_clean (store_of new) → IsOnlyRead g (store_of old) (store_of new)
 
 -- The answer to what came, with an account of it.
-pub record Gives {S : Type 0} (g : Ghosts S) (old new : Desk S) (input : Input) (moment : ℕ) (fresh : List ℕ) (given : Answer × Account) : Type 0 where
-  pub site : site_of new ≡ site_of old
-  pub enlists : enlists_of new ≡ enlists_of old
-  pub answer : GivesAnswer g (store_of old) (store_of new) (site_of old) input moment fresh given.0
-  pub came : IsReadAs input given.1.came
-  pub found : g.is_clean (store_of new) → (h : Hall) → g.holds (store_of old) h → IsFound (enlists_of old) (site_of old) h input moment fresh given.0 given.1
-  -- a desk that enlists no one only reads for a datagram
-  pub unlisted : enlists_of old ≡ false → IsDatagram input → g.is_clean (store_of new) → IsOnlyRead g (store_of old) (store_of new)
+pub record Gives {S : Type 0} (g : Ghosts S) (old new : Desk S) (arrival : Arrival) (given : Answer × Account) : Type 0 where
+  pub answered : Answers g old new arrival given.0
+  -- the account says what came, as its octets say it
+  pub came : IsReadAs arrival.input given.1.came
+  -- and what was found in the hall, and changed
+  pub found : g.is_clean (store_of new) → (h : Hall) → g.holds (store_of old) h
+      → IsFound (enlists_of old) (site_of old) h arrival.input arrival.moment arrival.fresh given.0 given.1

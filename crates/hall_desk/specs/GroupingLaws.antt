@@ -1,6 +1,6 @@
 -- What arrivals that come together are as a run.
-use Rattle.std.{proofs.Common.{◌≡◌, ◌≢◌, ℕ, List, [], ◌∷◌, inl, inr, refl, sym, subst}, specs.{Prelude.{◌⊎◌, map}, List.AllByRecursion}}
-use Rattle.hall_desk.specs.{Prelude.{Site, Hall, IsSound, Ghosts}, Attempt.IsRan, Grouping.{HasGroupRun, HasNoRun}, History.{AllLead, AreUnanswered, IsCutRun, Item, exchanges}, Octets.{IsArrivalRun, IsGiven, IsSilent, missed_answer}, RunLaws.of_run, Stops.{AreGiven, HasRun, IsCutEnd}, declared.arrival.{Answer.Answer, Arrival.Arrival, Input.{Input, TheVariants.Request}}}
+use Rattle.std.{proofs.Common.{◌≡◌, ℕ, List, [], ◌∷◌, inl, inr, refl, subst}, specs.{Prelude.{map}}}
+use Rattle.hall_desk.specs.{Prelude.{Site, Hall, IsSound, Ghosts}, Grouping.{HasGroupRun, HasNoRun}, History.{AreUnanswered, IsCutRun, Item, exchanges}, Octets.{IsArrivalRun, IsGiven, IsSilent, missed_answer}, RunLaws.of_run, Stops.{HasRun, IsCutEnd}, declared.arrival.{Answer.Answer, Arrival.Arrival, Input.{Input, TheVariants.Request}}}
 
 -- each arrival is answered as one that counts as not having come
 abbrev pub missed_answers : List Arrival → List Answer

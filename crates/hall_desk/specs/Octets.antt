@@ -4,7 +4,7 @@ use Rattle.hall_types.specs.declared.refusal.Refusal.TheVariants as cause
 use Rattle.hall_events.specs.declared.event.Event.TheVariants as event
 use Rattle.hall_http.specs.declared.fault.HttpFault.TheVariants as fault
 use Rattle.hall_laws.specs.Decision.{decision_of}
-use Rattle.hall_desk.specs.{Prelude.{Message, IsFrame, reply_octets, answer_to, IsClient, Site, Client, Hall, applied, second, Port, Refusal, Content, refused, boot_file, reply_of, Event, Reply, Http, IsEvent, HttpFault, UNAVAILABLE, response_of, IsTyped}, declared.arrival.{Answer.Answer, Arrival.Arrival, Input.Input}}
+use Rattle.hall_desk.specs.{Prelude.{Message, IsFrame, reply_octets, answer_to, IsClient, Site, Client, Hall, applied, second, Port, Refusal, Content, refused, boot_file, reply_of, Event, Reply, Http, IsEvent, HttpFault, UNAVAILABLE, response_of, IsTyped}, declared.arrival.{Answer.Answer, Arrival.Arrival, Input.Input, Stamp.Stamp}}
 use Rattle.hall_desk.specs.declared.arrival.Answer.TheVariants as answer
 use Rattle.hall_desk.specs.declared.arrival.Input.TheVariants as input
 
@@ -14,6 +14,10 @@ octets_of (answer.Frame octets) = octets
 octets_of (answer.Response status octets) = octets
 octets_of answer.Unavailable = UNAVAILABLE.now
 octets_of answer.Silence = []
+
+-- what comes at the moment of a stamp, with its fresh octets
+abbrev pub arrival_of : Stamp → Input → Arrival
+arrival_of stamp what = record { moment = stamp.moment; fresh = stamp.fresh; input = what }
 
 -- ---- what an arrival's octets mean
 

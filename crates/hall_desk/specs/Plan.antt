@@ -2,7 +2,7 @@
 use Rattle.std.specs.Prelude.{◌≡◌, List, [], ◌∷◌, Option, Result, IfOk, OnOk, OnErr}
 use Rattle.hall_laws.specs.Decision.{decision_of}
 use Rattle.hall_store.specs.Store.{Base}
-use Rattle.hall_desk.specs.{Prelude.{Client, Hall, applied, second, RowWrite, Numbers, enlisted, Decision, Enlist, reply_of, Reply, AllKeep, Ghosts, Decided, Event, Site}, declared.arrival.Stamp.Stamp}
+use Rattle.hall_desk.specs.{Prelude.{Client, Hall, applied, second, RowWrite, Numbers, Port, enlisted, Decision, Enlist, frame_decision, frame_view, framed, reply_of, Reply, AllKeep, Ghosts, Decided, Event, Site}, declared.arrival.Stamp.Stamp}
 
 -- what a hall makes of an event that comes to a place with a stamp
 abbrev pub decided_at : Site → Stamp → Event → Hall → Decided
@@ -20,6 +20,11 @@ Plans decided planned = IsPlanOf decided planned.0 planned.1
 abbrev pub rows_for : Decision → Client → Numbers → List RowWrite
 rows_for Enlist client numbers = enlisted client numbers
 rows_for other client numbers = []
+
+-- how this hall answers a client's frame at a port, with the rows that it writes for it
+pub record IsFramePlan (h : Hall) (port : Port) (client : Client) (planned : List RowWrite × Decision) : Type 0 where
+  pub decision : planned.1 ≡ frame_decision (frame_view h client) port client
+  pub rows : (site : Site) → planned.0 ≡ (framed (frame_decision (frame_view h client) port client) site h client).rows
 
 module _ {S : Type 0} (g : Ghosts S) (old new : S) {Y E : Type 0} (r : Result Y E) where
   -- Reads, and then a write of these rows if there are any. An answer is right for the hall before.

@@ -49,6 +49,12 @@ abbrev pub IfAnswered : Served → Bool → Type 0
 IfAnswered ReadFailed failed = Unit {0}
 IfAnswered other failed = failed ≡ false
 
+-- the reading is the request of these octets, unless memory was wanting
+abbrev pub IsRequestOf : List ℕ → Reading → Type 0
+IsRequestOf octets (reading.Whole request) = request ≡ octets
+IsRequestOf octets reading.NoMemory = Unit {0}
+IsRequestOf octets reading.Failed = ⊥
+
 abbrev pub IfNotFailed : Reading → Bool → Type 0
 IfNotFailed reading.Failed failed = Unit {0}
 IfNotFailed other failed = failed ≡ false

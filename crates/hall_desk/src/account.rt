@@ -6,8 +6,7 @@ use crate::moved::{Moved, Seen, moved_by};
 use boot_desk::{BootView, Decision, OrderView, ReportView};
 use desk_command::CommandView;
 use dhcp_frame::FrameFault;
-use hall_events::Event;
-use hall_http::HttpFault;
+use hall_http::{Asked, HttpFault};
 use hall_types::{Change, Machine, Name, Operator};
 use pxe_vendor::{Client, NotServed};
 
@@ -23,7 +22,7 @@ pub enum Came {
     /// A request that makes no event (RFC 9112), for the first fault. `Memory` may come in the place of each.
     Refused(HttpFault),
     /// The event that a request makes.
-    Asked(Event),
+    Asked(Asked),
     Quiet,
 }
 

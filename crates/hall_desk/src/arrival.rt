@@ -1,5 +1,5 @@
 //! What comes to the desk, and what it answers, in octets.
-use hall_http::UNAVAILABLE;
+use hall_http::{Request, UNAVAILABLE};
 use hall_types::{Moment, Port, Token};
 use pxe_vendor::Octets;
 
@@ -7,15 +7,34 @@ use pxe_vendor::Octets;
 #[derive(Drop)]
 pub enum Input {
     Datagram { port: Port, octets: Octets },
-    Request(Octets),
+    Request(Request),
+    Quiet,
+}
+
+impl Input {
+    /// What a log tells of it.
+    pub fn what(&self) -> What<'_> {
+        match self {
+            Input::Datagram { port, .. } => What::Datagram(*port),
+            Input::Request(request) => What::Request(request),
+            Input::Quiet => What::Quiet,
+        }
+    }
+}
+
+/// What came, as far as a log tells of it: at which port a datagram came, or a request.
+#[derive(Clone, Copy)]
+pub enum What<'a> {
+    Datagram(Port),
+    Request(&'a Request),
     Quiet,
 }
 
 /// When something comes, and 16 fresh octets, which become the token of a boot that is issued.
 #[derive(Clone, Copy)]
-pub(crate) struct Stamp {
-    pub(crate) moment: Moment,
-    pub(crate) fresh: Token,
+pub struct Stamp {
+    pub moment: Moment,
+    pub fresh: Token,
 }
 
 /// What comes, and its stamp.

@@ -1,7 +1,7 @@
 //! Carrying out what came.
-ghost use Rattle.std.specs.Prelude.{◌≡◌, ℕ, List, None, false, OnErr, OnOk};
+ghost use Rattle.std.specs.Prelude.{◌≡◌, ℕ, List, [], None, false, IfOk, OnErr, OnOk};
 ghost use Rattle.hall_events.specs.declared.event.Event.TheVariants as event;
-ghost use Rattle.hall_desk.specs.{Prelude.{Hall, decision_of}, Account.{IsDecided, found_for, is_unlisted, nothing_found, with_found, with_move}, Attempt.IsOnlyRead, Desk.{Stays, enlists_of, site_of, store_of}, Moved.moved_by, Octets.{frame_answer, no_answer, response_answer}, Plan.{CarriesOut, decided_at}};
+ghost use Rattle.hall_desk.specs.{Prelude.{Hall, Looks, decision_of}, Account.{IsDecided, found_for, is_unlisted, nothing_found, with_found, with_move}, Attempt.IsOnlyRead, Desk.{Stays, enlists_of, site_of, store_of}, Moved.moved_by, Octets.{frame_answer, no_answer, response_answer}, Plan.{CarriesOut, IsFramePlan, decided_at}};
 
 use crate::account::{Found, Notes};
 use crate::arrival::{Answer, Stamp};
@@ -13,7 +13,7 @@ use boot_desk::Decision;
 use dhcp_frame::Frame;
 use hall_events::Event;
 use hall_store::{HallStore, Unavailable};
-use hall_types::Port;
+use hall_types::{Change, Port};
 use pxe_vendor::Client;
 use std::alloc::Global;
 
@@ -28,6 +28,32 @@ fn is_unlisted(enlists: bool, decision: Decision) -> bool
 }
 
 impl<S: HallStore> Desk<S> {
+    /// What is planned for a client's frame, whether it comes in a datagram or as an event: the rows to write, and how it is answered, which is
+    /// noted. The frame of a client that is to be enlisted, by a desk that doesn't, is refused.
+    pub(crate) fn plan_frame(
+        &mut self,
+        alloc: Global,
+        port: Port,
+        client: &Client,
+        notes: &mut Notes,
+    ) -> Result<(Change, Decision), Unavailable>
+        ensures stays { Stays self.old self.new }
+        ensures planned { Looks S.HallStore (store_of self.old) (store_of self.new) result (λ h planned. IsFramePlan h port client.now planned) }
+        ensures decided { notes.old.decision ≡ None → notes.old.unlisted ≡ false → S.HallStore.is_clean (store_of self.new)
+            → (h : Hall) → S.HallStore.holds (store_of self.old) h → IsDecided (enlists_of self.old) h port client.now notes.new }
+        ensures unlisted { enlists_of self.old ≡ false → IfOk result (λ planned. planned.0 ≡ []) }
+        ensures moved { notes.new.moved ≡ notes.old.moved }
+        ensures machine { notes.new.machine ≡ notes.old.machine }
+    {
+        let (change, decision) = plan_client(alloc, &mut self.store, port, client)?;
+        notes.decision = Some(decision);
+        if is_unlisted(self.enlists, decision) {
+            notes.unlisted = true;
+            return Err(Unavailable);
+        }
+        Ok((change, decision))
+    }
+
     /// Carries out a client's frame, and gives its answer. All memory is taken before a row is written. Of a desk that doesn't enlist, the
     /// frame of a client that is to be enlisted counts as not having come.
     #[tactic(auto, unfolding(hall_laws::specs::Decision::decision_of))]
@@ -50,12 +76,7 @@ impl<S: HallStore> Desk<S> {
         ensures unmoved { OnErr result (notes.new.moved ≡ notes.old.moved) }
         ensures unlisted { enlists_of self.old ≡ false → S.HallStore.is_clean (store_of self.new) → IsOnlyRead S.HallStore (store_of self.old) (store_of self.new) }
     {
-        let (change, decision) = plan_client(alloc, &mut self.store, port, client)?;
-        notes.decision = Some(decision);
-        if is_unlisted(self.enlists, decision) {
-            notes.unlisted = true;
-            return Err(Unavailable);
-        }
+        let (change, decision) = self.plan_frame(alloc, port, client, notes)?;
         let answer = client_answer(alloc, decision, frame, client, &self.place)?;
         write(&mut self.store, &change)?;
         notes.note_change(&change);

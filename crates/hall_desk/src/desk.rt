@@ -13,7 +13,7 @@ use crate::writing::write;
 use hall_events::{Event, Reply};
 use hall_laws::decisions_keep_the_rules;
 use hall_store::{HallStore, Unavailable};
-use hall_types::{Change, Digest, Moment, Operator, Token};
+use hall_types::{Digest, Moment, Operator, Token};
 use pxe_vendor::Place;
 use std::alloc::{AllocError, Global};
 
@@ -24,16 +24,6 @@ pub struct Desk<S> {
     pub(crate) place: Place,
     // Whether unknown clients are enlisted.
     pub(crate) enlists: bool,
-}
-
-// Whether an event is refused by a desk that doesn't enlist: a client's frame that writes rows enlists the client.
-fn is_refused(enlists: bool, event: &Event, change: &Change) -> bool
-    ensures { enlists ≡ false → IsFrame event.now → result ≡ false → change.now ≡ [] }
-{
-    match event {
-        Event::Frame { .. } => !enlists && !change.writes().is_empty(),
-        _ => false,
-    }
 }
 
 impl<S: HallStore> Desk<S> {
@@ -83,11 +73,7 @@ impl<S: HallStore> Desk<S> {
     {
         let mut found = Found::NOTHING;
         let stamp = Stamp { moment, fresh };
-        let (change, reply) = self.planned(alloc, event, stamp, &mut found)?;
-        if is_refused(self.enlists, event, &change) {
-            return Err(Unavailable);
-        }
-        Ok((change, reply))
+        self.planned(alloc, event, stamp, &mut found)
     }
 
     /// The enabled operator whose token has this digest. Nothing is written.
@@ -161,18 +147,7 @@ impl<S: HallStore> Desk<S> {
     /// at any moment leaves the hall before it or the hall after it, of a store that was settled; once it was answered, the hall after it
     /// alone.
     pub fn answer_with_account(&mut self, alloc: Global, arrival: &Arrival) -> (Answer, Account)
-        ensures answered { Answers S.HallStore self.old self.new arrival.now result.0 }
-        ensures came { IsReadAs arrival.now.input result.1.came }
-        ensures found { S.HallStore.is_clean (store_of self.new) → (h : Hall) → S.HallStore.holds (store_of self.old) h
-            → IsFound (enlists_of self.old) (site_of self.old) h arrival.now.input arrival.now.moment arrival.now.fresh result.0 result.1 }
-    {
-        histories_keep_the_laws();
-        self.take(alloc, arrival)
-    }
-
-    // Answers what came, with an account of it.
-    fn take(&mut self, alloc: Global, arrival: &Arrival) -> (Answer, Account)
-        ensures { Gives S.HallStore self.old self.new arrival.now.input arrival.now.moment arrival.now.fresh result }
+        ensures { Gives S.HallStore self.old self.new arrival.now result }
     {
         let stamp = Stamp {
             moment: arrival.moment,
@@ -182,7 +157,7 @@ impl<S: HallStore> Desk<S> {
             Input::Datagram { port, octets } => {
                 self.answer_datagram(alloc, *port, octets.as_slice(), stamp)
             }
-            Input::Request(octets) => self.answer_request(alloc, octets.as_slice(), stamp),
+            Input::Request(request) => self.answer_request(alloc, request, stamp),
             Input::Quiet => self.answer_quiet(alloc, stamp),
         }
     }

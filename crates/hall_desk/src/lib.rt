@@ -20,7 +20,7 @@ mod typed;
 mod writing;
 
 pub use account::{Account, Came, Notes};
-pub use arrival::{Answer, Arrival, Input};
+pub use arrival::{Answer, Arrival, Input, Stamp, What};
 pub use desk::Desk;
 pub use grouping::Answered;
 pub use laws::{answered_are_given, histories_go_on, histories_keep_the_laws, items_are_steps};

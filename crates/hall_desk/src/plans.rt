@@ -1,10 +1,10 @@
 //! What is planned for each event.
-ghost use Rattle.std.specs.Prelude.{◌≡◌, [], List, IfOk, option_copied, option_map};
+ghost use Rattle.std.specs.Prelude.{◌≡◌, [], false, List, IfOk, option_copied, option_map};
 ghost use Rattle.boot_desk.specs.OrderAnswer.{answered};
 ghost use Rattle.boot_desk.specs.FrameEvent as event;
 ghost use Rattle.boot_desk.specs.Views as views;
 ghost use Rattle.hall_laws.specs.Decision as made;
-ghost use Rattle.hall_desk.specs.{Prelude.{Site, Hall, second, next_expired, RowWrite, nothing, reply_of, Decides, swept, Fetched, Judged, reported, framed, given_if, judged, refuses, verdict_content, Looks}, Account.about, Plan.{Plans, rows_for}};
+ghost use Rattle.hall_desk.specs.{Prelude.{Site, Hall, second, next_expired, RowWrite, nothing, reply_of, Decides, swept, Fetched, Judged, reported, framed, given_if, judged, refuses, verdict_content, Looks}, Account.{about, is_unlisted}, Plan.{IsFramePlan, Plans, rows_for}};
 
 use crate::account::Found;
 use crate::arrival::Stamp;
@@ -58,16 +58,15 @@ fn rows_for(
 }
 
 /// How a client's frame at a port is answered, with the rows that enlist the client.
-#[tactic(auto, using(crate::proofs::FrameLemmas::enough_plans))]
+#[tactic(auto, using(crate::proofs::FrameLemmas::enough_plans, crate::proofs::FrameLemmas::no_rows_for))]
 pub(crate) fn plan_client<S: HallStore>(
     alloc: Global,
     store: &mut S,
     port: Port,
     client: &Client,
 ) -> Result<(Change, Decision), Unavailable>
-    ensures { Looks S.HallStore store.old store.new result
-        (λ h planned. (planned.1 ≡ event.frame_decision (event.frame_view h client.now) port client.now)
-        × ((site : Site) → planned.0 ≡ (framed (event.frame_decision (event.frame_view h client.now) port client.now) site h client.now).rows)) }
+    ensures planned { Looks S.HallStore store.old store.new result (λ h planned. IsFramePlan h port client.now planned) }
+    ensures unlisted { IfOk result (λ planned. is_unlisted false planned.1 ≡ false → planned.0 ≡ []) }
 {
     let view = frame_view(store, client)?;
     let decision = frame(&view, port, client);
@@ -75,9 +74,9 @@ pub(crate) fn plan_client<S: HallStore>(
     Ok((change, decision))
 }
 
-// The answer with a client's boot file, or none.
+/// The answer with a client's boot file, or none.
 #[tactic(auto, unfolding(hall_events::specs::Reply::reply_of))]
-fn client_reply(
+pub(crate) fn client_reply(
     alloc: Global,
     decision: Decision,
     client: &Client,
@@ -90,22 +89,6 @@ fn client_reply(
     }
     let file = boot_file(alloc, client, place)?;
     Ok(Reply::boot_file(file))
-}
-
-/// What is planned for a client's frame.
-pub(crate) fn plan_frame<S: HallStore>(
-    alloc: Global,
-    store: &mut S,
-    place: &Place,
-    port: Port,
-    client: &Client,
-) -> Planned
-    ensures { Looks S.HallStore store.old store.new result
-        (λ h planned. Plans (framed (event.frame_decision (event.frame_view h client.now) port client.now) place.now h client.now) planned) }
-{
-    let (change, decision) = plan_client(alloc, store, port, client)?;
-    let reply = client_reply(alloc, decision, client, place)?;
-    Ok((change, reply))
 }
 
 // ---- machines

@@ -96,11 +96,11 @@ impl<S: HallStore> Desk<S> {
         match read_request(alloc, reader) {
             Reading::Failed => None,
             Reading::NoMemory => Some(Answer::Unavailable),
-            Reading::Whole(octets) => {
+            Reading::Whole(request) => {
                 let arrival = Arrival {
                     moment,
                     fresh,
-                    input: Input::Request(octets),
+                    input: Input::Request(request),
                 };
                 Some(self.answer(alloc, &arrival))
             }

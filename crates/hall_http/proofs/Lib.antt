@@ -1,5 +1,6 @@
 pub mod ResponseLemmas
 pub mod DecidedLemmas
+pub mod ReadingLemmas
 pub mod RouteLemmas
 mod RouteRows
 pub mod TargetLemmas

@@ -1,6 +1,6 @@
 -- Laws of bodies: the text of a request with a command has at most 16,384 octets, and the desk reads it as that command
 -- with that key.
-use Rattle.std.{proofs.{Common.{◌≡◌, ◌≤◌, ◌+◌, lit≤, ℕ, true, false, List, [], ◌∷◌, Option, Some, None, map, length, refl, sym, ap, ◌∙◌, inl, arith, append-nil}, lemmas.{Bool.{le-leb, not-true}, List.{get_or_default, Elements.recursion_from_All}, Str.is_utf8-from_IsUtf8}}, specs.{Prelude.{codes, option_and_then, option_map, if◌then◌else◌, IfSome, IsTrue}, List.AllByRecursion, Str.is_utf8}}
+use Rattle.std.{proofs.{Common.{◌≡◌, ◌≤◌, lit≤, ℕ, true, false, List, [], ◌∷◌, Option, Some, None, map, length, refl, sym, ap, ◌∙◌, inl, arith, append-nil}, lemmas.{Bool.{le-leb, not-true}, List.{get_or_default, Elements.recursion_from_All}, Str.is_utf8-from_IsUtf8}}, specs.{Prelude.{codes, option_and_then, option_map, if◌then◌else◌, IfSome, IsTrue}, List.AllByRecursion, Str.is_utf8}}
 use Rattle.json.specs.Json as json
 use Rattle.pxe_vendor.specs.Arch.{arch_text}
 use Rattle.hall_types.specs.{Kinds.{role_text, erase_text, outcome_text}, Act.act_text}

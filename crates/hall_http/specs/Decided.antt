@@ -1,6 +1,6 @@
 -- Whether further octets can change what a request asks for.
 use Rattle.std.specs.Prelude.{◌≤◌, ◌⊎◌, ℕ, List, ◌++◌, map, length, Result, IfOk}
-use Rattle.hall_http.specs.{Prelude.{RequestHead, ReadsRequest, NeverHasRequest, EndsInTarget, RequestExceeds, name_and_value, Event}, declared.fault.HttpFault.HttpFault, Demand.{demand_of, body_size}, Fields.FieldPair, Head.HasNoHead, Request.{front, after_head, IsEvent}}
+use Rattle.hall_http.specs.{Prelude.{RequestHead, ReadsRequest, NeverHasRequest, EndsInTarget, name_and_value, Event}, declared.fault.HttpFault.HttpFault, Demand.{demand_of, body_size}, Fields.FieldPair, Head.HasNoHead, Request.{front, after_head, IsEvent}}
 
 -- each event or fault of the octets is that of them with any octets after them
 abbrev pub IsDecided : List ℕ → Type 0
@@ -18,11 +18,10 @@ pub record IsWhole (octets : List ℕ) : Type 0 where
   pub few : length head.fields ≤ 64
   pub ready : IsReady head.method head.target (map name_and_value head.fields) (after_head head octets)
 
--- no octets can complete a head, and that for another cause than too many fields or a target that hasn't ended
+-- no octets can complete a head, and that for another cause than a target that hasn't ended
 pub record IsMalformed (octets : List ℕ) : Type 0 where
   pub never : NeverHasRequest (front octets)
   pub target : ¬ (EndsInTarget (front octets))
-  pub fields : ¬ (RequestExceeds 64 (front octets))
 
 -- 8,192 octets without a complete head
 pub record IsTooLong (octets : List ℕ) : Type 0 where

@@ -1,6 +1,6 @@
 -- Whether octets begin with the head of a request (RFC 9112 sections 2 to 5), in the words of `httparse`.
-use Rattle.std.specs.Prelude.{◌<◌, ◌≤◌, ◌⊎◌, ℕ, List, length}
-use Rattle.hall_http.specs.{Prelude.{HeaderSpan, RequestSpans, RequestHead, ReadsRequest, MayBecomeRequest, IsRequestAt, IsRequestWithin, RequestOverflows, RequestExceeds}, declared.head.Look.{Look, TheVariants.{Head, Open, Never}}}
+use Rattle.std.specs.Prelude.{◌<◌, ◌≤◌, ℕ, List, length}
+use Rattle.hall_http.specs.{Prelude.{HeaderSpan, RequestSpans, RequestHead, ReadsRequest, MayBecomeRequest, IsRequestAt, IsRequestWithin, RequestOverflows}, declared.head.Look.{Look, TheVariants.{Head, Open, Never}}}
 
 -- no head at the front has so few fields
 abbrev pub HasNoHead : List ℕ → ℕ → Type 0
@@ -11,12 +11,8 @@ pub record HasHead (octets : List ℕ) (headers : List HeaderSpan) (spans : Requ
   pub each : (head : RequestHead) (rest : List ℕ) → ReadsRequest octets head rest → length head.fields ≤ length headers → IsRequestAt octets headers spans head
   pub some : (head : RequestHead) × (rest : List ℕ) × ReadsRequest octets head rest × (length head.fields ≤ length headers)
 
--- more octets may complete a head, or there are too many fields
-abbrev pub IsOpen : List ℕ → ℕ → Type 0
-IsOpen octets room = MayBecomeRequest octets ⊎ RequestExceeds room octets
-
 -- what a look finds
 abbrev pub FindsHead : List ℕ → ℕ → List HeaderSpan → Look → Type 0
 FindsHead octets room headers (Head spans) = IsRequestWithin octets headers spans × HasHead octets headers spans
-FindsHead octets room headers Open = HasNoHead octets room × IsOpen octets room
+FindsHead octets room headers Open = HasNoHead octets room × MayBecomeRequest octets
 FindsHead octets room headers Never = RequestOverflows room octets

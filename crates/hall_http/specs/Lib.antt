@@ -10,6 +10,7 @@ pub mod Event
 pub mod EventLaws
 pub mod Fields
 pub mod Head
+pub mod Reading
 pub mod Request
 pub mod Resource
 pub mod ResourceLaws

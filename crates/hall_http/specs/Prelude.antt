@@ -3,7 +3,7 @@ pub use Rattle.hall_events.specs.{Object.{member_if, Member, put_all, object_of}
 pub use Rattle.hall_types.specs.{Image.{BootImage, IsImage, has_hall_word}, Kinds.{role_of_text, progress_of_text, outcome_of_text, outcome_text, erase_of_text}, KindLaws.{outcome_by_text, role_by_text}, Name.{IsName, name_of, is_name_octet}, Uuid.unless_blank, Number.{IsNumber, number_in, number_of_text}, Octets.{AreOctets, octets_of_text}, declared.{kinds.{Role.{Role, TheVariants.Admin}, Outcome.{Outcome, TheVariants.{Done, Failed}}, Progress.Progress, Erase.{Erase, TheVariants.Full}}, refusal.Refusal.Refusal}, Hall.Schema, Refusal.refusal_status}
 pub use Rattle.hex.specs.Hex.{encode_lower, lower_digits}
 pub use Rattle.http.specs.StatusCode.{reason_phrase, IsStatusCode}
-pub use Rattle.httparse.specs.{Grammar.{RequestHead, ReadsRequest, NeverHasRequest, EndsInTarget, MayBecomeRequest, print_request}, Spans.{RequestExceeds, name_and_value, IsRequestAt, IsRequestWithin, RequestOverflows, span_bytes, header_bytes, IsHeaderWithin}, declared.spans.{HeaderSpan.HeaderSpan, RequestSpans.RequestSpans}}
+pub use Rattle.httparse.specs.{Grammar.{RequestHead, ReadsRequest, NeverHasRequest, EndsInTarget, MayBecomeRequest, print_request}, Spans.{name_and_value, IsRequestAt, IsRequestWithin, RequestOverflows, span_bytes, header_bytes, IsHeaderWithin}, declared.spans.{HeaderSpan.HeaderSpan, RequestSpans.RequestSpans}}
 pub use Rattle.ipxe_script.specs.Word.{IsWord, IsUri}
 pub use Rattle.json.specs.{Token.Token, Tree.json_tokens, Print.{escape_letter, escape, quoted}}
 pub use Rattle.matchit.specs.{Seek.{has_slash, first, or_else, own, step}, Rows.{RowsOf, param_token, catch_all_token}, Route.{Scan, parse_route}, Order.placed, Router.{RouteOf, route_from, InsertsRead}, declared.error.InsertError.InsertError}

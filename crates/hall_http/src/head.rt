@@ -1,9 +1,9 @@
 //! The head of a request.
-ghost use Rattle.std.specs.Prelude.{◌≡◌, ◌≤◌, length, IfSome, IfNone};
-ghost use Rattle.hall_http.specs.{Prelude.IsRequestWithin, Head.{HasHead, HasNoHead, FindsHead}};
+ghost use Rattle.std.specs.Prelude.{length};
+ghost use Rattle.hall_http.specs.Head.{FindsHead};
 
+use httparse::Status;
 use httparse::spans::{HeaderSpan, RequestSpans, parse_request};
-use httparse::{Error, Status};
 
 /// The maximum number of a head's octets.
 pub(crate) const MAX_HEAD_LEN: usize = 8192;
@@ -16,9 +16,9 @@ pub(crate) const MAX_FIELDS: usize = 64;
 pub(crate) enum Look {
     /// A head.
     Head(RequestSpans),
-    /// No head, which more octets may complete, or one of too many fields.
+    /// No head, which more octets may complete.
     Open,
-    /// No head, whatever follows.
+    /// No head of as many fields as there is room for, whatever follows.
     Never,
 }
 
@@ -29,19 +29,6 @@ pub(crate) fn look_for_head(octets: &[u8], room: &mut [HeaderSpan]) -> Look
     match parse_request(octets, room) {
         Ok(Status::Complete(spans)) => Look::Head(spans),
         Ok(Status::Partial) => Look::Open,
-        Err(Error::TooManyHeaders) => Look::Open,
         Err(_) => Look::Never,
-    }
-}
-
-/// The head at the front of the octets, with its fields in `room`.
-pub(crate) fn read_head(octets: &[u8], room: &mut [HeaderSpan]) -> Option<RequestSpans>
-    ensures within { IfSome result (IsRequestWithin octets.now room.new) }
-    ensures found { IfSome result (λ spans. HasHead octets.now room.new spans) }
-    ensures none { IfNone result (HasNoHead octets.now (length room.old)) }
-{
-    match parse_request(octets, room) {
-        Ok(Status::Complete(spans)) => Some(spans),
-        _ => None,
     }
 }

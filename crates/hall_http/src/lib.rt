@@ -3,15 +3,17 @@
 
 mod body;
 mod command;
-mod decided;
 mod demand;
+mod event;
 mod fault;
 mod fields;
 mod head;
 mod image;
+mod known;
 mod laws;
 mod member;
 mod noted;
+mod partial;
 mod report;
 mod request;
 mod resource;
@@ -24,13 +26,13 @@ mod wrong_bodies;
 
 pub use body::text_of;
 pub use command::{KeyedCommand, command_in, has_parts, is_identified};
-pub use decided::is_decided;
 pub use fault::HttpFault;
 pub use fields::{count, first_value, is_bearer_token, is_visible_text};
 pub use laws::{answers_have_responses, one_response, unavailable_is_a_refusal};
 pub use noted::Noted;
+pub use partial::PartialRequest;
 pub use report::{outcome_in, progress_in};
-pub use request::event_of;
+pub use request::{Asked, Request};
 pub use response::{UNAVAILABLE, bytes_of, is_response};
 pub use slices::{prefix, suffix};
 pub use value::uuid_octets;

@@ -3,7 +3,7 @@ use Rattle.std.proofs.Common.{◌≡◌, ℕ, Option, Result, List, [], ◌++◌
 use Rattle.hall_desk.specs.{Attempt.IsOnlyRead, AttemptLaws.read_same, HistoryLaws.{AreHistoryLaws, after_run, run_given, run_stop}, Prelude.{Ghosts, Hall, Site}, RunLaws.{has_run_none, has_run_then}}
 use Rattle.hall_store.specs.Store.{IsRead, ReadsBy}
 use Rattle.hall_types.specs.Hall.{applied}
-use Rattle.serve_sockets.specs.{Prelude.TcpStream, Turn.WentOn, declared.{connection.Connection.Connection, turn.Stamp.Stamp}}
+use Rattle.serve_sockets.specs.{Prelude.TcpStream, Turn.WentOn, declared.{connection.Connection.Connection, turn.Tick.Tick}}
 use Rattle.store_group.specs.Group.{LeadsTo, is_open, store_of}
 use Rattle.store_group.specs.declared.group.Group.{Group}
 use Rattle.hallboot_tasks.specs.Served.{GoesOn, WasServed}
@@ -16,7 +16,7 @@ module _ {S : Type 0} (g : Ghosts S) (site : Site) where
   goes_none s = goes_reading s s (read_same g s)
 
   -- what turns made of the hall
-  pub goes_of : {C : Type 0} {gives : C → Option Stamp → C → Type 0} {source source' : C} {most : ℕ} {slots slots' : List (Option (Connection TcpStream))} (old new : S)
+  pub goes_of : {C : Type 0} {gives : C → Option Tick → C → Type 0} {source source' : C} {most : ℕ} {slots slots' : List (Option (Connection TcpStream))} (old new : S)
       → WentOn g gives old new source source' site most slots slots' → GoesOn g old new site
   goes_of old new it = record { arrivals = it.served.arrivals; answers = it.served.answers; run = it.served.run }
 

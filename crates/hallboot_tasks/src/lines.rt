@@ -4,7 +4,7 @@ use crate::turn_lines::turn_line;
 use desk_lines::{
     Backup, Failures, arrival_members, arrival_text, backup_line, is_of_note, unstamped_line,
 };
-use hall_desk::{Account, Answer, Arrival};
+use hall_desk::{Account, Answer, What};
 use hall_report::LogFormat;
 use hall_types::Moment;
 use serve_sockets::{Turn, TurnLog};
@@ -56,16 +56,14 @@ impl Lines {
 }
 
 impl TurnLog for Lines {
-    fn arrived(&mut self, arrival: &Arrival, answer: &Answer, account: &Account) {
+    fn arrived(&mut self, what: What<'_>, answer: &Answer, account: &Account) {
         if let Some(outlet) = &self.outlet
-            && is_of_note(arrival, answer, account)
+            && is_of_note(what, answer, account)
         {
             let alloc = self.alloc;
             self.arrival = Some(match outlet.format() {
-                LogFormat::Json => arrival_members(alloc, arrival, answer, account),
-                LogFormat::Seconds | LogFormat::Utc => arrival_text(
-                    alloc, arrival, answer, account,
-                ),
+                LogFormat::Json => arrival_members(alloc, what, answer, account),
+                LogFormat::Seconds | LogFormat::Utc => arrival_text(alloc, what, answer, account),
             });
         }
     }

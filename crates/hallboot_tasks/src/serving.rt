@@ -19,10 +19,14 @@ use hallboot_words::{Serving, fault_of};
 use pxe_vendor::{Place, PlaceFault};
 use rand::rngs::SysRng;
 use serve_sockets::{Service, Source};
+use std::time::Instant;
 use store_group::Group;
 
-/// After how many turns it is looked whether the hall's file is still there.
+/// After how many turns it is asked whether it is time for a copy, or to look whether the hall's file is still there.
 const LOOK: u64 = 8;
+
+/// How long, in milliseconds, it is from one look at the hall's file to the next.
+const LOOK_PAUSE: u128 = 100;
 
 /// How a service ended.
 #[derive(Clone, Copy, PartialEq, Eq)]
@@ -40,7 +44,22 @@ enum Ended {
 struct Part<'a> {
     serving: &'a Serving,
     file: ServedFile,
+    // When it was last looked whether the file is still there.
+    looked_at: Instant,
     turns: u64,
+}
+
+impl<'a> Part<'a> {
+    // Whether the file isn't there any more, which is looked at ten times a second at most.
+    fn is_gone(&mut self, rt: &HostRuntime) -> bool {
+        if let Ok(now) = Instant::now(rt) {
+            if now.duration_since(self.looked_at).as_millis() < LOOK_PAUSE {
+                return false;
+            }
+            self.looked_at = now;
+        }
+        self.file.is_gone(rt, self.serving.path.as_str())
+    }
 }
 
 // Says what became of a copy: in the log, or at standard error where there is none and it failed.
@@ -84,7 +103,7 @@ fn serve_part<S: GroupStore, C: Source, J: Joining>(
         if let Some(unserved) = service.serve_turns(stamps, lines, turns) {
             return (Ended::Shut, left + unserved);
         }
-        if part.file.is_gone(rt, path) {
+        if part.is_gone(rt) {
             return (Ended::Gone, left);
         }
         if let Some(backup) = backups.made(rt, path) {
@@ -239,6 +258,7 @@ pub(crate) fn serve<S: HallStore, J: Joining>(
     let mut part = Part {
         serving,
         file,
+        looked_at: bound.start,
         turns: suspended.left(),
     };
     let ((ended, left), store, bound) = serve_over(rt, store, place, bound, &mut part, joining);

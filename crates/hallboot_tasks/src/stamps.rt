@@ -1,10 +1,11 @@
-//! Where a service's stamps come from.
+//! Where a service's ticks come from.
 ghost use Rattle.std.specs.{Prelude.{◌≡◌, ◌≤◌, ◌<◌, ◌+◌, ◌*◌, ◌/◌, ◌%◌, ◌↔◌, IfSome, IsNone}, Duration.as_nanos};
 
 use crate::random_block::RandomBlock;
+use hall_desk::Stamp;
 use hall_types::{MAX_MOMENT, Moment};
 use rand_core::TryRng;
-use serve_sockets::{Source, Stamp};
+use serve_sockets::{Source, Tick};
 use std::time::{Clock, Duration, Instant, SystemTime, UNIX_EPOCH};
 
 // The milliseconds of a second.
@@ -73,19 +74,16 @@ impl<'a, C: Clock, R: TryRng> Source for Stamps<'a, C, R> {
     ghost use Rattle.std.specs.Prelude.{MatchOption};
     ghost use Rattle.hallboot_tasks.specs.RandomBlock.{TakesNext, TakesNone};
 
-    // A stamp has the next octets, which no other stamp has.
+    // A tick's stamp has the next octets, which no other stamp has.
     ghost may_give = { λ old given new. MatchOption given (TakesNone old.block new.block)
-        (λ stamp. TakesNext R.TryRng.may_fill old.block old.random stamp.fresh new.block new.random) };
+        (λ tick. TakesNext R.TryRng.may_fill old.block old.random tick.stamp.fresh new.block new.random) };
 
-    fn stamp(&mut self) -> Option<Stamp> {
+    fn tick(&mut self) -> Option<Tick> {
         let moment = now(self.clock)?;
         let millis = self.millis()?;
         let fresh = self.block.token(&mut self.random)?;
-        Some(Stamp {
-            moment,
-            fresh,
-            millis,
-        })
+        let stamp = Stamp { moment, fresh };
+        Some(Tick { stamp, millis })
     }
 
     // Deadlines are whole seconds, so that none passes earlier.

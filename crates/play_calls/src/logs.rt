@@ -111,7 +111,12 @@ fn print_silence(arrival: &Arrival, view: &FrameView, out: &mut Out) -> Played {
     notes.decision = Some(frame(view, port, &client));
     let came = Came::Client(client);
     let account = Account { came, notes };
-    let text = arrival_text(out.alloc(), arrival, &Answer::Silence, &account);
+    let text = arrival_text(
+        out.alloc(),
+        arrival.input.what(),
+        &Answer::Silence,
+        &account,
+    );
     drop(account);
     out.push(text?.as_str());
     Ok(())

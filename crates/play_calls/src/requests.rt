@@ -1,8 +1,10 @@
 //! Requests by HTTP.
 use cases::{Out, Played, string_of, text_of};
 use hall_events::{Event, HallCommand};
-use hall_http::{event_of, is_decided};
+use hall_http::{HttpFault, PartialRequest, Request};
 use hall_types::{Digest, RequestKey};
+use pxe_vendor::Octets;
+use std::alloc::{AllocError, Global};
 use std::fmt::Display;
 
 type Bearer = Option<Digest>;
@@ -62,17 +64,18 @@ fn print_event(event: &Event, out: &mut Out) -> Played {
     Ok(())
 }
 
-fn print_request(octets: &[u8], out: &mut Out) -> Played {
-    match &event_of(out.alloc(), octets) {
-        Ok(event) => print_event(event, out)?,
-        Err(fault) => out.fault(*fault as u8, *fault),
+fn print_request(octets: Vec<u8>, out: &mut Out) -> Played {
+    let request = Request::read(out.alloc(), Octets::from(octets))?;
+    match request.asked() {
+        Ok(asked) => print_event(asked.event(), out)?,
+        Err(fault) => out.fault(fault as u8, fault),
     }
     Ok(())
 }
 
 /// The event of a request.
 pub fn request(rest: &str, out: &mut Out) -> Played {
-    print_request(text_of(out.alloc(), rest)?.as_slice(), out)
+    print_request(text_of(out.alloc(), rest)?, out)
 }
 
 /// The event of a command without a token, of which this is the body.
@@ -82,11 +85,17 @@ pub fn command(rest: &str, out: &mut Out) -> Played {
         "POST /commands HTTP/1.1\r\nContent-Length: {}\r\n\r\n{body}",
         body.len()
     )?;
-    print_request(request.as_bytes(), out)
+    print_request(request.into_bytes(), out)
 }
 
 fn decision(is_decided: bool) -> &'static str {
     if is_decided { "decided" } else { "undecided" }
+}
+
+// Whether octets that come at once decide a request.
+fn is_decided(alloc: Global, octets: &[u8]) -> Result<bool, AllocError> {
+    let mut request = PartialRequest::new(alloc);
+    request.add(alloc, octets)
 }
 
 /// Whether a request is decided by these octets.
@@ -96,14 +105,28 @@ pub fn decided(rest: &str, out: &mut Out) -> Played {
     Ok(())
 }
 
-/// The answer to each front of a request, from no octet to all: each length from which on it is another one.
+// The fault of a request, if it has one, and whether its octets decide it.
+type Read = (Option<HttpFault>, bool);
+
+fn read(alloc: Global, octets: &[u8]) -> Result<Read, AllocError> {
+    let request = Request::read(alloc, Octets::from(Vec::from_slice(alloc, octets)?))?;
+    Ok((request.asked().err(), is_decided(alloc, octets)?))
+}
+
+/// The answer to each front of a request, from no octet to all: each length from which on it is another one. And each
+/// length at which it is decided otherwise where it comes octet by octet.
 pub fn prefixes(rest: &str, out: &mut Out) -> Played {
     let alloc = out.alloc();
     let octets = text_of(alloc, rest)?;
+    let mut pieces = PartialRequest::new(alloc);
     let mut last = None;
     for length in 0..=octets.len() {
-        let front = octets.get(..length).unwrap_or(&[]);
-        let answer = (event_of(alloc, front).err(), is_decided(alloc, front)?);
+        let answer = read(alloc, octets.get(..length).unwrap_or(&[]))?;
+        let piece = octets.get(length.saturating_sub(1)..length);
+        let in_pieces = pieces.add(alloc, piece.unwrap_or(&[]))?;
+        if in_pieces != answer.1 {
+            out.show(format_args!("from {length} in pieces: {}\n", decision(in_pieces)));
+        }
         if last == Some(answer) {
             continue;
         }

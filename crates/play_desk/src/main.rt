@@ -3,8 +3,8 @@
 //!
 //! - files `NAME.cases` are played over halls in memory and over halls in SQLite. An act is `new ADMIN DIGEST`, which begins another hall, or `new`,
 //!   whose administrator is ada with the token abc; or one that play_store has. Each is played again over either store in four ways: all
-//!   arrivals that stand together by one run of the desk, each request from a reader to a writer, the event of each request by one step of the
-//!   desk, and each over a store that fails at each of its calls in turn;
+//!   arrivals that stand together by one run of the desk, each request from a reader to a writer, the event of each
+//!   request and of each client's frame by one step of the desk, and each over a store that fails at each of its calls in turn;
 //! - files `NAME.tables.cases` over the tables of a file: `new` begins with an empty file, and other acts are those that play_store has for them;
 //! - files `NAME.stops.cases` while something stops, as `stopping.rt` says;
 //! - files `NAME.once.cases` over halls as well, but in no other way; `wrong.once.cases` are wrong on purpose, so that what compares is tried too;

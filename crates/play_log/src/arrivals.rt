@@ -5,6 +5,7 @@ use crate::values::port;
 use cases::{CaseFault, first, halves, parsed, text_of};
 use dhcp_frame::read;
 use hall_desk::{Arrival, Input};
+use hall_http::Request;
 use hall_types::{Client, Digest, Name, Port, Token};
 use pxe_vendor::{NotServed, Octets, client};
 use std::alloc::Global;
@@ -41,22 +42,30 @@ fn datagram(alloc: Global, words: &str) -> Result<Input, CaseFault> {
     })
 }
 
+// The request that octets are.
+fn request_of(alloc: Global, octets: Octets) -> Result<Input, CaseFault> {
+    Ok(Input::Request(Request::read(alloc, octets)?))
+}
+
 // What comes by words of this kind, without their moment, and the fresh octets that they name.
 fn input(alloc: Global, kind: &str, words: &str) -> Result<(Input, Token), CaseFault> {
     let its_token = parsed(FRESH)?;
     match kind {
         "frame" => Ok((datagram(alloc, words)?, its_token)),
         "quiet" => Ok((Input::Quiet, its_token)),
-        "request" => Ok((
-            Input::Request(Octets::from(text_of(alloc, words)?)),
-            its_token,
-        )),
+        "request" => {
+            let octets = Octets::from(text_of(alloc, words)?);
+            Ok((request_of(alloc, octets)?, its_token))
+        }
         "script" => {
             let (mac, fresh) = words.split_once(' ').unwrap_or((words, FRESH));
             let octets = request(alloc, kind, mac)?;
-            Ok((Input::Request(octets), parsed(fresh)?))
+            Ok((request_of(alloc, octets)?, parsed(fresh)?))
         }
-        _ => Ok((Input::Request(request(alloc, kind, words)?), its_token)),
+        _ => {
+            let octets = request(alloc, kind, words)?;
+            Ok((request_of(alloc, octets)?, its_token))
+        }
     }
 }
 

@@ -28,5 +28,6 @@ mod responses;
 mod values;
 
 pub use arrivals::{ADA, admin, arrival, client_of, is_arrival};
+pub use offers::file_of;
 pub use responses::{push_answer, push_response};
 pub use values::{key, last, maybe, numbers, place, port, some, uuid};

@@ -37,6 +37,11 @@ fn text_at(octets: &[u8], at: usize, len: usize) -> Option<&str> {
     std::str::from_utf8(field.get(..end)?).ok()
 }
 
+/// The boot file that a reply names (RFC 2131 section 2).
+pub fn file_of(octets: &[u8]) -> Option<&str> {
+    text_at(octets, FILE, 128)
+}
+
 // How many octets options have up to the one that ends them.
 fn len_of_options(options: &[u8]) -> Option<usize> {
     let mut at = 0usize;
@@ -55,7 +60,7 @@ fn reply_of(octets: &[u8]) -> Option<Reply<'_>> {
     Some(Reply {
         client: four(octets, CIADDR)?,
         next: four(octets, SIADDR)?,
-        file: text_at(octets, FILE, 128)?,
+        file: file_of(octets)?,
         options: options.get(..len_of_options(options)?)?,
     })
 }

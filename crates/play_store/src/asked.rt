@@ -38,8 +38,8 @@ impl Asked {
 
     /// Notes what was asked for one arrival.
     pub(crate) fn note<S>(&mut self, input: &Input, probe: &Probe<S>) {
-        if let Input::Request(octets) = input {
-            let octets = octets.as_slice();
+        if let Input::Request(request) = input {
+            let octets = request.octets();
             if octets.starts_with(b"GET /machines") || octets.starts_with(b"GET /orders") {
                 return;
             }

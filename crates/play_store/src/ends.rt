@@ -1,6 +1,6 @@
 //! Requests from readers to writers, which may fail.
-use crate::arrivals::octets_of;
 use crate::hall::Hall;
+use crate::readings::octets_of;
 use crate::reports::push_end;
 use cases::{CaseFault, Out, Played, Short, Slow, first, number};
 use desk_operations::request;

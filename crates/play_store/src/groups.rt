@@ -1,9 +1,10 @@
 //! Arrivals that are answered by one commit of the store, as a service answers what waits.
 use crate::asked::count;
 use crate::hall::{Hall, MAX_CALLS, Way};
+use crate::readings::read_all_again;
 use cases::{CaseFault, Out, Played};
 use hall_desk::{Answer, Arrival, Desk};
-use hall_store::{Cached, HallStore};
+use hall_store::{Cached, GroupStore, HallStore};
 use play_log::{arrival, place, push_answer};
 use pxe_vendor::Place;
 use std::alloc::Global;
@@ -12,6 +13,19 @@ use store_group::Group;
 // The answers to the first of some arrivals, none where the store couldn't answer, and the store.
 type Answered<S> = (Option<Vec<Answer>>, S);
 
+// The answers to the first of some arrivals, each read anew.
+fn answers_to<S: GroupStore>(
+    alloc: Global,
+    desk: &mut Desk<S>,
+    arrivals: &[Arrival],
+) -> Option<Vec<Answer>> {
+    let again = read_all_again(alloc, arrivals).ok()?;
+    match desk.answer_group(alloc, again.as_slice()) {
+        Ok(answered) => Some(answered.answers),
+        Err(_) => None,
+    }
+}
+
 fn answered<S: HallStore>(
     alloc: Global,
     store: S,
@@ -19,10 +33,7 @@ fn answered<S: HallStore>(
     arrivals: &[Arrival],
 ) -> Answered<S> {
     let mut desk = Desk::new(Group::new(alloc, store), place);
-    let answers = match desk.answer_group(alloc, arrivals) {
-        Ok(answered) => Some(answered.answers),
-        Err(_) => None,
-    };
+    let answers = answers_to(alloc, &mut desk, arrivals);
     (answers, desk.into_store().into_inner())
 }
 

@@ -19,7 +19,7 @@ pub enum Way {
     Together,
     /// Each by itself, a request from a reader to a writer.
     Served,
-    /// Each by itself, the event of a request or of a quiet moment by one step of a desk.
+    /// Each by itself, the event of a client's frame, of a request or of a quiet moment by one step of a desk.
     Stepped,
     /// Each by itself, over the store that fails at its first call, then at its second and so on, until it isn't refused.
     Failing,

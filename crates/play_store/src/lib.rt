@@ -47,9 +47,11 @@ mod ends;
 mod groups;
 mod hall;
 mod looking;
+mod readings;
 mod reads;
 mod records;
 mod reports;
+mod steps;
 mod stops;
 mod tables;
 
@@ -58,5 +60,6 @@ pub use budgets::play_in_budgets;
 pub use changes::change;
 pub use disks::{Fresh, Image, Made, Which};
 pub use hall::{Hall, Looked, Way, is_refused};
+pub use readings::answer_again;
 pub use stops::{Run, Seen, Stopped};
 pub use tables::Tables;

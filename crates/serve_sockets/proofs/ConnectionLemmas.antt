@@ -1,5 +1,5 @@
 -- What a connection reads and writes.
-use Rattle.std.{proofs.{Common.{◌≡◌, ◌≢◌, ◌<◌, ◌≤◌, ◌+◌, ◌-◌, ◌++◌, ◌∙◌, ℕ, Bool, true, Fits, w64, List, [], Option, Result, Ok, drop, if◌then◌else◌, length, min, take, ap, append-nil, arith, length-append, subst, sym}, lemmas.List.{drop-drop, drop_all, length-drop, length-take, take-append-drop, take-append-le, take_all}, KnownBytes.{append_known-kept, append_known-moved}}, specs.Io.KnownBytes.{Appends, Consumes, Keeps, WriteAppends, append_known}}
+use Rattle.std.{proofs.{Common.{◌≡◌, ◌≢◌, ◌<◌, ◌≤◌, ◌+◌, ◌-◌, ◌++◌, ◌∙◌, ℕ, Fits, w64, List, [], Option, Result, Ok, drop, length, min, take, ap, append-nil, arith, length-append, subst, sym}, lemmas.List.{drop-drop, drop_all, length-drop, length-take, take-append-drop, take-append-le, take_all}, KnownBytes.{append_known-kept, append_known-moved}}, specs.Io.KnownBytes.{Appends, Consumes, Keeps, WriteAppends, append_known}}
 use Rattle.serve_sockets.specs.Connection.{Moves}
 
 -- ---- reads
@@ -26,12 +26,11 @@ module _ (old new : Option (List ℕ)) (before : List ℕ) where
   }
 
   -- the octets that came stand at the end of the input
-  pub moved : (after got rest : List ℕ) (count : ℕ) (is : Bool) → count ≤ length got → Consumes old new (take count got) → is ≡ true
-      → after ≡ (if is then before ++ take count (got ++ rest) else before) → Moves old new before after
-  moved after got rest count is within consumed kept same = record {
+  pub moved : (after got rest : List ℕ) (count : ℕ) → count ≤ length got → Consumes old new (take count got) → after ≡ before ++ take count (got ++ rest) → Moves old new before after
+  moved after got rest count within consumed kept = record {
     octets = take count got;
     consumed = consumed;
-    kept = same ∙ ap (λ (b : Bool). if b then before ++ take count (got ++ rest) else before) kept ∙ ap (λ (octets : List ℕ). before ++ octets) (take-append-le count got rest within);
+    kept = kept ∙ ap (λ (octets : List ℕ). before ++ octets) (take-append-le count got rest within);
   }
 
 -- ---- writes

@@ -1,7 +1,7 @@
 -- What becomes of requests that are handed over together.
 use Rattle.std.specs.{Prelude.{slice_get, slice_set, ◌⊎◌}, List.AllByRecursion}
 use Rattle.std.proofs.{Common.{◌≡◌, ◌≢◌, ◌<◌, ◌≤◌, ◌+◌, ◌∙◌, ℕ, zero, suc, List, [], ◌∷◌, ◌++◌, Option, Some, None, append-nil, length, length-append, map, take, arith, ap, inl, inr, refl, subst, sym}, lemmas.{List.{length-map, length-take, length-take-le, map-append}, Option.slice_get_within}}
-use Rattle.serve_sockets.specs.{Prelude.{Site, Hall, IsSound, IsOnlyRead, TcpStream, Answer, Arrival, Input, Request, Desk, Ghosts, HasGroupRun, HasNoRun, first_of, has_run_none, has_run_one, missed_answer, missed_answers, read_same, run_of_group, run_of_none, site_of, store_of}, Connection.input_of, Gathering.{AreApart, AreGiven, AreHanded, AreIn, AreOf, AreOut, AreRequests, IsGathered, IsHandedAs, IsOfRequest, OthersStay}, Own.{IsFreed, IsInOrClosed, IsOut, IsPart}, Stamps.{AreStamped, IsPassed, ended, handed, passed}, Turn.{AreServed, IsHandedAlone}, declared.{connection.Connection.Connection, gathering.{Client.Client, Gathered.Gathered}, turn.{Stamp.Stamp}}}
+use Rattle.serve_sockets.specs.{Prelude.{Site, Hall, IsSound, IsOnlyRead, TcpStream, Answer, Arrival, Input, Request, Desk, Ghosts, HasGroupRun, HasNoRun, first_of, has_run_none, has_run_one, missed_answer, missed_answers, read_same, run_of_group, run_of_none, site_of, store_of}, Connection.input_of, Gathering.{AreApart, AreGiven, AreHanded, AreIn, AreOf, AreOut, AreRequests, IsGathered, IsHandedAs, IsOfRequest, OthersStay}, Own.{IsFreed, IsInOrClosed, IsOut, IsPart}, Stamps.{AreStamped, IsPassed, ended, handed, passed}, Turn.{AreServed, IsHandedAlone}, declared.{connection.Connection.Connection, gathering.{Client.Client, Gathered.Gathered}, turn.Tick.Tick}}
 use Rattle.serve_sockets.proofs.{GivenLemmas.{group_back, group_own}, OwnLemmas.{flipped, get_set_other, get_set_same, is_same, none_new, part_same, part_then, set_free_part, some_same}, WentOnLemmas.{one_own, stamped_from, stamped_then}}
 
 -- ---- requests
@@ -60,7 +60,7 @@ module _ {S : Type 0} (g : Ghosts S) (old new : S) (site : Site) where
 
 -- ---- stamps
 
-module _ {C : Type 0} (gives : C → Option Stamp → C → Type 0) where
+module _ {C : Type 0} (gives : C → Option Tick → C → Type 0) where
   -- the stamps of arrivals that weren't handed over were given too
   pub stamped_none : {c e : C} {xs : List Arrival} → AreStamped gives c xs e → AreStamped gives c [] e
   stamped_none ended = ended
@@ -74,13 +74,13 @@ module _ {C : Type 0} (gives : C → Option Stamp → C → Type 0) where
   stamped_first (handed gave moment fresh rest) zero = passed gave (stamped_none rest)
   stamped_first (handed gave moment fresh rest) (suc n) = handed gave moment fresh (stamped_first rest n)
 
-  pub stamped_more : {c d e : C} {xs : List Arrival} (x : Arrival) (stamp : Stamp) → AreStamped gives c xs d → gives d (Some stamp) e → x.moment ≡ stamp.moment → x.fresh ≡ stamp.fresh
+  pub stamped_more : {c d e : C} {xs : List Arrival} (x : Arrival) (tick : Tick) → AreStamped gives c xs d → gives d (Some tick) e → x.moment ≡ tick.stamp.moment → x.fresh ≡ tick.stamp.fresh
       → AreStamped gives c (xs ++ x ∷ []) e
-  stamped_more x stamp before gave moment fresh = stamped_then gives before (handed gave moment fresh ended)
+  stamped_more x tick before gave moment fresh = stamped_then gives before (handed gave moment fresh ended)
 
 -- ---- what was served
 
-module _ {S C : Type 0} (g : Ghosts S) (gives : C → Option Stamp → C → Type 0) (old new : S) (site : Site) (slots slots' : List (Option (Connection TcpStream))) where
+module _ {S C : Type 0} (g : Ghosts S) (gives : C → Option Tick → C → Type 0) (old new : S) (site : Site) (slots slots' : List (Option (Connection TcpStream))) where
   -- with what the source gave before
   pub served_from : (c d e : C) (most : ℕ) → IsPassed gives c d → AreServed g gives old new d e site most slots slots' → AreServed g gives old new c e site most slots slots'
   served_from c d e most waited it = record {
@@ -93,9 +93,9 @@ module _ {S C : Type 0} (g : Ghosts S) (gives : C → Option Stamp → C → Typ
     own = it.own;
   }
 
-  module _ (stamp : Stamp) (from till : C) (gave : gives from (Some stamp) till) where
+  module _ (tick : Tick) (from till : C) (gave : gives from (Some tick) till) where
     -- a request alone, and then the source gave stamps that weren't used
-    pub served_alone : (e : C) → AreStamped gives till [] e → IsHandedAlone g old new site slots slots' stamp → AreServed g gives old new from e site 64 slots slots'
+    pub served_alone : (e : C) → AreStamped gives till [] e → IsHandedAlone g old new site slots slots' tick.stamp → AreServed g gives old new from e site 64 slots slots'
     served_alone e more (inl none) = record {
       arrivals = [];
       answers = [];
@@ -106,7 +106,7 @@ module _ {S C : Type 0} (g : Ghosts S) (gives : C → Option Stamp → C → Typ
       own = none_new slots slots' _ none.1;
     }
     served_alone e more (inr it) =
-        let arrival : Arrival = record { moment = stamp.moment; fresh = stamp.fresh; input = Request (input_of it.client.connection) } in
+        let arrival : Arrival = record { moment = tick.stamp.moment; fresh = tick.stamp.fresh; input = Request (input_of it.client.connection) } in
         record {
           arrivals = arrival ∷ [];
           answers = it.said ∷ [];
@@ -184,7 +184,7 @@ module _ (slots mid : List (Option (Connection TcpStream))) (slot : ℕ) (connec
             let same : Some connection ≡ Some other = some_same (Some connection) (Some other) (slice_get slots' slot) now (subst (λ (j : ℕ). slice_get slots' j ≡ Some (Some other)) is held) in
             subst (λ (j : ℕ). slice_get slots j ≡ Some (Some other)) (sym is) (took.0 ∙ ap Some same)
 
-module _ {C : Type 0} (gives : C → Option Stamp → C → Type 0) (source : C) (slots before now : List (Option (Connection TcpStream))) (most : ℕ) where
+module _ {C : Type 0} (gives : C → Option Tick → C → Type 0) (source : C) (slots before now : List (Option (Connection TcpStream))) (most : ℕ) where
   -- none came to it
   pub gathered_same : (till : C) (old : Gathered) → AreOut now old.clients.items → IsGathered gives source till slots before most old → IsGathered gives source till slots now (most + 1) old
   gathered_same till old out it = record {
@@ -209,13 +209,13 @@ module _ {C : Type 0} (gives : C → Option Stamp → C → Type 0) (source : C)
   }
 
   -- a request came to it, with a stamp
-  pub gathered_more : (mid till : C) (old new : Gathered) (stamp : Stamp) → gives mid (Some stamp) till → (arrival : Arrival) (client : Client)
+  pub gathered_more : (mid till : C) (old new : Gathered) (tick : Tick) → gives mid (Some tick) till → (arrival : Arrival) (client : Client)
       → new.arrivals.items ≡ old.arrivals.items ++ arrival ∷ [] → new.clients.items ≡ old.clients.items ++ client ∷ []
-      → arrival.moment ≡ stamp.moment → arrival.fresh ≡ stamp.fresh → arrival.input ≡ Request (input_of client.connection)
+      → arrival.moment ≡ tick.stamp.moment → arrival.fresh ≡ tick.stamp.fresh → arrival.input ≡ Request (input_of client.connection)
       → IsPart slots before → IsOut before now client.slot client.connection
       → IsGathered gives source mid slots before most old → IsGathered gives source till slots now (most + 1) new
-  gathered_more mid till old new stamp gave arrival client arrivals clients moment fresh input part out it = record {
-    stamped = rw arrivals (stamped_more gives arrival stamp it.stamped gave moment fresh);
+  gathered_more mid till old new tick gave arrival client arrivals clients moment fresh input part out it = record {
+    stamped = rw arrivals (stamped_more gives arrival tick it.stamped gave moment fresh);
     few = omega (arith, it.few, ap length arrivals, length-append old.arrivals.items (arrival ∷ []));
     paired = rw (arrivals, clients) (paired_more old.clients.items old.arrivals.items client arrival it.paired input);
     were = rw clients (all_more (λ c. slice_get slots c.slot ≡ Some (Some c.connection)) old.clients.items client it.were (part client.slot client.connection out.0));
@@ -262,7 +262,7 @@ out_after_freed slots slots' (inr freed) (y ∷ ys) out =
         subst (λ (k : ℕ). slice_get (slice_set slots freed.0 None) k ≡ Some None) (sym is) (get_set_same slots freed.0 None low)
     stays (inr other) = get_set_other slots freed.0 y.slot None other ∙ out.0
 
-pub none_gathered : {C : Type 0} (gives : C → Option Stamp → C → Type 0) (source : C) (slots : List (Option (Connection TcpStream))) (gathered : Gathered) → gathered.arrivals.items ≡ []
+pub none_gathered : {C : Type 0} (gives : C → Option Tick → C → Type 0) (source : C) (slots : List (Option (Connection TcpStream))) (gathered : Gathered) → gathered.arrivals.items ≡ []
     → gathered.clients.items ≡ [] → IsGathered gives source source slots slots 0 gathered
 none_gathered gives source slots gathered arrivals clients = record {
   stamped = subst (λ xs. AreStamped gives source xs source) (sym arrivals) ended;

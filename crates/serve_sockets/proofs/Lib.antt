@@ -3,6 +3,7 @@ pub mod GatheringLemmas
 pub mod GivenLemmas
 pub mod ListingLemmas
 pub mod ListsLemmas
+pub mod MarksLemmas
 pub mod OwnLemmas
 pub mod ServingLemmas
 pub mod TableLemmas

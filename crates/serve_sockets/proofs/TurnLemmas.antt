@@ -1,6 +1,6 @@
 -- What turns do with the desk, and when one is a quiet moment.
 use Rattle.std.proofs.{Common.{◌≡◌, ◌≢◌, ◌<◌, ◌+◌, ◌%◌, ◌∙◌, ℕ, Bool, true, false, ◌&&◌, ◌||◌, List, Option, ap, arith, inl, inr, refl, subst, sym}, lemmas.Bool.false≢true}
-use Rattle.serve_sockets.specs.{Prelude.{TcpStream, site_of, store_of, Answer, Request, Desk, Ghosts}, Connection.number_of, Own.{IsInAfter, IsOut, NoAnswers}, Service.{IsPaced, is_opening_of, turns_of}, Serving.{HoldsOn, IsOnlyMoved, IsRequest, IsStep, IsTurnOf}, Turn.{HandsNothing, IsHanded, IsOfDatagram, IsTurn, KeepsDesk, is_unavailable, said_of}, declared.{connection.Connection.Connection, service.Service.Service, serving.Step.Step, turn.{Handover.Handover, Kind.Kind, Said.Said, Stamp.Stamp, Turn.Turn}}}
+use Rattle.serve_sockets.specs.{Prelude.{TcpStream, site_of, store_of, Answer, Request, Stamp, Desk, Ghosts}, Connection.number_of, Own.{IsInAfter, IsOut, NoAnswers}, Service.{IsPaced, is_opening_of, turns_of}, Serving.{HoldsOn, IsOnlyMoved, IsRequest, IsStep, IsTurnOf}, Turn.{HandsNothing, IsHanded, IsOfDatagram, IsTurn, KeepsDesk, is_unavailable, said_of}, declared.{connection.Connection.Connection, service.Service.Service, serving.Step.Step, turn.{Handover.Handover, Kind.Kind, Said.Said, Turn.Turn}}}
 use Rattle.serve_sockets.proofs.OwnLemmas.{answers_then, put_answered, put_kept}
 
 -- ---- what is done with the desk

@@ -1,9 +1,9 @@
 -- How the hall goes on by turns.
 use Rattle.std.proofs.Common.{◌≡◌, ◌≤◌, ◌+◌, ℕ, List, [], ◌∷◌, ◌++◌, Option, Some, None, arith, inl, inr, length, length-append, refl, subst, sym}
-use Rattle.serve_sockets.specs.{Prelude.{Site, IsOnlyRead, TcpStream, Answer, read_same, AreHistoryLaws, after_run, run_given, run_stop, site_of, store_of, has_run_none, has_run_one, has_run_then, Arrival, Desk, Ghosts}, Own.{AreOwn, IsAnswerIn, IsAnswerTo, NoAnswers, first, later}, Stamps.{AreStamped, IsPassed, ended, handed, passed}, Turn.{AreServed, Did, HandsNothing, IsHanded, WentOn}, declared.{connection.Connection.Connection, turn.{Handover.Handover, Stamp.Stamp, Turn.Turn}}}
+use Rattle.serve_sockets.specs.{Prelude.{Site, IsOnlyRead, TcpStream, Answer, read_same, AreHistoryLaws, after_run, run_given, run_stop, site_of, store_of, has_run_none, has_run_one, has_run_then, Arrival, Stamp, Desk, Ghosts}, Own.{AreOwn, IsAnswerIn, IsAnswerTo, NoAnswers, first, later}, Stamps.{AreStamped, IsPassed, ended, handed, passed}, Turn.{AreServed, Did, HandsNothing, IsHanded, WentOn}, declared.{connection.Connection.Connection, turn.{Handover.Handover, Tick.Tick, Turn.Turn}}}
 use Rattle.serve_sockets.proofs.OwnLemmas.{none_new, same_answers}
 
-module _ {C : Type 0} (gives : C → Option Stamp → C → Type 0) where
+module _ {C : Type 0} (gives : C → Option Tick → C → Type 0) where
   pub stamped_then : {c d e : C} {xs ys : List Arrival} → AreStamped gives c xs d → AreStamped gives d ys e → AreStamped gives c (xs ++ ys) e
   stamped_then ended more = more
   stamped_then (passed gave rest) more = passed gave (stamped_then rest more)
@@ -44,7 +44,7 @@ own_then slots mid slots' xs ys answers more paired one other = λ number octets
 
 -- ---- turns
 
-module _ {S C : Type 0} (g : Ghosts S) (gives : C → Option Stamp → C → Type 0) where
+module _ {S C : Type 0} (g : Ghosts S) (gives : C → Option Tick → C → Type 0) where
   -- no turn was served
   pub served_none : (s : S) (c : C) (site : Site) (most : ℕ) (slots : List (Option (Connection TcpStream))) → AreServed g gives s s c c site most slots slots
   served_none s c site most slots = record {
@@ -114,11 +114,11 @@ module _ {S C : Type 0} (g : Ghosts S) (gives : C → Option Stamp → C → Typ
     run = λ h held sound. has_run_none g site h s s (read_same g s) held sound;
   }
 
-  module _ (old new : S) (c d e : C) (site : Site) (slots slots' : List (Option (Connection TcpStream))) (waited : IsPassed gives c d) (stamp : Stamp) (gave : gives d (Some stamp) e) where
+  module _ (old new : S) (c d e : C) (site : Site) (slots slots' : List (Option (Connection TcpStream))) (waited : IsPassed gives c d) (tick : Tick) (gave : gives d (Some tick) e) where
     -- one arrival was handed to the desk
-    served_by : (handover : Handover) → IsHanded g old new site slots slots' stamp.moment stamp.fresh handover → AreServed g gives old new c e site 1 slots slots'
+    served_by : (handover : Handover) → IsHanded g old new site slots slots' tick.stamp.moment tick.stamp.fresh handover → AreServed g gives old new c e site 1 slots slots'
     served_by handover it =
-        let arrival : Arrival = record { moment = stamp.moment; fresh = stamp.fresh; input = it.what } in
+        let arrival : Arrival = record { moment = tick.stamp.moment; fresh = tick.stamp.fresh; input = it.what } in
         record {
           arrivals = arrival ∷ [];
           answers = it.said ∷ [];
@@ -142,16 +142,16 @@ module _ {S C : Type 0} (g : Ghosts S) (gives : C → Option Stamp → C → Typ
     }
 
   -- one turn
-  pub served_one : (old new : Desk S) (c d e : C) (slots slots' : List (Option (Connection TcpStream))) (waited : IsPassed gives c d) (stamp : Stamp) (gave : gives d (Some stamp) e) (t : Turn)
-      → g.is_clean (store_of new) → Did g old new slots slots' stamp t → AreServed g gives (store_of old) (store_of new) c e (site_of old) 1 slots slots'
-  served_one old new c d e slots slots' waited stamp gave (Turn.Handed handover) clean it =
-      served_by (store_of old) (store_of new) c d e (site_of old) slots slots' waited stamp gave handover (it clean)
-  served_one old new c d e slots slots' waited stamp gave (Turn.Unsent handover) clean it =
-      served_by (store_of old) (store_of new) c d e (site_of old) slots slots' waited stamp gave handover (it clean)
-  served_one old new c d e slots slots' waited stamp gave (Turn.PutOff from) clean it =
-      served_reading (store_of old) (store_of new) c d e (site_of old) slots slots' waited stamp gave (it.0 clean) it.1
-  served_one old new c d e slots slots' waited stamp gave t clean it =
-      served_reading (store_of old) (store_of new) c d e (site_of old) slots slots' waited stamp gave
+  pub served_one : (old new : Desk S) (c d e : C) (slots slots' : List (Option (Connection TcpStream))) (waited : IsPassed gives c d) (tick : Tick) (gave : gives d (Some tick) e) (t : Turn)
+      → g.is_clean (store_of new) → Did g old new slots slots' tick.stamp t → AreServed g gives (store_of old) (store_of new) c e (site_of old) 1 slots slots'
+  served_one old new c d e slots slots' waited tick gave (Turn.Handed handover) clean it =
+      served_by (store_of old) (store_of new) c d e (site_of old) slots slots' waited tick gave handover (it clean)
+  served_one old new c d e slots slots' waited tick gave (Turn.Unsent handover) clean it =
+      served_by (store_of old) (store_of new) c d e (site_of old) slots slots' waited tick gave handover (it clean)
+  served_one old new c d e slots slots' waited tick gave (Turn.PutOff from) clean it =
+      served_reading (store_of old) (store_of new) c d e (site_of old) slots slots' waited tick gave (it.0 clean) it.1
+  served_one old new c d e slots slots' waited tick gave t clean it =
+      served_reading (store_of old) (store_of new) c d e (site_of old) slots slots' waited tick gave
       (subst (λ (desk : Desk S). IsOnlyRead g (store_of old) (store_of desk)) (sym it.0) (read_same g (store_of old))) it.1
 
 -- a turn that handed nothing over left the desk as it was
@@ -163,7 +163,7 @@ did_nothing g old new slots slots' stamp (Turn.PutOff from) nothing did = absurd
 did_nothing g old new slots slots' stamp t nothing did = did
 
 -- what the turns make of what came to the hall since it was new
-pub went_on : AreHistoryLaws → {S C : Type 0} (g : Ghosts S) (gives : C → Option Stamp → C → Type 0) (old new : S) (source source' : C) (site : Site) (most : ℕ)
+pub went_on : AreHistoryLaws → {S C : Type 0} (g : Ghosts S) (gives : C → Option Tick → C → Type 0) (old new : S) (source source' : C) (site : Site) (most : ℕ)
     (slots slots' : List (Option (Connection TcpStream))) → AreServed g gives old new source source' site most slots slots' → WentOn g gives old new source source' site most slots slots'
 went_on its g gives old new source source' site most slots slots' it = record {
   served = it;

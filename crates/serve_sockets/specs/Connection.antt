@@ -1,6 +1,6 @@
 -- What a connection sent, and what of its answer it has taken.
-use Rattle.std.specs.{Prelude.{◌≡◌, ◌⊎◌, ℕ, ◌-◌, List, [], ◌++◌, Bool, true, false, Option, None, Some, drop, is_some, nat_lt, not, option_map, ◌&&◌, if◌then◌else◌}, Io.KnownBytes.{Consumes, IsAtEnd, Keeps}}
-use Rattle.serve_sockets.specs.{Prelude.{Answer, IsDecided, octets_of}, Bucket.bucket_of, declared.{connection.{Connection.Connection, Sending.Sending, Wait.Wait}, reading.Taken.Taken, writing.Put.Put}}
+use Rattle.std.specs.{Prelude.{◌≡◌, ℕ, ◌-◌, List, [], ◌++◌, Bool, true, false, Option, None, Some, drop, is_some, nat_lt, not, option_map, ◌&&◌, if◌then◌else◌}, Io.KnownBytes.{Consumes, IsAtEnd, Keeps}}
+use Rattle.serve_sockets.specs.{Prelude.{Answer, IsDecided, octets_of}, Bucket.bucket_of, Sent.octets_sent, declared.{connection.{Connection.Connection, Sending.Sending, Wait.Wait}, reading.Taken.Taken, writing.Put.Put}}
 
 -- the octets of an answer that are to be written yet
 abbrev pub unwritten : Sending → List ℕ
@@ -39,7 +39,7 @@ module _ {T : Type 0} where
 
   -- what of its request was read
   abbrev pub input_of : Connection T → List ℕ
-  input_of connection = connection.input.items
+  input_of connection = octets_sent connection.sent
 
   -- the answer that waits until the client has taken it
   abbrev pub answer_of : Connection T → Option Answer
@@ -98,8 +98,20 @@ pub record Moves (old new : Option (List ℕ)) (before after : List ℕ) : Type 
 abbrev pub IsTaken : Taken → Option (List ℕ) → Option (List ℕ) → List ℕ → List ℕ → Type 0
 IsTaken Taken.Waits old new before after = Keeps old new × (after ≡ before)
 IsTaken Taken.More old new before after = Moves old new before after
-IsTaken Taken.Whole old new before after = Moves old new before after × (IsAtEnd new ⊎ IsDecided after)
+IsTaken Taken.Whole old new before after = Moves old new before after × IsDecided after
+IsTaken Taken.Ended old new before after = Moves old new before after × IsAtEnd new
 IsTaken other old new before after = Unit {0}
+
+-- where a read came to a decided request, the octets decide one
+abbrev pub IsDecidedIf : Taken → List ℕ → Type 0
+IsDecidedIf Taken.Whole octets = IsDecided octets
+IsDecidedIf other octets = Unit {0}
+
+-- what came was made into a request, whose octets are the same, unless that failed
+abbrev pub IsFinished : Taken → Taken → List ℕ → List ℕ → Type 0
+IsFinished taken Taken.NoMemory before after = Unit {0}
+IsFinished taken Taken.Failed before after = Unit {0}
+IsFinished taken result before after = (result ≡ taken) × (after ≡ before)
 
 module _ {T : Type 0} where
   -- It has this answer to a request of these octets, and all of the answer is to be written yet.

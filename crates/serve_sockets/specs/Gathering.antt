@@ -1,6 +1,6 @@
 -- Requests that are answered together.
 use Rattle.std.specs.{Prelude.{◌≡◌, ◌≢◌, ◌⊎◌, ⊤, ◌<◌, ◌≤◌, ℕ, List, [], ◌∷◌, Option, None, Some, length, map, slice_get, take}, List.AllByRecursion}
-use Rattle.serve_sockets.specs.{Prelude.{Site, Hall, IsSound, HasRun, TcpStream, Answer, Arrival, Input, Request, Ghosts}, Connection.input_of, Own.{IsBack, IsGiven}, Stamps.AreStamped, declared.{connection.Connection.Connection, gathering.{Client.Client, Gathered.Gathered}, turn.Stamp.Stamp}}
+use Rattle.serve_sockets.specs.{Prelude.{Site, Hall, IsSound, HasRun, TcpStream, Answer, Arrival, Input, Request, Ghosts}, Connection.input_of, Own.{IsBack, IsGiven}, Stamps.AreStamped, declared.{connection.Connection.Connection, gathering.{Client.Client, Gathered.Gathered}, turn.Tick.Tick}}
 
 -- each arrival is the request of the client in its place
 abbrev pub AreOf : List Client → List Arrival → Type 0
@@ -41,7 +41,7 @@ abbrev pub OthersStay : List Client → List (Option (Connection TcpStream)) →
 OthersStay clients slots slots' = (k : ℕ) → AllByRecursion (λ client. client.slot ≢ k) clients → slice_get slots' k ≡ slice_get slots k
 
 -- At most so many requests, with the stamps that the source gave in between. Their clients' connections were taken out of their slots.
-pub record IsGathered {C : Type 0} (gives : C → Option Stamp → C → Type 0) (source source' : C) (slots slots' : List (Option (Connection TcpStream))) (most : ℕ) (gathered : Gathered) : Type 0 where
+pub record IsGathered {C : Type 0} (gives : C → Option Tick → C → Type 0) (source source' : C) (slots slots' : List (Option (Connection TcpStream))) (most : ℕ) (gathered : Gathered) : Type 0 where
   pub stamped : AreStamped gives source gathered.arrivals.items source'
   pub few : length gathered.arrivals.items ≤ most
   pub paired : AreOf gathered.clients.items gathered.arrivals.items

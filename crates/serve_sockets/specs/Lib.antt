@@ -4,9 +4,11 @@ pub mod Gathering
 pub mod Bucket
 pub mod Listing
 pub mod Lists
+pub mod Marks
 pub mod Own
 pub mod Replying
 pub mod Ring
+pub mod Sent
 pub mod ServedTime
 pub mod Service
 pub mod Serving

@@ -1,16 +1,16 @@
 -- Which arrivals have the stamps that a source gave.
 use Rattle.std.specs.Prelude.{◌≡◌, ◌⊎◌, List, [], ◌∷◌, Option, Some, None}
-use Rattle.serve_sockets.specs.{Prelude.Arrival, declared.turn.Stamp.Stamp}
+use Rattle.serve_sockets.specs.{Prelude.Arrival, declared.turn.Tick.Tick}
 
--- `gives` says which stamp a call gives, if any, and between which states of the source
-module _ {C : Type 0} (gives : C → Option Stamp → C → Type 0) where
+-- `gives` says which tick a call gives, if any, and between which states of the source
+module _ {C : Type 0} (gives : C → Option Tick → C → Type 0) where
   -- the source was asked for nothing, or how long a turn waits
   abbrev pub IsPassed : C → C → Type 0
   IsPassed from till = (till ≡ from) ⊎ gives from None till
 
-  -- These arrivals in turn have the moments and the fresh octets of stamps that the source gave, each those of a stamp of its own.
+  -- These arrivals in turn have the moments and the fresh octets of stamps that the source gave, each those of a tick of its own.
   pub data AreStamped : C → List Arrival → C → Type 0 where
     ended : {c : C} → AreStamped c [] c
-    passed : {c d e : C} {stamp : Option Stamp} {arrivals : List Arrival} → gives c stamp d → AreStamped d arrivals e → AreStamped c arrivals e
-    handed : {c d e : C} {stamp : Stamp} {arrival : Arrival} {arrivals : List Arrival} → gives c (Some stamp) d
-        → arrival.moment ≡ stamp.moment → arrival.fresh ≡ stamp.fresh → AreStamped d arrivals e → AreStamped c (arrival ∷ arrivals) e
+    passed : {c d e : C} {tick : Option Tick} {arrivals : List Arrival} → gives c tick d → AreStamped d arrivals e → AreStamped c arrivals e
+    handed : {c d e : C} {tick : Tick} {arrival : Arrival} {arrivals : List Arrival} → gives c (Some tick) d
+        → arrival.moment ≡ tick.stamp.moment → arrival.fresh ≡ tick.stamp.fresh → AreStamped d arrivals e → AreStamped c (arrival ∷ arrivals) e

@@ -1,7 +1,7 @@
 -- What a turn did, and what a log says of it.
 use Rattle.std.specs.Prelude.{◌≡◌, ◌⊎◌, ◌≤◌, ℕ, Bool, true, false, List, [], ◌++◌, length, Option, None, Some, slice_get}
 use Rattle.hall_desk.specs.History.{Origin}
-use Rattle.serve_sockets.specs.{Prelude.{Site, Hall, IsSound, IsAnswered, IsOnlyRead, TcpStream, enlists_of, site_of, store_of, HasHistory, Item, exchanges, AndCutRun, AreGiven, HasRun, IsLeft, IsSettled, Answer, Arrival, Input, Request, Desk, Ghosts}, Connection.input_of, Own.{AreOwn, IsAnswerTo, IsGiven, NoAnswers}, Stamps.AreStamped, declared.{connection.Connection.Connection, gathering.Client.Client, turn.{Handover.Handover, Kind.Kind, Said.Said, Stamp.Stamp, Turn.Turn}}}
+use Rattle.serve_sockets.specs.{Prelude.{Site, Hall, IsSound, IsAnswered, IsOnlyRead, TcpStream, enlists_of, site_of, store_of, HasHistory, Item, exchanges, AndCutRun, AreGiven, HasRun, IsLeft, IsSettled, Answer, Arrival, Input, Request, Stamp, Desk, Ghosts}, Connection.input_of, Own.{AreOwn, IsAnswerTo, IsGiven, NoAnswers}, Stamps.AreStamped, declared.{connection.Connection.Connection, gathering.Client.Client, turn.{Handover.Handover, Kind.Kind, Said.Said, Tick.Tick, Turn.Turn}}}
 
 -- ---- handovers
 
@@ -28,10 +28,6 @@ said_of Answer.Silence = Said.Silence
 abbrev pub is_unavailable : Answer → Bool
 is_unavailable Answer.Unavailable = true
 is_unavailable other = false
-
--- what comes at the moment of a stamp, with its fresh octets
-abbrev pub arrival_of : Stamp → Input → Arrival
-arrival_of stamp input = record { moment = stamp.moment; fresh = stamp.fresh; input = input }
 
 -- a log is told of an arrival and of its answer
 pub record Tells (handover : Handover) (what : Input) (a : Answer) : Type 0 where
@@ -124,7 +120,7 @@ module _ {S : Type 0} (g : Ghosts S) (old new : Desk S) (slots slots' : List (Op
 -- Turns were served: so many arrivals at most were handed to the desk, alone or together, each with the moment and the fresh octets of a
 -- stamp of its own that the source gave. An answer that a connection has now, and hadn't before, is the one to the request that was read from
 -- its client.
-pub record AreServed {S C : Type 0} (g : Ghosts S) (gives : C → Option Stamp → C → Type 0)
+pub record AreServed {S C : Type 0} (g : Ghosts S) (gives : C → Option Tick → C → Type 0)
     (old new : S) (source source' : C) (site : Site) (most : ℕ) (slots slots' : List (Option (Connection TcpStream))) : Type 0 where
   pub arrivals : List Arrival
   pub answers : List Answer
@@ -136,7 +132,7 @@ pub record AreServed {S C : Type 0} (g : Ghosts S) (gives : C → Option Stamp �
 
 -- That is what came to the hall since it was new. Of a store that was settled a stop leaves the hall after some of the arrivals, or
 -- after some more whose answers weren't given; and the hall at their end alone, if each was given its answer.
-pub record WentOn {S C : Type 0} (g : Ghosts S) (gives : C → Option Stamp → C → Type 0)
+pub record WentOn {S C : Type 0} (g : Ghosts S) (gives : C → Option Tick → C → Type 0)
     (old new : S) (source source' : C) (site : Site) (most : ℕ) (slots slots' : List (Option (Connection TcpStream))) : Type 0 where
   pub served : AreServed g gives old new source source' site most slots slots'
   pub history : (origin : Origin) (past : List Item) → HasHistory g old origin past

@@ -1,14 +1,19 @@
 //! One connection: what it sent, and what of its answer it has taken.
-ghost use Rattle.std.specs.{Prelude.{◌≡◌, ◌≤◌, ◌-◌, ◌<◌, [], IfSome, IsTrue, None, Some, length, nat_le, not, ◌&&◌, vec_len, true, false}, Io.KnownBytes.{Keeps, append_known}};
+ghost use Rattle.std.specs.{Prelude.{◌≡◌, ◌≤◌, ◌-◌, ◌<◌, [], IfSome, IsTrue, None, Some, length, nat_le, not, ◌&&◌, true, false}, Io.KnownBytes.{Keeps, append_known}};
 ghost use Rattle.hall_desk.specs.Octets.{octets_of};
+ghost use Rattle.serve_sockets.specs.{Listing.AsksForList, Sent.octets_sent};
 
 use crate::bucket::bucket;
+use crate::listing::bearer_of_list;
 use crate::reading::{Taken, read};
+use crate::sent::{Decided, Sent};
 use crate::writing::{Put, write};
 use hall_desk::Answer;
-use hall_http::is_decided;
-use std::alloc::{AllocError, Global};
+use hall_http::{PartialRequest, Request};
+use hall_types::Digest;
+use std::alloc::Global;
 use std::io::{Read, Write};
+use std::mem;
 use std::net::SocketAddr;
 
 /// How long, in milliseconds of served time, a connection may be undecided, and its answer stand still.
@@ -42,13 +47,13 @@ pub(crate) struct Connection<T> {
     number: u64,
     // When it was accepted or answered, or last took something of its answer, in served time.
     since: u64,
-    input: Vec<u8>,
+    sent: Sent,
     sending: Option<Sending>,
     // What its request waits for.
     waits: Option<Wait>,
     // When its request for a list, which had waited, was called, in served time.
     called: Option<u64>,
-    ghost bounded: { vec_len input ≤ 24576 },
+    ghost bounded: { length (octets_sent sent) ≤ 24576 },
 }
 
 impl<T> Connection<T> {
@@ -73,7 +78,7 @@ impl<T> Connection<T> {
             from,
             number,
             since: now,
-            input: Vec::new(alloc),
+            sent: Sent::Partial(PartialRequest::new(alloc)),
             sending: None,
             waits: None,
             called: None,
@@ -146,7 +151,28 @@ impl<T> Connection<T> {
     pub(crate) fn input(&self) -> &[u8]
         ensures { result.now ≡ input_of self.now }
     {
-        self.input.as_slice()
+        self.sent.octets()
+    }
+
+    /// Its request, if that is whole.
+    pub(crate) fn request(&self) -> Option<&Request>
+        ensures { IfSome result (λ request. request.now ≡ input_of self.now) }
+    {
+        self.sent.request()
+    }
+
+    /// Its request once more, if that is whole and there is memory for it.
+    pub(crate) fn shared_request(&self) -> Option<Request>
+        ensures { IfSome result (λ request. request ≡ input_of self.now) }
+    {
+        self.request()?.share().ok()
+    }
+
+    /// The digest of the token with which its request asks for all machines or all orders, if it does.
+    pub(crate) fn list_bearer(&self) -> Option<Digest>
+        ensures { IfSome result (AsksForList (input_of self.now)) }
+    {
+        bearer_of_list(self.request()?)
     }
 
     /// Has its request wait.
@@ -195,24 +221,50 @@ impl<T> Connection<T> {
 }
 
 impl<T: Read> Connection<T> {
-    ghost use Rattle.serve_sockets.specs.Connection.{IsTaken, answer_of, input_of, number_of, since_of, stream_of};
+    ghost use Rattle.serve_sockets.specs.Connection.{IsDecidedIf, IsFinished, IsTaken, answer_of, input_of, number_of, since_of, stream_of};
 
-    /// Reads once. A request that has waited is looked at first, so that nothing is read if it's decided. The time that the connection
-    /// has isn't prolonged.
+    // What came is a request that is decided, or all that the client sends: it is made into that, once.
+    fn finish(&mut self, alloc: Global, taken: Taken) -> Taken
+        requires { IsDecidedIf taken (input_of self.old) }
+        ensures finished { IsFinished taken result (input_of self.old) (input_of self.new) }
+        ensures stream { stream_of self.new ≡ stream_of self.old }
+        ensures since { since_of self.new ≡ since_of self.old }
+        ensures number { number_of self.new ≡ number_of self.old }
+        ensures answer { answer_of self.new ≡ answer_of self.old }
+    {
+        let empty = Sent::Partial(PartialRequest::new(alloc));
+        let Sent::Partial(partial) = mem::replace(&mut self.sent, empty) else {
+            return Taken::Failed;
+        };
+        let Ok(request) = partial.finish(alloc) else {
+            return Taken::NoMemory;
+        };
+        self.sent = match taken {
+            Taken::Whole => Sent::Decided(Decided::new(request)),
+            _ => Sent::Ended(request),
+        };
+        taken
+    }
+
+    /// Reads once, unless the request is decided. The time that the connection has isn't prolonged.
     pub(crate) fn take(&mut self, alloc: Global, buffer: &mut [u8]) -> Taken
         ensures taken { IsTaken result (T.remaining (stream_of self.old)) (T.remaining (stream_of self.new)) (input_of self.old) (input_of self.new) }
         ensures since { since_of self.new ≡ since_of self.old }
         ensures number { number_of self.new ≡ number_of self.old }
         ensures answer { answer_of self.new ≡ answer_of self.old }
     {
-        if self.called.is_some() {
-            match is_decided(alloc, self.input.as_slice()) {
-                Ok(true) => return Taken::Whole,
-                Ok(false) => (),
-                Err(AllocError) => return Taken::NoMemory,
+        let taken = match &mut self.sent {
+            Sent::Partial(partial) => read(&mut self.stream, alloc, partial, buffer),
+            Sent::Decided(decided) => {
+                let _ = decided.request();
+                return Taken::Whole;
             }
+            Sent::Ended(_) => return Taken::Failed,
+        };
+        match taken {
+            Taken::Whole | Taken::Ended => self.finish(alloc, taken),
+            _ => taken,
         }
-        read(&mut self.stream, alloc, &mut self.input, buffer)
     }
 }
 

@@ -9,7 +9,6 @@ use crate::turn::{Close, Source, Turn};
 use crate::waiting::MAX_GROUP;
 use hall_desk::{Arrival, Input};
 use mio::net::TcpStream;
-use pxe_vendor::Octets;
 use std::alloc::{AllocError, Global};
 use std::collections::VecDeque;
 
@@ -59,21 +58,9 @@ impl Sockets {
     ghost use Rattle.std.specs.Prelude.{◌+◌, ℕ, List, Option, IfNone, IfSome, OnErr};
     ghost use Rattle.serve_sockets.specs.{Gathering.IsGathered, Own.{IsFreed, IsInOrClosed, IsOut, IsPart}, Prelude.TcpStream, Sockets.{alone_in, places_of, slots_in}, Turn.HandsNothing, declared.connection.Connection.Connection};
 
-    /// Whether the requests that wait are to be handed over now.
-    pub(crate) fn is_group_due(&self) -> bool {
-        self.waiting.is_due(self.time.now(), self.ring.is_idle())
-    }
-
     /// Whether the first of the requests that wait is handed over alone.
     pub(crate) fn has_lone(&self) -> bool {
         self.waiting.has_lone()
-    }
-
-    /// Some of the requests that wait are handed over.
-    pub(crate) fn hand(&mut self)
-        ensures { slots_in self.new ≡ slots_in self.old }
-    {
-        self.waiting.hand(self.time.now());
     }
 
     /// So many of the first requests that wait are handed over alone, one after the other.
@@ -136,8 +123,8 @@ impl Sockets {
         self.keep_waiting(client, is_added)
     }
 
-    // Gathers the next of the requests that wait, with a stamp of its own. It waits on where there is no stamp, or no memory for it.
-    fn gather_next<C: Source>(&mut self, alloc: Global, source: &mut C, gathered: &mut Gathered)
+    // Gathers the next of the requests that wait, with a stamp of its own. It waits on where there is no tick, or no memory for it.
+    fn gather_next<C: Source>(&mut self, source: &mut C, gathered: &mut Gathered)
         requires room { vec_len gathered.old.arrivals < vec_capacity gathered.old.arrivals }
         requires seats { deque_len gathered.old.clients < deque_capacity gathered.old.clients }
         ensures gathered { (from : C) (most : ℕ) (slots : List (Option (Connection TcpStream))) → IsPart slots (slots_in self.old)
@@ -150,18 +137,18 @@ impl Sockets {
         let Some(client) = self.next_whole() else {
             return;
         };
-        let Ok(octets) = Vec::from_slice(alloc, client.connection.input()) else {
+        let Some(request) = client.connection.shared_request() else {
             self.put_back(client);
             return;
         };
-        let Some(stamp) = source.stamp() else {
+        let Some(tick) = source.tick() else {
             self.put_back(client);
             return;
         };
         let arrival = Arrival {
-            moment: stamp.moment,
-            fresh: stamp.fresh,
-            input: Input::Request(Octets::from(octets)),
+            moment: tick.stamp.moment,
+            fresh: tick.stamp.fresh,
+            input: Input::Request(request),
         };
         gathered.add(arrival, client);
     }
@@ -179,7 +166,7 @@ impl Sockets {
         let few = self.waiting.count().min(MAX_GROUP);
         let mut gathered = Gathered::new(alloc, few)?;
         'few: for index in 0..few {
-            self.gather_next(alloc, source, &mut gathered);
+            self.gather_next(source, &mut gathered);
         }
         Ok(gathered)
     }

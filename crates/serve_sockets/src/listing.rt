@@ -3,9 +3,8 @@ ghost use Rattle.std.specs.Prelude.{◌≡◌, IfSome};
 ghost use Rattle.serve_sockets.specs.Listing.{AsksForList, list_bearer};
 
 use hall_events::Event;
-use hall_http::event_of;
+use hall_http::Request;
 use hall_types::Digest;
-use std::alloc::Global;
 
 // The digest of the token with which an event asks for all machines or all orders.
 fn list_bearer(event: &Event) -> Option<Digest>
@@ -17,14 +16,14 @@ fn list_bearer(event: &Event) -> Option<Digest>
     }
 }
 
-/// The digest of the token with which a request asks for all machines or all orders. There is none without memory to read the request.
-pub(crate) fn bearer_of_list(alloc: Global, octets: &[u8]) -> Option<Digest>
-    ensures { IfSome result (AsksForList octets.now) }
+/// The digest of the token with which a request asks for all machines or all orders, if it does.
+pub(crate) fn bearer_of_list(request: &Request) -> Option<Digest>
+    ensures { IfSome result (AsksForList request.now) }
 {
-    match event_of(alloc, octets) {
-        Ok(event) => {
-            let bearer = list_bearer(&event);
-            drop(event);
+    match request.asked() {
+        Ok(asked) => {
+            let bearer = list_bearer(asked.event());
+            drop(asked);
             bearer
         }
         Err(_) => None,

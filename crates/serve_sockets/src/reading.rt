@@ -1,8 +1,8 @@
 //! Reading what a connection's client sends.
-ghost use Rattle.std.specs.Prelude.{◌≤◌, vec_len};
+ghost use Rattle.std.specs.Prelude.{◌≤◌, length};
 ghost use Rattle.serve_sockets.specs.Connection.{IsTaken};
 
-use hall_http::is_decided;
+use hall_http::PartialRequest;
 use std::alloc::{AllocError, Global};
 use std::io::{ErrorKind, Read};
 
@@ -16,24 +16,26 @@ pub(crate) enum Taken {
     Waits,
     /// Octets came, and the request isn't decided.
     More,
-    /// The request is decided, or the client has sent all.
+    /// The request is decided.
     Whole,
+    /// The client has sent all, and the request isn't decided.
+    Ended,
     NoMemory,
     Failed,
 }
 
-/// Reads once, into a buffer that isn't empty, and adds what came to the input.
+/// Reads once, into a buffer that isn't empty, and adds what came to the request.
 pub(crate) fn read<T: Read>(
     stream: &mut T,
     alloc: Global,
-    input: &mut Vec<u8>,
+    partial: &mut PartialRequest,
     buffer: &mut [u8],
 ) -> Taken
-    requires { vec_len input.old ≤ 24576 }
-    ensures taken { IsTaken result (T.remaining stream.old) (T.remaining stream.new) input.old.items input.new.items }
-    ensures bounded { vec_len input.new ≤ 24576 }
+    requires { length partial.old ≤ 24576 }
+    ensures taken { IsTaken result (T.remaining stream.old) (T.remaining stream.new) partial.old partial.new }
+    ensures bounded { length partial.new ≤ 24576 }
 {
-    let size = (MAX_INPUT - input.len()).min(buffer.len());
+    let size = (MAX_INPUT - partial.octets().len()).min(buffer.len());
     if size == 0 {
         return Taken::Failed;
     }
@@ -43,12 +45,9 @@ pub(crate) fn read<T: Read>(
         Err(_) => return Taken::Failed,
     };
     if count == 0 {
-        return Taken::Whole;
+        return Taken::Ended;
     }
-    if input.extend_from_slice(&buffer[..count]).is_err() {
-        return Taken::NoMemory;
-    }
-    match is_decided(alloc, input.as_slice()) {
+    match partial.add(alloc, &buffer[..count]) {
         Ok(true) => Taken::Whole,
         Ok(false) => Taken::More,
         Err(AllocError) => Taken::NoMemory,

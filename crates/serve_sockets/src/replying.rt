@@ -5,8 +5,8 @@ ghost use Rattle.serve_sockets.specs.Replying.{IsReplied, IsSent};
 
 use crate::handing::Server;
 use crate::handover::handover;
-use crate::turn::{Handover, Kind, Stamp, TurnLog};
-use hall_desk::Answer;
+use crate::turn::{Handover, Kind, TurnLog};
+use hall_desk::{Answer, Stamp, What};
 use hall_store::HallStore;
 use hall_types::Port;
 use std::net::SocketAddr;
@@ -65,7 +65,12 @@ pub(crate) fn reply<S: HallStore, L: TurnLog, P: SendReply>(
         → IsOnlyRead S.HallStore (store_of server.old.desk) (store_of server.new.desk) }
 {
     let Datagram { way, octets } = datagram;
-    let answer = server.hand_datagram(log, stamp, way.port, octets);
+    let answered = server
+        .desk
+        .answer_datagram(server.alloc, way.port, octets, stamp);
+    let (answer, account) = answered;
+    log.arrived(What::Datagram(way.port), &answer, &account);
+    drop(account);
     let kind = Kind::Datagram(way.port);
     let handover = handover(kind, Some(way.client), octets.len(), &answer);
     let is_sent = send(sender, way, &answer);

@@ -1,7 +1,8 @@
 //! Whose turn it is.
 ghost use Rattle.std.specs.Prelude.{◌≡◌, ◌<◌, ◌≤◌, ◌+◌, ◌↔◌, All, drop, false, IfNone, IfOk, IfSome, IsTrue, length, replicate, take, true, vec_len};
+ghost use Rattle.serve_sockets.specs.Marks.{AreCounts, count_set};
 
-use crate::next_ready::next_ready;
+use crate::next_ready::{first_ready, next_ready};
 use hall_types::Port;
 use std::alloc::{AllocError, Global};
 
@@ -10,6 +11,12 @@ const PORTS: usize = 2;
 
 /// The seats before those of connections: two sockets for datagrams, and the listener.
 const OTHERS: usize = 3;
+
+/// How many seats a block has, whose marks are counted.
+const BLOCK: usize = 64;
+
+/// How many blocks there are: 1,027 seats are at most so many.
+const BLOCKS: usize = 17;
 
 /// What a seat stands for.
 #[derive(Clone, Copy)]
@@ -51,18 +58,23 @@ impl Origin {
 }
 
 /// Which seats may have something, and from which one the next ready seat is looked for, of all and of the sockets for datagrams
-/// alone. Contracts see all three.
+/// alone. Contracts see all three. How many seats are marked, of each block and of all, says where there is
+/// nothing to look for.
 #[derive(Drop)]
 pub(crate) struct Ring {
     ready: Vec<bool>,
+    counts: [u8; BLOCKS],
+    total: u16,
     next: usize,
     port: usize,
     ghost some: { 3 ≤ vec_len ready },
     ghost few: { vec_len ready ≤ 1027 },
+    ghost counted: { AreCounts ready.items counts },
+    ghost all: { total ≡ count_set ready.items 0 1027 },
 }
 
 impl Ring {
-    ghost use Rattle.serve_sockets.specs.Ring.{IsNext, next_of, port_of, ready_of, with_seat};
+    ghost use Rattle.serve_sockets.specs.{Marks.{AreClear, IsFirst}, Ring.{IsNext, next_of, port_of, ready_of, with_seat}};
 
     /// The seats for so many connections. None is marked.
     pub(crate) fn new(alloc: Global, places: usize) -> Result<Ring, AllocError>
@@ -72,19 +84,29 @@ impl Ring {
         let ready = Vec::from_elem(alloc, false, places + OTHERS)?;
         Ok(Ring {
             ready,
+            counts: [0; BLOCKS],
+            total: 0,
             next: 0,
             port: 0,
         })
     }
 
-    // Sets the mark of a seat, if there is such a seat.
+    // Sets the mark of a seat, if there is such a seat, and counts it.
     fn set(&mut self, seat: usize, is: bool)
         ensures ready { ready_of self.new ≡ with_seat (ready_of self.old) seat is }
         ensures size { length (ready_of self.new) ≡ length (ready_of self.old) }
         ensures next { next_of self.new ≡ next_of self.old }
     {
-        if seat < self.ready.len() {
+        if seat < self.ready.len() && self.ready[seat] != is {
             self.ready[seat] = is;
+            let block = seat / BLOCK;
+            if is {
+                self.counts[block] += 1;
+                self.total += 1;
+            } else {
+                self.counts[block] -= 1;
+                self.total -= 1;
+            }
         }
     }
 
@@ -118,7 +140,15 @@ impl Ring {
     pub(crate) fn is_idle(&self) -> bool
         ensures { IsTrue result → All (λ is. is ≡ false) (ready_of self.now) }
     {
-        next_ready(self.ready.as_slice(), 0).is_none()
+        self.total == 0
+    }
+
+    /// Whether a socket for datagrams may have something.
+    pub(crate) fn has_port(&self) -> bool
+        ensures { result ≡ false → All (λ is. is ≡ false) (take 2 (ready_of self.now)) }
+    {
+        let (ports, _) = self.ready.as_slice().split_at(PORTS);
+        first_ready(ports, 0, PORTS).is_some()
     }
 
     /// The next ready socket for datagrams. The one after it is asked first at the next call, and all seats go on where they were.
@@ -136,6 +166,23 @@ impl Ring {
         Some(seat)
     }
 
+    // The first ready seat from `from` on. A block of which none is marked isn't looked through.
+    fn first_from(&self, from: usize) -> Option<usize>
+        ensures first { IfSome result (IsFirst (ready_of self.now) from) }
+        ensures none { IfNone result (AreClear (ready_of self.now) from (length (ready_of self.now))) }
+    {
+        let ready = self.ready.as_slice();
+        for block in from / BLOCK..BLOCKS {
+            if self.counts[block] != 0 {
+                let start = BLOCK * block;
+                if let Some(seat) = first_ready(ready, from.max(start), start + BLOCK) {
+                    return Some(seat);
+                }
+            }
+        }
+        None
+    }
+
     /// The next ready seat. The one after it is asked first at the next call.
     pub(crate) fn pick(&mut self) -> Option<usize>
         ensures next { IfSome result (IsNext (ready_of self.old) (next_of self.old)) }
@@ -144,7 +191,13 @@ impl Ring {
         ensures none { IfNone result (All (λ is. is ≡ false) (ready_of self.old)) }
         ensures same { ready_of self.new ≡ ready_of self.old }
     {
-        let seat = next_ready(self.ready.as_slice(), self.next)?;
+        if self.is_idle() {
+            return None;
+        }
+        let seat = match self.first_from(self.next) {
+            Some(seat) => seat,
+            None => self.first_from(0)?,
+        };
         self.next = seat + 1;
         Some(seat)
     }

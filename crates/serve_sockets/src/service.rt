@@ -9,8 +9,8 @@ use crate::replying::{Datagram, Way, reply};
 use crate::ring::Origin;
 use crate::serving::{Now, Step, advance, give, hand_request};
 use crate::sockets::{SHORT_PAUSE, Sockets};
-use crate::turn::{Handover, Kind, Said, Source, Stamp, Turn, TurnLog};
-use hall_desk::{Account, Answer, Answered, Arrival, Desk, Input, histories_keep_the_laws};
+use crate::turn::{Handover, Kind, Said, Source, Tick, Turn, TurnLog};
+use hall_desk::{Account, Answer, Answered, Arrival, Desk, Stamp, What, histories_keep_the_laws};
 use hall_store::{GroupStore, HallStore};
 use hall_types::{Moment, Port};
 use std::alloc::{AllocError, Global};
@@ -30,7 +30,7 @@ pub struct Service<S> {
     // Something that was handed over counts as not having come, and no quiet moment came since: it is looked whether the store is shut
     // before any other client is told so.
     is_in_doubt: bool,
-    // The log was told that there are no stamps, and none came since.
+    // The log was told that there are no ticks, and none came since.
     is_unstamped: bool,
     ghost few: { turns < 8 },
 }
@@ -52,7 +52,7 @@ fn tell<L: TurnLog>(
     let Some((arrival, account)) = told else {
         return moment;
     };
-    log.arrived(arrival, answer, account);
+    log.arrived(arrival.input.what(), answer, account);
     arrival.moment
 }
 
@@ -122,7 +122,6 @@ impl<S: HallStore> Service<S> {
         ensures desk { IsTurn S.HallStore (desk_of self.old) (desk_of self.new) (connections_of self.old) (connections_of self.new) stamp result }
         ensures pace { IsPaced self.old self.new result }
     {
-        self.sockets.pass(stamp.millis);
         self.turns = (self.turns + 1) % 8;
         if self.is_quiet_turn() {
             return Turn::Handed(self.quiet(stamp, log));
@@ -155,7 +154,11 @@ impl<S: HallStore> Service<S> {
         ensures shut { result.said ≡ Said.Unavailable → is_opening_of self.new ≡ is_opening_of self.old }
     {
         self.sockets.retry();
-        let (answer, moved) = self.server.hand(log, stamp, Input::Quiet);
+        let answered = self.server.desk.answer_quiet(self.server.alloc, stamp);
+        let (answer, account) = answered;
+        log.arrived(What::Quiet, &answer, &account);
+        let moved = account.notes.moved.is_some();
+        drop(account);
         self.is_in_doubt = false;
         self.may_be_due = moved;
         self.is_opening = is_still_opening(self.is_opening, moved, &answer);
@@ -205,7 +208,7 @@ impl<S: HallStore> Service<S> {
         self.sockets.settle(slot, connection, step)
     }
 
-    // There is no stamp: nothing is done for a while. The log is told when that begins.
+    // There is no tick: nothing is done for a while. The log is told when that begins.
     fn miss<L: TurnLog>(&mut self, log: &mut L)
         ensures desk { desk_of self.new ≡ desk_of self.old }
         ensures connections { connections_of self.new ≡ connections_of self.old }
@@ -344,24 +347,24 @@ impl<S: GroupStore> Service<S> {
         !self.is_opening && !self.is_in_doubt && self.sockets.is_group_due()
     }
 
-    // Hands over the requests that wait: one with this stamp, or several, each with a stamp of its own, if there is memory for them.
-    fn hand_waiting<C: Source, L: TurnLog>(&mut self, stamp: Stamp, source: &mut C, log: &mut L)
+    // Hands over the requests that wait: one with this tick's stamp, or several, each with a stamp of its own, if there is memory for them.
+    fn hand_waiting<C: Source, L: TurnLog>(&mut self, tick: Tick, source: &mut C, log: &mut L)
         ensures kept { KeepsDesk S.HallStore (desk_of self.old) (desk_of self.new) }
-        ensures served { (from : C) → C.Source.may_give from (Some stamp) source.old → S.HallStore.is_clean (store_of (desk_of self.new))
+        ensures served { (from : C) → C.Source.may_give from (Some tick) source.old → S.HallStore.is_clean (store_of (desk_of self.new))
             → AreServed S.HallStore C.Source.may_give (store_of (desk_of self.old)) (store_of (desk_of self.new)) from source.new (site_of (desk_of self.old)) 64 (connections_of self.old) (connections_of self.new) }
     {
         self.sockets.hand();
         if self.sockets.has_lone() {
-            return self.hand_alone(stamp, log);
+            return self.hand_alone(tick.stamp, log);
         }
         match self.sockets.gather(self.server.alloc, source) {
-            Ok(gathered) if gathered.arrivals.is_empty() => self.hand_alone(stamp, log),
-            Ok(gathered) => self.hand_gathered(stamp.moment, gathered, log),
-            Err(AllocError) => self.hand_alone(stamp, log),
+            Ok(gathered) if gathered.arrivals.is_empty() => self.hand_alone(tick.stamp, log),
+            Ok(gathered) => self.hand_gathered(tick.stamp.moment, gathered, log),
+            Err(AllocError) => self.hand_alone(tick.stamp, log),
         }
     }
 
-    // Serves one turn with a stamp of the source, if it has one, and says whether it found the store shut. Requests that wait are handed
+    // Serves one turn with a tick of the source, if it has one, and says whether it found the store shut. Requests that wait are handed
     // over in place of a turn, or as soon as its own request is decided.
     fn serve_turn<C: Source, L: TurnLog>(&mut self, source: &mut C, log: &mut L) -> bool
         ensures kept { KeepsDesk S.HallStore (desk_of self.old) (desk_of self.new) }
@@ -369,43 +372,28 @@ impl<S: GroupStore> Service<S> {
             (store_of (desk_of self.old)) (store_of (desk_of self.new)) source.old source.new (site_of (desk_of self.old)) 64 (connections_of self.old) (connections_of self.new) }
     {
         self.wait(source);
-        let Some(stamp) = source.stamp() else {
+        let Some(tick) = source.tick() else {
             self.miss(log);
             return false;
         };
         self.is_unstamped = false;
-        self.sockets.begin(stamp.millis);
+        self.sockets.begin(tick.millis);
         if self.is_group_due() {
-            self.hand_waiting(stamp, source, log);
+            self.hand_waiting(tick, source, log);
             return false;
         }
-        self.serve_next(stamp, source, log)
-    }
-
-    // Serves a turn, and hands over the requests that wait if its own is decided and they are due.
-    fn serve_next<C: Source, L: TurnLog>(
-        &mut self,
-        stamp: Stamp,
-        source: &mut C,
-        log: &mut L,
-    ) -> bool
-        ensures kept { KeepsDesk S.HallStore (desk_of self.old) (desk_of self.new) }
-        ensures served { (from : C) → C.Source.may_give from (Some stamp) source.old → S.HallStore.is_clean (store_of (desk_of self.new))
-            → AreServed S.HallStore C.Source.may_give (store_of (desk_of self.old)) (store_of (desk_of self.new)) from source.new (site_of (desk_of self.old)) 64 (connections_of self.old) (connections_of self.new) }
-    {
-        let (moment, own) = (stamp.moment, stamp);
-        let turn = self.turn(stamp, log);
+        let turn = self.turn(tick.stamp, log);
         self.is_in_doubt |= turn.is_refused();
         if turn.is_decided() && self.is_group_due() {
-            self.hand_waiting(own, source, log);
+            self.hand_waiting(tick, source, log);
             return false;
         }
-        log.note(moment, &turn);
+        log.note(tick.stamp.moment, &turn);
         turn.finds_shut()
     }
 
-    /// Serves so many turns, each with a stamp of the source, and tells each to the log; or ends after the first quiet moment for
-    /// which the store is unavailable, as one is that a fault has shut: how many turns are left then. A turn without a stamp does
+    /// Serves so many turns, each with a tick of the source, and tells each to the log; or ends after the first quiet moment for
+    /// which the store is unavailable, as one is that a fault has shut: how many turns are left then. A turn without a tick does
     /// nothing for 100 milliseconds, and the log is told when such turns begin.
     ///
     /// Every eighth turn, and one for which nothing is there, is a quiet moment; so is each until the first one that the store carries out

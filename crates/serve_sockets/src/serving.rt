@@ -6,14 +6,12 @@ ghost use Rattle.serve_sockets.specs.{Connection.{IsAnsweredBy, IsSameClient, in
 use crate::connection::{Connection, Wait};
 use crate::handing::Server;
 use crate::handover::handover;
-use crate::listing::bearer_of_list;
 use crate::reading::Taken;
-use crate::turn::{Handover, Kind, Stamp, TurnLog};
+use crate::turn::{Handover, Kind, TurnLog};
 use crate::writing::Put;
-use hall_desk::{Answer, Desk, Input};
+use hall_desk::{Answer, Desk, Stamp, What};
 use hall_store::HallStore;
 use hall_types::Digest;
-use pxe_vendor::Octets;
 use std::io::{Read, Write};
 
 /// The stamp of a turn, and the served time at it.
@@ -52,7 +50,7 @@ pub(crate) fn give<T>(connection: &mut Connection<T>, answer: Answer, now: u64) 
     handover
 }
 
-/// Hands the request over. Its answer waits then. Without memory for the request's octets it counts as not having come.
+/// Hands the request over. Its answer waits then. What isn't whole counts as not having come.
 pub(crate) fn hand_request<T, S: HallStore, L: TurnLog>(
     connection: &mut Connection<T>,
     server: &mut Server<S>,
@@ -64,11 +62,13 @@ pub(crate) fn hand_request<T, S: HallStore, L: TurnLog>(
         now.stamp.moment now.stamp.fresh (input_of connection.old) connection.new result }
     ensures same { IsSameClient connection.old connection.new }
 {
-    let Ok(octets) = Vec::from_slice(server.alloc, connection.input()) else {
+    let Some(request) = connection.request() else {
         return give(connection, Answer::Unavailable, now.served);
     };
-    let request = Input::Request(Octets::from(octets));
-    let (answer, _) = server.hand(log, now.stamp, request);
+    let answered = server.desk.answer_request(server.alloc, request, now.stamp);
+    let (answer, account) = answered;
+    log.arrived(What::Request(request), &answer, &account);
+    drop(account);
     give(connection, answer, now.served)
 }
 
@@ -122,7 +122,7 @@ fn decide<T: Read, S: HallStore, L: TurnLog>(
     if connection.is_called() {
         return Step::Handed(hand_request(connection, server, log, now));
     }
-    match bearer_of_list(server.alloc, connection.input()) {
+    match connection.list_bearer() {
         Some(digest) => decide_list(connection, server, log, now, digest),
         None => {
             connection.wait(Wait::Group);
@@ -131,7 +131,7 @@ fn decide<T: Read, S: HallStore, L: TurnLog>(
     }
 }
 
-// Reads once. A request that is decided then is handed over, or waits.
+// Reads once. A request that is decided then is handed over, or waits. One that the client ended undecided is handed over.
 fn take<T: Read, S: HallStore, L: TurnLog>(
     connection: &mut Connection<T>,
     server: &mut Server<S>,
@@ -149,6 +149,7 @@ fn take<T: Read, S: HallStore, L: TurnLog>(
         Taken::Waits => Step::Waits,
         Taken::More => Step::Moved,
         Taken::Whole => decide(connection, server, log, now),
+        Taken::Ended => Step::Handed(hand_request(connection, server, log, now)),
         Taken::NoMemory => { Step::Handed(give(connection, Answer::Unavailable, now.served)) }
         Taken::Failed => Step::Failed,
     }

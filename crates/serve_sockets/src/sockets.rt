@@ -32,8 +32,15 @@ const RETRY_PAUSE: u64 = 10;
 /// How long, in milliseconds of served time, it is from one look at all connections for late ones to the next.
 const LOOK_PAUSE: u64 = 100;
 
+/// For how many turns at most, within a millisecond of served time, the system isn't asked what is new while something is known to
+/// be there.
+const LOOK_TURNS: u8 = 32;
+
 /// After how many turns without one a request for a list is handed over, though something else may be there.
 const LIST_TURNS: u16 = 1_024;
+
+/// For how many turns at most, from one hand-over to the next, datagrams go before requests that wait.
+const DATAGRAM_TURNS: u16 = 1_024;
 
 /// Two sockets for datagrams, a listener, and places for connections, none of which is waited for.
 #[derive(Drop)]
@@ -47,6 +54,9 @@ pub struct Sockets {
     pub(crate) table: Table<TcpStream>,
     accepted: u64,
     pub(crate) time: ServedTime,
+    // When the system was last asked what is new, and how many turns there were since, up to `LOOK_TURNS`.
+    asked_at: u64,
+    turns_unasked: u8,
     // When late connections are looked for, and from which slot on.
     look_at: u64,
     look_from: usize,
@@ -59,6 +69,8 @@ pub struct Sockets {
     turns: u16,
     /// The requests that wait to be answered together.
     pub(crate) waiting: Waiting,
+    // How many turns there were since some of them were handed over, up to `DATAGRAM_TURNS`.
+    turns_after: u16,
     // A receive or an accept failed that may fail again at once.
     is_lame: bool,
     /// What was received last.
@@ -94,6 +106,8 @@ impl Sockets {
             table: room.table,
             accepted: 0,
             time: ServedTime::new(),
+            asked_at: 0,
+            turns_unasked: 0,
             look_at: 0,
             look_from: 0,
             ring: room.ring,
@@ -101,6 +115,7 @@ impl Sockets {
             has_put_off: false,
             turns: 0,
             waiting: room.waiting,
+            turns_after: 0,
             is_lame: false,
             buffer: room.buffer,
         }
@@ -150,8 +165,14 @@ impl Sockets {
         self.ring.is_idle() && !self.may_call() && self.waiting.count() == 0 && self.look_from == 0
     }
 
+    // Whether the system is to be asked what is new, though something is known to be there: a turn may have taken long since the last time.
+    fn is_time_to_ask(&self) -> bool {
+        self.turns_unasked >= LOOK_TURNS || self.time.now() != self.asked_at
+    }
+
     /// Marks where something is. Waits for something to come if nothing is known to be there: for the source's pause at most, less
-    /// while a connection is open, so that a late one is closed in time. Between two late ones nothing is waited for.
+    /// while a connection is open, so that a late one is closed in time. Between two late ones nothing is waited for. Where something is
+    /// known to be there, the system is asked for more once a millisecond, or after 32 turns.
     pub(crate) fn wait<C: Source>(&mut self, source: &mut C)
         ensures source { IsPassed C.Source.may_give source.old source.new }
         ensures slots { slots_in self.new ≡ slots_in self.old }
@@ -159,7 +180,7 @@ impl Sockets {
         if self.is_idle() {
             let millis = self.pause(source);
             self.look(millis);
-        } else {
+        } else if self.is_time_to_ask() {
             self.look(0);
         }
     }
@@ -168,6 +189,8 @@ impl Sockets {
     pub(crate) fn look(&mut self, millis: u64)
         ensures { slots_in self.new ≡ slots_in self.old }
     {
+        self.asked_at = self.time.now();
+        self.turns_unasked = 0;
         let time = Duration::from_millis(millis);
         if self.poll.poll(&mut self.events, Some(time)).is_ok() {
             mark(&mut self.ring, &self.events);
@@ -182,20 +205,15 @@ impl Sockets {
         let _ = self.still.poll(&mut self.events, Some(time));
     }
 
-    /// There is a stamp of so many milliseconds.
+    /// A turn begins, with a tick of so many milliseconds.
     pub(crate) fn begin(&mut self, millis: u64)
         ensures { slots_in self.new ≡ slots_in self.old }
     {
         self.time.pass(millis);
         self.waiting.begin(self.time.now());
-    }
-
-    /// A turn has a stamp of so many milliseconds.
-    pub(crate) fn pass(&mut self, millis: u64)
-        ensures { slots_in self.new ≡ slots_in self.old }
-    {
-        self.time.pass(millis);
         self.turns = self.turns.saturating_add(1).min(LIST_TURNS);
+        self.turns_unasked = self.turns_unasked.saturating_add(1).min(LOOK_TURNS);
+        self.turns_after = self.turns_after.saturating_add(1).min(DATAGRAM_TURNS);
     }
 
     /// The served time.
@@ -205,12 +223,32 @@ impl Sockets {
         self.time.now()
     }
 
-    // After a request that was handed over, the next socket for datagrams that may have something.
+    // Whether requests that wait are to be handed over, once no datagram goes before them.
+    fn is_due(&self) -> bool {
+        self.waiting.is_due(self.time.now(), self.ring.is_idle())
+    }
+
+    /// Whether the requests that wait are to be handed over now. Datagrams that may be there go before them, so that none waits for more
+    /// than the commit during which it came.
+    pub(crate) fn is_group_due(&self) -> bool {
+        let is_their_turn = self.turns_after >= DATAGRAM_TURNS || !self.ring.has_port();
+        is_their_turn && self.is_due()
+    }
+
+    /// Some of the requests that wait are handed over.
+    pub(crate) fn hand(&mut self)
+        ensures { slots_in self.new ≡ slots_in self.old }
+    {
+        self.waiting.hand(self.time.now());
+        self.turns_after = 0;
+    }
+
+    // After a request that was handed over, and before those that are to be, the next socket for datagrams that may have something.
     fn pick_port(&mut self) -> Option<Origin>
         ensures place { IfSome result (IsPlace (places_of self.new)) }
         ensures slots { slots_in self.new ≡ slots_in self.old }
     {
-        if !self.has_handed {
+        if !self.has_handed && !self.is_due() {
             return None;
         }
         self.has_handed = false;
@@ -240,7 +278,7 @@ impl Sockets {
         Some(Origin::Connection(slot))
     }
 
-    /// The next seat that may have something: a socket for datagrams after a request that was handed over, a connection whose request
+    /// The next seat that may have something: a socket for datagrams beside requests that are handed over, a connection whose request
     /// for a list is called, or the next one of all seats.
     pub(crate) fn pick(&mut self) -> Option<Origin>
         ensures place { IfSome result (IsPlace (places_of self.new)) }

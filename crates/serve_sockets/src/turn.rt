@@ -2,31 +2,29 @@
 ghost use Rattle.std.specs.Prelude.{◌≡◌, true};
 ghost use Rattle.serve_sockets.specs.Turn.{HandsNothing};
 
-use hall_desk::{Account, Answer, Arrival};
-use hall_types::{Moment, Port, Token};
+use hall_desk::{Account, Answer, Stamp, What};
+use hall_types::{Moment, Port};
 use std::net::SocketAddr;
 
 /// What a turn needs from outside.
 #[derive(Clone, Copy)]
-pub struct Stamp {
-    /// When what comes is handed to the desk.
-    pub moment: Moment,
-    /// 16 fresh octets, the token of a boot that is issued.
-    pub fresh: Token,
+pub struct Tick {
+    /// The stamp of what is handed to the desk.
+    pub stamp: Stamp,
     /// Milliseconds on a clock that never goes back, for the time that a connection has. Between two turns 100 count at most.
     pub millis: u64,
 }
 
-/// Where stamps come from: clocks, and a source of random octets.
+/// Where ticks come from: clocks, and a source of random octets.
 pub trait Source {
     ghost use Rattle.std.specs.Prelude.{⊤, Option, None};
-    ghost use Rattle.serve_sockets.specs.declared.turn.Stamp.{Stamp};
+    ghost use Rattle.serve_sockets.specs.declared.turn.Tick.{Tick};
 
-    // Holds of the source before a call, of the stamp that the call gave, if it gave one, and of the source after it.
-    ghost may_give: { Self → Option Stamp → Self → Type 0 } = { λ _ _ _. ⊤ };
+    // Holds of the source before a call, of the tick that the call gave, if it gave one, and of the source after it.
+    ghost may_give: { Self → Option Tick → Self → Type 0 } = { λ _ _ _. ⊤ };
 
-    /// The stamp of the next turn, or of a request that is handed over with others, and nothing where a clock or the random octets failed.
-    fn stamp(&mut self) -> Option<Stamp>
+    /// The tick of the next turn, or of a request that is handed over with others, and nothing where a clock or the random octets failed.
+    fn tick(&mut self) -> Option<Tick>
         ensures { may_give self.old result self.new };
 
     /// For how many milliseconds at most a turn waits where nothing is known to be there.
@@ -138,11 +136,11 @@ impl Turn {
 pub trait TurnLog {
     /// What was handed to the desk, its answer, and its account of what it did; nothing is kept of it. The turn that they belong to
     /// is noted next. The octets of a request, and its event, have its token and its key, which no log may keep.
-    fn arrived(&mut self, _arrival: &Arrival, _answer: &Answer, _account: &Account) {}
+    fn arrived(&mut self, _what: What<'_>, _answer: &Answer, _account: &Account) {}
 
     /// What a turn did, at the moment of its stamp.
     fn note(&mut self, moment: Moment, turn: &Turn);
 
-    /// The source gives no stamps from now on, so that nothing is done, until a turn is noted again.
+    /// The source gives no ticks from now on, so that nothing is done, until a turn is noted again.
     fn unstamped(&mut self) {}
 }

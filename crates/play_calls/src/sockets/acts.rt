@@ -46,9 +46,10 @@ impl<'a, S: GroupStore + Drop> Stage<'a, S> {
         Ok(())
     }
 
-    fn request(&mut self, words: &str) -> Result<Octets, CaseFault> {
-        match self.arrive(words)? {
-            Input::Request(octets) => Ok(octets),
+    // The octets of a request.
+    fn request(&mut self, words: &str) -> Result<Vec<u8>, CaseFault> {
+        match &self.arrive(words)? {
+            Input::Request(request) => Ok(Vec::from_slice(self.rt.alloc(), request.octets())?),
             _ => Err(CaseFault::Form),
         }
     }
@@ -66,7 +67,7 @@ impl<'a, S: GroupStore + Drop> Stage<'a, S> {
     // By an act of this kind a client sends a text or a request, or each client of a name does.
     fn send(&mut self, kind: &str, name: &str, words: &str) -> Played {
         let octets = match kind {
-            "send" | "send_all" => Octets::from(text_of(self.rt.alloc(), words)?),
+            "send" | "send_all" => text_of(self.rt.alloc(), words)?,
             _ => self.request(words)?,
         };
         match kind {
@@ -169,8 +170,8 @@ impl<'a, S: GroupStore + Drop> Stage<'a, S> {
         match (kind, rest) {
             ("turns" | "rests", count) => self.push_turns(kind, number(count)?, out),
             ("settle", _) => out.push(self.settle()),
-            ("moment", seconds) => self.clock.stamp.moment = parsed(seconds)?,
-            ("at", millis) => self.clock.stamp.millis = number(millis)?,
+            ("moment", seconds) => self.clock.tick.stamp.moment = parsed(seconds)?,
+            ("at", millis) => self.clock.tick.millis = number(millis)?,
             ("pass", millis) => self.pass(number(millis)?),
             ("clock", "fails") => self.clock.fails = true,
             ("clock", "goes") => self.clock.fails = false,

@@ -2,7 +2,7 @@
 use super::client::Client;
 use cases::{Out, Played};
 use desk_lines::{arrival_text, is_of_note};
-use hall_desk::{Account, Answer, Arrival};
+use hall_desk::{Account, Answer, What};
 use hall_report::LogFormat;
 use hall_types::{Moment, Port};
 use hallboot_tasks::turn_line;
@@ -91,9 +91,9 @@ fn push_handover(out: &mut Out, handover: &Handover) {
 }
 
 impl TurnLog for Log {
-    fn arrived(&mut self, arrival: &Arrival, answer: &Answer, account: &Account) {
-        if is_of_note(arrival, answer, account) {
-            self.arrival = arrival_text(self.lines.alloc(), arrival, answer, account).ok();
+    fn arrived(&mut self, what: What<'_>, answer: &Answer, account: &Account) {
+        if is_of_note(what, answer, account) {
+            self.arrival = arrival_text(self.lines.alloc(), what, answer, account).ok();
         }
     }
 

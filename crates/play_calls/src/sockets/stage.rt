@@ -2,11 +2,11 @@
 use super::client::Client;
 use super::log::Log;
 use cases::{CaseFault, parsed};
-use hall_desk::{Desk, Input};
+use hall_desk::{Desk, Input, Stamp};
 use hall_store::GroupStore;
 use hall_types::Token;
 use play_log::{arrival, place};
-use serve_sockets::{Addresses, Service, Sockets, Source, Stamp};
+use serve_sockets::{Addresses, Service, Sockets, Source, Tick};
 use std::net::{IpAddr, Ipv4Addr, SocketAddr, UdpSocket};
 
 // How long, in milliseconds, a turn waits where nothing is known to be there.
@@ -21,16 +21,16 @@ const STEP: u64 = 100;
 /// A clock that stands until it is moved.
 #[derive(Clone, Copy)]
 pub struct Clock {
-    pub stamp: Stamp,
-    /// Whether it gives no stamps.
+    pub tick: Tick,
+    /// Whether it gives no ticks.
     pub fails: bool,
     /// How many times it was asked how long a turn may wait.
     pub pauses: u64,
 }
 
 impl Source for Clock {
-    fn stamp(&mut self) -> Option<Stamp> {
-        if self.fails { None } else { Some(self.stamp) }
+    fn tick(&mut self) -> Option<Tick> {
+        if self.fails { None } else { Some(self.tick) }
     }
 
     fn pause(&mut self) -> u64 {
@@ -74,9 +74,11 @@ fn service<S: GroupStore + Drop>(rt: &HostRuntime, store: S) -> Result<Service<S
 // The clock at the moment 1000.
 fn standing() -> Result<Clock, CaseFault> {
     Ok(Clock {
-        stamp: Stamp {
-            moment: parsed("1000")?,
-            fresh: Token::from([0; 16]),
+        tick: Tick {
+            stamp: Stamp {
+                moment: parsed("1000")?,
+                fresh: Token::from([0; 16]),
+            },
             millis: 0,
         },
         fails: false,
@@ -125,8 +127,10 @@ impl<'a, S: GroupStore + Drop> Stage<'a, S> {
     /// What comes by the words of an arrival. The clock is set to it.
     pub fn arrive(&mut self, words: &str) -> Result<Input, CaseFault> {
         let arrival = arrival(self.rt.alloc(), words)?;
-        self.clock.stamp.moment = arrival.moment;
-        self.clock.stamp.fresh = arrival.fresh;
+        self.clock.tick.stamp = Stamp {
+            moment: arrival.moment,
+            fresh: arrival.fresh,
+        };
         Ok(arrival.input)
     }
 
@@ -140,8 +144,8 @@ impl<'a, S: GroupStore + Drop> Stage<'a, S> {
     pub fn pass(&mut self, millis: u64) {
         for step in 0..millis.div_ceil(STEP) {
             let left = millis.saturating_sub(step.saturating_mul(STEP));
-            let stamp = &mut self.clock.stamp;
-            stamp.millis = stamp.millis.saturating_add(left.min(STEP));
+            let tick = &mut self.clock.tick;
+            tick.millis = tick.millis.saturating_add(left.min(STEP));
             let _ = self.turns(1);
         }
     }

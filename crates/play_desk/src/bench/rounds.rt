@@ -5,6 +5,7 @@ use cases::CaseFault;
 use hall_desk::{Answer, Arrival, Desk};
 use hall_store::HallStore;
 use play_log::arrival;
+use play_store::answer_again;
 use pxe_vendor::Place;
 use std::alloc::Global;
 use std::slice;
@@ -12,9 +13,10 @@ use std::slice;
 /// What is counted: octets that are answered, or what calls find.
 pub type Counted = Result<u64, CaseFault>;
 
-// The number of octets that are answered, if they aren't a refusal.
+// The number of octets that are answered, if they aren't a refusal. A request is read anew, so that what is measured goes
+// from octets to octets.
 fn answered<S: HallStore>(alloc: Global, desk: &mut Desk<S>, arrival: &Arrival) -> Counted {
-    match desk.answer(alloc, arrival) {
+    match answer_again(alloc, desk, arrival) {
         Answer::Frame(octets)
         | Answer::Response {
             status: 200,

@@ -1,29 +1,29 @@
 use Rattle.std.proofs.Common.{◌≡◌, refl, rules, subst}
 use Rattle.hall_events.specs.declared.event.Event.TheVariants.{Frame}
-use Rattle.hall_desk.{specs.{Prelude.Client, Account.{IsDecided, IsMoved}, AttemptLaws.{gives_missed, read_same}, Desk.site_of, Octets.frame_answer}, proofs.{AccountLemmas.frame_moved, AttemptLemmas.gives_asked}}
+use Rattle.hall_desk.{specs.{Prelude.Client, Account.{IsDecided, IsMoved}, AttemptLaws.{gives_missed, read_same}, Desk.site_of, Octets.{arrival_of, frame_answer}}, proofs.{AccountLemmas.frame_moved, AnsweringLemmas.gives, AttemptLemmas.gives_asked}}
 use Rattle.hall_desk.specs.declared.account.Came.TheVariants as came
 use Rattle.hall_desk.specs.declared.arrival.Input.TheVariants as input
 use Rattle.hall_desk.proofs.desk.Desk.answer_datagram.Goals as goal
 
 pub returns-in-Err : goal.returns-in-Err
-returns-in-Err g c = record {
+returns-in-Err g c = gives (record { laws = c.histories_keep_the_laws.ensures }) g.S.HallStore _ _ (arrival_of c.args.stamp (input.Datagram c.args.port c.args.octets.now)) _ (record {
   site = refl;
   enlists = refl;
   answer = gives_missed g.S.HallStore g.S.HallStore.wider _ _ _ _ (input.Datagram c.args.port c.args.octets.now);
   came = search rules;
   found = search rules;
   unlisted = λ off datagram clean. read_same g.S.HallStore _;
-}
+})
 
 pub returns-in-Err-client : goal.returns-in-Err-client
-returns-in-Err-client g c = record {
+returns-in-Err-client g c = gives (record { laws = c.histories_keep_the_laws.ensures }) g.S.HallStore _ _ (arrival_of c.args.stamp (input.Datagram c.args.port c.args.octets.now)) _ (record {
   site = refl;
   enlists = refl;
   answer = gives_missed g.S.HallStore g.S.HallStore.wider _ _ _ _ (input.Datagram c.args.port c.args.octets.now);
   came = search rules;
   found = search rules;
   unlisted = λ off datagram clean. read_same g.S.HallStore _;
-}
+})
 
 one_client : (a b : Client) → came.Client a ≡ came.Client b → a ≡ b
 one_client a b is = cc
@@ -31,7 +31,7 @@ one_client a b is = cc
 pub returns : goal.returns
 returns g c =
     let carried = c.carry_frame-answer.ensures in
-    record {
+    gives (record { laws = c.histories_keep_the_laws.ensures }) g.S.HallStore _ _ (arrival_of c.args.stamp (input.Datagram c.args.port c.args.octets.now)) _ (record {
       site = carried.stays.site;
       enlists = carried.stays.enlists;
       answer = gives_asked g.S.HallStore (record { keep = c.decisions_keep_the_rules.ensures; sound = c.steps_keep_halls_sound.ensures.rows })
@@ -56,4 +56,4 @@ returns g c =
                 (carried.moved c.args.stamp.moment c.args.stamp.fresh clean) carried.unmoved (carried.carried c.args.stamp.moment c.args.stamp.fresh clean).1.answer h held),
           );
       unlisted = λ off datagram clean. carried.unlisted off clean;
-    }
+    })

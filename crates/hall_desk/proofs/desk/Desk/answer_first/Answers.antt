@@ -1,5 +1,5 @@
-use Rattle.std.proofs.{Common.{rules, arith, ◌≡◌, ◌<◌, ◌+◌, ◌∙◌, ℕ, List, [], refl, ap, sym, length, take, subst}, lemmas.{Grind.common_steps, List.take_more}}
-use Rattle.hall_desk.{specs.{Attempt.IsRan, Desk.{site_of, store_of}, Grouping.{AreAvailable, AreReadAs}, declared.{account.Account.Account, arrival.{Answer.Answer, Arrival.Arrival}}}, proofs.GroupLemmas.{given_more, ran_before, ran_then, read_more}}
+use Rattle.std.proofs.{Common.{rules, arith, ◌≡◌, ◌<◌, ◌∙◌, ℕ, List, [], refl, sym, length, take, subst}, lemmas.{Grind.common_steps, List.take_more}}
+use Rattle.hall_desk.{specs.{Attempt.IsRan, Desk.{site_of, store_of}, Grouping.{AreAvailable, AreReadAs}, declared.{account.Account.Account, arrival.{Answer.Answer}}}, proofs.GroupLemmas.{given_more, ran_before, ran_then, read_more}}
 use Rattle.hall_desk.proofs.desk.Desk.answer_first.Goals as goal
 
 pub arrivals-init : goal.arrivals-init

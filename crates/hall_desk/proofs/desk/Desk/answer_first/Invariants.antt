@@ -1,4 +1,4 @@
-use Rattle.std.{proofs.Common.{◌≡◌, ◌≤◌, List, Option, take, length, vec_len}, specs.Prelude.vec_capacity}
+use Rattle.std.{proofs.Common.{◌≡◌, ◌≤◌, Option, take, length, vec_len}, specs.Prelude.vec_capacity}
 use Rattle.hall_store.specs.Store.{Base}
 use Rattle.hall_desk.specs.{Prelude.{Hall, IsSound}, Attempt.IsRan, Desk.{enlists_of, site_of, store_of}, Grouping.{AreAvailable, AreReadAs}}
 use Rattle.hall_desk.proofs.desk.Desk.answer_first.Given as goal

@@ -4,12 +4,12 @@ use Rattle.serve_sockets.proofs.service.Service.quiet.Goals as goal
 
 pub returns-clause-desk : goal.returns-clause-desk
 returns-clause-desk g c =
-    let it = c.hand-answer.ensures in
+    let it = c.answer_quiet-answered.ensures.answered in
     record {
       kept = record { clean = λ clean. (it.given clean).0; site = it.site; enlists = it.enlists; closed = λ clean. (it.given clean).1.base None };
       did = λ clean. record {
         what = Input.Quiet;
-        said = c.hand-answer.result.0;
+        said = c.answer_quiet-answered.result.0;
         tells = record { kind = c.handover.ensures.kind; size = c.handover.ensures.len; said = c.handover.ensures.said };
         answered = (it.given clean).1;
         own = none_new _ _ _ (same_answers _ _ c.retry.ensures);
@@ -19,8 +19,8 @@ returns-clause-desk g c =
 
 pub returns-clause-opened : goal.returns-clause-opened
 returns-clause-opened g c = λ begun.
-    c.is_still_opening-self.ensures ∙ ap (λ (b : Bool). b && (c.hand-answer.result.1 || is_unavailable c.hand-answer.result.0)) begun
+    c.is_still_opening-self.ensures ∙ ap (λ (b : Bool). b && (c.is_some-moved.result || is_unavailable c.answer_quiet-answered.result.0)) begun
 
 pub returns-clause-shut : goal.returns-clause-shut
 returns-clause-shut g c = λ told.
-    c.is_still_opening-self.ensures ∙ still_opening _ _ _ (told_unavailable c.hand-answer.result.0 (sym c.handover.ensures.said ∙ told))
+    c.is_still_opening-self.ensures ∙ still_opening _ _ _ (told_unavailable c.answer_quiet-answered.result.0 (sym c.handover.ensures.said ∙ told))

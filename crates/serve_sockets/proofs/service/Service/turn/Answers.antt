@@ -1,5 +1,5 @@
 use Rattle.std.proofs.Common.{arith, refl}
-use Rattle.serve_sockets.proofs.{OwnLemmas.{answers_then, same_answers}, TurnLemmas.{nothing_handed, other_pace, quiet_pace, turn_after, turns_within}}
+use Rattle.serve_sockets.proofs.{OwnLemmas.answers_then, TurnLemmas.{nothing_handed, other_pace, quiet_pace, turn_after, turns_within}}
 use Rattle.serve_sockets.proofs.service.Service.turn.Goals as goal
 
 pub overflow_add-self : goal.overflow_add-self
@@ -27,31 +27,31 @@ pub connection-requires : goal.connection-requires
 connection-requires g c = rw c.in-Some-Connection.field-0-is at c.in-Some-Connection.ensures.place
 
 pub returns-then-is_quiet_turn-clause-desk : goal.returns-then-is_quiet_turn-clause-desk
-returns-then-is_quiet_turn-clause-desk g c = turn_after g.S.HallStore _ _ _ _ _ _ _ (same_answers _ _ c.pass.ensures) c.quiet.ensures.desk
+returns-then-is_quiet_turn-clause-desk g c = c.quiet.ensures.desk
 
 pub returns-in-Some-clause-desk : goal.returns-in-Some-clause-desk
 returns-in-Some-clause-desk g c =
-    nothing_handed g.S.HallStore _ _ _ _ c.in-Some.turn c.in-Some.ensures.none (answers_then _ _ _ (same_answers _ _ c.pass.ensures) c.in-Some.ensures.answers)
+    nothing_handed g.S.HallStore _ _ _ _ c.in-Some.turn c.in-Some.ensures.none c.in-Some.ensures.answers
 
 pub returns-in-None-clause-desk : goal.returns-in-None-clause-desk
 returns-in-None-clause-desk g c =
     turn_after g.S.HallStore _ _ _ _ _ _ _
-    (answers_then _ _ _ (answers_then _ _ _ (same_answers _ _ c.pass.ensures) c.close_late.ensures.answers) c.pick.ensures.answers) c.quiet-in-None.ensures.desk
+    (answers_then _ _ _ c.close_late.ensures.answers c.pick.ensures.answers) c.quiet-in-None.ensures.desk
 
 pub returns-in-Some-Port-clause-desk : goal.returns-in-Some-Port-clause-desk
 returns-in-Some-Port-clause-desk g c =
     turn_after g.S.HallStore _ _ _ _ _ _ _
-    (answers_then _ _ _ (answers_then _ _ _ (same_answers _ _ c.pass.ensures) c.close_late.ensures.answers) c.pick.ensures.answers) c.datagram.ensures.desk
+    (answers_then _ _ _ c.close_late.ensures.answers c.pick.ensures.answers) c.datagram.ensures.desk
 
 pub returns-in-Some-Listener-clause-desk : goal.returns-in-Some-Listener-clause-desk
 returns-in-Some-Listener-clause-desk g c =
     nothing_handed g.S.HallStore _ _ _ _ c.accept.result c.accept.ensures.none
-    (answers_then _ _ _ (answers_then _ _ _ (answers_then _ _ _ (same_answers _ _ c.pass.ensures) c.close_late.ensures.answers) c.pick.ensures.answers) c.accept.ensures.answers)
+    (answers_then _ _ _ (answers_then _ _ _ c.close_late.ensures.answers c.pick.ensures.answers) c.accept.ensures.answers)
 
 pub returns-in-Some-Connection-clause-desk : goal.returns-in-Some-Connection-clause-desk
 returns-in-Some-Connection-clause-desk g c =
     turn_after g.S.HallStore _ _ _ _ _ _ _
-    (answers_then _ _ _ (answers_then _ _ _ (same_answers _ _ c.pass.ensures) c.close_late.ensures.answers) c.pick.ensures.answers) c.connection.ensures.desk
+    (answers_then _ _ _ c.close_late.ensures.answers c.pick.ensures.answers) c.connection.ensures.desk
 
 pub returns-then-is_quiet_turn-clause-pace : goal.returns-then-is_quiet_turn-clause-pace
 returns-then-is_quiet_turn-clause-pace g c = quiet_pace _ _ c.quiet.result c.quiet.ensures.kind c.quiet.ensures.turns c.quiet.ensures.opened c.quiet.ensures.shut
